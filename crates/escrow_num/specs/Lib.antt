@@ -1,0 +1,6 @@
+pub mod Amount
+pub mod Name
+pub mod Refusal
+pub mod Session
+pub mod Span
+pub mod Wide

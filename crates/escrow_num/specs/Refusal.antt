@@ -1,0 +1,31 @@
+use Rattle.std.specs.Prelude.{ℕ}
+use Rattle.escrow_num.specs.declared.refusal.Refusal.{Refusal}
+use Rattle.escrow_num.specs.declared.refusal.Refusal.TheVariants as refusal
+
+-- the number that each refusal is known by
+abbrev pub number_of : Refusal → ℕ
+number_of (refusal.Syntax column) = 11
+number_of refusal.Line = 12
+number_of refusal.TableExists = 20
+number_of refusal.NoSuchTable = 21
+number_of refusal.BadDefinition = 22
+number_of refusal.BadValue = 23
+number_of refusal.BadAssignment = 24
+number_of refusal.NotTheKey = 25
+number_of refusal.TransactionOpen = 26
+number_of refusal.RowExists = 30
+number_of refusal.NoSuchRow = 31
+number_of refusal.RowReserved = 32
+number_of refusal.TableReserved = 33
+number_of refusal.TableFull = 34
+number_of refusal.TooManyTables = 35
+number_of (refusal.Check breach) = 41
+number_of refusal.TooManyReservations = 42
+number_of refusal.NoSuchSavepoint = 43
+number_of refusal.TooManySavepoints = 44
+number_of refusal.NoMoreIds = 45
+number_of refusal.Memory = 51
+number_of refusal.TranscriptFull = 52
+number_of refusal.Store = 60
+number_of refusal.ForeignStore = 61
+number_of refusal.UnknownVersion = 62

@@ -1,0 +1,27 @@
+use Rattle.std.specs.Prelude.{ℤ, ◌≤ℤ◌, int_lt, Option, Some, None, IfSome, if◌then◌else◌, unwrap_or}
+use Rattle.escrow_num.specs.declared.span.Span.{Span}
+use Rattle.escrow_num.specs.declared.span.Side.{Side}
+use Rattle.escrow_num.specs.declared.span.Side.TheVariants.{Low, High}
+
+-- a value is neither below the low limit nor above the high one
+abbrev pub Holds : Span → ℤ → Type 0
+Holds span z = IfSome span.lo (λ lo. lo ≤ℤ z) × IfSome span.hi (λ hi. z ≤ℤ hi)
+
+-- the low side, where there is a low limit and the least value is below it
+abbrev pub low_broken : Option ℤ → ℤ → Option (Side × ℤ × ℤ)
+low_broken None least = None
+low_broken (Some lo) least = if int_lt least lo then Some (Low, least, lo) else None
+
+-- the high side, where there is a high limit and the greatest value is above it
+abbrev pub high_broken : Option ℤ → ℤ → Option (Side × ℤ × ℤ)
+high_broken None greatest = None
+high_broken (Some hi) greatest = if int_lt hi greatest then Some (High, greatest, hi) else None
+
+-- the first of two answers
+abbrev pub first_of_two : {A : Type 0} → Option A → Option A → Option A
+first_of_two None b = b
+first_of_two (Some a) b = Some a
+
+-- the first limit that is left, the low one first: its side, the extreme beyond it, the limit
+abbrev pub first_broken_of : Span → ℤ → ℤ → Option (Side × ℤ × ℤ)
+first_broken_of span least greatest = first_of_two (low_broken span.lo least) (high_broken span.hi greatest)

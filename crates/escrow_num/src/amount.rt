@@ -1,0 +1,55 @@
+ghost use Rattle.std.specs.Prelude.{◌≡◌, IsSome, IfSome, ◌↔◌, SomeIff};
+ghost use Rattle.escrow_num.specs.Amount.{IsAmount};
+
+use std::marker::Model;
+
+/// A whole number of magnitude at most 999,999,999,999,999 (15 digits): a value of a numeric
+/// column, a change of one, or a limit that a statement writes.
+#[derive(Clone, Copy, Debug, PartialEq, Eq, PartialOrd, Ord)]
+pub struct Amount {
+    value: i64,
+}
+
+impl Model for Amount {
+    ghost use Rattle.std.specs.Prelude.{ℤ};
+    ghost use Rattle.escrow_num.specs.Amount.{IsAmount};
+
+    ghost Value = { ℤ };
+
+    ghost view = { λ a. a.value };
+
+    ghost invariant = { λ a. IsAmount a.value };
+
+    ghost inverse = { λ z. record { value = z } };
+}
+
+impl Amount {
+    /// The greatest magnitude of an amount.
+    pub const LIMIT: i64 = 999_999_999_999_999;
+
+    /// The amount of a number, or `None` past the limit.
+    pub fn new(value: i64) -> Option<Self>
+        ensures { SomeIff result (IsAmount value) value }
+    {
+        if value < -Self::LIMIT || Self::LIMIT < value {
+            None
+        } else {
+            Some(Amount { value })
+        }
+    }
+
+    /// The amount that a text spells: an optional `+` or `-`, then one or more digits, leading
+    /// zeros allowed. `None` for any other text, and for a number past the limit.
+    pub fn read(text: &str) -> Option<Self>
+    {
+        text.parse::<i64>().ok().and_then(Amount::new)
+    }
+
+    /// The number, within the limit.
+    pub fn get(self) -> i64
+        ensures value { result ≡ self }
+        ensures within { IsAmount result }
+    {
+        self.value
+    }
+}

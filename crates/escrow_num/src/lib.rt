@@ -1,0 +1,30 @@
+//! The words that every layer above shares: whole amounts, wide sums, spans, names, values, rows,
+//! reservations and refusals, and the two small types that keep a list or a text.
+//!
+//! Its one contract: the answer of a span is the answer of its two limits, the low one first
+//! ([`Span::first_broken`]).
+#![tactic(auto)]
+
+pub mod amount;
+pub mod name;
+pub mod refusal;
+pub mod reservation;
+pub mod row;
+pub mod seq;
+pub mod session;
+pub mod span;
+pub mod text;
+pub mod value;
+pub mod wide;
+
+pub use amount::Amount;
+pub use name::Name;
+pub use refusal::{Breach, Refusal};
+pub use reservation::{Mark, Reservation};
+pub use row::Row;
+pub use seq::Seq;
+pub use session::{End, Session};
+pub use span::{Side, Span};
+pub use text::Text;
+pub use value::{RowName, Value};
+pub use wide::Wide;

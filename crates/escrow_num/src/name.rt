@@ -1,0 +1,104 @@
+ghost use Rattle.std.specs.Prelude.{◌≡◌, length, SomeIff, Some, refl, bytes_eq};
+ghost use Rattle.std.specs.Ordering.{nat_cmp};
+ghost use Rattle.std.specs.Cmp.{partial_equiv_from_equiv};
+ghost use Rattle.std.specs.Cmp.Lexicographic.{slice_cmp, nat_list_eq_equiv, nat_list_cmp_total, texts_ties, texts_po};
+ghost use Rattle.escrow_num.specs.Name.{IsName};
+
+use std::cmp::Ordering;
+use std::marker::Model;
+
+/// A name of a table, a column or a check: 1 to 36 bytes held in place, so that a copy takes no
+/// memory. A name that a statement writes has at most 30 of them; the check of a RESERVABLE
+/// column's range is named `RANGE_` and the column.
+#[derive(Clone, Copy, Debug)]
+pub struct Name {
+    bytes: [u8; 36],
+    len: usize,
+}
+
+impl Model for Name {
+    ghost use Rattle.std.specs.Prelude.{List, ℕ, ◌≡◌, ◌-◌, ◌≤◌, take, length};
+    ghost use Rattle.escrow_num.specs.Name.{IsName, padded};
+
+    ghost Value = { List ℕ };
+
+    ghost view = { λ n. take n.len n.bytes };
+
+    ghost invariant = { λ n. IsName (take n.len n.bytes) × (n.len ≤ 36) × (n.bytes ≡ padded (take n.len n.bytes)) };
+
+    ghost inverse = { λ name. record { bytes = padded name; len = length name } };
+
+    ghost use Rattle.std.proofs.Common.{sym, ap₂};
+    ghost use Rattle.escrow_num.specs.Name.{length-held};
+
+    ghost inverse_ok = { λ n h. ap₂ (λ (b : List ℕ) (l : ℕ). record { bytes = b; len = l }) (sym h.2) (length-held n.bytes n.len h.1 h.0.1 h.2) };
+}
+
+impl Name {
+    /// The most bytes that a name has.
+    pub const MOST: usize = 36;
+
+    /// The name of these bytes, or `None` unless there are 1 to 36 of them.
+    pub fn new(text: &[u8]) -> Option<Self>
+        ensures { SomeIff result (IsName text.now) text.now }
+    {
+        if text.is_empty() || Self::MOST < text.len() {
+            return None;
+        }
+        let mut bytes = [0; 36];
+        for (i, byte) in text.iter().enumerate() {
+            bytes[i] = *byte;
+        }
+        Some(Name {
+            bytes,
+            len: text.len(),
+        })
+    }
+
+    /// The bytes of the name, 1 to 36 of them.
+    pub fn as_bytes(&self) -> &[u8]
+        ensures value { result.now ≡ self.now }
+        ensures within { IsName result.now }
+    {
+        &self.bytes[..self.len]
+    }
+}
+
+impl PartialEq for Name {
+    ghost eq = { bytes_eq };
+
+    ghost laws = { partial_equiv_from_equiv nat_list_eq_equiv };
+
+    fn eq(&self, other: &Self) -> bool {
+        self.as_bytes() == other.as_bytes()
+    }
+}
+
+impl Eq for Name {
+    ghost laws = { nat_list_eq_equiv };
+}
+
+/// Names are ordered by their bytes.
+impl PartialOrd for Name {
+    ghost partial_cmp = { λ a b. Some (slice_cmp nat_cmp a b) };
+
+    ghost laws = { texts_po };
+
+    fn partial_cmp(&self, other: &Self) -> Option<Ordering> {
+        Some(self.cmp(other))
+    }
+}
+
+impl Ord for Name {
+    ghost cmp = { slice_cmp nat_cmp };
+
+    ghost total = { nat_list_cmp_total };
+
+    ghost matches_partial_cmp = { λ a b. refl };
+
+    ghost matches_eq = { texts_ties };
+
+    fn cmp(&self, other: &Self) -> Ordering {
+        self.as_bytes().cmp(other.as_bytes())
+    }
+}

@@ -1,0 +1,56 @@
+ghost use Rattle.std.specs.Prelude.{◌≡◌, ◌≤◌, SomeIff};
+ghost use Rattle.escrow_num.specs.Session.{IsSession};
+
+use std::marker::Model;
+
+/// The number of a session of a database, from 1 to 64.
+#[derive(Clone, Copy, Debug, PartialEq, Eq, PartialOrd, Ord)]
+pub struct Session {
+    number: u8,
+}
+
+impl Model for Session {
+    ghost use Rattle.std.specs.Prelude.{ℕ};
+    ghost use Rattle.escrow_num.specs.Session.{IsSession};
+
+    ghost Value = { ℕ };
+
+    ghost view = { λ s. s.number };
+
+    ghost invariant = { λ s. IsSession s.number };
+
+    ghost inverse = { λ n. record { number = n } };
+}
+
+impl Session {
+    /// How many sessions a database has.
+    pub const MOST: u8 = 64;
+
+    /// The session of a number, or `None` unless it is from 1 to 64.
+    pub fn new(number: u8) -> Option<Self>
+        ensures { SomeIff result (IsSession number) number }
+    {
+        if number < 1 || Self::MOST < number {
+            None
+        } else {
+            Some(Session { number })
+        }
+    }
+
+    /// The number, from 1 to 64.
+    pub fn get(self) -> u8
+        ensures value { result ≡ self }
+        ensures within { IsSession result }
+    {
+        self.number
+    }
+}
+
+/// How a transaction ends.
+#[derive(Clone, Copy, Debug, PartialEq, Eq)]
+pub enum End {
+    /// Its reservations are applied to the committed rows.
+    Commit,
+    /// Its reservations are dropped.
+    Rollback,
+}

@@ -1,0 +1,66 @@
+ghost use Rattle.std.specs.Prelude.{◌≡◌, ◌↔◌, IsTrue, IfOk};
+
+use crate::amount::Amount;
+use crate::name::Name;
+use crate::text::Text;
+use std::alloc::{AllocError, Global};
+
+/// A value that a column can hold.
+#[derive(Debug, Drop)]
+pub enum Value {
+    /// A whole number.
+    Number(Amount),
+    /// A text.
+    Text(Text),
+}
+
+impl Value {
+    /// A copy of the value. Only a text takes memory.
+    pub fn copy(&self, alloc: Global) -> Result<Value, AllocError>
+        ensures { IfOk result (λ v. v ≡ self.now) }
+    {
+        match self {
+            Value::Number(amount) => Ok(Value::Number(*amount)),
+            Value::Text(text) => Ok(Value::Text(text.copy(alloc)?)),
+        }
+    }
+
+    /// Whether two values are the same.
+    pub fn is_same(&self, other: &Value) -> bool
+        ensures { IsTrue result ↔ (self.now ≡ other.now) }
+    {
+        match (self, other) {
+            (Value::Number(a), Value::Number(b)) => *a == *b,
+            (Value::Text(a), Value::Text(b)) => a.is_same(b),
+            _ => false,
+        }
+    }
+}
+
+/// The name of a row: its table and its key.
+#[derive(Debug, Drop)]
+pub struct RowName {
+    /// The table's name.
+    pub table: Name,
+    /// The value of the row's key column.
+    pub key: Value,
+}
+
+impl RowName {
+    /// A copy of the row's name. Only a key that is a text takes memory.
+    pub fn copy(&self, alloc: Global) -> Result<RowName, AllocError>
+        ensures { IfOk result (λ r. r ≡ self.now) }
+    {
+        Ok(RowName {
+            table: self.table,
+            key: self.key.copy(alloc)?,
+        })
+    }
+
+    /// Whether two names are of the same row.
+    pub fn is_same(&self, other: &RowName) -> bool
+        ensures { IsTrue result ↔ (self.now ≡ other.now) }
+    {
+        self.table == other.table && self.key.is_same(&other.key)
+    }
+}

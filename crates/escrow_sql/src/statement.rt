@@ -1,0 +1,145 @@
+use escrow_num::{Amount, Name, Seq, Value};
+
+/// What a text asks of the server.
+#[derive(Debug, Drop)]
+pub enum Request {
+    /// A statement of a database.
+    Statement(Statement),
+}
+
+/// A statement of a database, as its text says it: nothing in it is looked up or judged yet.
+#[derive(Debug, Drop)]
+pub enum Statement {
+    /// `CREATE TABLE name (..)`
+    Create(CreateText),
+    /// `INSERT INTO name VALUES (..)`
+    Insert(InsertText),
+    /// `UPDATE name SET .. WHERE ..`
+    Update(UpdateText),
+    /// `COMMIT [WORK]`
+    Commit,
+    /// `ROLLBACK [WORK]`
+    Rollback,
+}
+
+/// The text of a CREATE TABLE.
+#[derive(Debug, Drop)]
+pub struct CreateText {
+    /// The table's name.
+    pub table: Name,
+    /// What stands in its parentheses, in order.
+    pub items: Seq<Item>,
+}
+
+/// One item of a CREATE TABLE.
+#[derive(Debug, Drop)]
+pub enum Item {
+    /// A column.
+    Column(ColumnText),
+}
+
+/// The text of a column.
+#[derive(Debug, Drop)]
+pub struct ColumnText {
+    /// The column's name.
+    pub name: Name,
+    /// Its type.
+    pub kind: TypeText,
+    /// What stands behind its type, in order.
+    pub marks: Seq<ColumnMark>,
+}
+
+/// The type of a column, as written.
+#[derive(Clone, Copy, Debug, PartialEq, Eq)]
+pub enum TypeText {
+    /// `INTEGER`
+    Integer,
+    /// `NUMBER`, or `NUMBER(p)` with the p that is written.
+    Number(Option<Amount>),
+}
+
+/// What may stand behind a column's type.
+#[derive(Clone, Copy, Debug)]
+pub enum ColumnMark {
+    /// `PRIMARY KEY`
+    PrimaryKey,
+    /// `RESERVABLE`
+    Reservable,
+    /// `NOT NULL`, which every column is.
+    NotNull,
+    /// `[CONSTRAINT name] CHECK (..)`
+    Check(CheckText),
+}
+
+/// The text of a CHECK.
+#[derive(Clone, Copy, Debug)]
+pub struct CheckText {
+    /// The name that is written behind CONSTRAINT, if one is.
+    pub name: Option<Name>,
+    /// The condition in its parentheses.
+    pub condition: Condition,
+}
+
+/// A condition of a CHECK: a column compared with a number.
+#[derive(Clone, Copy, Debug)]
+pub struct Condition {
+    /// The column on the left.
+    pub column: Name,
+    /// How it is compared.
+    pub comparison: Comparison,
+    /// The number on the right.
+    pub limit: Amount,
+}
+
+/// A comparison of a condition.
+#[derive(Clone, Copy, Debug, PartialEq, Eq)]
+pub enum Comparison {
+    /// `<`
+    Below,
+    /// `<=`
+    AtMost,
+    /// `>`
+    Above,
+    /// `>=`
+    AtLeast,
+}
+
+/// The text of an INSERT.
+#[derive(Debug, Drop)]
+pub struct InsertText {
+    /// The table's name.
+    pub table: Name,
+    /// The literals, in order.
+    pub values: Seq<Value>,
+}
+
+/// The text of an UPDATE.
+#[derive(Debug, Drop)]
+pub struct UpdateText {
+    /// The table's name.
+    pub table: Name,
+    /// What stands behind SET.
+    pub assign: Assign,
+    /// What stands behind WHERE.
+    pub row: WhereText,
+}
+
+/// An assignment, `column = source + change`, where a minus makes the change negative.
+#[derive(Clone, Copy, Debug)]
+pub struct Assign {
+    /// The column that is assigned.
+    pub column: Name,
+    /// The column on the right.
+    pub source: Name,
+    /// What is added to it.
+    pub change: Amount,
+}
+
+/// The condition of a WHERE, `column = value`.
+#[derive(Debug, Drop)]
+pub struct WhereText {
+    /// The column.
+    pub column: Name,
+    /// The literal that it is compared with.
+    pub value: Value,
+}
