@@ -1,5 +1,6 @@
 pub mod Amount
 pub mod Name
+pub mod Order
 pub mod Refusal
 pub mod Session
 pub mod Span

@@ -1,4 +1,5 @@
-use Rattle.std.specs.Prelude.{ℕ}
+use Rattle.std.specs.Prelude.{ℕ, Bool, if◌then◌else◌, Option, Some, None, List, [], ◌∷◌}
+use Rattle.escrow_num.specs.Span.{first_of_two}
 use Rattle.escrow_num.specs.declared.refusal.Refusal.{Refusal}
 use Rattle.escrow_num.specs.declared.refusal.Refusal.TheVariants as refusal
 
@@ -29,3 +30,12 @@ number_of refusal.TranscriptFull = 52
 number_of refusal.Store = 60
 number_of refusal.ForeignStore = 61
 number_of refusal.UnknownVersion = 62
+
+-- a refusal where a test holds
+abbrev pub refuse_if : Bool → Refusal → Option Refusal
+refuse_if test refusal = if test then Some refusal else None
+
+-- the first refusal that there is, of those in a list
+abbrev pub first_refusal : List (Option Refusal) → Option Refusal
+first_refusal [] = None
+first_refusal (refusal ∷ refusals) = first_of_two refusal (first_refusal refusals)

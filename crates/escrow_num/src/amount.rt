@@ -1,4 +1,4 @@
-ghost use Rattle.std.specs.Prelude.{◌≡◌, IsSome, IfSome, ◌↔◌, SomeIff};
+ghost use Rattle.std.specs.Prelude.{◌≡◌, ◌+ℤ◌, IsSome, IfSome, ◌↔◌, SomeIff};
 ghost use Rattle.escrow_num.specs.Amount.{IsAmount};
 
 use std::marker::Model;
@@ -43,6 +43,16 @@ impl Amount {
     pub fn read(text: &str) -> Option<Self>
     {
         text.parse::<i64>().ok().and_then(Amount::new)
+    }
+
+    /// The sum of two, where it is within the limit.
+    pub fn plus(self, other: Amount) -> Amount
+        requires { IsAmount (self +ℤ other) }
+        ensures { result ≡ self +ℤ other }
+    {
+        Amount {
+            value: self.value + other.value,
+        }
     }
 
     /// The number, within the limit.

@@ -15,9 +15,11 @@ pub struct Reservation {
     pub table: Name,
     /// The row's key.
     pub key: Value,
-    /// For each RESERVABLE column of the table, in column order, the change that was asked, if one
-    /// was: an UPDATE that adds zero asks a change of zero.
-    pub changes: Seq<Option<Amount>>,
+    /// The change of each RESERVABLE column of the table, in column order: zero where the UPDATE
+    /// doesn't assign the column.
+    pub changes: Seq<Amount>,
+    /// Whether the UPDATE assigns each RESERVABLE column: one that adds zero does.
+    pub assigned: Seq<bool>,
 }
 
 /// A savepoint of a transaction.

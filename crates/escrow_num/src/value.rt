@@ -4,6 +4,7 @@ use crate::amount::Amount;
 use crate::name::Name;
 use crate::text::Text;
 use std::alloc::{AllocError, Global};
+use std::cmp::Ordering;
 
 /// A value that a column can hold.
 #[derive(Debug, Drop)]
@@ -15,6 +16,8 @@ pub enum Value {
 }
 
 impl Value {
+    ghost use Rattle.escrow_num.specs.Order.{value_eq, value_cmp};
+
     /// A copy of the value. Only a text takes memory.
     pub fn copy(&self, alloc: Global) -> Result<Value, AllocError>
         ensures { IfOk result (λ v. v ≡ self.now) }
@@ -27,12 +30,26 @@ impl Value {
 
     /// Whether two values are the same.
     pub fn is_same(&self, other: &Value) -> bool
-        ensures { IsTrue result ↔ (self.now ≡ other.now) }
+        ensures test { result ≡ value_eq self.now other.now }
+        ensures same { IsTrue result ↔ (self.now ≡ other.now) }
     {
         match (self, other) {
             (Value::Number(a), Value::Number(b)) => *a == *b,
             (Value::Text(a), Value::Text(b)) => a.is_same(b),
             _ => false,
+        }
+    }
+
+    /// How two values compare: numbers in their order, texts by their bytes, and numbers before
+    /// texts.
+    pub fn compare(&self, other: &Value) -> Ordering
+        ensures { result ≡ value_cmp self.now other.now }
+    {
+        match (self, other) {
+            (Value::Number(a), Value::Number(b)) => a.cmp(b),
+            (Value::Text(a), Value::Text(b)) => a.as_str().cmp(b.as_str()),
+            (Value::Number(_), Value::Text(_)) => Ordering::Less,
+            (Value::Text(_), Value::Number(_)) => Ordering::Greater,
         }
     }
 }

@@ -1,0 +1,28 @@
+use Rattle.std.specs.Prelude.{ℤ, pos, List, [], ◌∷◌, map}
+use Rattle.std.specs.Int.{int_min, int_max}
+use Rattle.escrow_checks.specs.Form.{form, all_changed}
+use Rattle.escrow_checks.specs.Sublists.{sublists}
+
+-- what the form comes to after each choice of the open reservations, each a list of changes
+abbrev pub outcomes : List ℤ → List ℤ → List (List ℤ) → List ℤ
+outcomes coeffs amounts pending = map (λ chosen. form coeffs (all_changed amounts chosen)) (sublists pending)
+
+-- the smallest of numbers
+abbrev pub smallest : List ℤ → ℤ
+smallest [] = pos 0
+smallest (x ∷ []) = x
+smallest (x ∷ y ∷ rest) = int_min x (smallest (y ∷ rest))
+
+-- the greatest of numbers
+abbrev pub largest : List ℤ → ℤ
+largest [] = pos 0
+largest (x ∷ []) = x
+largest (x ∷ y ∷ rest) = int_max x (largest (y ∷ rest))
+
+-- the least that the form comes to, whichever of the open reservations are applied
+abbrev pub least : List ℤ → List ℤ → List (List ℤ) → ℤ
+least coeffs amounts pending = smallest (outcomes coeffs amounts pending)
+
+-- the greatest that the form comes to, whichever of the open reservations are applied
+abbrev pub greatest : List ℤ → List ℤ → List (List ℤ) → ℤ
+greatest coeffs amounts pending = largest (outcomes coeffs amounts pending)

@@ -1,0 +1,24 @@
+use Rattle.std.specs.Prelude.{ℤ, List, [], ◌∷◌, Option, Some, None, option_map}
+use Rattle.escrow_num.specs.Span.{Holds, first_broken_of, first_of_two}
+use Rattle.escrow_num.specs.declared.refusal.Breach.{Breach}
+use Rattle.escrow_checks.specs.declared.check.Check.{Check}
+use Rattle.escrow_checks.specs.Form.{form, changed}
+use Rattle.escrow_checks.specs.Extremes.{least, greatest}
+
+-- a row's amounts meet a check: the form at them is within the check's limits
+abbrev pub Meets : Check → List ℤ → Type 0
+Meets check amounts = Holds check.span (form check.coeffs amounts)
+
+-- what a new reservation breaks of a check: the first limit beyond which an extreme lies, over the
+-- choices of the open reservations that hold the new one
+abbrev pub broken_by : Check → List ℤ → List ℤ → List (List ℤ) → Option Breach
+broken_by check amounts changes pending =
+    let with_new = changed amounts changes in
+    option_map (λ limit. record { check = check.name; side = limit.0; worst = limit.1; limit = limit.2 })
+    (first_broken_of check.span (least check.coeffs with_new pending) (greatest check.coeffs with_new pending))
+
+-- the grant rule: the first check, in the table's order, that a new reservation breaks; it is
+-- granted where there is none
+abbrev pub broken : List Check → List ℤ → List ℤ → List (List ℤ) → Option Breach
+broken [] amounts changes pending = None
+broken (check ∷ checks) amounts changes pending = first_of_two (broken_by check amounts changes pending) (broken checks amounts changes pending)

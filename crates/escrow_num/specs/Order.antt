@@ -1,0 +1,29 @@
+use Rattle.std.specs.Prelude.{ℕ, ℤ, Bool, true, false, ◌&&◌, bytes_eq, List}
+use Rattle.std.specs.Ordering.{nat_cmp, int_cmp, int_eq, ordering_then}
+use Rattle.std.specs.declared.cmp.Ordering.{Ordering}
+use Rattle.std.specs.declared.cmp.Ordering.TheVariants.{Less, Greater}
+use Rattle.std.specs.Cmp.Lexicographic.{slice_cmp}
+use Rattle.escrow_num.specs.declared.value.Value.{Value}
+use Rattle.escrow_num.specs.declared.value.Value.TheVariants.{Number, Text}
+
+-- two values are the same
+abbrev pub value_eq : Value → Value → Bool
+value_eq (Number a) (Number b) = int_eq a b
+value_eq (Text a) (Text b) = bytes_eq a b
+value_eq (Number a) (Text b) = false
+value_eq (Text a) (Number b) = false
+
+-- numbers are in their order, texts in that of their bytes, and numbers come before texts
+abbrev pub value_cmp : Value → Value → Ordering
+value_cmp (Number a) (Number b) = int_cmp a b
+value_cmp (Text a) (Text b) = slice_cmp nat_cmp a b
+value_cmp (Number a) (Text b) = Less
+value_cmp (Text a) (Number b) = Greater
+
+-- two rows' names, each a table and a key, are of the same row
+abbrev pub same_row : List ℕ → Value → List ℕ → Value → Bool
+same_row table key other_table other_key = bytes_eq table other_table && value_eq key other_key
+
+-- rows are in order of their table's name, and in a table in order of their keys
+abbrev pub row_cmp : List ℕ → Value → List ℕ → Value → Ordering
+row_cmp table key other_table other_key = ordering_then (slice_cmp nat_cmp table other_table) (value_cmp key other_key)

@@ -1,0 +1,113 @@
+use Rattle.std.specs.Prelude.{◌≡◌, ℕ, ℤ, pos, neg_ℤ, ◌+◌, ◌==◌, Bool, true, false, ◌&&◌, not, nat_le, if◌then◌else◌, Option, Some, None, option_map, option_and_then, unwrap_or, List, [], ◌∷◌, ◌++◌, length, map, count_by, position, slice_get, codes, bytes_eq, sum_by}
+use Rattle.std.specs.List.{list_any, list_all, flat_map}
+use Rattle.escrow_sql.specs.declared.statement.CreateText.{CreateText}
+use Rattle.escrow_sql.specs.declared.statement.Item.{Item}
+use Rattle.escrow_sql.specs.declared.statement.Item.TheVariants as item
+use Rattle.escrow_sql.specs.declared.statement.ColumnText.{ColumnText}
+use Rattle.escrow_sql.specs.declared.statement.CheckText.{CheckText}
+use Rattle.escrow_sql.specs.declared.statement.ColumnMark.{ColumnMark}
+use Rattle.escrow_sql.specs.declared.statement.ColumnMark.TheVariants as mark
+use Rattle.escrow_checks.specs.declared.check.Check.{Check}
+use Rattle.escrow_checks.specs.Condition.{declared, unit_of}
+use Rattle.escrow_schema.specs.declared.column.Column.{Column}
+use Rattle.escrow_schema.specs.declared.table.TableDef.{TableDef}
+use Rattle.escrow_schema.specs.Column.{type_of, top_of, reservables, names_of}
+
+-- a mark is PRIMARY KEY
+abbrev pub is_key_mark : ColumnMark → Bool
+is_key_mark mark.PrimaryKey = true
+is_key_mark mark.Reservable = false
+is_key_mark mark.NotNull = false
+is_key_mark (mark.Check text) = false
+
+-- a mark is RESERVABLE; written twice it means the same as once
+abbrev pub is_reservable_mark : ColumnMark → Bool
+is_reservable_mark mark.PrimaryKey = false
+is_reservable_mark mark.Reservable = true
+is_reservable_mark mark.NotNull = false
+is_reservable_mark (mark.Check text) = false
+
+-- the CHECK that a mark is
+abbrev pub check_of_mark : ColumnMark → List CheckText
+check_of_mark mark.PrimaryKey = []
+check_of_mark mark.Reservable = []
+check_of_mark mark.NotNull = []
+check_of_mark (mark.Check text) = text ∷ []
+
+-- the marks of an item
+abbrev pub marks_of : Item → List ColumnMark
+marks_of (item.Column text) = text.marks
+
+-- the CHECKs of a text, in order, wherever they stand
+abbrev pub checks_in : List Item → List CheckText
+checks_in items = flat_map (λ i. flat_map check_of_mark (marks_of i)) items
+
+-- how many times PRIMARY KEY is written
+abbrev pub key_marks : List Item → ℕ
+key_marks items = sum_by (λ i. count_by is_key_mark (marks_of i)) items
+
+-- the column that an item writes, where its type is one
+abbrev pub column_of : Item → Option Column
+column_of (item.Column text) =
+    option_map (λ kind. record { name = text.name; kind = kind; reservable = list_any is_reservable_mark text.marks }) (type_of text.kind)
+
+-- the columns that items write, in order, where each one's type is one
+abbrev pub columns_of : List Item → Option (List Column)
+columns_of [] = Some []
+columns_of (i ∷ items) = option_and_then (λ column. option_map (λ columns. column ∷ columns) (columns_of items)) (column_of i)
+
+-- no two names are the same
+abbrev pub are_distinct : List (List ℕ) → Bool
+are_distinct [] = true
+are_distinct (name ∷ names) = not (list_any (λ other. bytes_eq name other) names) && are_distinct names
+
+-- the check of a RESERVABLE column's range: from its type's least to its type's greatest
+abbrev pub range_check : List (List ℕ) → Column → Check
+range_check names column = record {
+    name = codes "RANGE_" ++ column.name;
+    coeffs = unit_of names column.name;
+    span = record { lo = Some (neg_ℤ (top_of column.kind)); hi = Some (top_of column.kind) };
+  }
+
+-- the checks of all ranges, in column order
+abbrev pub range_checks : List Column → List Check
+range_checks columns = map (range_check (names_of (reservables columns))) (reservables columns)
+
+-- the column at a place isn't RESERVABLE
+abbrev pub is_plain_at : List Column → ℕ → Bool
+is_plain_at columns place = unwrap_or (option_map (λ column. not column.reservable) (slice_get columns place)) false
+
+-- the rules on columns: 2 to 30 of them, of distinct names of at most 30 bytes; one PRIMARY KEY, on a
+-- column that isn't RESERVABLE; 1 to 10 RESERVABLE ones
+abbrev pub are_columns : List Item → List Column → ℕ → Bool
+are_columns items columns key =
+    nat_le 2 (length columns) && nat_le (length columns) 30
+    && are_distinct (names_of columns) && list_all (λ name. nat_le (length name) 30) (names_of columns)
+    && (key_marks items == 1) && is_plain_at columns key
+    && nat_le 1 (length (reservables columns)) && nat_le (length (reservables columns)) 10
+
+-- the names of a list of checks
+abbrev pub check_names : List Check → List (List ℕ)
+check_names checks = map (λ check. check.name) checks
+
+-- a table of these columns, key and checks, where the checks' names are distinct
+abbrev pub table_with : List ℕ → List Column → ℕ → List Check → Option TableDef
+table_with name columns key checks =
+    if are_distinct (check_names checks) then Some (record { name = name; columns = columns; key = key; checks = checks }) else None
+
+-- the table of these columns, where they follow the rules and so do the CHECKs; the key is the
+-- column that has PRIMARY KEY
+abbrev pub table_of : CreateText → List Column → Option TableDef
+table_of text columns =
+    let key = unwrap_or (position (λ i. list_any is_key_mark (marks_of i)) text.items) 0 in
+    if are_columns text.items columns key
+    then option_and_then (λ checks. table_with text.table columns key (checks ++ range_checks columns)) (declared (names_of (reservables columns)) (checks_in text.items))
+    else None
+
+-- the table that a CREATE TABLE defines, or nothing where it breaks a rule
+abbrev pub defined : CreateText → Option TableDef
+defined text = option_and_then (table_of text) (columns_of text.items)
+
+-- a table is one that some text defines
+abbrev pub IsTable : TableDef → Type 0
+IsTable table = (text : CreateText) × (defined text ≡ Some table)

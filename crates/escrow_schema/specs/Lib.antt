@@ -1,0 +1,4 @@
+pub mod Column
+pub mod Definition
+pub mod Fit
+pub mod Plan
