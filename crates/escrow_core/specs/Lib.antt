@@ -1,0 +1,4 @@
+pub mod Reply
+pub mod State
+pub mod Step
+pub mod Valid

@@ -1,0 +1,18 @@
+use Rattle.std.specs.Prelude.{Option, Some, None}
+use Rattle.escrow_num.specs.declared.refusal.Refusal.{Refusal}
+use Rattle.escrow_num.specs.declared.refusal.Refusal.TheVariants as refusal
+use Rattle.escrow_core.specs.declared.reply.Reply.{Reply}
+use Rattle.escrow_core.specs.declared.reply.Reply.TheVariants as reply
+use Rattle.escrow_core.specs.declared.reply.Failure.{Failure}
+use Rattle.escrow_core.specs.declared.reply.Failure.TheVariants as failure
+
+-- the failure that a refusal is, if it is one
+abbrev pub failure_of_refusal : Refusal → Option Failure
+failure_of_refusal refusal.Memory = Some failure.Memory
+failure_of_refusal refusal.Store = Some failure.Store
+failure_of_refusal _ = None
+
+-- the failure that a reply is, if it is one
+abbrev pub failure_of : Reply → Option Failure
+failure_of (reply.Refused r) = failure_of_refusal r
+failure_of _ = None

@@ -1,0 +1,13 @@
+//! The database: tables, committed rows and open reservations, and the step from one statement to
+//! its reply and the next state.
+//!
+//! Its one contract: [`Database::step`] is the machine's step, that of a machine that keeps
+//! committed rows and a list of open reservations and tries every choice of that list; or it is
+//! refused for memory, and the state is equal.
+#![tactic(auto)]
+
+pub mod database;
+pub mod reply;
+
+pub use database::Database;
+pub use reply::{Failure, Reply};
