@@ -1,33 +1,29 @@
-use Rattle.std.specs.Prelude.{ℕ, ℤ, pos, negsuc, neg_ℤ, ◌+◌, ◌-◌, ◌*◌, ◌==◌, ◌≤ℤ◌, Bool, false, ◌&&◌, ◌||◌, nat_le, if◌then◌else◌, Option, Some, None, List, [], ◌∷◌}
+use Rattle.std.specs.Prelude.{ℕ, ℤ, pos, neg_ℤ, ◌+◌, ◌-◌, ◌*◌, ◌^◌, ◌==◌, ◌≤ℤ◌, Bool, false, ◌&&◌, ◌||◌, nat_le, if◌then◌else◌, length, Option, Some, None, List, [], ◌∷◌}
 use Rattle.std.specs.Str.{all_ascii_digits}
 
 -- an amount is a whole number of at most 15 digits, of either sign
 abbrev pub IsAmount : ℤ → Type 0
-IsAmount z = (negsuc 999999999999998 ≤ℤ z) × (z ≤ℤ pos 999999999999999)
+IsAmount z = (neg_ℤ (pos 999999999999999) ≤ℤ z) × (z ≤ℤ pos 999999999999999)
 
 -- a text begins with a minus
 abbrev pub is_negative : List ℕ → Bool
 is_negative [] = false
 is_negative (c ∷ cs) = c == 45
 
--- what follows a text's sign, where it has one
+-- what follows a text's sign, a minus or a plus, where it has one
 abbrev pub after_sign : List ℕ → List ℕ
 after_sign [] = []
-after_sign (c ∷ cs) = if c == 43 || c == 45 then cs else c ∷ cs
+after_sign (c ∷ cs) = if c == 45 || c == 43 then cs else c ∷ cs
 
 -- one or more decimal digits, and nothing else
 abbrev pub is_numeral : List ℕ → Bool
 is_numeral [] = false
 is_numeral (c ∷ cs) = all_ascii_digits (c ∷ cs)
 
--- the number that digits spell after n: each digit moves what is before it up by one place
-abbrev pub number_after : ℕ → List ℕ → ℕ
-number_after n [] = n
-number_after n (c ∷ cs) = number_after (10 * n + (c - 48)) cs
-
--- the number that digits spell
+-- the number that digits spell: each digit counts by its place, the last one for itself
 abbrev pub number_of : List ℕ → ℕ
-number_of digits = number_after 0 digits
+number_of [] = 0
+number_of (c ∷ cs) = (c - 48) * 10 ^ length cs + number_of cs
 
 -- a number with its sign
 abbrev pub signed : Bool → ℕ → ℤ
@@ -37,4 +33,5 @@ signed negative n = if negative then neg_ℤ (pos n) else pos n
 abbrev pub spelled : List ℕ → Option ℤ
 spelled text =
     let digits = after_sign text in
-    if is_numeral digits && nat_le (number_of digits) 999999999999999 then Some (signed (is_negative text) (number_of digits)) else None
+    let number = number_of digits in
+    if is_numeral digits && nat_le number 999999999999999 then Some (signed (is_negative text) number) else None

@@ -4,4 +4,5 @@ pub mod Order
 pub mod Refusal
 pub mod Session
 pub mod Span
+pub mod Value
 pub mod Wide

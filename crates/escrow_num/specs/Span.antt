@@ -1,4 +1,4 @@
-use Rattle.std.specs.Prelude.{ℤ, ◌≤ℤ◌, int_lt, Option, Some, None, IfSome, if◌then◌else◌, unwrap_or}
+use Rattle.std.specs.Prelude.{ℤ, ◌≤ℤ◌, int_lt, Option, Some, None, IfSome, if◌then◌else◌}
 use Rattle.escrow_num.specs.declared.span.Span.{Span}
 use Rattle.escrow_num.specs.declared.span.Side.{Side}
 use Rattle.escrow_num.specs.declared.span.Side.TheVariants.{Low, High}
@@ -6,6 +6,10 @@ use Rattle.escrow_num.specs.declared.span.Side.TheVariants.{Low, High}
 -- a value is neither below the low limit nor above the high one
 abbrev pub Holds : Span → ℤ → Type 0
 Holds span z = IfSome span.lo (λ lo. lo ≤ℤ z) × IfSome span.hi (λ hi. z ≤ℤ hi)
+
+-- every value from the least to the greatest is in the span
+abbrev pub HoldsBetween : Span → ℤ → ℤ → Type 0
+HoldsBetween span least greatest = (z : ℤ) → least ≤ℤ z → z ≤ℤ greatest → Holds span z
 
 -- the low side, where there is a low limit and the least value is below it
 abbrev pub low_broken : Option ℤ → ℤ → Option (Side × ℤ × ℤ)

@@ -1,6 +1,7 @@
-ghost use Rattle.std.specs.Prelude.{◌≡◌, ◌+ℤ◌, IsSome, IfSome, ◌↔◌, SomeIff};
-ghost use Rattle.escrow_num.specs.Amount.{IsAmount};
+ghost use Rattle.std.specs.Prelude.{◌≡◌, ◌+ℤ◌, SomeIff};
+ghost use Rattle.escrow_num.specs.Amount.{IsAmount, spelled};
 
+use std::fmt;
 use std::marker::Model;
 
 /// A whole number of magnitude at most 999,999,999,999,999 (15 digits): a value of a numeric
@@ -41,6 +42,7 @@ impl Amount {
     /// The amount that a text spells: an optional `+` or `-`, then one or more digits, leading
     /// zeros allowed. `None` for any other text, and for a number past the limit.
     pub fn read(text: &str) -> Option<Self>
+        ensures { result ≡ spelled text.now }
     {
         text.parse::<i64>().ok().and_then(Amount::new)
     }
@@ -61,5 +63,19 @@ impl Amount {
         ensures within { IsAmount result }
     {
         self.value
+    }
+}
+
+/// The number in decimal, with `-` in front where it is negative.
+impl fmt::Display for Amount {
+    ghost use Rattle.std.specs.Prelude.{Some};
+    ghost use Rattle.std.specs.Fmt.{signed_decimal, styled_signed_decimal};
+
+    ghost output = { λ a. Some (signed_decimal a) };
+
+    ghost styled_output = { λ a spec. Some (styled_signed_decimal spec a) };
+
+    fn fmt<W: fmt::Write>(&self, f: &mut fmt::Formatter<W>) -> fmt::Result {
+        fmt::Display::fmt(&self.get(), f)
     }
 }

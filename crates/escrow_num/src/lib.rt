@@ -1,7 +1,8 @@
 //! The words that every layer above shares: whole amounts, wide sums, spans, names, values, rows,
 //! reservations and refusals, and the two small types that keep a list or a text.
 //!
-//! Its one contract: the answer of a span is the answer of its two limits, the low one first
+//! Its one contract: the answer of a span is the answer of its two limits, the low one first, and
+//! there is none exactly where each value between the two extremes is allowed
 //! ([`Span::first_broken`]).
 #![tactic(auto)]
 
@@ -28,3 +29,6 @@ pub use span::{Side, Span};
 pub use text::Text;
 pub use value::{RowName, Value};
 pub use wide::Wide;
+
+#[cfg(test)]
+mod tests;

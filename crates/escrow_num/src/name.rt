@@ -1,16 +1,17 @@
-ghost use Rattle.std.specs.Prelude.{◌≡◌, length, SomeIff, Some, refl, bytes_eq};
+ghost use Rattle.std.specs.Prelude.{◌≡◌, SomeIff, Some, refl, bytes_eq};
 ghost use Rattle.std.specs.Ordering.{nat_cmp};
 ghost use Rattle.std.specs.Cmp.{partial_equiv_from_equiv};
 ghost use Rattle.std.specs.Cmp.Lexicographic.{slice_cmp, nat_list_eq_equiv, nat_list_cmp_total, texts_ties, texts_po};
 ghost use Rattle.escrow_num.specs.Name.{IsName};
 
 use std::cmp::Ordering;
+use std::fmt;
 use std::marker::Model;
 
 /// A name of a table, a column or a check: 1 to 36 bytes held in place, so that a copy takes no
 /// memory. A name that a statement writes has at most 30 of them; the check of a RESERVABLE
 /// column's range is named `RANGE_` and the column.
-#[derive(Clone, Copy, Debug)]
+#[derive(Clone, Copy)]
 pub struct Name {
     bytes: [u8; 36],
     len: usize,
@@ -100,5 +101,30 @@ impl Ord for Name {
 
     fn cmp(&self, other: &Self) -> Ordering {
         self.as_bytes().cmp(other.as_bytes())
+    }
+}
+
+/// The name's text. A name that is no text is shown as a list of its bytes.
+impl fmt::Display for Name {
+    ghost use Rattle.std.specs.Prelude.{Some, None, if◌then◌else◌};
+    ghost use Rattle.std.specs.Str.{is_utf8};
+
+    ghost output = { λ name. if is_utf8 name then Some name else None };
+
+    fn fmt<W: fmt::Write>(&self, f: &mut fmt::Formatter<W>) -> fmt::Result {
+        match str::from_utf8(self.as_bytes()) {
+            Ok(text) => fmt::Display::fmt(&text, f),
+            Err(_) => fmt::Debug::fmt(self.as_bytes(), f),
+        }
+    }
+}
+
+/// The name's text in quotes. A name that is no text is shown as a list of its bytes.
+impl fmt::Debug for Name {
+    fn fmt<W: fmt::Write>(&self, f: &mut fmt::Formatter<W>) -> fmt::Result {
+        match str::from_utf8(self.as_bytes()) {
+            Ok(text) => fmt::Debug::fmt(text, f),
+            Err(_) => fmt::Debug::fmt(self.as_bytes(), f),
+        }
     }
 }

@@ -1,5 +1,5 @@
-ghost use Rattle.std.specs.Prelude.{◌≡◌, ◌≤ℤ◌, ◌↔◌, IsTrue};
-ghost use Rattle.escrow_num.specs.Span.{Holds, first_broken_of};
+ghost use Rattle.std.specs.Prelude.{◌≡◌, ◌≤ℤ◌, ◌↔◌, IsTrue, IsNone};
+ghost use Rattle.escrow_num.specs.Span.{Holds, HoldsBetween, first_broken_of};
 
 use crate::wide::Wide;
 
@@ -38,13 +38,17 @@ impl Span {
     }
 
     /// The first limit that the values from `least` to `greatest` leave, the low one before the
-    /// high one: the side, the extreme beyond it, and the limit. `None` where they leave neither.
+    /// high one: the side, the extreme beyond it, and the limit. `None` where they leave neither,
+    /// which is where each value between them is in the span.
     /// This is O'Neil's test (1986) of the bounds `inf` and `sup` of a field against its limits.
     pub fn first_broken(&self, least: Wide, greatest: Wide) -> Option<(Side, Wide, Wide)>
         requires { least ≤ℤ greatest }
-        ensures { result ≡ first_broken_of self.now least greatest }
+        ensures first { result ≡ first_broken_of self.now least greatest }
+        ensures unbroken { IsNone result ↔ HoldsBetween self.now least greatest }
     {
-        if let Some(lo) = self.lo && least < lo {
+        if let Some(lo) = self.lo
+            && least < lo
+        {
             return Some((Side::Low, least, lo));
         }
         match self.hi {

@@ -26,11 +26,18 @@ impl Text {
         Text { text }
     }
 
+    /// The string of the text. Takes no memory.
+    pub fn into_string(self) -> String
+        ensures { string_bytes result ≡ self }
+    {
+        self.text
+    }
+
     /// The text itself.
     pub fn as_str(&self) -> &str
         ensures { result.now ≡ self.now }
     {
-        self.text.as_str()
+        &self.text
     }
 
     /// A copy of the text.
@@ -38,7 +45,7 @@ impl Text {
         ensures { IfOk result (λ t. t ≡ self.now) }
     {
         Ok(Text {
-            text: String::from_str(alloc, self.text.as_str())?,
+            text: String::from_str(alloc, self.as_str())?,
         })
     }
 

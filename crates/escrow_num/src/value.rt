@@ -1,4 +1,4 @@
-ghost use Rattle.std.specs.Prelude.{◌≡◌, ◌↔◌, IsTrue, IfOk};
+ghost use Rattle.std.specs.Prelude.{◌≡◌, ◌↔◌, IsTrue, IsOk, IfOk, false};
 
 use crate::amount::Amount;
 use crate::name::Name;
@@ -17,10 +17,12 @@ pub enum Value {
 
 impl Value {
     ghost use Rattle.escrow_num.specs.Order.{value_eq, value_cmp};
+    ghost use Rattle.escrow_num.specs.Value.{holds_memory};
 
     /// A copy of the value. Only a text takes memory.
     pub fn copy(&self, alloc: Global) -> Result<Value, AllocError>
-        ensures { IfOk result (λ v. v ≡ self.now) }
+        ensures same { IfOk result (λ v. v ≡ self.now) }
+        ensures succeeds { holds_memory self.now ≡ false → IsOk result }
     {
         match self {
             Value::Number(amount) => Ok(Value::Number(*amount)),
@@ -64,9 +66,12 @@ pub struct RowName {
 }
 
 impl RowName {
+    ghost use Rattle.escrow_num.specs.Value.{holds_memory};
+
     /// A copy of the row's name. Only a key that is a text takes memory.
     pub fn copy(&self, alloc: Global) -> Result<RowName, AllocError>
-        ensures { IfOk result (λ r. r ≡ self.now) }
+        ensures same { IfOk result (λ r. r ≡ self.now) }
+        ensures succeeds { holds_memory self.now.key ≡ false → IsOk result }
     {
         Ok(RowName {
             table: self.table,

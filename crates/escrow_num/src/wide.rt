@@ -3,6 +3,7 @@ ghost use Rattle.escrow_num.specs.Wide.{IsWide};
 ghost use Rattle.escrow_num.specs.Amount.{IsAmount};
 
 use crate::amount::Amount;
+use std::fmt;
 use std::marker::Model;
 
 /// A sum of products of amounts: a whole number of magnitude at most 10^33. Every worst case of a
@@ -71,5 +72,19 @@ impl From<Amount> for Wide {
         Wide {
             value: i128::from(amount.get()),
         }
+    }
+}
+
+/// The number in decimal, with `-` in front where it is negative.
+impl fmt::Display for Wide {
+    ghost use Rattle.std.specs.Prelude.{Some};
+    ghost use Rattle.std.specs.Fmt.{signed_decimal, styled_signed_decimal};
+
+    ghost output = { λ w. Some (signed_decimal w) };
+
+    ghost styled_output = { λ w spec. Some (styled_signed_decimal spec w) };
+
+    fn fmt<W: fmt::Write>(&self, f: &mut fmt::Formatter<W>) -> fmt::Result {
+        fmt::Display::fmt(&self.get(), f)
     }
 }
