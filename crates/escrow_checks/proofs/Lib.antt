@@ -1,0 +1,7 @@
+pub mod CoefficientsLemmas
+pub mod ConditionLemmas
+pub mod ExtremesLemmas
+pub mod FormLemmas
+pub mod LawsLemmas
+pub mod Products
+pub mod SpreadLemmas

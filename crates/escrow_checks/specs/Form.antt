@@ -1,10 +1,14 @@
-use Rattle.std.specs.Prelude.{ℤ, pos, ◌+ℤ◌, ◌*ℤ◌, List, [], ◌∷◌}
+use Rattle.std.specs.Prelude.{ℤ, pos, ◌+ℤ◌, ◌*ℤ◌, ◌≤◌, List, [], ◌∷◌, length}
 
 -- the sum of coefficient times amount, column by column
 abbrev pub form : List ℤ → List ℤ → ℤ
 form [] amounts = pos 0
 form (c ∷ cs) [] = pos 0
 form (c ∷ cs) (a ∷ rest) = (c *ℤ a) +ℤ form cs rest
+
+-- a row has an amount for each coefficient
+abbrev pub IsCovered : List ℤ → List ℤ → Type 0
+IsCovered coeffs amounts = length coeffs ≤ length amounts
 
 -- amounts with a list of changes added, column by column; a change that isn't listed is zero
 abbrev pub changed : List ℤ → List ℤ → List ℤ

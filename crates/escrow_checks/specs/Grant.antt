@@ -1,13 +1,18 @@
-use Rattle.std.specs.Prelude.{ℤ, List, [], ◌∷◌, Option, Some, None, option_map}
+use Rattle.std.specs.Prelude.{ℤ, List, [], ◌∷◌, All, Option, Some, None, option_map}
 use Rattle.escrow_num.specs.Span.{Holds, first_broken_of, first_of_two}
 use Rattle.escrow_num.specs.declared.refusal.Breach.{Breach}
 use Rattle.escrow_checks.specs.declared.check.Check.{Check}
-use Rattle.escrow_checks.specs.Form.{form, changed}
+use Rattle.escrow_checks.specs.Form.{form, changed, all_changed}
+use Rattle.escrow_checks.specs.Sublists.{sublists}
 use Rattle.escrow_checks.specs.Extremes.{least, greatest}
 
 -- a row's amounts meet a check: the form at them is within the check's limits
 abbrev pub Meets : Check → List ℤ → Type 0
 Meets check amounts = Holds check.span (form check.coeffs amounts)
+
+-- a row meets a check whichever of the open reservations are applied
+abbrev pub AlwaysMeets : Check → List ℤ → List (List ℤ) → Type 0
+AlwaysMeets check amounts pending = All (λ chosen. Meets check (all_changed amounts chosen)) (sublists pending)
 
 -- what a new reservation breaks of a check: the first limit beyond which an extreme lies, over the
 -- choices of the open reservations that hold the new one

@@ -1,6 +1,10 @@
 pub mod Coefficients
+pub mod Condition
+pub mod Contribution
 pub mod Extremes
 pub mod Form
 pub mod Grant
+pub mod Laws
+pub mod Meaning
+pub mod Spread
 pub mod Sublists
-pub mod Condition

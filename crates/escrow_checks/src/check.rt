@@ -1,7 +1,11 @@
-ghost use Rattle.std.specs.Prelude.{◌≡◌};
+ghost use Rattle.std.specs.Prelude.{◌≡◌, ℤ, ◌*ℤ◌, ◌≤ℤ◌, List, [], ◌∷◌, ◌++◌, OnOk, OnErr};
+ghost use Rattle.escrow_checks.specs.Coefficients.{IsCoefficient};
+ghost use Rattle.escrow_checks.specs.Contribution.{IsProduct, IsContribution};
 
 use crate::coefficients::Coefficients;
-use escrow_num::{Name, Span};
+use crate::spread::Spread;
+use escrow_num::{Amount, Breach, Name, Seq, Span, Wide};
+use std::alloc::AllocError;
 
 /// A check of a table: the sum of coefficient times amount, over the RESERVABLE columns of a row,
 /// has to be within the span.
@@ -13,4 +17,86 @@ pub struct Check {
     pub coeffs: Coefficients,
     /// The limits of the form.
     pub span: Span,
+}
+
+impl Check {
+    ghost use Rattle.escrow_checks.specs.Form.{form, IsCovered};
+    ghost use Rattle.escrow_checks.specs.Extremes.{least, greatest};
+    ghost use Rattle.escrow_checks.specs.Spread.{IsSpread};
+    ghost use Rattle.escrow_checks.specs.Grant.{broken_by};
+
+    /// Adds the check at the end of a list.
+    pub fn add_to(self, checks: &mut Seq<Check>) -> Result<(), AllocError>
+        ensures ok { OnOk result (checks.new ≡ checks.old ++ self ∷ []) }
+        ensures err { OnErr result (checks.new ≡ checks.old) }
+    {
+        let Span { lo, hi } = self.span;
+        let span = Span { lo, hi };
+        checks.push(Check { span, ..self })?;
+        Ok(())
+    }
+
+    /// The form at a row's amounts: the sum of coefficient times amount, column by column.
+    pub fn form(&self, amounts: &[Amount]) -> Wide
+        ensures value { result ≡ form self.now.coeffs amounts.now }
+        ensures within { IsContribution result }
+    {
+        let mut sum = Wide::ZERO;
+        for (coefficient, amount) in self.coeffs.as_slice().iter().zip(amounts) {
+            sum = sum.plus(product(*coefficient, *amount));
+        }
+        sum
+    }
+
+    /// What a reservation's changes add to the form: the same sum over the changes. Of a row's
+    /// reservations those of other rows contribute nothing: theirs is the sum over no changes.
+    pub fn contribution(&self, changes: &[Amount]) -> Wide
+        ensures value { result ≡ form self.now.coeffs changes.now }
+        ensures within { IsContribution result }
+    {
+        self.form(changes)
+    }
+
+    /// The least and the greatest value of the form at a row, over every choice of the open
+    /// reservations whose spread this is. No choice is formed: O'Neil's `inf` and `sup` (1986) are
+    /// the form with the falls, and with the rises.
+    pub fn extremes(&self, amounts: &[Amount], spread: &Spread) -> (Wide, Wide)
+        ensures least { (pending : List (List ℤ)) → IsCovered self.now.coeffs amounts.now
+            → IsSpread self.now.coeffs pending spread.now
+            → result.0 ≡ least self.now.coeffs amounts.now pending }
+        ensures greatest { (pending : List (List ℤ)) → IsCovered self.now.coeffs amounts.now
+            → IsSpread self.now.coeffs pending spread.now
+            → result.1 ≡ greatest self.now.coeffs amounts.now pending }
+        ensures ordered { result.0 ≤ℤ result.1 }
+    {
+        spread.around(self.form(amounts))
+    }
+
+    /// What a new reservation breaks of this check: the first limit, the low one first, beyond which
+    /// an extreme lies, over every choice of the open reservations that holds the new one. `None`
+    /// where it breaks nothing, which is how it is granted.
+    pub fn breach(&self, amounts: &[Amount], changes: &[Amount], spread: &Spread) -> Option<Breach>
+        ensures { (pending : List (List ℤ)) → IsCovered self.now.coeffs amounts.now
+            → IsSpread self.now.coeffs pending spread.now
+            → result ≡ broken_by self.now amounts.now changes.now pending }
+    {
+        let with_new = self.form(amounts).plus(self.contribution(changes));
+        let (least, greatest) = spread.around(with_new);
+        let (side, worst, limit) = self.span.first_broken(least, greatest)?;
+        Some(Breach {
+            check: self.name,
+            side,
+            worst,
+            limit,
+        })
+    }
+}
+
+/// A coefficient times an amount.
+fn product(coefficient: Amount, amount: Amount) -> Wide
+    requires { IsCoefficient coefficient }
+    ensures value { result ≡ coefficient *ℤ amount }
+    ensures within { IsProduct result }
+{
+    Wide::new(i128::from(coefficient.get()) * i128::from(amount.get())).unwrap()
 }

@@ -1,3 +1,5 @@
+use std::alloc::AllocError;
+
 /// Why conditions give no checks.
 #[derive(Clone, Copy, Debug, PartialEq, Eq)]
 pub enum CheckFault {
@@ -5,4 +7,16 @@ pub enum CheckFault {
     Definition,
     /// Memory was refused.
     Memory,
+}
+
+/// Want of memory.
+impl From<AllocError> for CheckFault {
+    ghost use Rattle.std.specs.Prelude.{◌≡◌};
+    ghost use Rattle.escrow_checks.specs.declared.fault.CheckFault.TheVariants.{Memory};
+
+    ghost from_gives = { λ _ fault. fault ≡ Memory };
+
+    fn from(_: AllocError) -> CheckFault {
+        CheckFault::Memory
+    }
 }

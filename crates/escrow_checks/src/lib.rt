@@ -6,8 +6,13 @@
 
 pub mod check;
 pub mod coefficients;
+pub mod condition;
 pub mod fault;
+pub mod laws;
+pub mod spread;
 
 pub use check::Check;
 pub use coefficients::Coefficients;
+pub use condition::normalise;
 pub use fault::CheckFault;
+pub use spread::Spread;

@@ -1,6 +1,8 @@
 use Rattle.std.specs.Prelude.{ℕ, ℤ, Bool, ◌==◌, ◌||◌, not, nat_lt, if◌then◌else◌, Option, List, [], ◌∷◌, length, map, filter, find, bytes_eq}
 use Rattle.std.specs.Ordering.{nat_cmp, is_lt}
 use Rattle.std.specs.Cmp.Lexicographic.{slice_cmp}
+use Rattle.std.specs.List.{AllByRecursion}
+use Rattle.escrow_num.specs.Amount.{IsAmount}
 use Rattle.escrow_num.specs.declared.value.Value.{Value}
 use Rattle.escrow_num.specs.declared.row.Row.{Row}
 use Rattle.escrow_num.specs.declared.reservation.Reservation.{Reservation}
@@ -73,3 +75,7 @@ abbrev pub with_row : Row → List Row → List Row
 with_row row [] = row ∷ []
 with_row row (other ∷ rest) =
     if is_lt (row_cmp row.table row.key other.table other.key) then row ∷ other ∷ rest else other ∷ with_row row rest
+
+-- the amounts of all rows are amounts
+abbrev pub HaveAmounts : List Row → Type 0
+HaveAmounts rows = AllByRecursion (λ row. AllByRecursion IsAmount row.amounts) rows

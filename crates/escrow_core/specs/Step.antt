@@ -1,4 +1,4 @@
-use Rattle.std.specs.Prelude.{◌≡◌, ℕ, ℤ, ◌+◌, Bool, true, false, not, nat_lt, nat_le, if◌then◌else◌, Option, Some, None, is_some, is_none, option_map, option_and_then, unwrap_or, MatchOption, List, [], ◌∷◌, ◌++◌, length, map}
+use Rattle.std.specs.Prelude.{◌≡◌, ◌⊎◌, ℕ, ℤ, ◌+◌, Bool, true, false, not, nat_lt, nat_le, if◌then◌else◌, Option, Some, None, is_some, is_none, option_map, option_and_then, unwrap_or, MatchOption, List, [], ◌∷◌, ◌++◌, length, map}
 use Rattle.escrow_num.specs.declared.refusal.Refusal.{Refusal}
 use Rattle.escrow_num.specs.declared.refusal.Refusal.TheVariants as refusal
 use Rattle.escrow_num.specs.declared.refusal.Breach.{Breach}
@@ -18,12 +18,39 @@ use Rattle.escrow_schema.specs.Fit.{fitted}
 use Rattle.escrow_schema.specs.Plan.{plan_refusal, planned_changes, planned_columns}
 use Rattle.escrow_core.specs.declared.reply.Reply.{Reply}
 use Rattle.escrow_core.specs.declared.reply.Reply.TheVariants as reply
-use Rattle.escrow_core.specs.Reply.{failure_of}
+use Rattle.escrow_core.specs.declared.reply.Failure.TheVariants as failure
+use Rattle.escrow_core.specs.Reply.{failure_of, failure_of_refusal}
 use Rattle.escrow_core.specs.State.{State, table_named, row_named, rows_of, own, others, own_marks, other_marks, is_open, changes_to, applied, with_table, with_row}
 
 -- the first refusal that applies is the reply, and the state stays; otherwise the reply and the new state
 abbrev pub unless_refused : State → List (Option Refusal) → Reply → State → Reply × State
 unless_refused s refusals done new = unwrap_or (option_map (λ r. (reply.Refused r, s)) (first_refusal refusals)) (done, new)
+
+-- a refusal that comes before anything is looked for in memory: an open transaction, a table that is
+-- there or isn't
+abbrev pub is_early : Refusal → Bool
+is_early refusal.TransactionOpen = true
+is_early refusal.TableExists = true
+is_early refusal.NoSuchTable = true
+is_early _ = false
+
+-- the first refusal that applies is an early one
+abbrev pub is_early_refusal : List (Option Refusal) → Bool
+is_early_refusal refusals = unwrap_or (option_map is_early (first_refusal refusals)) false
+
+-- a refusal is the first that applies, or want of memory where that is no early one
+abbrev pub IsRefusal : List (Option Refusal) → Refusal → Type 0
+IsRefusal refusals r =
+    ((first_refusal refusals ≡ Some r) × (failure_of_refusal r ≡ None))
+    ⊎ ((is_early_refusal refusals ≡ false) × (r ≡ refusal.Memory))
+
+-- the reply and the new state are those of a statement with these refusals; or memory was refused,
+-- where no early refusal applies, and the state is equal
+abbrev pub Serves : State → List (Option Refusal) → Reply → State → Reply → State → Type 0
+Serves s refusals done after answer new =
+    MatchOption (failure_of answer)
+    ((answer, new) ≡ unless_refused s refusals done after)
+    (λ f. (f ≡ failure.Memory) × (is_early_refusal refusals ≡ false) × (new ≡ s))
 
 -- CREATE TABLE
 
@@ -144,18 +171,6 @@ IsRun s [] [] new = new ≡ s
 IsRun s [] (answer ∷ answers) new = ⊥
 IsRun s (event ∷ events) [] new = ⊥
 IsRun s (event ∷ events) (answer ∷ answers) new = (mid : State) × StepOrRefusal s event.0 event.1 answer mid × IsRun mid events answers new
-
--- a refusal that comes before anything is looked for in memory: an open transaction, a table that is
--- there or isn't
-abbrev pub is_early : Refusal → Bool
-is_early refusal.TransactionOpen = true
-is_early refusal.TableExists = true
-is_early refusal.NoSuchTable = true
-is_early _ = false
-
--- the first refusal that applies is an early one
-abbrev pub is_early_refusal : List (Option Refusal) → Bool
-is_early_refusal refusals = unwrap_or (option_map is_early (first_refusal refusals)) false
 
 -- a statement may be refused for memory: not ROLLBACK, nor a COMMIT of nothing, nor where an early
 -- refusal applies

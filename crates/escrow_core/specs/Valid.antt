@@ -1,4 +1,4 @@
-use Rattle.std.specs.Prelude.{◌≡◌, ℕ, ◌<◌, ◌≤◌, Bool, Option, Some, List, length, All, Contains, IsSomeAnd, IsTrue, nat_lt, [], ◌∷◌}
+use Rattle.std.specs.Prelude.{◌≡◌, ℕ, ◌<◌, ◌≤◌, Bool, Some, List, length, IsSomeAnd, IsTrue, nat_lt, [], ◌∷◌}
 use Rattle.std.specs.Ordering.{nat_cmp, is_lt}
 use Rattle.std.specs.Cmp.Lexicographic.{slice_cmp}
 use Rattle.std.specs.List.{AllByRecursion}
@@ -10,7 +10,6 @@ use Rattle.escrow_num.specs.Order.{row_cmp}
 use Rattle.escrow_checks.specs.Sublists.{sublists}
 use Rattle.escrow_checks.specs.Grant.{Meets}
 use Rattle.escrow_schema.specs.declared.table.TableDef.{TableDef}
-use Rattle.escrow_schema.specs.Column.{reservables}
 use Rattle.escrow_schema.specs.Definition.{IsTable}
 use Rattle.escrow_schema.specs.Fit.{fitted}
 use Rattle.escrow_core.specs.State.{State, table_named, row_named, rows_of, own, own_marks, applied}
@@ -41,10 +40,11 @@ IsRowOf table row = (values : List Value) × (made : Row) × (fitted table value
 abbrev pub HasTable : List TableDef → Row → Type 0
 HasTable catalog row = IsSomeAnd (table_named catalog row.table) (λ table. IsRowOf table row)
 
--- a reservation is of a row that stands, has an id below the next one, and a change for each of the
--- row's amounts
+-- a reservation is of a session and of a row that stands, has an id below the next one, and a change
+-- for each of the row's amounts
 abbrev pub IsHeldIn : State → Reservation → Type 0
-IsHeldIn s r = (1 ≤ r.id) × (r.id < s.next_id) × IsSomeAnd (row_named s.rows r.table r.key) (λ row. length r.changes ≡ length row.amounts)
+IsHeldIn s r = IsSession r.session × (1 ≤ r.id) × (r.id < s.next_id)
+    × IsSomeAnd (row_named s.rows r.table r.key) (λ row. length r.changes ≡ length row.amounts)
 
 -- a row meets each check of its table
 abbrev pub MeetsChecks : List TableDef → Row → Type 0

@@ -6,8 +6,17 @@
 //! refused for memory, and the state is equal.
 #![tactic(auto)]
 
+mod apply;
+mod catalog;
+mod create;
 pub mod database;
+mod finish;
+mod grant;
+mod held;
+mod insert;
 pub mod reply;
+mod rows;
+mod update;
 
 pub use database::Database;
 pub use reply::{Failure, Reply};

@@ -6,13 +6,13 @@ use Rattle.std.specs.Option.{MatchOption}
 use Rattle.std.specs.Str.{all_ascii_digits}
 use Rattle.std.specs.Str.Parse.{ParsesSigned}
 use Rattle.std.proofs.lemmas.Bool.{leb-true, le-leb, eqb-true, eqb-false}
-use Rattle.std.proofs.lemmas.Str.Parse.{IsNumeralModel, numerals_by_weight, tells_all_ascii_digits, parse_signed_plain, parse_signed_plus, parse_signed_minus}
+use Rattle.std.proofs.lemmas.Str.Parse.{IsNumeralModel, numerals_by_fold, tells_all_ascii_digits, parse_signed_plain, parse_signed_plus, parse_signed_minus}
 use Rattle.std.proofs.lemmas.Int.{ints}
-use Rattle.escrow_num.specs.Amount.{IsAmount, is_numeral, number_of, signed, spelled}
+use Rattle.escrow_num.specs.Amount.{IsAmount, is_numeral, number_after, number_of, signed, spelled}
 
 -- the digits and the number of specs/Amount.antt are those that `parse` reads
 own : IsNumeralModel (λ ds. all_ascii_digits ds ≡ true) number_of
-own = numerals_by_weight _ tells_all_ascii_digits number_of (search rules)
+own = numerals_by_fold _ tells_all_ascii_digits number_after (search rules)
 
 -- a signed number is an amount exactly where the number is within the limit
 amount-small : (negative : Bool) (n : ℕ) → IsAmount (signed negative n) → n ≤ 999999999999999

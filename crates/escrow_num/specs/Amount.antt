@@ -1,4 +1,4 @@
-use Rattle.std.specs.Prelude.{ℕ, ℤ, pos, neg_ℤ, ◌+◌, ◌-◌, ◌*◌, ◌^◌, ◌==◌, ◌≤ℤ◌, Bool, false, ◌&&◌, ◌||◌, nat_le, if◌then◌else◌, length, Option, Some, None, List, [], ◌∷◌}
+use Rattle.std.specs.Prelude.{ℕ, ℤ, pos, neg_ℤ, ◌+◌, ◌-◌, ◌*◌, ◌==◌, ◌≤ℤ◌, Bool, false, ◌&&◌, ◌||◌, nat_le, if◌then◌else◌, Option, Some, None, List, [], ◌∷◌}
 use Rattle.std.specs.Str.{all_ascii_digits}
 
 -- an amount is a whole number of at most 15 digits, of either sign
@@ -20,10 +20,14 @@ abbrev pub is_numeral : List ℕ → Bool
 is_numeral [] = false
 is_numeral (c ∷ cs) = all_ascii_digits (c ∷ cs)
 
--- the number that digits spell: each digit counts by its place, the last one for itself
+-- the number that digits spell behind n: each digit moves what stands before it up by one place
+abbrev pub number_after : ℕ → List ℕ → ℕ
+number_after n [] = n
+number_after n (c ∷ cs) = number_after (10 * n + (c - 48)) cs
+
+-- the number that digits spell
 abbrev pub number_of : List ℕ → ℕ
-number_of [] = 0
-number_of (c ∷ cs) = (c - 48) * 10 ^ length cs + number_of cs
+number_of digits = number_after 0 digits
 
 -- a number with its sign
 abbrev pub signed : Bool → ℕ → ℤ

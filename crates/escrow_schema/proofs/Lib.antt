@@ -1,0 +1,9 @@
+pub mod ColumnLemmas
+pub mod ColumnsLemmas
+pub mod DeclaredLemmas
+pub mod FitLemmas
+pub mod LawLemmas
+pub mod ListLemmas
+pub mod RangeLemmas
+pub mod TableLemmas
+pub mod UnitLemmas

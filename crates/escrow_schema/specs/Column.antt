@@ -1,4 +1,4 @@
-use Rattle.std.specs.Prelude.{ℕ, ℤ, pos, neg_ℤ, ◌-◌, ◌^◌, Bool, false, ◌&&◌, int_le, unsigned_abs, if◌then◌else◌, Option, Some, None, List, [], ◌∷◌, map, filter, length}
+use Rattle.std.specs.Prelude.{ℕ, ℤ, pos, neg_ℤ, ◌≤◌, ◌-◌, ◌^◌, Bool, false, ◌&&◌, int_le, unsigned_abs, if◌then◌else◌, Option, Some, None, List, [], ◌∷◌, map, filter, length, All}
 use Rattle.escrow_num.specs.declared.value.Value.{Value}
 use Rattle.escrow_num.specs.declared.value.Value.TheVariants as value
 use Rattle.escrow_sql.specs.declared.statement.TypeText.{TypeText}
@@ -12,6 +12,14 @@ abbrev pub type_of : TypeText → Option ColumnType
 type_of text.Integer = Some (Number 15)
 type_of (text.Number None) = Some (Number 15)
 type_of (text.Number (Some p)) = if int_le (pos 1) p && int_le p (pos 15) then Some (Number (unsigned_abs p)) else None
+
+-- a type holds numbers of 1 to 15 digits
+abbrev pub IsType : ColumnType → Type 0
+IsType (Number digits) = (1 ≤ digits) × (digits ≤ 15)
+
+-- each of columns has a type
+abbrev pub TypedColumns : List Column → Type 0
+TypedColumns columns = All (λ column. IsType column.kind) columns
 
 -- the greatest number of a type; the least is as far below zero
 abbrev pub top_of : ColumnType → ℤ

@@ -1,4 +1,4 @@
-use Rattle.std.specs.Prelude.{◌≡◌, ℕ, ℤ, pos, neg_ℤ, ◌+◌, ◌==◌, Bool, true, false, ◌&&◌, not, nat_le, if◌then◌else◌, Option, Some, None, option_map, option_and_then, unwrap_or, List, [], ◌∷◌, ◌++◌, length, map, count_by, position, slice_get, codes, bytes_eq, sum_by}
+use Rattle.std.specs.Prelude.{◌≡◌, ℕ, ℤ, pos, neg_ℤ, ◌+◌, ◌≤◌, ◌==◌, Bool, true, false, ◌&&◌, not, nat_le, if◌then◌else◌, Option, Some, None, option_map, option_and_then, unwrap_or, List, [], ◌∷◌, ◌++◌, length, map, count_by, position, slice_get, codes, bytes_eq, sum_by}
 use Rattle.std.specs.List.{list_any, list_all, flat_map}
 use Rattle.escrow_sql.specs.declared.statement.CreateText.{CreateText}
 use Rattle.escrow_sql.specs.declared.statement.Item.{Item}
@@ -11,7 +11,7 @@ use Rattle.escrow_checks.specs.declared.check.Check.{Check}
 use Rattle.escrow_checks.specs.Condition.{declared, unit_of}
 use Rattle.escrow_schema.specs.declared.column.Column.{Column}
 use Rattle.escrow_schema.specs.declared.table.TableDef.{TableDef}
-use Rattle.escrow_schema.specs.Column.{type_of, top_of, reservables, names_of}
+use Rattle.escrow_schema.specs.Column.{TypedColumns, type_of, top_of, reservables, names_of}
 
 -- a mark is PRIMARY KEY
 abbrev pub is_key_mark : ColumnMark → Bool
@@ -46,6 +46,10 @@ checks_in items = flat_map (λ i. flat_map check_of_mark (marks_of i)) items
 abbrev pub key_marks : List Item → ℕ
 key_marks items = sum_by (λ i. count_by is_key_mark (marks_of i)) items
 
+-- the place of the first item that has PRIMARY KEY
+abbrev pub key_place : List Item → ℕ
+key_place items = unwrap_or (position (λ i. list_any is_key_mark (marks_of i)) items) 0
+
 -- the column that an item writes, where its type is one
 abbrev pub column_of : Item → Option Column
 column_of (item.Column text) =
@@ -61,13 +65,20 @@ abbrev pub are_distinct : List (List ℕ) → Bool
 are_distinct [] = true
 are_distinct (name ∷ names) = not (list_any (λ other. bytes_eq name other) names) && are_distinct names
 
+-- columns of which each can have the check of its range: at most 10, of distinct names of at most 30
+-- bytes, each of a type
+abbrev pub CanRange : List Column → Type 0
+CanRange columns =
+    (length columns ≤ 10) × (are_distinct (names_of columns) ≡ true)
+    × (list_all (λ name. nat_le (length name) 30) (names_of columns) ≡ true) × TypedColumns columns
+
 -- the check of a RESERVABLE column's range: from its type's least to its type's greatest
 abbrev pub range_check : List (List ℕ) → Column → Check
 range_check names column = record {
-    name = codes "RANGE_" ++ column.name;
-    coeffs = unit_of names column.name;
-    span = record { lo = Some (neg_ℤ (top_of column.kind)); hi = Some (top_of column.kind) };
-  }
+  name = codes "RANGE_" ++ column.name;
+  coeffs = unit_of names column.name;
+  span = record { lo = Some (neg_ℤ (top_of column.kind)); hi = Some (top_of column.kind) };
+}
 
 -- the checks of all ranges, in column order
 abbrev pub range_checks : List Column → List Check
@@ -99,7 +110,7 @@ table_with name columns key checks =
 -- column that has PRIMARY KEY
 abbrev pub table_of : CreateText → List Column → Option TableDef
 table_of text columns =
-    let key = unwrap_or (position (λ i. list_any is_key_mark (marks_of i)) text.items) 0 in
+    let key = key_place text.items in
     if are_columns text.items columns key
     then option_and_then (λ checks. table_with text.table columns key (checks ++ range_checks columns)) (declared (names_of (reservables columns)) (checks_in text.items))
     else None

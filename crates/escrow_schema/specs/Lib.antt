@@ -1,4 +1,5 @@
 pub mod Column
 pub mod Definition
 pub mod Fit
+pub mod Laws
 pub mod Plan

@@ -8,7 +8,12 @@
 pub mod column;
 pub mod definition;
 pub mod fit;
+mod items;
+pub mod laws;
+mod lists;
 pub mod plan;
+mod ranges;
+mod rules;
 pub mod table;
 
 pub use column::{Column, ColumnType};
@@ -16,3 +21,6 @@ pub use definition::define;
 pub use fit::fit_row;
 pub use plan::{Plan, plan_update};
 pub use table::TableDef;
+
+#[cfg(test)]
+mod tests;

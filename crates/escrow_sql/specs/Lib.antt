@@ -1,0 +1,6 @@
+pub mod Cursor
+pub mod Grammar
+pub mod Lex
+pub mod Statement
+pub mod Token
+pub mod Word

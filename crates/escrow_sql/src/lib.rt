@@ -4,9 +4,21 @@
 //! the first fault.
 #![tactic(auto)]
 
+pub(crate) mod cursor;
+pub mod fault;
+pub(crate) mod halt;
+pub mod lexer;
+pub mod parser;
 pub mod statement;
+pub mod token;
+pub mod word;
 
+pub use fault::ParseFault;
+pub use lexer::lex;
+pub use parser::parse;
 pub use statement::{
     Assign, CheckText, ColumnMark, ColumnText, Comparison, Condition, CreateText, InsertText, Item,
     Request, Statement, TypeText, UpdateText, WhereText,
 };
+pub use token::{Kind, Symbol, Token};
+pub use word::Word;

@@ -1,0 +1,103 @@
+use Rattle.std.proofs.Common.{◌≡◌, ℕ, ◌+◌, ◌<◌, ◌≤◌, ℤ, pos, ◌+ℤ◌, ◌≤ℤ◌, List, [], ◌∷◌, ◌++◌, length, map, refl, ap, ap₂, ◌∙◌, sym, arith, length-append}
+use Rattle.std.specs.Int.{int_min, int_max}
+use Rattle.std.proofs.lemmas.Int.{ints, clamps}
+use Rattle.std.proofs.lemmas.List.{length-map}
+use Rattle.std.specs.Prelude.{Option, option_map}
+use Rattle.escrow_num.specs.Span.{first_broken_of}
+use Rattle.escrow_num.specs.declared.span.Side.{Side}
+use Rattle.escrow_checks.specs.declared.check.Check.{Check}
+use Rattle.escrow_checks.specs.declared.spread.Spread.{Spread}
+use Rattle.escrow_checks.specs.Form.{form, IsCovered, changed, all_changed}
+use Rattle.escrow_checks.specs.Grant.{broken_by}
+use Rattle.escrow_checks.specs.Sublists.{sublists}
+use Rattle.escrow_checks.specs.Extremes.{outcomes, smallest, largest, least, greatest}
+use Rattle.escrow_checks.specs.Spread.{falls, rises, IsSpread}
+use Rattle.escrow_checks.proofs.FormLemmas.{form-changed, length-changed}
+
+pub map-append : {A B : Type 0} (f : A → B) (xs ys : List A) → map f (xs ++ ys) ≡ map f xs ++ map f ys
+map-append f [] ys = refl
+map-append f (x ∷ xs) ys = ap (λ zs. f x ∷ zs) (map-append f xs ys)
+
+pub map-map : {A B C : Type 0} (f : B → C) (g : A → B) (xs : List A) → map f (map g xs) ≡ map (λ x. f (g x)) xs
+map-map f g [] = refl
+map-map f g (x ∷ xs) = ap (λ zs. f (g x) ∷ zs) (map-map f g xs)
+
+-- ---- the outcomes of one more reservation: those without it, and those with it
+
+pub outcomes-cons : (coeffs amounts changes : List ℤ) (pending : List (List ℤ)) → outcomes coeffs amounts (changes ∷ pending) ≡ outcomes coeffs amounts pending ++ outcomes coeffs (changed amounts changes) pending
+outcomes-cons coeffs amounts changes pending =
+    map-append (λ chosen. form coeffs (all_changed amounts chosen)) (sublists pending) (map (λ chosen. changes ∷ chosen) (sublists pending))
+    ∙ ap (λ zs. outcomes coeffs amounts pending ++ zs) (map-map (λ chosen. form coeffs (all_changed amounts chosen)) (λ chosen. changes ∷ chosen) (sublists pending))
+
+-- there is a choice: none of them
+pub some_outcome : (coeffs amounts : List ℤ) (pending : List (List ℤ)) → 0 < length (outcomes coeffs amounts pending)
+some_outcome coeffs amounts [] = omega arith
+some_outcome coeffs amounts (changes ∷ pending) =
+    rw (outcomes-cons coeffs amounts changes pending, length-append (outcomes coeffs amounts pending) (outcomes coeffs (changed amounts changes) pending)) (omega (arith, some_outcome coeffs amounts pending))
+
+-- ---- the smallest and the greatest of two lists in one
+
+int_min_assoc : (a b c : ℤ) → int_min a (int_min b c) ≡ int_min (int_min a b) c
+int_min_assoc a b c = omega (arith, ints, clamps)
+
+int_max_assoc : (a b c : ℤ) → int_max a (int_max b c) ≡ int_max (int_max a b) c
+int_max_assoc a b c = omega (arith, ints, clamps)
+
+pub smallest-append : (xs ys : List ℤ) → 0 < length xs → 0 < length ys → smallest (xs ++ ys) ≡ int_min (smallest xs) (smallest ys)
+smallest-append [] ys h k = absurd (omega arith)
+smallest-append (x ∷ []) [] h k = absurd (omega arith)
+smallest-append (x ∷ []) (y ∷ ys) h k = refl
+smallest-append (x ∷ x' ∷ xs) ys h k = ap (int_min x) (smallest-append (x' ∷ xs) ys (omega arith) k) ∙ int_min_assoc x (smallest (x' ∷ xs)) (smallest ys)
+
+pub largest-append : (xs ys : List ℤ) → 0 < length xs → 0 < length ys → largest (xs ++ ys) ≡ int_max (largest xs) (largest ys)
+largest-append [] ys h k = absurd (omega arith)
+largest-append (x ∷ []) [] h k = absurd (omega arith)
+largest-append (x ∷ []) (y ∷ ys) h k = refl
+largest-append (x ∷ x' ∷ xs) ys h k = ap (int_max x) (largest-append (x' ∷ xs) ys (omega arith) k) ∙ int_max_assoc x (largest (x' ∷ xs)) (largest ys)
+
+-- ---- the extremes over all choices are the form with the falls, and with the rises
+
+least_step : (f d falls : ℤ) → int_min (f +ℤ falls) ((f +ℤ d) +ℤ falls) ≡ f +ℤ (int_min (pos 0) d +ℤ falls)
+least_step f d falls = omega (arith, ints, clamps)
+
+greatest_step : (f d rises : ℤ) → int_max (f +ℤ rises) ((f +ℤ d) +ℤ rises) ≡ f +ℤ (int_max (pos 0) d +ℤ rises)
+greatest_step f d rises = omega (arith, ints, clamps)
+
+pub least_is : (coeffs amounts : List ℤ) (pending : List (List ℤ)) → length coeffs ≤ length amounts → least coeffs amounts pending ≡ form coeffs amounts +ℤ falls coeffs pending
+least_is coeffs amounts [] fits = omega (arith, ints)
+least_is coeffs amounts (changes ∷ pending) fits =
+    let with_new = changed amounts changes in
+    ap smallest (outcomes-cons coeffs amounts changes pending)
+    ∙ smallest-append (outcomes coeffs amounts pending) (outcomes coeffs with_new pending) (some_outcome coeffs amounts pending) (some_outcome coeffs with_new pending)
+    ∙ ap₂ int_min (least_is coeffs amounts pending fits) (least_is coeffs with_new pending (omega (arith, length-changed amounts changes)) ∙ ap (λ z. z +ℤ falls coeffs pending) (form-changed coeffs amounts changes fits))
+    ∙ least_step (form coeffs amounts) (form coeffs changes) (falls coeffs pending)
+
+pub greatest_is : (coeffs amounts : List ℤ) (pending : List (List ℤ)) → length coeffs ≤ length amounts → greatest coeffs amounts pending ≡ form coeffs amounts +ℤ rises coeffs pending
+greatest_is coeffs amounts [] fits = omega (arith, ints)
+greatest_is coeffs amounts (changes ∷ pending) fits =
+    let with_new = changed amounts changes in
+    ap largest (outcomes-cons coeffs amounts changes pending)
+    ∙ largest-append (outcomes coeffs amounts pending) (outcomes coeffs with_new pending) (some_outcome coeffs amounts pending) (some_outcome coeffs with_new pending)
+    ∙ ap₂ int_max (greatest_is coeffs amounts pending fits) (greatest_is coeffs with_new pending (omega (arith, length-changed amounts changes)) ∙ ap (λ z. z +ℤ rises coeffs pending) (form-changed coeffs amounts changes fits))
+    ∙ greatest_step (form coeffs amounts) (form coeffs changes) (rises coeffs pending)
+
+-- ---- the extremes by a spread
+
+pub least_by_spread : (coeffs amounts : List ℤ) (pending : List (List ℤ)) (spread : Spread) (f z : ℤ) → IsCovered coeffs amounts → IsSpread coeffs pending spread
+    → f ≡ form coeffs amounts → z ≡ f +ℤ spread.falls → z ≡ least coeffs amounts pending
+least_by_spread coeffs amounts pending spread f z covered known is sum = omega (arith, ints, known.0, least_is coeffs amounts pending covered)
+
+pub greatest_by_spread : (coeffs amounts : List ℤ) (pending : List (List ℤ)) (spread : Spread) (f z : ℤ) → IsCovered coeffs amounts → IsSpread coeffs pending spread
+    → f ≡ form coeffs amounts → z ≡ f +ℤ spread.rises → z ≡ greatest coeffs amounts pending
+greatest_by_spread coeffs amounts pending spread f z covered known is sum = omega (arith, ints, known.1, greatest_is coeffs amounts pending covered)
+
+-- what is broken, by a spread
+pub broken_by_spread : (check : Check) (amounts changes : List ℤ) (pending : List (List ℤ)) (spread : Spread) (f low high : ℤ) → IsCovered check.coeffs amounts → IsSpread check.coeffs pending spread
+    → f ≡ form check.coeffs amounts +ℤ form check.coeffs changes → low ≡ f +ℤ spread.falls → high ≡ f +ℤ spread.rises
+    → (found : Option (Side × ℤ × ℤ)) → found ≡ first_broken_of check.span low high
+    → broken_by check amounts changes pending ≡ option_map (λ limit. record { check = check.name; side = limit.0; worst = limit.1; limit = limit.2 }) found
+broken_by_spread check amounts changes pending spread f low high covered known is is_low is_high found at =
+    let with_new = changed amounts changes in
+    let covered_new : IsCovered check.coeffs with_new = omega (arith, length-changed amounts changes, covered) in
+    let moved : f ≡ form check.coeffs with_new = is ∙ sym (form-changed check.coeffs amounts changes covered) in
+    rw (at, least_by_spread check.coeffs with_new pending spread f low covered_new known moved is_low, greatest_by_spread check.coeffs with_new pending spread f high covered_new known moved is_high) refl

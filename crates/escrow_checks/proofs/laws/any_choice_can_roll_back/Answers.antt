@@ -1,0 +1,5 @@
+use Rattle.escrow_checks.proofs.LawsLemmas.{any_choice_can_stay}
+use Rattle.escrow_checks.proofs.laws.any_choice_can_roll_back.Goals as goal
+
+pub returns : goal.returns
+returns g c = any_choice_can_stay

@@ -1,0 +1,103 @@
+-- Choices of a list's items: what `sublists` lists, as a relation.
+use Rattle.std.specs.Prelude.{◌≡◌, ◌⊎◌, ℕ, zero, suc, Bool, List, [], ◌∷◌, ◌++◌, map, filter, take}
+use Rattle.std.specs.List.{AllByRecursion}
+use Rattle.std.proofs.Common.{inl, inr, sym, ap, ◌∙◌, subst, refl}
+use Rattle.std.proofs.lemmas.Bool.{cond_both}
+use Rattle.escrow_checks.specs.Sublists.{sublists}
+use Rattle.escrow_core.proofs.Items.{Has}
+
+-- a list is a choice of another's items, in their order
+abbrev pub IsChoice : {A : Type 0} → List A → List A → Type 0
+IsChoice [] chosen = [] ≡ chosen
+IsChoice {A} (x ∷ xs) chosen = IsChoice xs chosen ⊎ ((rest : List A) × IsChoice xs rest × (x ∷ rest ≡ chosen))
+
+-- what holds of both parts of a list of lists
+pub all_append : {A : Type 0} (P : A → Type 0) (xs ys : List A) → AllByRecursion P (xs ++ ys) → AllByRecursion P xs × AllByRecursion P ys
+all_append P [] ys all = (tt, all)
+all_append P (x ∷ xs) ys all = let parts = all_append P xs ys all.1 in ((all.0, parts.0), parts.1)
+
+pub append_all : {A : Type 0} (P : A → Type 0) (xs ys : List A) → AllByRecursion P xs → AllByRecursion P ys → AllByRecursion P (xs ++ ys)
+append_all P [] ys all more = more
+append_all P (x ∷ xs) ys all more = (all.0, append_all P xs ys all.1 more)
+
+pub all_map : {A B : Type 0} (P : B → Type 0) (f : A → B) (xs : List A) → AllByRecursion P (map f xs) → AllByRecursion (λ x. P (f x)) xs
+all_map P f [] all = tt
+all_map P f (x ∷ xs) all = (all.0, all_map P f xs all.1)
+
+pub map_all : {A B : Type 0} (P : B → Type 0) (f : A → B) (xs : List A) → AllByRecursion (λ x. P (f x)) xs → AllByRecursion P (map f xs)
+map_all P f [] all = tt
+map_all P f (x ∷ xs) all = (all.0, map_all P f xs all.1)
+
+-- what holds of all sublists holds of each choice
+pub all_choices : {A : Type 0} (P : List A → Type 0) (xs : List A) → AllByRecursion P (sublists xs) → (chosen : List A) → IsChoice xs chosen → P chosen
+all_choices P [] all chosen e = subst P e all.0
+all_choices P (x ∷ xs) all chosen (inl h) =
+    let parts = all_append P (sublists xs) (map (λ rest. x ∷ rest) (sublists xs)) all in
+    all_choices P xs parts.0 chosen h
+all_choices P (x ∷ xs) all chosen (inr h) =
+    let parts = all_append P (sublists xs) (map (λ rest. x ∷ rest) (sublists xs)) all in
+    let with_first = all_map P (λ rest. x ∷ rest) (sublists xs) parts.1 in
+    subst P h.2 (all_choices (λ rest. P (x ∷ rest)) xs with_first h.0 h.1)
+
+-- what holds of each choice holds of all sublists
+pub choices_all : {A : Type 0} (P : List A → Type 0) (xs : List A) → ((chosen : List A) → IsChoice xs chosen → P chosen) → AllByRecursion P (sublists xs)
+choices_all P [] each = (each [] refl, tt)
+choices_all P (x ∷ xs) each =
+    append_all P (sublists xs) (map (λ rest. x ∷ rest) (sublists xs))
+    (choices_all P xs (λ chosen h. each chosen (inl h)))
+    (map_all P (λ rest. x ∷ rest) (sublists xs) (choices_all (λ rest. P (x ∷ rest)) xs (λ rest h. each (x ∷ rest) (inr (rest, h, refl)))))
+
+-- nothing is a choice of every list, and so is the whole list
+pub choice_none : {A : Type 0} (xs : List A) → IsChoice xs []
+choice_none [] = refl
+choice_none (x ∷ xs) = inl (choice_none xs)
+
+pub choice_whole : {A : Type 0} (xs : List A) → IsChoice xs xs
+choice_whole [] = refl
+choice_whole (x ∷ xs) = inr (xs, choice_whole xs, refl)
+
+-- a choice of what passes a test is a choice of the list
+pub choice_filter : {A : Type 0} (p : A → Bool) (xs chosen : List A) → IsChoice (filter p xs) chosen → IsChoice xs chosen
+choice_filter p [] chosen h = h
+choice_filter {A} p (x ∷ xs) chosen h =
+    let later : IsChoice (filter p xs) chosen → IsChoice (x ∷ xs) chosen = λ k. inl (choice_filter p xs chosen k) in
+    let first : IsChoice (x ∷ filter p xs) chosen → IsChoice (x ∷ xs) chosen =
+        elim [ inl k ↦ later k | inr k ↦ inr (k.0, choice_filter p xs k.0 k.1, k.2) ] in
+    cond_both (p x) (x ∷ filter p xs) (filter p xs) (λ zs. IsChoice zs chosen → IsChoice (x ∷ xs) chosen) (λ t. first) (λ f. later) h
+
+-- what passes a test is a choice of the list
+pub choice_passing : {A : Type 0} (p : A → Bool) (xs : List A) → IsChoice xs (filter p xs)
+choice_passing p xs = choice_filter p xs (filter p xs) (choice_whole (filter p xs))
+
+-- a choice of the first items is a choice of the list
+pub choice_take : {A : Type 0} (i : ℕ) (xs chosen : List A) → IsChoice (take i xs) chosen → IsChoice xs chosen
+choice_take zero xs chosen h = subst (IsChoice xs) h (choice_none xs)
+choice_take (suc i) [] chosen h = h
+choice_take (suc i) (x ∷ xs) chosen (inl h) = inl (choice_take i xs chosen h)
+choice_take (suc i) (x ∷ xs) chosen (inr h) = inr (h.0, choice_take i xs h.0 h.1, h.2)
+
+-- a choice of a list and one more is a choice of the list, or one with the one more at its end
+pub choice_push : {A : Type 0} (xs : List A) (y : A) (chosen : List A) → IsChoice (xs ++ y ∷ []) chosen
+    → IsChoice xs chosen ⊎ ((front : List A) × IsChoice xs front × (front ++ y ∷ [] ≡ chosen))
+choice_push [] y chosen (inl h) = inl h
+choice_push [] y chosen (inr h) = inr ([], refl, ap (λ rest. y ∷ rest) h.1 ∙ h.2)
+choice_push (x ∷ xs) y chosen (inl h) =
+    elim (choice_push xs y chosen h) [ inl k ↦ inl (inl k) | inr k ↦ inr (k.0, inl k.1, k.2) ]
+choice_push (x ∷ xs) y chosen (inr h) =
+    elim (choice_push xs y h.0 h.1) [
+      inl k ↦ inl (inr (h.0, k, h.2))
+    | inr k ↦ inr (x ∷ k.0, inr (k.0, k.1, refl), ap (λ rest. x ∷ rest) k.2 ∙ h.2) ]
+
+-- the items of a choice are items of the list
+pub choice_has : {A : Type 0} (xs chosen : List A) → IsChoice xs chosen → (x : A) → Has chosen x → Has xs x
+choice_has [] chosen h x k = subst (λ zs. Has zs x) (sym h) k
+choice_has (y ∷ ys) chosen (inl h) x k = inr (choice_has ys chosen h x k)
+choice_has (y ∷ ys) chosen (inr h) x k =
+    let at : Has (y ∷ h.0) x → Has (y ∷ ys) x = elim [ inl e ↦ inl e | inr l ↦ inr (choice_has ys h.0 h.1 x l) ] in
+    at (subst (λ zs. Has zs x) (sym h.2) k)
+
+-- a choice's image is a choice of the image
+pub choice_map : {A B : Type 0} (f : A → B) (xs chosen : List A) → IsChoice xs chosen → IsChoice (map f xs) (map f chosen)
+choice_map f [] chosen h = ap (map f) h
+choice_map f (x ∷ xs) chosen (inl h) = inl (choice_map f xs chosen h)
+choice_map f (x ∷ xs) chosen (inr h) = inr (map f h.0, choice_map f xs h.0 h.1, ap (map f) h.2)

@@ -1,0 +1,28 @@
+-- Facts on lists and options that several proofs need.
+use Rattle.std.proofs.Common.{◌≡◌, ℕ, ◌+◌, ◌≤◌, Bool, true, false, cond, Option, Some, None, option_map, option_and_then, List, [], ◌∷◌, ◌++◌, length, map, sym, refl, arith}
+use Rattle.std.specs.List.{AllByRecursion}
+use Rattle.std.proofs.lemmas.Option.{none-some, same_Some}
+
+-- what holds of each item of two lists, one after the other, holds of each item of the second
+pub second_part : {A : Type 0} (P : A → Type 0) (xs ys : List A) → AllByRecursion P (xs ++ ys) → AllByRecursion P ys
+second_part P [] ys h = h
+second_part P (x ∷ xs) ys h = second_part P xs ys h.1
+
+-- and what holds of each item of both holds of each item of the whole
+pub both_parts : {A : Type 0} (P : A → Type 0) (xs ys : List A) → AllByRecursion P xs → AllByRecursion P ys → AllByRecursion P (xs ++ ys)
+both_parts P [] ys h k = k
+both_parts P (x ∷ xs) ys h k = (h.0, both_parts P xs ys h.1 k)
+
+-- what is there only where a test holds
+pub some_under : {A : Type 0} (b : Bool) (o : Option A) (y : A) → cond b o None ≡ Some y → (b ≡ true) × (o ≡ Some y)
+some_under true o y e = (refl, e)
+some_under false o y e = absurd (none-some y e)
+
+-- what was mapped
+pub mapped_some : {A B P : Type 0} (f : A → B) (o : Option A) (y : B) → option_map f o ≡ Some y → ((x : A) → o ≡ Some x → f x ≡ y → P) → P
+mapped_some f None y e k = absurd (none-some y e)
+mapped_some f (Some x) y e k = k x refl (same_Some (f x) y e)
+
+-- a list, and what may come after it
+abbrev pub after : {A : Type 0} → List A → Option (List A) → Option (List A)
+after done rest = option_map (λ more. done ++ more) rest

@@ -1,0 +1,73 @@
+-- The coefficients of one column among columns of distinct names.
+use Rattle.std.proofs.Common.{◌≡◌, ℕ, zero, suc, ℤ, pos, ◌+◌, ◌<◌, ◌≤◌, Bool, true, false, cond, ◌&&◌, not, nat_le, bytes_eq, List, [], ◌∷◌, length, map, set, get_or, replicate, sym, ap, ◌∙◌, subst, refl, arith}
+use Rattle.std.specs.Prelude.{codes, neg_ℤ, ◌++◌, Some}
+use Rattle.std.proofs.lemmas.List.{get_or_read}
+use Rattle.escrow_num.specs.declared.span.Span.{Span}
+use Rattle.escrow_checks.specs.declared.check.Check.{Check}
+use Rattle.std.specs.List.{list_any, list_all}
+use Rattle.std.proofs.lemmas.Bool.{or_parts, and_parts, not-true, false≢true, leb-true}
+use Rattle.escrow_checks.specs.Condition.{unit_of}
+use Rattle.escrow_schema.specs.declared.column.Column.{Column}
+use Rattle.escrow_schema.specs.Column.{names_of, top_of}
+use Rattle.escrow_schema.specs.Definition.{are_distinct, range_check, CanRange}
+use Rattle.escrow_schema.proofs.RangeLemmas.{same_name, either_order}
+
+-- a column that isn't among the names has no coefficient there
+unit_other : (columns : List Column) (name : List ℕ) → list_any (λ other. bytes_eq name other) (names_of columns) ≡ false → unit_of (names_of columns) name ≡ replicate (length columns) (pos 0)
+unit_other [] name none = refl
+unit_other (column ∷ columns) name none =
+    let parts = or_parts (bytes_eq name column.name) (list_any (λ other. bytes_eq name other) (names_of columns)) none in
+    let apart : bytes_eq column.name name ≡ false = either_order column.name name ∙ parts.0 in
+    rw apart (ap (λ rest. pos 0 ∷ rest) (unit_other columns name parts.1))
+
+-- the name at a place is none that isn't among the names
+at_apart : (columns : List Column) (name : List ℕ) (place : ℕ) (d : Column) → list_any (λ other. bytes_eq name other) (names_of columns) ≡ false → place < length columns → bytes_eq name (get_or columns place d).name ≡ false
+at_apart [] name place d none within = absurd (omega arith)
+at_apart (column ∷ columns) name zero d none within = (or_parts (bytes_eq name column.name) (list_any (λ other. bytes_eq name other) (names_of columns)) none).0
+at_apart (column ∷ columns) name (suc place) d none within =
+    at_apart columns name place d (or_parts (bytes_eq name column.name) (list_any (λ other. bytes_eq name other) (names_of columns)) none).1 (omega arith)
+
+-- among distinct names the coefficients of the column at a place are 1 there and 0 elsewhere
+pub unit_at : (columns : List Column) (place : ℕ) (d : Column) → are_distinct (names_of columns) ≡ true → place < length columns
+    → unit_of (names_of columns) (get_or columns place d).name ≡ set (replicate (length columns) (pos 0)) place (pos 1)
+unit_at [] place d apart within = absurd (omega arith)
+unit_at (column ∷ columns) zero d apart within =
+    let parts = and_parts (not (list_any (λ other. bytes_eq column.name other) (names_of columns))) (are_distinct (names_of columns)) apart in
+    let none = not-true (list_any (λ other. bytes_eq column.name other) (names_of columns)) parts.0 in
+    rw (same_name column.name) (ap (λ rest. pos 1 ∷ rest) (unit_other columns column.name none))
+unit_at (column ∷ columns) (suc place) d apart within =
+    let parts = and_parts (not (list_any (λ other. bytes_eq column.name other) (names_of columns))) (are_distinct (names_of columns)) apart in
+    let none = not-true (list_any (λ other. bytes_eq column.name other) (names_of columns)) parts.0 in
+    let other = at_apart columns column.name place d none (omega arith) in
+    rw other (ap (λ rest. pos 0 ∷ rest) (unit_at columns place d parts.1 (omega arith)))
+
+-- each of short names is short
+pub short_at : (columns : List Column) (place : ℕ) (d : Column) → list_all (λ name. nat_le (length name) 30) (names_of columns) ≡ true → place < length columns → length (get_or columns place d).name ≤ 30
+short_at [] place d short within = absurd (omega arith)
+short_at (column ∷ columns) zero d short within = leb-true (length column.name) 30 (and_parts (nat_le (length column.name) 30) (list_all (λ name. nat_le (length name) 30) (names_of columns)) short).0
+short_at (column ∷ columns) (suc place) d short within =
+    short_at columns place d (and_parts (nat_le (length column.name) 30) (list_all (λ name. nat_le (length name) 30) (names_of columns)) short).1 (omega arith)
+
+-- the limits of a column
+abbrev pub limits_of : Column → Span
+limits_of column = record { lo = Some (neg_ℤ (top_of column.kind)); hi = Some (top_of column.kind) }
+
+-- a name, coefficients and limits that are those of a column's range check make it
+pub ranged : (columns : List Column) (place : ℕ) (column d : Column) (name : List ℕ) (coeffs : List ℤ) (span : Span)
+    → CanRange columns → place < length columns → column ≡ get_or columns place column
+    → name ≡ codes "RANGE_" ++ (get_or columns place column).name → coeffs ≡ set (replicate (length columns) (pos 0)) place (pos 1)
+    → span ≡ limits_of (get_or columns place column)
+    → let check : Check = record { name = name; coeffs = coeffs; span = span } in check ≡ range_check (names_of columns) (get_or columns place d)
+ranged columns place column d name coeffs span can within at named one limits =
+    let unit : unit_of (names_of columns) column.name ≡ coeffs =
+    ap (λ (c : Column). unit_of (names_of columns) c.name) at ∙ (unit_at columns place column can.1 within ∙ sym one) in
+    let called : name ≡ codes "RANGE_" ++ column.name = named ∙ ap (λ (c : Column). codes "RANGE_" ++ c.name) (sym at) in
+    let bounds : span ≡ limits_of column = limits ∙ ap limits_of (sym at) in
+    let same : column ≡ get_or columns place d = get_or_read columns place column within at d in
+    let check : Check = record { name = name; coeffs = coeffs; span = span } in
+    let made : check ≡ range_check (names_of columns) column = rw (called, ← unit, bounds) refl in
+    subst (λ (c : Column). check ≡ range_check (names_of columns) c) same made
+
+-- the name at a place is short
+pub short_name : (columns : List Column) (place : ℕ) (column : Column) → CanRange columns → place < length columns → column ≡ get_or columns place column → length column.name ≤ 30
+short_name columns place column can within at = subst (λ (c : Column). length c.name ≤ 30) (sym at) (short_at columns place column can.2 within)

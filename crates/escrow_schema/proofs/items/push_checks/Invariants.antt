@@ -1,0 +1,7 @@
+use Rattle.std.proofs.Common.{◌≡◌, ◌++◌, drop}
+use Rattle.std.specs.List.{flat_map}
+use Rattle.escrow_schema.specs.Definition.{check_of_mark}
+use Rattle.escrow_schema.proofs.items.push_checks.Given as goal
+
+abbrev pub invariant-loop-mark : goal.invariant-loop-mark
+invariant-loop-mark l = l.texts.items ++ flat_map check_of_mark (drop l.mark-index l.mark-items) ≡ l.initial.texts.items ++ flat_map check_of_mark l.mark-items

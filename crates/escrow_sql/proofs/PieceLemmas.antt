@@ -1,0 +1,135 @@
+-- A piece takes at least one byte, and lies within the text.
+use Rattle.std.proofs.Common.{◌≡◌, ℕ, suc, pos, ◌+◌, ◌-◌, ◌≤◌, ◌<◌, Bool, true, false, cond, Option, Some, None, Result, Ok, Err, List, [], ◌∷◌, length, get_or, drop, take, arith, refl, sym, ap, ◌∙◌, subst, map}
+use Rattle.std.specs.Prelude.{nat_le, nat_lt, nat_eq, option_map, not, ◌&&◌, position, IfOk}
+use Rattle.std.specs.declared.alloc.AllocError.{AllocError}
+use Rattle.std.specs.Char.{is_ascii_alphabetic, is_ascii_digit, to_ascii_uppercase}
+use Rattle.std.specs.List.{prefix_len}
+use Rattle.std.proofs.lemmas.Bool.{cond_both}
+use Rattle.std.proofs.lemmas.Bool.Decides.{nat_tests}
+use Rattle.std.proofs.lemmas.List.{length-take-le, length-drop}
+use Rattle.std.proofs.lemmas.List.Sums.{prefix_len-le-length}
+use Rattle.std.proofs.lemmas.List.Quantifiers.{position-Some}
+use Rattle.escrow_num.specs.Amount.{number_of}
+use Rattle.escrow_sql.specs.Word.{reserved}
+use Rattle.escrow_sql.specs.declared.lexer.piece.Piece.{Piece}
+use Rattle.escrow_sql.specs.declared.lexer.piece.Piece.TheVariants as piece
+use Rattle.escrow_sql.specs.declared.token.Kind.{Kind}
+use Rattle.escrow_sql.specs.declared.token.Kind.TheVariants as kind
+use Rattle.escrow_sql.specs.Lex.{IsWithin, piece_of, name_piece, number_piece, text_piece, text_from, closed_text, text_rest, undoubled, symbol_piece, is_name_byte, is_blank, is_forbidden, begins, word_or_name}
+
+-- a front that begins with a byte that passes
+prefix_len-first : (p : ℕ → Bool) (c : ℕ) (next : List ℕ) → p c ≡ true → 1 ≤ prefix_len p (c ∷ next)
+prefix_len-first p c next h = rw h (omega arith)
+
+name_within : (c : ℕ) (next : List ℕ) → is_ascii_alphabetic c ≡ true → IsWithin (length (c ∷ next)) (name_piece (c ∷ next))
+unfolding name_piece
+name_within c next h =
+    let len = prefix_len is_name_byte (c ∷ next) in
+    let passes : is_name_byte c ≡ true = rw h refl in
+    let one : 1 ≤ len = prefix_len-first is_name_byte c next passes in
+    let all : len ≤ length (c ∷ next) = prefix_len-le-length is_name_byte (c ∷ next) in
+    cond_both (nat_lt 30 len) (piece.Fault 0) (piece.Token (word_or_name (map to_ascii_uppercase (take len (c ∷ next))) (reserved (map to_ascii_uppercase (take len (c ∷ next))))) len)
+    (IsWithin (length (c ∷ next))) (λ e. omega arith) (λ e. (one, all))
+
+number_within : (c : ℕ) (next : List ℕ) → is_ascii_digit c ≡ true → IsWithin (length (c ∷ next)) (number_piece (c ∷ next))
+unfolding number_piece
+number_within c next h =
+    let len = prefix_len is_ascii_digit (c ∷ next) in
+    let value = number_of (take len (c ∷ next)) in
+    let one : 1 ≤ len = prefix_len-first is_ascii_digit c next h in
+    let all : len ≤ length (c ∷ next) = prefix_len-le-length is_ascii_digit (c ∷ next) in
+    cond_both (nat_le value 999999999999999) (piece.Token (kind.Number (pos value)) len) (piece.Fault 0)
+    (IsWithin (length (c ∷ next))) (λ e. (one, all)) (λ e. omega arith)
+
+more_some : (o : Option ℕ) (n : ℕ) → option_map (λ m. m + 1) o ≡ Some n → (k : ℕ) × (o ≡ Some k) × (n ≡ k + 1)
+more_some None n h = absurd (cc)
+more_some (Some k) n h = (k, refl, cc)
+
+-- a text's end lies within the bytes
+pub text_rest-within : (closing : Bool) (body : List ℕ) (n : ℕ) → text_rest closing body ≡ Some n → n ≤ length body
+text_rest-within true [] n h = let e : 0 ≡ n = cc in omega arith
+text_rest-within false [] n h = absurd (cc)
+text_rest-within true (c ∷ cs) n h =
+    cond_both (nat_eq c 39) (option_map (λ m. m + 1) (text_rest false cs)) (Some 0) (λ (o : Option ℕ). o ≡ Some n → n ≤ length (c ∷ cs))
+    (λ e q. let m = more_some (text_rest false cs) n q in omega (arith, text_rest-within false cs m.0 m.1, m.2))
+    (λ e q. let z : 0 ≡ n = cc in omega arith) h
+text_rest-within false (c ∷ cs) n h =
+    let m = more_some (text_rest (nat_eq c 39) cs) n h in
+    omega (arith, text_rest-within (nat_eq c 39) cs m.0 m.1, m.2)
+
+forbidden_within : (body : List ℕ) (len : ℕ) → len ≤ length body → (o : Option ℕ) → position is_forbidden (take len body) ≡ o → IsWithin (suc (length body)) (closed_text body len o)
+forbidden_within body len l None h = (omega arith, omega arith)
+forbidden_within body len l (Some k) h = omega (arith, (position-Some is_forbidden (take len body) k 0 h).0, length-take-le len body l)
+
+text_within_from : (body : List ℕ) (o : Option ℕ) → text_rest false body ≡ o → IsWithin (suc (length body)) (text_from body o)
+text_within_from body None h = omega arith
+text_within_from body (Some len) h = forbidden_within body len (text_rest-within false body len h) (position is_forbidden (take len body)) refl
+
+text_within : (body : List ℕ) → IsWithin (suc (length body)) (text_piece body)
+unfolding text_piece
+text_within body = text_within_from body (text_rest false body) refl
+
+equal_within : (a b : Kind) (next : List ℕ) → IsWithin (suc (length next)) (cond (begins 61 next) (piece.Token a 2) (piece.Token b 1))
+equal_within a b [] = (omega arith, omega arith)
+equal_within a b (d ∷ ds) = cond_both (nat_eq d 61) (piece.Token a 2) (piece.Token b 1) (IsWithin (suc (length (d ∷ ds)))) (λ e. (omega arith, omega arith)) (λ e. (omega arith, omega arith))
+
+-- one case of a chain
+either_within : (n : ℕ) (b : Bool) (x y : Piece) → (b ≡ true → IsWithin n x) → (b ≡ false → IsWithin n y) → IsWithin n (cond b x y)
+either_within n b x y p q = cond_both b x y (IsWithin n) p q
+
+symbol_within : (c : ℕ) (next : List ℕ) → IsWithin (suc (length next)) (symbol_piece c next)
+unfolding symbol_piece
+symbol_within c next =
+    let n = length next in
+    either_within (suc n) (nat_eq c 40) _ _ (λ e. (omega arith, omega arith)) (λ e.
+    either_within (suc n) (nat_eq c 41) _ _ (λ e. (omega arith, omega arith)) (λ e.
+    either_within (suc n) (nat_eq c 44) _ _ (λ e. (omega arith, omega arith)) (λ e.
+    either_within (suc n) (nat_eq c 59) _ _ (λ e. (omega arith, omega arith)) (λ e.
+    either_within (suc n) (nat_eq c 42) _ _ (λ e. (omega arith, omega arith)) (λ e.
+    either_within (suc n) (nat_eq c 43) _ _ (λ e. (omega arith, omega arith)) (λ e.
+    either_within (suc n) (nat_eq c 45) _ _ (λ e. (omega arith, omega arith)) (λ e.
+    either_within (suc n) (nat_eq c 61) _ _ (λ e. (omega arith, omega arith)) (λ e.
+    either_within (suc n) (nat_eq c 60) _ _ (λ e. equal_within _ _ next) (λ e.
+    either_within (suc n) (nat_eq c 62) _ _ (λ e. equal_within _ _ next) (λ e. omega arith))))))))))
+
+comment_within : (c : ℕ) (next : List ℕ) → nat_eq c 45 ≡ true → IsWithin (suc (length next)) (piece.Blank (prefix_len (λ b. not (nat_eq b 10)) (c ∷ next)))
+comment_within c next h =
+    let e : c ≡ 45 = grind (arith, nat_tests) in
+    let passes : not (nat_eq c 10) ≡ true = rw e refl in
+    (prefix_len-first (λ b. not (nat_eq b 10)) c next passes, prefix_len-le-length (λ b. not (nat_eq b 10)) (c ∷ next))
+
+first_of_both : (a b : Bool) → (a && b) ≡ true → a ≡ true
+first_of_both true b h = refl
+first_of_both false true h = h
+first_of_both false false h = h
+
+pub piece_of-within : (c : ℕ) (next : List ℕ) → IsWithin (suc (length next)) (piece_of c next)
+unfolding piece_of
+piece_of-within c next =
+    let n = length next in
+    either_within (suc n) (is_blank c) (piece.Blank 1) _ (λ e. (omega arith, omega arith)) (λ e.
+    either_within (suc n) (nat_eq c 45 && begins 45 next) (piece.Blank (prefix_len (λ b. not (nat_eq b 10)) (c ∷ next))) _ (λ e. comment_within c next (first_of_both (nat_eq c 45) (begins 45 next) e)) (λ e.
+    either_within (suc n) (is_ascii_alphabetic c) _ _ (λ e. name_within c next e) (λ e.
+    either_within (suc n) (is_ascii_digit c) _ _ (λ e. number_within c next e) (λ e.
+    either_within (suc n) (nat_eq c 39) _ _ (λ e. text_within next) (λ e. symbol_within c next)))))
+
+-- what was read at a place lies within what the text has from there on
+pub read_within : (r : Result Piece AllocError) (text : List ℕ) (at : ℕ) → at < length text
+    → IfOk r (λ p. p ≡ piece_of (get_or text at 0) (drop (at + 1) text)) → IfOk r (IsWithin (length text - at))
+read_within (Err e) text at below h = tt
+read_within (Ok p) text at below h =
+    let e : suc (length (drop (at + 1) text)) ≡ length text - at = omega (arith, length-drop (at + 1) text) in
+    subst (λ (n : ℕ). IsWithin n p) e (subst (λ (q : Piece). IsWithin (suc (length (drop (at + 1) text))) q) (sym h) (piece_of-within (get_or text at 0) (drop (at + 1) text)))
+
+pub open_text : (body : List ℕ) → None ≡ text_rest false body → piece.Fault 0 ≡ text_piece body
+unfolding text_piece
+open_text body h = ap (text_from body) h
+
+pub forbidden_text : (body : List ℕ) (len k : ℕ) → Some len ≡ text_rest false body → Some k ≡ position is_forbidden (take len body) → piece.Fault (1 + k) ≡ text_piece body
+unfolding text_piece
+forbidden_text body len k h e = ap (closed_text body len) e ∙ ap (text_from body) h
+
+pub whole_text : (body copy : List ℕ) (len : ℕ) → Some len ≡ text_rest false body → None ≡ position is_forbidden (take len body)
+    → copy ≡ undoubled false (take (len - 1) body) → piece.Token (kind.Text copy) (1 + len) ≡ text_piece body
+unfolding text_piece
+whole_text body copy len h e same = ap (λ (t : List ℕ). piece.Token (kind.Text t) (1 + len)) same ∙ (ap (closed_text body len) e ∙ ap (text_from body) h)

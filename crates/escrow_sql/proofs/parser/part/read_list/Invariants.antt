@@ -1,0 +1,11 @@
+use Rattle.std.proofs.Common.{◌≡◌, length}
+use Rattle.escrow_sql.specs.Grammar.{run}
+use Rattle.escrow_sql.specs.Statement.{list}
+use Rattle.escrow_sql.proofs.Reading.{with_front}
+use Rattle.escrow_sql.proofs.parser.part.read_list.Given as goal
+
+abbrev pub invariant-parts : goal.invariant-parts
+invariant-parts g l = with_front l.parts (run (list g.P.Part.grammar) l.cursor.tokens.now) ≡ run (list g.P.Part.grammar) l.fn.cursor.tokens.now
+
+abbrev pub decreases-parts : goal.decreases-parts
+decreases-parts g l = length l.cursor.tokens.now

@@ -1,0 +1,199 @@
+use Rattle.std.specs.Prelude.{◌≡◌, refl, ℕ, ℤ, pos, neg_ℤ, Bool, true, false, if◌then◌else◌, Option, Some, None, List, [], ◌∷◌}
+use Rattle.escrow_num.specs.declared.value.Value.{Value}
+use Rattle.escrow_num.specs.declared.value.Value.TheVariants as value
+use Rattle.escrow_sql.specs.Grammar.{Grammar, token, nothing, sequence, either, many, may_be_empty}
+use Rattle.escrow_sql.specs.declared.token.Symbol.{Symbol}
+use Rattle.escrow_sql.specs.declared.token.Symbol.TheVariants as symbols
+use Rattle.escrow_sql.specs.declared.token.Kind.{Kind}
+use Rattle.escrow_sql.specs.declared.token.Kind.TheVariants as kind
+use Rattle.escrow_sql.specs.declared.word.Word.{Word}
+use Rattle.escrow_sql.specs.declared.word.Word.TheVariants as words
+use Rattle.escrow_sql.specs.declared.statement.Assign.{Assign}
+use Rattle.escrow_sql.specs.declared.statement.CheckText.{CheckText}
+use Rattle.escrow_sql.specs.declared.statement.ColumnMark.{ColumnMark}
+use Rattle.escrow_sql.specs.declared.statement.ColumnMark.TheVariants as marks
+use Rattle.escrow_sql.specs.declared.statement.ColumnText.{ColumnText}
+use Rattle.escrow_sql.specs.declared.statement.Comparison.{Comparison}
+use Rattle.escrow_sql.specs.declared.statement.Comparison.TheVariants as comparisons
+use Rattle.escrow_sql.specs.declared.statement.Condition.{Condition}
+use Rattle.escrow_sql.specs.declared.statement.CreateText.{CreateText}
+use Rattle.escrow_sql.specs.declared.statement.InsertText.{InsertText}
+use Rattle.escrow_sql.specs.declared.statement.Item.{Item}
+use Rattle.escrow_sql.specs.declared.statement.Item.TheVariants as items
+use Rattle.escrow_sql.specs.declared.statement.Request.{Request}
+use Rattle.escrow_sql.specs.declared.statement.Request.TheVariants as requests
+use Rattle.escrow_sql.specs.declared.statement.Statement.{Statement}
+use Rattle.escrow_sql.specs.declared.statement.Statement.TheVariants as statements
+use Rattle.escrow_sql.specs.declared.statement.TypeText.{TypeText}
+use Rattle.escrow_sql.specs.declared.statement.TypeText.TheVariants as types
+use Rattle.escrow_sql.specs.declared.statement.UpdateText.{UpdateText}
+use Rattle.escrow_sql.specs.declared.statement.WhereText.{WhereText}
+
+infixr 20 ◌then◌
+infixr 15 ◌or◌
+-- a reserved word, a symbol: they mean nothing by themselves
+abbrev pub word : Word → Grammar (Unit {0})
+word w = token (kind.Word w) (λ k. tt)
+
+abbrev pub symbol : Symbol → Grammar (Unit {0})
+symbol s = token (kind.Symbol s) (λ k. tt)
+
+-- one and then the other, which has the meaning
+abbrev pub ◌then◌ : {V : Type 0} → Grammar (Unit {0}) → Grammar V → Grammar V
+a then b = sequence a b (λ x y. y)
+
+-- one and then the other, where the first has the meaning
+abbrev pub before : {V : Type 0} → Grammar V → Grammar (Unit {0}) → Grammar V
+before a b = sequence a b (λ x y. x)
+
+-- one and then the other, which both have a meaning
+abbrev pub both : {A B : Type 0} → Grammar A → Grammar B → Grammar (A × B)
+both a b = sequence a b (λ x y. (x, y))
+
+-- one or the other
+abbrev pub ◌or◌ : {V : Type 0} → Grammar V → Grammar V → Grammar V
+a or b = either a b
+
+-- it, or nothing, which means d
+abbrev pub optional : {V : Type 0} → V → Grammar V → Grammar V
+optional d a = either a (nothing d)
+
+-- what it means is made of what a means
+abbrev pub meaning : {A V : Type 0} → (A → V) → Grammar A → Grammar V
+meaning f a = sequence a (nothing (tt {0})) (λ x y. f x)
+
+-- ( a { "," a } )
+abbrev pub list : {V : Type 0} → Grammar V → Grammar (List V)
+list a = sequence a (many (symbol symbols.Comma then a) (λ xs. xs)) (λ x xs. x ∷ xs)
+
+abbrev pub in_parentheses : {V : Type 0} → Grammar V → Grammar V
+in_parentheses a = symbol symbols.Open then before a (symbol symbols.Close)
+
+abbrev pub name_in : Kind → List ℕ
+name_in (kind.Name n) = n
+name_in other = []
+
+abbrev pub number_in : Kind → ℤ
+number_in (kind.Number n) = n
+number_in other = pos 0
+
+-- a name, a number
+abbrev pub name : Grammar (List ℕ)
+name = token (kind.Name []) name_in
+
+abbrev pub number : Grammar ℤ
+number = token (kind.Number (pos 0)) number_in
+
+-- a minus makes a number negative
+abbrev pub with_sign : Bool → ℤ → ℤ
+with_sign minus n = if minus then neg_ℤ n else n
+
+-- sign = "+" | "-"
+unfoldable pub sign : Grammar Bool
+sign = meaning (λ s. false) (symbol symbols.Plus) or meaning (λ s. true) (symbol symbols.Minus)
+
+-- snum = [ sign ] number
+unfoldable pub signed_number : Grammar ℤ
+signed_number = sequence (optional false sign) number with_sign
+
+-- literal = snum
+unfoldable pub literal : Grammar Value
+literal = meaning value.Number signed_number
+
+-- where = WHERE name "=" literal
+unfoldable pub where_part : Grammar WhereText
+where_part = word words.Where then sequence name (symbol symbols.Equal then literal) (λ c v. record { column = c; value = v })
+
+-- change = sign number
+unfoldable pub change : Grammar ℤ
+change = sequence sign number with_sign
+
+-- assign = name "=" name change
+unfoldable pub assign : Grammar Assign
+assign = sequence (both name (symbol symbols.Equal then name)) change (λ p n. record { column = p.0; source = p.1; change = n })
+
+-- update = UPDATE name SET assign where
+unfoldable pub update : Grammar UpdateText
+update = word words.Update then sequence (both name (word words.Set then assign)) where_part (λ p w. record { table = p.0; assign = p.1; row = w })
+
+-- insert = INSERT INTO name VALUES "(" literal { "," literal } ")"
+unfoldable pub insert : Grammar InsertText
+insert = word words.Insert then word words.Into then sequence name (word words.Values then in_parentheses (list literal)) (λ t vs. record { table = t; values = vs })
+
+-- comparison = "<" | "<=" | ">" | ">="
+unfoldable pub comparison : Grammar Comparison
+comparison =
+    meaning (λ s. comparisons.Below) (symbol symbols.Below)
+    or meaning (λ s. comparisons.AtMost) (symbol symbols.AtMost)
+    or meaning (λ s. comparisons.Above) (symbol symbols.Above)
+    or meaning (λ s. comparisons.AtLeast) (symbol symbols.AtLeast)
+
+-- condition = name comparison snum
+unfoldable pub condition : Grammar Condition
+condition = sequence (both name comparison) signed_number (λ p n. record { column = p.0; comparison = p.1; limit = n })
+
+-- constraint = [ CONSTRAINT name ]
+unfoldable pub constraint : Grammar (Option (List ℕ))
+constraint = optional None (meaning (λ n. Some n) (word words.Constraint then name))
+
+-- check = constraint CHECK "(" condition ")"
+unfoldable pub check : Grammar CheckText
+check = sequence constraint (word words.Check then in_parentheses condition) (λ n c. record { name = n; condition = c })
+
+-- mark = PRIMARY KEY | RESERVABLE | NOT NULL | check
+unfoldable pub mark : Grammar ColumnMark
+mark =
+    meaning (λ k. marks.PrimaryKey) (word words.Primary then word words.Key)
+    or meaning (λ k. marks.Reservable) (word words.Reservable)
+    or meaning (λ k. marks.NotNull) (word words.Not then word words.Null)
+    or meaning marks.Check check
+
+-- digits = [ "(" number ")" ]
+unfoldable pub digits : Grammar (Option ℤ)
+digits = optional None (meaning (λ n. Some n) (in_parentheses number))
+
+-- type = INTEGER | NUMBER digits
+unfoldable pub type_text : Grammar TypeText
+type_text = meaning (λ k. types.Integer) (word words.Integer) or meaning types.Number (word words.Number then digits)
+
+-- column = name type { mark }
+unfoldable pub column : Grammar ColumnText
+column = sequence (both name type_text) (many mark (λ ms. ms)) (λ p ms. record { name = p.0; kind = p.1; marks = ms })
+
+-- item = column
+unfoldable pub item : Grammar Item
+item = meaning items.Column column
+
+-- create = CREATE TABLE name "(" item { "," item } ")"
+unfoldable pub create : Grammar CreateText
+create = word words.Create then word words.Table then sequence name (in_parentheses (list item)) (λ t is. record { table = t; items = is })
+
+-- work = [ WORK ]
+unfoldable pub work : Grammar (Unit {0})
+work = optional tt (word words.Work)
+
+-- body = create | insert | update | COMMIT work | ROLLBACK work
+unfoldable pub body : Grammar Statement
+body =
+    meaning statements.Create create
+    or meaning statements.Insert insert
+    or meaning statements.Update update
+    or meaning (λ k. statements.Commit) (word words.Commit then work)
+    or meaning (λ k. statements.Rollback) (word words.Rollback then work)
+
+-- request = body [ ";" ]
+unfoldable pub request : Grammar Request
+request = meaning requests.Statement (before body (optional tt (symbol symbols.Semicolon)))
+
+-- a literal, a mark and an item have a token each
+pub literal-not_empty : may_be_empty literal ≡ false
+unfolding literal signed_number sign
+literal-not_empty = refl
+
+pub mark-not_empty : may_be_empty mark ≡ false
+unfolding mark check constraint
+mark-not_empty = refl
+
+pub item-not_empty : may_be_empty item ≡ false
+unfolding item column
+item-not_empty = refl

@@ -1,0 +1,113 @@
+ghost use Rattle.std.specs.Prelude.{◌≡◌, [], ◌∷◌, false, Ok, MatchBool};
+ghost use Rattle.escrow_sql.specs.Grammar.{run, starts};
+ghost use Rattle.escrow_sql.specs.Cursor.{Advances};
+ghost use Rattle.escrow_sql.specs.Token.{class_of};
+ghost use Rattle.escrow_sql.specs.Statement.{word, symbol, name, number};
+ghost use Rattle.escrow_sql.specs.declared.token.Kind.TheVariants as kind;
+
+use crate::halt::Halt;
+use crate::token::{Kind, Symbol, Token};
+use crate::word::Word;
+use escrow_num::{Amount, Name};
+
+/// A place among the tokens of a text. Each method that reads leaves it behind what was read, or at
+/// the token that no sentence goes on with.
+#[derive(Drop)]
+pub(crate) struct Cursor<'a> {
+    /// The tokens that are not read yet.
+    pub(crate) tokens: &'a [Token],
+}
+
+impl Cursor<'_> {
+    /// Whether a reserved word comes next.
+    pub(crate) fn is_at_word(&self, expected: Word) -> bool
+        ensures { result ≡ starts (class_of (kind.Word expected) ∷ []) self.now.tokens.now }
+    {
+        match self.tokens {
+            [] => false,
+            [token, ..] => token.kind.class() == Kind::Word(expected).class(),
+        }
+    }
+
+    /// Whether a symbol comes next.
+    pub(crate) fn is_at_symbol(&self, expected: Symbol) -> bool
+        ensures { result ≡ starts (class_of (kind.Symbol expected) ∷ []) self.now.tokens.now }
+    {
+        match self.tokens {
+            [] => false,
+            [token, ..] => token.kind.class() == Kind::Symbol(expected).class(),
+        }
+    }
+
+    /// Passes over a symbol if it comes next, and says whether it did.
+    pub(crate) fn takes_symbol(&mut self, expected: Symbol) -> bool
+        ensures { MatchBool result (run (symbol expected) self.old.tokens.now ≡ Ok (tt, self.new.tokens.now))
+            ((starts (class_of (kind.Symbol expected) ∷ []) self.old.tokens.now ≡ false) × (self.new.tokens.now ≡ self.old.tokens.now)) }
+    {
+        match self.tokens {
+            [token, rest @ ..] if token.kind.class() == Kind::Symbol(expected).class() => {
+                self.tokens = rest;
+                true
+            }
+            _ => false,
+        }
+    }
+
+    /// Reads a reserved word.
+    pub(crate) fn word(&mut self, expected: Word) -> Result<(), Halt>
+        ensures { Advances self.new.tokens.now result (run (word expected) self.old.tokens.now) }
+    {
+        match self.tokens {
+            [token, rest @ ..] if token.kind.class() == Kind::Word(expected).class() => {
+                self.tokens = rest;
+                Ok(())
+            }
+            _ => Err(Halt::Syntax),
+        }
+    }
+
+    /// Reads a symbol.
+    pub(crate) fn symbol(&mut self, expected: Symbol) -> Result<(), Halt>
+        ensures { Advances self.new.tokens.now result (run (symbol expected) self.old.tokens.now) }
+    {
+        match self.tokens {
+            [token, rest @ ..] if token.kind.class() == Kind::Symbol(expected).class() => {
+                self.tokens = rest;
+                Ok(())
+            }
+            _ => Err(Halt::Syntax),
+        }
+    }
+
+    /// Reads a name.
+    pub(crate) fn name(&mut self) -> Result<Name, Halt>
+        ensures { Advances self.new.tokens.now result (run name self.old.tokens.now) }
+    {
+        let [token, rest @ ..] = self.tokens else {
+            return Err(Halt::Syntax);
+        };
+        match &token.kind {
+            Kind::Name(name) => {
+                self.tokens = rest;
+                Ok(*name)
+            }
+            _ => Err(Halt::Syntax),
+        }
+    }
+
+    /// Reads a number.
+    pub(crate) fn number(&mut self) -> Result<Amount, Halt>
+        ensures { Advances self.new.tokens.now result (run number self.old.tokens.now) }
+    {
+        let [token, rest @ ..] = self.tokens else {
+            return Err(Halt::Syntax);
+        };
+        match &token.kind {
+            Kind::Number(number) => {
+                self.tokens = rest;
+                Ok(*number)
+            }
+            _ => Err(Halt::Syntax),
+        }
+    }
+}

@@ -1,0 +1,101 @@
+ghost use Rattle.std.specs.Prelude.{◌≡◌, ◌<◌, ◌+◌, ◌-◌, ◌==◌, not, Ok, MatchResult, length, drop, slice_index, IfOk};
+ghost use Rattle.std.specs.List.{prefix_len};
+ghost use Rattle.escrow_sql.specs.Lex.{tokens_of, piece_of, is_blank, IsWithin, IsFaultOf};
+
+pub(crate) mod name;
+pub(crate) mod number;
+pub(crate) mod piece;
+pub(crate) mod symbol;
+pub(crate) mod text;
+
+use crate::fault::ParseFault;
+use crate::lexer::piece::Piece;
+use crate::token::Token;
+use escrow_num::Seq;
+use std::alloc::{AllocError, Global};
+
+/// The most bytes of a text that is looked into.
+pub const MOST_BYTES: usize = 65_536;
+
+/// Whether the byte is a blank.
+fn is_space(byte: u8) -> bool
+    ensures { result ≡ is_blank byte }
+{
+    byte == b' ' || byte == b'\t' || byte == b'\r' || byte == b'\n'
+}
+
+/// What the text begins with from a place on.
+#[tactic(auto, unfolding(crate::specs::Lex::piece_of))]
+fn read_piece(alloc: Global, text: &str, at: usize) -> Result<Piece, AllocError>
+    requires { at < length text.now }
+    ensures { IfOk result (λ p. p ≡ piece_of (slice_index text.now at) (drop (at + 1) text.now)) }
+{
+    let bytes = text.as_bytes();
+    let rest = &bytes[at..];
+    let next = &bytes[at + 1..];
+    let first = bytes[at];
+    if is_space(first) {
+        return Ok(Piece::Blank(1));
+    }
+    if first == b'-' && symbol::starts_with(next, b'-') {
+        return Ok(Piece::Blank(comment_len(rest)));
+    }
+    if first.is_ascii_alphabetic() {
+        return name::read_name(alloc, rest);
+    }
+    if first.is_ascii_digit() {
+        return Ok(number::read_number(rest));
+    }
+    if first == b'\'' {
+        return text::read_text(alloc, &text[at + 1..]);
+    }
+    Ok(symbol::read_symbol(first, next))
+}
+
+/// How many bytes a comment takes: all up to the line's end.
+fn comment_len(bytes: &[u8]) -> usize
+    ensures { result ≡ prefix_len (λ b. not (b == 10)) bytes.now }
+{
+    bytes.iter().take_while(|byte| **byte != b'\n').count()
+}
+
+/// [`read_piece`], with how much of the text it takes.
+fn piece_at(alloc: Global, text: &str, at: usize) -> Result<Piece, AllocError>
+    requires { at < length text.now }
+    ensures value { IfOk result (λ p. p ≡ piece_of (slice_index text.now at) (drop (at + 1) text.now)) }
+    ensures within { IfOk result (IsWithin (length text.now - at)) }
+{
+    read_piece(alloc, text, at)
+}
+
+/// The tokens of a text, in order, each with the bytes that it takes. `Syntax` has the column of
+/// the leftmost fault; of a text past [`MOST_BYTES`] that is the column behind them.
+#[tactic(auto, unfolding(crate::specs::Lex::tokens_of))]
+pub fn lex(alloc: Global, text: &str) -> Result<Seq<Token>, ParseFault>
+    ensures { MatchResult result (λ tokens. tokens_of text.now ≡ Ok tokens) (IsFaultOf (tokens_of text.now)) }
+{
+    if MOST_BYTES < text.len() {
+        return Err(ParseFault::Syntax { column: 65_537 });
+    }
+    let mut tokens = Seq::new(alloc);
+    let mut at = 0;
+    while at < text.len() {
+        match piece_at(alloc, text, at)? {
+            Piece::Blank(len) => at += len,
+            Piece::Token(kind, len) => {
+                tokens.push(Token {
+                    kind,
+                    start: at,
+                    end: at + len,
+                })?;
+                at += len;
+            }
+            Piece::Fault(place) => {
+                return Err(ParseFault::Syntax {
+                    column: (at + place + 1) as u32,
+                });
+            }
+        }
+    }
+    Ok(tokens)
+}

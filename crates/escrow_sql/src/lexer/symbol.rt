@@ -1,0 +1,39 @@
+ghost use Rattle.std.specs.Prelude.{◌≡◌, ◌∷◌};
+ghost use Rattle.escrow_sql.specs.Lex.{symbol_piece, begins};
+
+use crate::lexer::piece::Piece;
+use crate::token::{Kind, Symbol};
+
+/// The longest symbol that begins with a byte and goes on with others.
+#[tactic(auto, unfolding(crate::specs::Lex::symbol_piece))]
+pub(super) fn read_symbol(first: u8, next: &[u8]) -> Piece
+    ensures { result ≡ symbol_piece first next.now }
+{
+    let or_equal = starts_with(next, b'=');
+    let (symbol, len) = match first {
+        b'(' => (Symbol::Open, 1),
+        b')' => (Symbol::Close, 1),
+        b',' => (Symbol::Comma, 1),
+        b';' => (Symbol::Semicolon, 1),
+        b'*' => (Symbol::Star, 1),
+        b'+' => (Symbol::Plus, 1),
+        b'-' => (Symbol::Minus, 1),
+        b'=' => (Symbol::Equal, 1),
+        b'<' if or_equal => (Symbol::AtMost, 2),
+        b'<' => (Symbol::Below, 1),
+        b'>' if or_equal => (Symbol::AtLeast, 2),
+        b'>' => (Symbol::Above, 1),
+        _ => return Piece::Fault(0),
+    };
+    Piece::Token(Kind::Symbol(symbol), len)
+}
+
+/// Whether the bytes begin with this one.
+pub(super) fn starts_with(bytes: &[u8], byte: u8) -> bool
+    ensures { result ≡ begins byte bytes.now }
+{
+    match bytes {
+        [] => false,
+        [first, ..] => *first == byte,
+    }
+}

@@ -1,0 +1,107 @@
+ghost use Rattle.std.specs.Prelude.{◌≡◌, ◌≤◌};
+ghost use Rattle.escrow_sql.specs.Token.{column_at};
+ghost use Rattle.escrow_sql.specs.Grammar.{run, run_whole};
+ghost use Rattle.escrow_sql.specs.Cursor.{Advances, Ends};
+ghost use Rattle.escrow_sql.specs.Statement.{work, body, request};
+
+pub(crate) mod change;
+pub(crate) mod create;
+pub(crate) mod part;
+
+use crate::cursor::Cursor;
+use crate::fault::ParseFault;
+use crate::halt::Halt;
+use crate::lexer;
+use crate::statement::{Request, Statement};
+use crate::token::{Symbol, Token};
+use crate::word::Word;
+use std::alloc::Global;
+
+impl Cursor<'_> {
+    /// `[ WORK ]`
+    #[tactic(auto, unfolding(crate::specs::Statement::work))]
+    fn work(&mut self) -> Result<(), Halt>
+        ensures { Advances self.new.tokens.now result (run work self.old.tokens.now) }
+    {
+        if self.is_at_word(Word::Work) {
+            return self.word(Word::Work);
+        }
+        Ok(())
+    }
+
+    /// `create | insert | update | COMMIT work | ROLLBACK work`
+    #[tactic(auto, unfolding(crate::specs::Statement::body, crate::specs::Statement::create, crate::specs::Statement::insert, crate::specs::Statement::update))]
+    fn body(&mut self, alloc: Global) -> Result<Statement, Halt>
+        ensures { Advances self.new.tokens.now result (run body self.old.tokens.now) }
+    {
+        if self.is_at_word(Word::Create) {
+            let create = self.create(alloc)?;
+            return Ok(Statement::Create(create));
+        }
+        if self.is_at_word(Word::Insert) {
+            let insert = self.insert(alloc)?;
+            return Ok(Statement::Insert(insert));
+        }
+        if self.is_at_word(Word::Update) {
+            let update = self.update()?;
+            return Ok(Statement::Update(update));
+        }
+        if self.is_at_word(Word::Commit) {
+            self.word(Word::Commit)?;
+            self.work()?;
+            return Ok(Statement::Commit);
+        }
+        self.word(Word::Rollback)?;
+        self.work()?;
+        Ok(Statement::Rollback)
+    }
+
+    /// `body [ ";" ]`
+    #[tactic(auto, unfolding(crate::specs::Statement::request))]
+    fn request(&mut self, alloc: Global) -> Result<Request, Halt>
+        ensures { Advances self.new.tokens.now result (run request self.old.tokens.now) }
+    {
+        let body = self.body(alloc)?;
+        let _ended = self.takes_symbol(Symbol::Semicolon);
+        Ok(Request::Statement(body))
+    }
+
+    /// A request, and nothing behind it.
+    fn whole(&mut self, alloc: Global) -> Result<Request, Halt>
+        ensures { Ends self.new.tokens.now result (run_whole request self.old.tokens.now) }
+    {
+        let request = self.request(alloc)?;
+        match self.tokens {
+            [] => Ok(request),
+            [_, ..] => Err(Halt::Syntax),
+        }
+    }
+}
+
+/// The column of the first of the tokens that are left, or behind a text of so many bytes.
+fn column_of(rest: &[Token], len: usize) -> u32
+    requires { column_at rest.now len ≤ 65537 }
+    ensures { result ≡ column_at rest.now len }
+{
+    match rest {
+        [] => (len + 1) as u32,
+        [token, ..] => (token.start + 1) as u32,
+    }
+}
+
+/// What a text asks. `Syntax` has the column of the first fault: that of the leftmost lexing fault,
+/// or else that of the first token such that no sentence begins with the tokens up to it, or the
+/// text's length plus 1 where the text ends too early.
+pub fn parse(alloc: Global, text: &str) -> Result<Request, ParseFault> {
+    let tokens = lexer::lex(alloc, text)?;
+    let mut cursor = Cursor {
+        tokens: tokens.as_slice(),
+    };
+    match cursor.whole(alloc) {
+        Ok(request) => Ok(request),
+        Err(Halt::Memory) => Err(ParseFault::Memory),
+        Err(Halt::Syntax) => Err(ParseFault::Syntax {
+            column: column_of(cursor.tokens, text.len()),
+        }),
+    }
+}

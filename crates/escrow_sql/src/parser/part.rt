@@ -1,0 +1,54 @@
+ghost use Rattle.std.specs.Prelude.{◌≡◌, false};
+ghost use Rattle.escrow_sql.specs.Grammar.{Grammar, run, starts, first, may_be_empty, many};
+ghost use Rattle.escrow_sql.specs.Cursor.{Advances};
+ghost use Rattle.escrow_sql.specs.Statement.{list};
+
+use crate::cursor::Cursor;
+use crate::halt::Halt;
+use crate::token::Symbol;
+use escrow_num::Seq;
+use std::alloc::Global;
+
+/// What a list of a statement is made of.
+pub(crate) trait Part: Drop {
+    ghost grammar: { Grammar Self };
+
+    /// Reads one.
+    fn read(alloc: Global, cursor: &mut Cursor) -> Result<Self, Halt>
+        ensures { Advances cursor.new.tokens.now result (run grammar cursor.old.tokens.now) };
+
+    ghost not_empty: { may_be_empty grammar ≡ false };
+}
+
+/// A part that a statement may have any number of, with nothing between them.
+pub(crate) trait Repeated: Part {
+    /// Whether one comes next.
+    fn is_next(cursor: &Cursor) -> bool
+        ensures { result ≡ starts (first Self.grammar) cursor.now.tokens.now };
+}
+
+/// Reads one or more parts, with a comma between two.
+pub(crate) fn read_list<P: Part>(alloc: Global, cursor: &mut Cursor) -> Result<Seq<P>, Halt>
+    ensures { Advances cursor.new.tokens.now result (run (list P.grammar) cursor.old.tokens.now) }
+{
+    let mut parts = Seq::new(alloc);
+    'parts: loop {
+        let part = P::read(alloc, cursor)?;
+        parts.push(part)?;
+        if !cursor.takes_symbol(Symbol::Comma) {
+            return Ok(parts);
+        }
+    }
+}
+
+/// Reads as many parts as there are.
+pub(crate) fn read_all<P: Repeated>(alloc: Global, cursor: &mut Cursor) -> Result<Seq<P>, Halt>
+    ensures { Advances cursor.new.tokens.now result (run (many P.grammar (λ xs. xs)) cursor.old.tokens.now) }
+{
+    let mut parts = Seq::new(alloc);
+    'parts: while P::is_next(cursor) {
+        let part = P::read(alloc, cursor)?;
+        parts.push(part)?;
+    }
+    Ok(parts)
+}

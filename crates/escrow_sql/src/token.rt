@@ -1,0 +1,87 @@
+ghost use Rattle.std.specs.Prelude.{◌≡◌};
+
+use crate::word::Word;
+use escrow_num::{Amount, Name, Text};
+
+/// A symbol of a statement.
+#[derive(Clone, Copy, Debug, PartialEq, Eq)]
+pub enum Symbol {
+    /// `(`
+    Open,
+    /// `)`
+    Close,
+    /// `,`
+    Comma,
+    /// `;`
+    Semicolon,
+    /// `*`
+    Star,
+    /// `+`
+    Plus,
+    /// `-`
+    Minus,
+    /// `=`
+    Equal,
+    /// `<`
+    Below,
+    /// `<=`
+    AtMost,
+    /// `>`
+    Above,
+    /// `>=`
+    AtLeast,
+}
+
+/// What a token is, with what it holds.
+#[derive(Debug, Drop)]
+pub enum Kind {
+    /// A reserved word.
+    Word(Word),
+    /// A name, in upper case.
+    Name(Name),
+    /// A number, which is not negative.
+    Number(Amount),
+    /// A text, without its quotes, each quote inside it once.
+    Text(Text),
+    /// A symbol.
+    Symbol(Symbol),
+}
+
+impl Symbol {
+    ghost use Rattle.escrow_sql.specs.Token.{symbol_number};
+
+    /// The symbol's place in the list above, from 0.
+    pub(crate) fn number(self) -> u8
+        ensures { result ≡ symbol_number self }
+    {
+        self as u8
+    }
+}
+
+impl Kind {
+    ghost use Rattle.escrow_sql.specs.Token.{class_of};
+
+    /// The number of the token's class: what it is, without what it holds.
+    pub(crate) fn class(&self) -> u8
+        ensures { result ≡ class_of self.now }
+    {
+        match self {
+            Kind::Name(_) => 0,
+            Kind::Number(_) => 1,
+            Kind::Text(_) => 2,
+            Kind::Symbol(symbol) => 3 + symbol.number(),
+            Kind::Word(word) => 15 + word.number(),
+        }
+    }
+}
+
+/// A token of a text, and the bytes that it takes there.
+#[derive(Debug, Drop)]
+pub struct Token {
+    /// What it is.
+    pub kind: Kind,
+    /// Where its first byte is, from 0.
+    pub start: usize,
+    /// Where the first byte behind it is.
+    pub end: usize,
+}

@@ -1,0 +1,180 @@
+ghost use Rattle.std.specs.Prelude.{◌≡◌, bytes_eq};
+ghost use Rattle.std.specs.List.{find};
+
+/// A reserved word: no name may be one, in any case of its letters.
+#[derive(Clone, Copy, Debug, PartialEq, Eq)]
+pub enum Word {
+    /// `ADD`
+    Add,
+    /// `ALTER`
+    Alter,
+    /// `AND`
+    And,
+    /// `BETWEEN`
+    Between,
+    /// `BOUNDS`
+    Bounds,
+    /// `CHECK`
+    Check,
+    /// `COMMIT`
+    Commit,
+    /// `CONSTRAINT`
+    Constraint,
+    /// `CREATE`
+    Create,
+    /// `DELETE`
+    Delete,
+    /// `DROP`
+    Drop,
+    /// `FROM`
+    From,
+    /// `INSERT`
+    Insert,
+    /// `INTEGER`
+    Integer,
+    /// `INTO`
+    Into,
+    /// `JOURNAL`
+    Journal,
+    /// `KEY`
+    Key,
+    /// `NOT`
+    Not,
+    /// `NULL`
+    Null,
+    /// `NUMBER`
+    Number,
+    /// `PRIMARY`
+    Primary,
+    /// `RESERVABLE`
+    Reservable,
+    /// `ROLLBACK`
+    Rollback,
+    /// `SAVEPOINT`
+    Savepoint,
+    /// `SELECT`
+    Select,
+    /// `SET`
+    Set,
+    /// `SHOW`
+    Show,
+    /// `STATISTICS`
+    Statistics,
+    /// `TABLE`
+    Table,
+    /// `TO`
+    To,
+    /// `UPDATE`
+    Update,
+    /// `VALUES`
+    Values,
+    /// `VARCHAR2`
+    Varchar2,
+    /// `WHERE`
+    Where,
+    /// `WORK`
+    Work,
+}
+
+impl Word {
+    ghost use Rattle.escrow_sql.specs.Word.{spelling, number_of, reserved};
+
+    /// Every reserved word, in the alphabet's order.
+    pub const ALL: [Word; 35] = [
+        Word::Add,
+        Word::Alter,
+        Word::And,
+        Word::Between,
+        Word::Bounds,
+        Word::Check,
+        Word::Commit,
+        Word::Constraint,
+        Word::Create,
+        Word::Delete,
+        Word::Drop,
+        Word::From,
+        Word::Insert,
+        Word::Integer,
+        Word::Into,
+        Word::Journal,
+        Word::Key,
+        Word::Not,
+        Word::Null,
+        Word::Number,
+        Word::Primary,
+        Word::Reservable,
+        Word::Rollback,
+        Word::Savepoint,
+        Word::Select,
+        Word::Set,
+        Word::Show,
+        Word::Statistics,
+        Word::Table,
+        Word::To,
+        Word::Update,
+        Word::Values,
+        Word::Varchar2,
+        Word::Where,
+        Word::Work,
+    ];
+
+    /// The word as it is spelled, in upper case.
+    pub fn spelling(self) -> &'static str
+        ensures { result.now ≡ spelling self }
+    {
+        match self {
+            Word::Add => "ADD",
+            Word::Alter => "ALTER",
+            Word::And => "AND",
+            Word::Between => "BETWEEN",
+            Word::Bounds => "BOUNDS",
+            Word::Check => "CHECK",
+            Word::Commit => "COMMIT",
+            Word::Constraint => "CONSTRAINT",
+            Word::Create => "CREATE",
+            Word::Delete => "DELETE",
+            Word::Drop => "DROP",
+            Word::From => "FROM",
+            Word::Insert => "INSERT",
+            Word::Integer => "INTEGER",
+            Word::Into => "INTO",
+            Word::Journal => "JOURNAL",
+            Word::Key => "KEY",
+            Word::Not => "NOT",
+            Word::Null => "NULL",
+            Word::Number => "NUMBER",
+            Word::Primary => "PRIMARY",
+            Word::Reservable => "RESERVABLE",
+            Word::Rollback => "ROLLBACK",
+            Word::Savepoint => "SAVEPOINT",
+            Word::Select => "SELECT",
+            Word::Set => "SET",
+            Word::Show => "SHOW",
+            Word::Statistics => "STATISTICS",
+            Word::Table => "TABLE",
+            Word::To => "TO",
+            Word::Update => "UPDATE",
+            Word::Values => "VALUES",
+            Word::Varchar2 => "VARCHAR2",
+            Word::Where => "WHERE",
+            Word::Work => "WORK",
+        }
+    }
+
+    /// The word's place in the alphabet's order, from 0.
+    pub(crate) fn number(self) -> u8
+        ensures { result ≡ number_of self }
+    {
+        self as u8
+    }
+
+    /// The reserved word that is spelled so, in upper case, if one is.
+    pub fn of(text: &[u8]) -> Option<Self>
+        ensures { result ≡ reserved text.now }
+    {
+        Self::ALL
+            .iter()
+            .copied()
+            .find(|word| word.spelling().as_bytes() == text)
+    }
+}
