@@ -1,6 +1,10 @@
+pub mod Faults
+pub mod Fronts
+pub mod Heads
 pub mod LexLemmas
 pub mod ParseLemmas
 pub mod PieceLemmas
 pub mod Predictive
 pub mod Reading
+pub mod Sentences
 pub mod TokenLemmas

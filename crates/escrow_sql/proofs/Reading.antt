@@ -83,7 +83,7 @@ and_then-same (Ok x) f g h = h x refl
 and_then-same (Err e) f g h = refl
 
 -- one before the others
-abbrev onto : {A : Type 0} → A → Read (List A) → Read (List A)
+abbrev pub onto : {A : Type 0} → A → Read (List A) → Read (List A)
 onto x r = and_then r (λ xs end. Ok (x ∷ xs, end))
 
 -- a repetition that may go on as long as the tokens do goes on as long as it can
@@ -114,6 +114,18 @@ unrolled {A} classes read h (t ∷ ts) s =
 same_again : {A : Type 0} (r : Read A) → and_then r (λ x end. Ok (x, end)) ≡ r
 same_again (Ok x) = refl
 same_again (Err e) = refl
+
+-- the items of a repetition
+abbrev pub items : {A : Type 0} → Grammar A → List Token → Read (List A)
+items g ts = run_many (first g) (run g) (length ts) ts
+
+pub items-none : {A : Type 0} (g : Grammar A) (ts : List Token) → starts (first g) ts ≡ false → items g ts ≡ Ok ([], ts)
+items-none g [] s = refl
+items-none g (t ∷ ts) s = rw s refl
+
+pub items-unrolled : {A : Type 0} (g : Grammar A) → may_be_empty g ≡ false → (ts : List Token) → starts (first g) ts ≡ true
+    → items g ts ≡ and_then (run g ts) (λ x rest. onto x (items g rest))
+items-unrolled g e ts s = unrolled (first g) (run g) (run-shorter g e) ts s
 
 -- reading any number
 abbrev all : {A : Type 0} → Grammar A → List Token → Read (List A)

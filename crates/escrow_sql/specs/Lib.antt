@@ -1,6 +1,7 @@
 pub mod Cursor
 pub mod Grammar
 pub mod Lex
+pub mod Parser
 pub mod Statement
 pub mod Token
 pub mod Word

@@ -1,8 +1,11 @@
-ghost use Rattle.std.specs.Prelude.{◌≡◌, ◌≤◌};
+ghost use Rattle.std.specs.Prelude.{◌≡◌, ◌≤◌, IfOk, IfErr, MatchResult};
 ghost use Rattle.escrow_sql.specs.Token.{column_at};
 ghost use Rattle.escrow_sql.specs.Grammar.{run, run_whole};
 ghost use Rattle.escrow_sql.specs.Cursor.{Advances, Ends};
 ghost use Rattle.escrow_sql.specs.Statement.{work, body, request};
+ghost use Rattle.escrow_sql.specs.Parser.{Asks, IsFaultIn};
+ghost use Rattle.escrow_sql.specs.declared.statement.Request.{Request};
+ghost use Rattle.escrow_sql.specs.declared.fault.ParseFault.TheVariants.{Memory};
 
 pub(crate) mod change;
 pub(crate) mod create;
@@ -92,7 +95,15 @@ fn column_of(rest: &[Token], len: usize) -> u32
 /// What a text asks. `Syntax` has the column of the first fault: that of the leftmost lexing fault,
 /// or else that of the first token such that no sentence begins with the tokens up to it, or the
 /// text's length plus 1 where the text ends too early.
-pub fn parse(alloc: Global, text: &str) -> Result<Request, ParseFault> {
+pub fn parse(alloc: Global, text: &str) -> Result<Request, ParseFault>
+    // What is answered is what the text asks.
+    ensures found { IfOk result (Asks text.now) }
+
+    // What a text asks is answered, unless memory runs out.
+    ensures only { (r : Request) → Asks text.now r → MatchResult result (λ x. x ≡ r) (λ e. e ≡ Memory) }
+
+    ensures fault { IfErr result (IsFaultIn text.now) }
+{
     let tokens = lexer::lex(alloc, text)?;
     let mut cursor = Cursor {
         tokens: tokens.as_slice(),
