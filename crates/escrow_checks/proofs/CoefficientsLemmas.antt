@@ -1,8 +1,8 @@
-use Rattle.std.proofs.Common.{◌≡◌, ℕ, zero, suc, ◌+◌, ◌-◌, ◌≤◌, ◌<◌, ℤ, pos, negsuc, neg_ℤ, ◌*◌, ◌^◌, ◌+ℤ◌, ◌*ℤ◌, ◌≤ℤ◌, List, [], ◌∷◌, ◌++◌, length, take, drop, set, get_or, replicate, min, refl, ap, ◌∙◌, sym, arith, rules, length-append, append_assoc, subst, add-one}
-use Rattle.std.specs.Prelude.{slice_set, All, bytes_eq, if◌then◌else◌, Bool, true, false}
+use Rattle.std.proofs.Common.{◌≡◌, ℕ, zero, suc, ◌+◌, ◌-◌, ◌≤◌, ◌<◌, ℤ, pos, neg_ℤ, ◌*◌, ◌^◌, ◌+ℤ◌, ◌*ℤ◌, ◌≤ℤ◌, List, [], ◌∷◌, ◌++◌, length, take, drop, set, get_or, replicate, min, refl, ap, ◌∙◌, sym, arith, append_assoc, subst, add-one}
+use Rattle.std.specs.Prelude.{Option, unwrap_or, slice_set, All, bytes_eq, if◌then◌else◌, Bool, true, false}
 use Rattle.escrow_checks.specs.Condition.{unit_of}
 use Rattle.std.proofs.lemmas.Int.{ints}
-use Rattle.std.proofs.lemmas.List.{length-replicate, length-take, length-set, length-take-le, take_more, take_all}
+use Rattle.std.proofs.lemmas.List.{length-map, get_or-map, length-replicate, length-set, length-take-le, take_more, take_all}
 use Rattle.std.proofs.lemmas.List.Elements.{All-set, All-replicate, All-nil, All-cons}
 use Rattle.std.proofs.Math.Seq.{drop-cons, set-append_seam}
 use Rattle.escrow_checks.specs.Coefficients.{IsCoefficient, AreCoefficients, padded}
@@ -60,9 +60,11 @@ All-one_at len place = All-set IsCoefficient (replicate len (pos 0)) place (pos 
 pub unit_kept : (len place : ℕ) → place < len → len ≤ 10
     → let values = set (replicate 10 (pos 0)) place (pos 1) in AreCoefficients (take len values) × (len ≤ 10) × (values ≡ padded (take len values))
 unit_kept len place within few =
-    rw (take_one_at len place within few)
-    ((omega (arith, length-one_at len place), All-one_at len place), few,
-     one_at_place len place within few ∙ ap (λ n. one_at len place ++ replicate (10 - n) (pos 0)) (sym (length-one_at len place)))
+    rw (take_one_at len place within few) (
+      (omega (arith, length-one_at len place), All-one_at len place),
+      few,
+      one_at_place len place within few ∙ ap (λ n. one_at len place ++ replicate (10 - n) (pos 0)) (sym (length-one_at len place)),
+    )
 
 -- the same with the numbers 0 and 1 by their names
 abbrev pub ten_with : ℤ → ℤ → ℕ → List ℤ

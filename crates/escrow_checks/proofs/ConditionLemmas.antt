@@ -1,11 +1,11 @@
-use Rattle.std.proofs.Common.{◌≡◌, ℕ, suc, ◌+◌, ◌<◌, ◌≤◌, ◌↔◌, Bool, true, false, ◌&&◌, ◌||◌, cond, ℤ, pos, ◌+ℤ◌, ◌*ℤ◌, ◌-ℤ◌, ◌≤ℤ◌, ◌<ℤ◌, List, [], ◌∷◌, ◌++◌, length, drop, get_or, Option, Some, None, refl, ap, ◌∙◌, sym, subst, arith, rules, add-one, append_assoc}
-use Rattle.std.specs.Prelude.{All, IfSome, nat_le, bytes_eq, if◌then◌else◌, option_map, option_and_then}
+use Rattle.std.proofs.Common.{◌≡◌, ℕ, ◌+◌, ◌≤◌, ◌↔◌, Bool, true, false, ◌&&◌, ◌||◌, cond, ℤ, pos, ◌+ℤ◌, ◌*ℤ◌, List, [], ◌∷◌, ◌++◌, length, drop, Option, Some, None, refl, ap, ◌∙◌, sym, subst, arith}
+use Rattle.std.specs.Prelude.{All, IfSome, nat_le, bytes_eq, option_map, option_and_then}
 use Rattle.std.specs.List.{list_any, IsDistinct, AllByRecursion}
 use Rattle.std.specs.Cmp.Lexicographic.{bytes_decides}
 use Rattle.std.proofs.lemmas.Int.{ints}
 use Rattle.std.proofs.lemmas.Bool.{false≢true}
 use Rattle.std.proofs.lemmas.Bool.Decides.{nat_tests}
-use Rattle.std.proofs.lemmas.List.{at_drop_more, at_drop_all, append-nil}
+use Rattle.std.proofs.lemmas.List.{at_drop_all, append-nil}
 use Rattle.std.proofs.lemmas.List.Elements.{All-nil, All-cons, All-head, All-tail}
 use Rattle.std.proofs.Math.IntN.{zero-*ℤ}
 use Rattle.escrow_num.specs.Span.{Holds}
@@ -131,9 +131,10 @@ checks_mean columns amounts distinct same (text ∷ texts) place checks gives =
     let more = parts.1 in
     let first = check_means columns amounts text place check distinct same parts.2 in
     let others = checks_mean columns amounts distinct same texts (place + 1) more parts.3 in
-    rw (← parts.4)
-    (λ h. All-cons Q text texts (first.0 (All-head P check more h)) (others.0 (All-tail P check more h)),
-     λ h. All-cons P check more (first.1 (All-head Q text texts h)) (others.1 (All-tail Q text texts h)))
+    rw (← parts.4) (
+      λ h. All-cons Q text texts (first.0 (All-head P check more h)) (others.0 (All-tail P check more h)),
+      λ h. All-cons P check more (first.1 (All-head Q text texts h)) (others.1 (All-tail Q text texts h)),
+    )
 
 pub mean_the_same : (columns : List (List ℕ)) (texts : List CheckText) (checks : List Check) → declared columns texts ≡ Some checks → MeanTheSame columns texts checks
 mean_the_same columns texts checks gives = λ distinct amounts same.

@@ -1,11 +1,10 @@
-use Rattle.std.proofs.Common.{◌≡◌, ℕ, ◌+◌, ◌<◌, ◌≤◌, ℤ, pos, ◌+ℤ◌, ◌≤ℤ◌, ◌<ℤ◌, ◌⊎◌, inl, inr, Bool, true, false, cond, not, List, [], ◌∷◌, ◌++◌, length, map, filter, Option, Some, None, refl, ap, ◌∙◌, sym, subst, arith, rules}
+use Rattle.std.proofs.Common.{◌≡◌, ◌<◌, ℤ, pos, ◌+ℤ◌, ◌≤ℤ◌, ◌<ℤ◌, ◌⊎◌, inl, inr, Bool, true, false, cond, not, List, [], ◌∷◌, ◌++◌, length, map, filter, Option, Some, None, refl, ap, ◌∙◌, sym, arith}
 use Rattle.std.specs.Prelude.{All, Contains, IfSome, int_lt, option_map}
 use Rattle.std.specs.Int.{int_min, int_max}
 use Rattle.std.proofs.lemmas.Int.{ints, clamps}
-use Rattle.std.proofs.lemmas.Option.{IfSome_then}
 use Rattle.std.proofs.lemmas.List.{length-map}
 use Rattle.std.proofs.lemmas.List.Elements.{All-nil, All-cons, All-head, All-tail, All-weaker, All-contains, Contains-append_right}
-use Rattle.escrow_num.specs.Span.{Holds, low_broken, high_broken, first_of_two, first_broken_of}
+use Rattle.escrow_num.specs.Span.{low_broken, high_broken, first_of_two, first_broken_of}
 use Rattle.escrow_num.specs.declared.span.Span.{Span}
 use Rattle.escrow_num.specs.declared.span.Side.{Side}
 use Rattle.escrow_num.specs.declared.span.Side.TheVariants.{Low, High}
@@ -13,7 +12,7 @@ use Rattle.escrow_num.specs.declared.refusal.Breach.{Breach}
 use Rattle.escrow_checks.specs.declared.check.Check.{Check}
 use Rattle.escrow_checks.specs.Form.{form, IsCovered, changed, all_changed}
 use Rattle.escrow_checks.specs.Sublists.{sublists}
-use Rattle.escrow_checks.specs.Extremes.{outcomes, smallest, largest, least, greatest}
+use Rattle.escrow_checks.specs.Extremes.{smallest, largest, least, greatest}
 use Rattle.escrow_checks.specs.Spread.{falls, rises}
 use Rattle.escrow_checks.specs.Grant.{Meets, AlwaysMeets, broken_by}
 use Rattle.escrow_checks.specs.Laws.{IsReached, IsBeyond}
@@ -75,7 +74,7 @@ smallest_given f (x ∷ []) h = given_first f x [] (f x) refl
 smallest_given f (x ∷ y ∷ xs) h =
     let rest = smallest (map f (y ∷ xs)) in
     elim (int_min_one (f x) rest) [
-        inl e ↦ given_first f x (y ∷ xs) (int_min (f x) rest) e
+      | inl e ↦ given_first f x (y ∷ xs) (int_min (f x) rest) e
       | inr e ↦ given_later f x (y ∷ xs) rest (int_min (f x) rest) e (smallest_given f (y ∷ xs) (omega arith))
     ]
 
@@ -85,7 +84,7 @@ largest_given f (x ∷ []) h = given_first f x [] (f x) refl
 largest_given f (x ∷ y ∷ xs) h =
     let rest = largest (map f (y ∷ xs)) in
     elim (int_max_one (f x) rest) [
-        inl e ↦ given_first f x (y ∷ xs) (int_max (f x) rest) e
+      | inl e ↦ given_first f x (y ∷ xs) (int_max (f x) rest) e
       | inr e ↦ given_later f x (y ∷ xs) rest (int_max (f x) rest) e (largest_given f (y ∷ xs) (omega arith))
     ]
 
@@ -192,7 +191,7 @@ granted_stays_safe check amounts changes pending covered always granted =
     let new = rw (least_is coeffs with_new pending covered_new, greatest_is coeffs with_new pending covered_new, form-changed coeffs amounts changes covered) at inside in
     always_from_sums check amounts (pending ++ changes ∷ []) covered
     (rw (falls-push coeffs pending changes, rises-push coeffs pending changes)
-        (inside_both check.span.lo check.span.hi (form coeffs amounts) (form coeffs changes) (falls coeffs pending) (rises coeffs pending) old.0 old.1 new.0 new.1))
+    (inside_both check.span.lo check.span.hi (form coeffs amounts) (form coeffs changes) (falls coeffs pending) (rises coeffs pending) old.0 old.1 new.0 new.1))
 
 -- ---- what is refused
 
@@ -232,7 +231,7 @@ found_is_reached span coeffs with_new pending found e =
     let low = least coeffs with_new pending in
     let high = greatest coeffs with_new pending in
     elim (one_of_two (low_broken span.lo low) (high_broken span.hi high) found e) [
-        inl at ↦ let known = low_beyond span span.lo low found refl at in (known.1, reached_at coeffs with_new pending low found.1 known.0 (least_reached coeffs with_new pending))
+      | inl at ↦ let known = low_beyond span span.lo low found refl at in (known.1, reached_at coeffs with_new pending low found.1 known.0 (least_reached coeffs with_new pending))
       | inr at ↦ let known = high_beyond span span.hi high found refl at in (known.1, reached_at coeffs with_new pending high found.1 known.0 (greatest_reached coeffs with_new pending))
     ]
 
@@ -256,7 +255,7 @@ commit_low coeffs amounts changes_of ends (r ∷ held) covered =
     let applied = commit_low coeffs with_r changes_of ends held (omega (arith, length-changed amounts (changes_of r), covered)) in
     let moved = form-changed coeffs amounts (changes_of r) covered in
     elim (ends r) as (λ b. (form coeffs amounts +ℤ falls coeffs (map changes_of (r ∷ held))) ≤ℤ (form coeffs (all_changed amounts (map changes_of (cond b (r ∷ filter ends held) (filter ends held)))) +ℤ falls coeffs (map changes_of (cond (not b) (r ∷ filter (λ q. not (ends q)) held) (filter (λ q. not (ends q)) held))))) [
-        true ↦ omega (arith, ints, clamps, applied, moved)
+      | true ↦ omega (arith, ints, clamps, applied, moved)
       | false ↦ omega (arith, ints, clamps, kept)
     ]
 
@@ -269,7 +268,7 @@ commit_high coeffs amounts changes_of ends (r ∷ held) covered =
     let applied = commit_high coeffs with_r changes_of ends held (omega (arith, length-changed amounts (changes_of r), covered)) in
     let moved = form-changed coeffs amounts (changes_of r) covered in
     elim (ends r) as (λ b. (form coeffs (all_changed amounts (map changes_of (cond b (r ∷ filter ends held) (filter ends held)))) +ℤ rises coeffs (map changes_of (cond (not b) (r ∷ filter (λ q. not (ends q)) held) (filter (λ q. not (ends q)) held)))) ≤ℤ (form coeffs amounts +ℤ rises coeffs (map changes_of (r ∷ held)))) [
-        true ↦ omega (arith, ints, clamps, applied, moved)
+      | true ↦ omega (arith, ints, clamps, applied, moved)
       | false ↦ omega (arith, ints, clamps, kept)
     ]
 
@@ -287,7 +286,7 @@ falls-filter coeffs changes_of stays [] = le_refl _
 falls-filter coeffs changes_of stays (r ∷ held) =
     let rest = falls-filter coeffs changes_of stays held in
     elim (stays r) as (λ b. falls coeffs (map changes_of (r ∷ held)) ≤ℤ falls coeffs (map changes_of (cond b (r ∷ filter stays held) (filter stays held)))) [
-        true ↦ omega (arith, ints, clamps, rest)
+      | true ↦ omega (arith, ints, clamps, rest)
       | false ↦ omega (arith, ints, clamps, rest)
     ]
 
@@ -296,7 +295,7 @@ rises-filter coeffs changes_of stays [] = le_refl _
 rises-filter coeffs changes_of stays (r ∷ held) =
     let rest = rises-filter coeffs changes_of stays held in
     elim (stays r) as (λ b. rises coeffs (map changes_of (cond b (r ∷ filter stays held) (filter stays held))) ≤ℤ rises coeffs (map changes_of (r ∷ held))) [
-        true ↦ omega (arith, ints, clamps, rest)
+      | true ↦ omega (arith, ints, clamps, rest)
       | false ↦ omega (arith, ints, clamps, rest)
     ]
 
@@ -307,8 +306,8 @@ pub any_choice_can_stay : {R : Type 0} (check : Check) (amounts : List ℤ) (cha
 any_choice_can_stay check amounts changes_of stays held covered always =
     always_from_sums check amounts (map changes_of (filter stays held)) covered
     (inside_moves check.span _ _ _ _
-        (omega (arith, ints, falls-filter check.coeffs changes_of stays held)) (omega (arith, ints, rises-filter check.coeffs changes_of stays held))
-        (sums_from_always check amounts (map changes_of held) covered always))
+    (omega (arith, ints, falls-filter check.coeffs changes_of stays held)) (omega (arith, ints, rises-filter check.coeffs changes_of stays held))
+    (sums_from_always check amounts (map changes_of held) covered always))
 
 -- ---- reservations of other rows
 
@@ -319,8 +318,8 @@ other_rows_stay_safe check amounts pending covered always =
     let none = form-none coeffs in
     always_from_sums check amounts (pending ++ [] ∷ []) covered
     (inside_moves check.span _ _ _ _
-        (omega (arith, ints, clamps, falls-push coeffs pending [], none)) (omega (arith, ints, clamps, rises-push coeffs pending [], none))
-        (sums_from_always check amounts pending covered always))
+    (omega (arith, ints, clamps, falls-push coeffs pending [], none)) (omega (arith, ints, clamps, rises-push coeffs pending [], none))
+    (sums_from_always check amounts pending covered always))
 
 falls-none : (coeffs : List ℤ) (pending : List (List ℤ)) → All (λ changes. changes ≡ []) pending → falls coeffs pending ≡ pos 0
 falls-none coeffs [] all = refl
@@ -347,8 +346,8 @@ new_row_is_safe check amounts pending covered granted all =
     let none = form-none coeffs in
     always_from_sums check amounts pending covered
     (inside_moves check.span _ _ _ _
-        (omega (arith, ints, falls-none coeffs pending all, moved, none)) (omega (arith, ints, rises-none coeffs pending all, moved, none))
-        inside)
+    (omega (arith, ints, falls-none coeffs pending all, moved, none)) (omega (arith, ints, rises-none coeffs pending all, moved, none))
+    inside)
 
 pub extremes_are_reached : (coeffs amounts : List ℤ) (pending : List (List ℤ))
     → All (λ chosen. (least coeffs amounts pending ≤ℤ form coeffs (all_changed amounts chosen)) × (form coeffs (all_changed amounts chosen) ≤ℤ greatest coeffs amounts pending)) (sublists pending)

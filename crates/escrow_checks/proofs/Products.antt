@@ -1,4 +1,4 @@
-use Rattle.std.proofs.Common.{◌≡◌, ℕ, zero, suc, ◌*◌, ◌^◌, ◌≤◌, ℤ, pos, negsuc, ◌+ℤ◌, ◌*ℤ◌, ◌-ℤ◌, neg_ℤ, ◌≤ℤ◌, List, refl, ap, ◌∙◌, sym, arith}
+use Rattle.std.proofs.Common.{◌≡◌, ℕ, ◌*◌, ◌^◌, ◌≤◌, ℤ, pos, negsuc, ◌+ℤ◌, ◌*ℤ◌, ◌-ℤ◌, neg_ℤ, ◌≤ℤ◌, ap, ◌∙◌, arith}
 use Rattle.std.specs.Int.RustNames.{unsigned_abs}
 use Rattle.escrow_num.specs.Amount.{IsAmount}
 use Rattle.escrow_checks.specs.Coefficients.{IsCoefficient}
@@ -7,7 +7,7 @@ use Rattle.std.proofs.Common.{to_z, of_z, SFits}
 use Rattle.std.specs.Int.{w128}
 use Rattle.std.proofs.lemmas.Int.{ints, unsigned_abs-mul, to_z-of_z, fits_signed_from_abs, fits_signed_mul}
 use Rattle.std.proofs.lemmas.Nat.{mul-le}
-use Rattle.std.proofs.Math.IntN.{ℤ_ind, suc_ℤ, pred_ℤ, +ℤ_one, -ℤ_one, suc_ℤ-*ℤ, pred_ℤ-*ℤ, zero-*ℤ}
+use Rattle.std.proofs.Math.IntN.{ℤ_ind, +ℤ_one, -ℤ_one, suc_ℤ-*ℤ, pred_ℤ-*ℤ, zero-*ℤ}
 
 -- a product with a sum is the sum of the products
 pub *ℤ-up : (m k : ℤ) → (m +ℤ pos 1) *ℤ k ≡ (m *ℤ k) +ℤ k

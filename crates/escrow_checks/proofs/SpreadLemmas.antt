@@ -1,4 +1,4 @@
-use Rattle.std.proofs.Common.{◌≡◌, ℕ, ◌+◌, ◌*◌, ◌≤◌, ◌<◌, ℤ, pos, neg_ℤ, ◌+ℤ◌, ◌≤ℤ◌, ◌<ℤ◌, List, [], ◌∷◌, ◌++◌, length, refl, ap, ◌∙◌, sym, arith, length-append, rules}
+use Rattle.std.proofs.Common.{◌≡◌, ℕ, ◌+◌, ℤ, pos, ◌+ℤ◌, ◌≤ℤ◌, ◌<ℤ◌, List, [], ◌∷◌, ◌++◌, arith, length-append}
 use Rattle.std.specs.Int.{int_min, int_max}
 use Rattle.std.proofs.lemmas.Int.{ints, clamps}
 use Rattle.escrow_checks.specs.Contribution.{IsContribution, IsFall, IsRise}
@@ -38,10 +38,11 @@ raised coeffs pending changes low high z is_low is_high same above =
 
 -- a reservation that changes nothing needs no place in the spread
 pub spread_past_nothing : (coeffs : List ℤ) (pending : List (List ℤ)) (spread : Spread) → IsSpread coeffs pending spread → IsSpread coeffs (pending ++ [] ∷ []) spread
-spread_past_nothing coeffs pending spread known =
-    (omega (arith, ints, clamps, falls-push coeffs pending [], form-none coeffs, known.0),
-     omega (arith, ints, clamps, rises-push coeffs pending [], form-none coeffs, known.1),
-     omega (arith, length-append pending ([] ∷ []), known.2))
+spread_past_nothing coeffs pending spread known = (
+  omega (arith, ints, clamps, falls-push coeffs pending [], form-none coeffs, known.0),
+  omega (arith, ints, clamps, rises-push coeffs pending [], form-none coeffs, known.1),
+  omega (arith, length-append pending ([] ∷ []), known.2),
+)
 
 -- ---- the bounds of the sums, with one more reservation
 

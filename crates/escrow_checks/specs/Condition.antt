@@ -1,4 +1,4 @@
-use Rattle.std.specs.Prelude.{ℕ, ℤ, pos, negsuc, ◌+◌, ◌+ℤ◌, ◌-ℤ◌, ◌≤ℤ◌, Bool, true, false, ◌&&◌, nat_le, int_le, if◌then◌else◌, Option, Some, None, unwrap_or, option_and_then, option_map, IfSome, ◌<ℤ◌, List, [], ◌∷◌, ◌++◌, length, map, codes, bytes_eq}
+use Rattle.std.specs.Prelude.{ℕ, ℤ, pos, negsuc, ◌+◌, ◌+ℤ◌, ◌-ℤ◌, ◌≤ℤ◌, Bool, true, ◌&&◌, nat_le, int_le, if◌then◌else◌, Option, Some, None, unwrap_or, option_and_then, option_map, IfSome, ◌<ℤ◌, List, [], ◌∷◌, ◌++◌, length, codes, bytes_eq}
 use Rattle.std.specs.List.{list_any}
 use Rattle.std.specs.Fmt.{decimal}
 use Rattle.escrow_num.specs.declared.span.Span.{Span}

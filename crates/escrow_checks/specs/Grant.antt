@@ -1,4 +1,4 @@
-use Rattle.std.specs.Prelude.{ℤ, List, [], ◌∷◌, All, Option, Some, None, option_map}
+use Rattle.std.specs.Prelude.{ℤ, List, [], ◌∷◌, All, Option, None, option_map}
 use Rattle.escrow_num.specs.Span.{Holds, first_broken_of, first_of_two}
 use Rattle.escrow_num.specs.declared.refusal.Breach.{Breach}
 use Rattle.escrow_checks.specs.declared.check.Check.{Check}

@@ -1,4 +1,4 @@
-ghost use Rattle.std.specs.Prelude.{◌≡◌, ℤ, ◌*ℤ◌, ◌≤ℤ◌, List, [], ◌∷◌, ◌++◌, OnOk, OnErr};
+ghost use Rattle.std.specs.Prelude.{◌≡◌, ℤ, pos, unwrap_or, ◌*ℤ◌, ◌≤ℤ◌, List, [], ◌∷◌, ◌++◌, OnOk, OnErr};
 ghost use Rattle.escrow_checks.specs.Coefficients.{IsCoefficient};
 ghost use Rattle.escrow_checks.specs.Contribution.{IsProduct, IsContribution};
 
@@ -30,6 +30,7 @@ impl Check {
         ensures ok { OnOk result (checks.new ≡ checks.old ++ self ∷ []) }
         ensures err { OnErr result (checks.new ≡ checks.old) }
     {
+        // The prover has to see what is in the span where a check goes into a list.
         let Span { lo, hi } = self.span;
         let span = Span { lo, hi };
         checks.push(Check { span, ..self })?;
@@ -100,3 +101,6 @@ fn product(coefficient: Amount, amount: Amount) -> Wide
 {
     Wide::new(i128::from(coefficient.get()) * i128::from(amount.get())).unwrap()
 }
+
+#[cfg(test)]
+mod tests;

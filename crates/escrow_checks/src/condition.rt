@@ -20,7 +20,11 @@ const MOST_BYTES: usize = 30;
 /// it is written, or `CHECK_` and its place. [`CheckFault::Definition`] where there are more than 32,
 /// or a condition names another column, has a limit of more than 15 digits (after `<` or `>` moved
 /// it by one), or a name of more than 30 bytes.
-pub fn normalise(alloc: Global, texts: &[CheckText], columns: &[Name]) -> Result<Seq<Check>, CheckFault>
+pub fn normalise(
+    alloc: Global,
+    texts: &[CheckText],
+    columns: &[Name],
+) -> Result<Seq<Check>, CheckFault>
     requires { length columns.now ≤ 10 }
     ensures ok { IfOk result (λ checks. declared columns.now texts.now ≡ Some checks) }
     ensures meaning { IfOk result (MeanTheSame columns.now texts.now) }
@@ -125,3 +129,6 @@ fn numbered(place: usize) -> Name
         Name::new(&[b'C', b'H', b'E', b'C', b'K', b'_', tens, ones]).unwrap()
     }
 }
+
+#[cfg(test)]
+mod tests;

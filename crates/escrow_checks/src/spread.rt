@@ -28,7 +28,8 @@ impl Spread {
 
     /// The spread of no reservation.
     pub fn new() -> Self
-        ensures { (coeffs : List ℤ) → IsSpread coeffs [] result }
+        ensures count { result.count ≡ 0 }
+        ensures none { (coeffs : List ℤ) → IsSpread coeffs [] result }
     {
         Spread {
             count: 0,
@@ -41,7 +42,7 @@ impl Spread {
     pub fn with(self, contribution: Wide) -> Self
         requires room { self.count < 16384 }
         requires within { IsContribution contribution }
-        ensures counted { result.count ≡ self.count + 1 }
+        ensures count { result.count ≡ self.count + 1 }
         ensures added { (coeffs : List ℤ) (pending : List (List ℤ)) (changes : List ℤ)
             → IsSpread coeffs pending self → contribution ≡ form coeffs changes
             → IsSpread coeffs (pending ++ changes ∷ []) result }
@@ -61,6 +62,7 @@ impl Spread {
             }
         }
     }
+
     /// The least and the greatest value, from one value of the form on.
     pub(crate) fn around(&self, value: Wide) -> (Wide, Wide)
         requires { IsFormWithNew value }

@@ -12,6 +12,7 @@ pub mod Made
 pub mod Orders
 pub mod Places
 pub mod Put
+pub mod Running
 pub mod Safe
 pub mod ValidCommit
 pub mod ValidCreate

@@ -16,6 +16,7 @@ mod held;
 mod insert;
 pub mod reply;
 mod rows;
+mod run;
 mod update;
 
 pub use database::Database;

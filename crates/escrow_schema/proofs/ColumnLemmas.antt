@@ -1,7 +1,6 @@
 -- What a column's type holds.
-use Rattle.std.proofs.Common.{◌≡◌, ℕ, ℤ, pos, ◌-◌, ◌^◌, ◌<◌, ◌≤◌, arith, lit<, lit≤, Fits, FitsSigned, w64, to_z}
+use Rattle.std.proofs.Common.{ℕ, ◌^◌, ◌≤◌, lit<}
 use Rattle.std.proofs.Math.Nat.{one-le-pow, pow-le-pow_right}
-use Rattle.std.proofs.lemmas.Int.{ints}
 
 -- a power of ten is at least one
 pub power_positive : (digits : ℕ) → 1 ≤ 10 ^ digits

@@ -1,10 +1,8 @@
 -- What the columns of a text are.
-use Rattle.std.proofs.Common.{◌≡◌, ℕ, ℤ, pos, negsuc, ◌+◌, ◌≤◌, Bool, true, false, cond, ◌&&◌, ◌||◌, not, nat_le, int_le, unsigned_abs, Option, Some, None, option_map, option_and_then, List, [], ◌∷◌, length, map, sym, ap, ◌∙◌, subst, refl, arith, rules, bytes_eq, lit≤, inl, inr}
-use Rattle.std.specs.List.{AllByRecursion, All, list_any, list_all, filter}
-use Rattle.std.proofs.lemmas.Option.{option_and_then_some, cond_some, none-some, same_Some}
+use Rattle.std.proofs.Common.{◌≡◌, ℕ, ℤ, pos, negsuc, true, false, ◌&&◌, not, nat_le, int_le, unsigned_abs, Some, None, option_map, List, [], ◌∷◌, length, subst, refl, bytes_eq, lit≤, inl, inr}
+use Rattle.std.specs.List.{AllByRecursion, list_any, list_all}
+use Rattle.std.proofs.lemmas.Option.{option_and_then_some, cond_some, same_Some}
 use Rattle.std.proofs.lemmas.Bool.{or_parts, and_parts, or_from, not-true, not_from_false, and_from, cases_Bool, leb-true}
-use Rattle.std.proofs.lemmas.Int.{ints}
-use Rattle.std.proofs.lemmas.Grind.{common_steps}
 use Rattle.escrow_sql.specs.declared.statement.TypeText.{TypeText}
 use Rattle.escrow_sql.specs.declared.statement.TypeText.TheVariants as text
 use Rattle.escrow_sql.specs.declared.statement.Item.{Item}
@@ -14,7 +12,7 @@ use Rattle.escrow_schema.specs.declared.column.ColumnType.{ColumnType}
 use Rattle.escrow_schema.specs.declared.column.ColumnType.TheVariants.{Number}
 use Rattle.escrow_schema.specs.Column.{IsType, type_of, reservables, names_of}
 use Rattle.escrow_schema.specs.Definition.{are_distinct, column_of, columns_of, is_reservable_mark}
-use Rattle.escrow_schema.proofs.ListLemmas.{some_under, mapped_some}
+use Rattle.escrow_schema.proofs.ListLemmas.{mapped_some}
 
 written_digits : (p : ℤ) → (int_le (pos 1) p && int_le p (pos 15)) ≡ true → IsType (Number (unsigned_abs p))
 written_digits (pos n) e = let h = and_parts (nat_le 1 n) (nat_le n 15) e in (leb-true 1 n h.0, leb-true n 15 h.1)

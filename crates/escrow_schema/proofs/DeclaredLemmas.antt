@@ -1,12 +1,11 @@
 -- What the CHECKs of a text and the ranges of columns declare.
-use Rattle.std.proofs.Common.{◌≡◌, ℕ, ◌+◌, ◌≤◌, Bool, true, false, cond, ◌&&◌, nat_le, int_le, Option, Some, None, option_map, option_and_then, List, [], ◌∷◌, ◌++◌, length, map, sym, ap, ◌∙◌, subst, refl, arith, rules, bytes_eq}
+use Rattle.std.proofs.Common.{◌≡◌, ℕ, ◌+◌, true, nat_le, Some, option_map, List, [], ◌∷◌, length, map, subst, refl, arith}
 use Rattle.std.specs.List.{AllByRecursion}
-use Rattle.std.proofs.lemmas.Option.{option_and_then_some, cond_some, none-some, same_Some}
+use Rattle.std.proofs.lemmas.Option.{option_and_then_some, cond_some, same_Some}
 use Rattle.escrow_sql.specs.declared.statement.CheckText.{CheckText}
 use Rattle.escrow_checks.specs.declared.check.Check.{Check}
 use Rattle.escrow_checks.specs.Condition.{unit_of, declared, declared_from, declared_check}
 use Rattle.escrow_schema.specs.declared.column.Column.{Column}
-use Rattle.escrow_schema.specs.Column.{names_of}
 use Rattle.escrow_schema.specs.Definition.{range_check}
 use Rattle.escrow_schema.proofs.ListLemmas.{some_under, mapped_some}
 

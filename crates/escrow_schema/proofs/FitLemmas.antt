@@ -1,14 +1,13 @@
 -- The row that values make.
-use Rattle.std.proofs.Common.{◌≡◌, ℕ, ℤ, ◌+◌, ◌<◌, ◌==◌, ◌||◌, ◌++◌, get_or, drop, Bool, true, false, cond, ◌&&◌, Option, Some, None, option_map, List, [], ◌∷◌, length, ap, sym, refl, arith, inl, inr}
+use Rattle.std.proofs.Common.{◌≡◌, Bool, true, false, cond, Option, Some, None, option_map, List, [], ◌∷◌, length, sym, refl, arith, inl, inr}
 use Rattle.std.specs.Prelude.{IfSome, slice_get}
-use Rattle.std.proofs.lemmas.List.{drop_more}
 use Rattle.std.proofs.lemmas.Bool.{cases_Bool, and_parts, false≢true, false_from_ne_true}
 use Rattle.escrow_num.specs.declared.value.Value.{Value}
 use Rattle.escrow_num.specs.declared.row.Row.{Row}
 use Rattle.escrow_schema.specs.declared.column.Column.{Column}
 use Rattle.escrow_schema.specs.declared.table.TableDef.{TableDef}
 use Rattle.escrow_schema.specs.Column.{fits, reservables}
-use Rattle.escrow_schema.specs.Fit.{all_fit, amounts_of, plain_of, number_in, fitted}
+use Rattle.escrow_schema.specs.Fit.{all_fit, amounts_of, plain_of}
 use Rattle.escrow_schema.specs.Laws.{RowsOfTable}
 
 -- where values fit columns there is an amount for each RESERVABLE one

@@ -1,10 +1,9 @@
 -- What holds of every table that a text defines.
-use Rattle.std.proofs.Common.{◌≡◌, ℕ, ℤ, ◌+◌, ◌≤◌, ◌<◌, ◌==◌, zero, suc, Bool, true, Some, ◌&&◌, nat_le, List, [], ◌∷◌, ◌++◌, get_or, length, map, ap, ◌∙◌, sym, subst, arith, length-append}
+use Rattle.std.proofs.Common.{◌≡◌, ℕ, ◌≤◌, ◌<◌, ◌==◌, zero, suc, true, Some, nat_le, List, [], ◌∷◌, ◌++◌, get_or, length, ap, sym, subst, arith, length-append}
 use Rattle.std.specs.List.{AllByRecursion, list_all}
 use Rattle.std.proofs.lemmas.List.{length-map}
 use Rattle.std.proofs.lemmas.List.Elements.{All-from_recursion, All-filter}
 use Rattle.std.proofs.lemmas.Bool.{and_parts, leb-true, false≢true}
-use Rattle.escrow_num.specs.Amount.{IsAmount}
 use Rattle.escrow_sql.specs.declared.statement.Item.{Item}
 use Rattle.escrow_checks.specs.declared.check.Check.{Check}
 use Rattle.escrow_checks.specs.Grant.{Meets}
@@ -12,12 +11,12 @@ use Rattle.escrow_schema.specs.declared.column.Column.{Column}
 use Rattle.escrow_schema.specs.declared.table.TableDef.{TableDef}
 use Rattle.escrow_schema.specs.Column.{IsType, TypedColumns, reservables, names_of}
 use Rattle.escrow_schema.specs.Definition.{CanRange, IsTable, columns_of, are_columns, are_distinct, key_marks, is_plain_at, range_check, range_checks, checks_in}
-use Rattle.escrow_schema.specs.Laws.{ChecksOfWholeRow, ChecksKeepAmounts, FewChecks, FewReservable}
+use Rattle.escrow_schema.specs.Laws.{ChecksOfWholeRow, ChecksKeepAmounts, FewChecks}
 use Rattle.escrow_schema.proofs.ColumnsLemmas.{HasType, written_columns, reservable_types, reservables_distinct, reservables_short}
-use Rattle.escrow_schema.proofs.DeclaredLemmas.{IsWhole, AreDeclared, declared_checks, whole_ranges}
+use Rattle.escrow_schema.proofs.DeclaredLemmas.{IsWhole, declared_checks, whole_ranges}
 use Rattle.escrow_schema.proofs.ListLemmas.{second_part, both_parts}
 use Rattle.escrow_schema.proofs.RangeLemmas.{amounts_in_range}
-use Rattle.escrow_schema.proofs.TableLemmas.{Parts, parts}
+use Rattle.escrow_schema.proofs.TableLemmas.{parts}
 
 -- the rules on columns, one by one
 pub record Rules (items : List Item) (columns : List Column) (key : ℕ) : Type 0 where

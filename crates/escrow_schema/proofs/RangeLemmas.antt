@@ -1,8 +1,8 @@
 -- Numbers that meet the range check of each RESERVABLE column are amounts.
-use Rattle.std.proofs.Common.{◌≡◌, ℕ, ℤ, pos, negsuc, neg_ℤ, ◌+ℤ◌, ◌*ℤ◌, ◌≤ℤ◌, ◌-◌, ◌^◌, ◌≤◌, ◌<◌, ◌+◌, Bool, true, false, cond, ◌&&◌, ◌||◌, not, int_le, unsigned_abs, bytes_eq, Option, Some, None, option_map, option_and_then, List, [], ◌∷◌, ◌++◌, length, map, filter, sym, ap, ◌∙◌, subst, refl, arith, rules}
-use Rattle.std.specs.List.{list_any, All, AllByRecursion}
+use Rattle.std.proofs.Common.{◌≡◌, ℕ, ℤ, pos, negsuc, neg_ℤ, ◌*ℤ◌, ◌≤ℤ◌, true, false, not, bytes_eq, List, [], ◌∷◌, length, map, sym, ◌∙◌, subst, refl, arith}
+use Rattle.std.specs.List.{list_any, AllByRecursion}
 use Rattle.std.proofs.Math.IntN.{zero-*ℤ, +ℤ_idl}
-use Rattle.std.proofs.lemmas.Bool.{or_parts, and_parts, or_from, not-true, not_from_false, and_from}
+use Rattle.std.proofs.lemmas.Bool.{or_parts, and_parts, not-true}
 use Rattle.std.proofs.lemmas.Bool.Decides.{same_from_decides}
 use Rattle.std.proofs.lemmas.Slice.Eq.{bytes_eq-Decides}
 use Rattle.std.proofs.lemmas.Int.{ints}
@@ -10,12 +10,11 @@ use Rattle.escrow_num.specs.Amount.{IsAmount}
 use Rattle.escrow_checks.specs.Form.{form}
 use Rattle.escrow_checks.specs.Condition.{unit_of}
 use Rattle.escrow_checks.specs.Grant.{Meets}
-use Rattle.escrow_checks.specs.declared.check.Check.{Check}
 use Rattle.escrow_schema.specs.declared.column.Column.{Column}
 use Rattle.escrow_schema.specs.declared.column.ColumnType.{ColumnType}
 use Rattle.escrow_schema.specs.declared.column.ColumnType.TheVariants.{Number}
-use Rattle.escrow_schema.specs.Column.{IsType, top_of, reservables, names_of}
-use Rattle.escrow_schema.specs.Definition.{are_distinct, range_check, range_checks}
+use Rattle.escrow_schema.specs.Column.{IsType, top_of, names_of}
+use Rattle.escrow_schema.specs.Definition.{are_distinct, range_check}
 use Rattle.escrow_schema.proofs.ColumnLemmas.{power_within, power_positive}
 
 pub same_name : (name : List ℕ) → bytes_eq name name ≡ true

@@ -1,7 +1,6 @@
 -- What a table is made of that a text defines.
-use Rattle.std.proofs.Common.{◌≡◌, ℕ, ℤ, pos, ◌≤◌, ◌+◌, Bool, true, false, cond, ◌&&◌, Option, Some, None, option_and_then, option_map, List, [], ◌∷◌, ◌++◌, length, map, sym, ap, ◌∙◌, subst, refl, arith, rules}
-use Rattle.std.specs.List.{All, AllByRecursion}
-use Rattle.std.proofs.lemmas.Option.{option_and_then_some, cond_some, none-some, same_Some}
+use Rattle.std.proofs.Common.{◌≡◌, ℕ, true, cond, Some, None, option_and_then, List, ◌++◌, subst, refl}
+use Rattle.std.proofs.lemmas.Option.{option_and_then_some, cond_some}
 use Rattle.escrow_sql.specs.declared.statement.CreateText.{CreateText}
 use Rattle.escrow_checks.specs.declared.check.Check.{Check}
 use Rattle.escrow_checks.specs.Condition.{declared}
@@ -9,7 +8,7 @@ use Rattle.escrow_schema.specs.declared.column.Column.{Column}
 use Rattle.escrow_schema.specs.declared.table.TableDef.{TableDef}
 use Rattle.escrow_schema.specs.Column.{reservables, names_of}
 use Rattle.escrow_schema.proofs.ListLemmas.{some_under}
-use Rattle.escrow_schema.specs.Definition.{defined, table_of, table_with, columns_of, are_columns, are_distinct, check_names, checks_in, range_checks, IsTable, marks_of, is_key_mark}
+use Rattle.escrow_schema.specs.Definition.{defined, table_of, table_with, columns_of, are_columns, are_distinct, check_names, checks_in, range_checks}
 
 -- the text's columns and checks, and the rules that they follow
 pub record Parts (text : CreateText) (table : TableDef) : Type 0 where

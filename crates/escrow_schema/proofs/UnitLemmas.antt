@@ -1,11 +1,11 @@
 -- The coefficients of one column among columns of distinct names.
-use Rattle.std.proofs.Common.{◌≡◌, ℕ, zero, suc, ℤ, pos, ◌+◌, ◌<◌, ◌≤◌, Bool, true, false, cond, ◌&&◌, not, nat_le, bytes_eq, List, [], ◌∷◌, length, map, set, get_or, replicate, sym, ap, ◌∙◌, subst, refl, arith}
+use Rattle.std.proofs.Common.{◌≡◌, ℕ, zero, suc, ℤ, pos, ◌<◌, ◌≤◌, true, false, not, nat_le, bytes_eq, List, [], ◌∷◌, length, set, get_or, replicate, sym, ap, ◌∙◌, subst, refl, arith}
 use Rattle.std.specs.Prelude.{codes, neg_ℤ, ◌++◌, Some}
 use Rattle.std.proofs.lemmas.List.{get_or_read}
 use Rattle.escrow_num.specs.declared.span.Span.{Span}
 use Rattle.escrow_checks.specs.declared.check.Check.{Check}
 use Rattle.std.specs.List.{list_any, list_all}
-use Rattle.std.proofs.lemmas.Bool.{or_parts, and_parts, not-true, false≢true, leb-true}
+use Rattle.std.proofs.lemmas.Bool.{or_parts, and_parts, not-true, leb-true}
 use Rattle.escrow_checks.specs.Condition.{unit_of}
 use Rattle.escrow_schema.specs.declared.column.Column.{Column}
 use Rattle.escrow_schema.specs.Column.{names_of, top_of}

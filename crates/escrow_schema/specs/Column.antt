@@ -1,4 +1,4 @@
-use Rattle.std.specs.Prelude.{ℕ, ℤ, pos, neg_ℤ, ◌≤◌, ◌-◌, ◌^◌, Bool, false, ◌&&◌, int_le, unsigned_abs, if◌then◌else◌, Option, Some, None, List, [], ◌∷◌, map, filter, length, All}
+use Rattle.std.specs.Prelude.{ℕ, ℤ, pos, neg_ℤ, ◌≤◌, ◌-◌, ◌^◌, Bool, false, ◌&&◌, int_le, unsigned_abs, if◌then◌else◌, Option, Some, None, List, map, filter, All}
 use Rattle.escrow_num.specs.declared.value.Value.{Value}
 use Rattle.escrow_num.specs.declared.value.Value.TheVariants as value
 use Rattle.escrow_sql.specs.declared.statement.TypeText.{TypeText}

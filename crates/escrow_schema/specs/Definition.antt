@@ -1,9 +1,8 @@
-use Rattle.std.specs.Prelude.{◌≡◌, ℕ, ℤ, pos, neg_ℤ, ◌+◌, ◌≤◌, ◌==◌, Bool, true, false, ◌&&◌, not, nat_le, if◌then◌else◌, Option, Some, None, option_map, option_and_then, unwrap_or, List, [], ◌∷◌, ◌++◌, length, map, count_by, position, slice_get, codes, bytes_eq, sum_by}
+use Rattle.std.specs.Prelude.{◌≡◌, ℕ, neg_ℤ, ◌≤◌, ◌==◌, Bool, true, false, ◌&&◌, not, nat_le, if◌then◌else◌, Option, Some, None, option_map, option_and_then, unwrap_or, List, [], ◌∷◌, ◌++◌, length, map, count_by, position, slice_get, codes, bytes_eq, sum_by}
 use Rattle.std.specs.List.{list_any, list_all, flat_map}
 use Rattle.escrow_sql.specs.declared.statement.CreateText.{CreateText}
 use Rattle.escrow_sql.specs.declared.statement.Item.{Item}
 use Rattle.escrow_sql.specs.declared.statement.Item.TheVariants as item
-use Rattle.escrow_sql.specs.declared.statement.ColumnText.{ColumnText}
 use Rattle.escrow_sql.specs.declared.statement.CheckText.{CheckText}
 use Rattle.escrow_sql.specs.declared.statement.ColumnMark.{ColumnMark}
 use Rattle.escrow_sql.specs.declared.statement.ColumnMark.TheVariants as mark

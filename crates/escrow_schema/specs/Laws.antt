@@ -1,4 +1,4 @@
-use Rattle.std.specs.Prelude.{◌≡◌, ℕ, ℤ, ◌≤◌, List, length, IfSome}
+use Rattle.std.specs.Prelude.{◌≡◌, ℤ, ◌≤◌, List, length, IfSome}
 use Rattle.std.specs.List.{AllByRecursion}
 use Rattle.escrow_num.specs.Amount.{IsAmount}
 use Rattle.escrow_num.specs.declared.value.Value.{Value}

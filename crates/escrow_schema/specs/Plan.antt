@@ -1,4 +1,4 @@
-use Rattle.std.specs.Prelude.{ℕ, ℤ, pos, Bool, true, false, ◌&&◌, not, if◌then◌else◌, Option, Some, None, option_map, unwrap_or, List, [], ◌∷◌, map, slice_get, bytes_eq}
+use Rattle.std.specs.Prelude.{ℤ, pos, Bool, false, ◌&&◌, not, if◌then◌else◌, Option, option_map, unwrap_or, List, [], ◌∷◌, map, slice_get, bytes_eq}
 use Rattle.std.specs.List.{list_any}
 use Rattle.escrow_num.specs.declared.refusal.Refusal.{Refusal}
 use Rattle.escrow_num.specs.declared.refusal.Refusal.TheVariants as refusal

@@ -7,7 +7,7 @@ use Rattle.escrow_core.proofs.grant.spread_over.Goals as goal
 use Rattle.escrow_core.proofs.grant.spread_over.Goals.{then-is_of, else-is_of}
 
 pub loop-r-init : goal.loop-r-init
-loop-r-init c = c.new-spread.ensures c.args.check.now.coeffs
+loop-r-init c = c.new-spread.ensures.none c.args.check.now.coeffs
 
 pub loop-r-preserved : goal.loop-r-preserved
 loop-r-preserved c =

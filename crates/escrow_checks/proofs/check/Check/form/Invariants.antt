@@ -1,4 +1,4 @@
-use Rattle.std.proofs.Common.{◌≡◌, ◌*◌, ℤ, pos, neg_ℤ, ◌+ℤ◌, ◌≤ℤ◌, length, drop, ◌^◌}
+use Rattle.std.proofs.Common.{◌≡◌, ◌*◌, pos, neg_ℤ, ◌+ℤ◌, ◌≤ℤ◌, length, drop, ◌^◌}
 use Rattle.escrow_checks.specs.Form.{form}
 use Rattle.escrow_checks.proofs.check.Check.form.Given as goal
 
@@ -8,5 +8,5 @@ invariant-loop-coefficient l = record {
   is_finite : (goal.iterator-loop-coefficient).is_finite l.coefficient-iterator;
   rest : l.sum +ℤ form (drop (length l.yielded) l.self.coeffs) (drop (length l.yielded) l.amounts) ≡ form l.self.coeffs l.amounts;
   low : neg_ℤ (pos (10 ^ 21 * length l.yielded)) ≤ℤ l.sum;
-  high : l.sum ≤ℤ pos (10 ^ 21 * length l.yielded)
+  high : l.sum ≤ℤ pos (10 ^ 21 * length l.yielded);
 }

@@ -1,4 +1,4 @@
-use Rattle.std.proofs.Common.{◌≡◌, length, take, replicate, pos, ◌++◌, ◌-◌, arith, ◌∙◌, ap, set, subst, refl}
+use Rattle.std.proofs.Common.{◌≡◌, length, take, replicate, pos, ◌++◌, ◌-◌, arith, refl}
 use Rattle.escrow_checks.specs.Condition.{unit_of}
 use Rattle.escrow_checks.proofs.CoefficientsLemmas.{unit_of-more, unit_of-kept}
 use Rattle.escrow_checks.proofs.coefficients.Coefficients.of_column.Goals as goal
