@@ -1,6 +1,6 @@
 -- The tokens from a place on, after one piece more.
 use Rattle.std.proofs.Common.{◌≡◌, ℕ, zero, suc, ◌+◌, ◌-◌, ◌≤◌, ◌<◌, Result, Ok, Err, List, [], ◌∷◌, ◌++◌, length, get_or, drop, arith, refl, sym, ap, ap₂, ◌∙◌, subst, append_assoc, add-zero}
-use Rattle.std.proofs.lemmas.List.{at_drop_more, drop-drop}
+use Rattle.std.proofs.lemmas.List.{append-nil, at_drop_all, at_drop_more, drop-drop}
 use Rattle.escrow_sql.specs.declared.lexer.piece.Piece.{Piece}
 use Rattle.escrow_sql.specs.declared.lexer.piece.Piece.TheVariants as piece
 use Rattle.escrow_sql.specs.declared.token.Kind.{Kind}
@@ -130,3 +130,10 @@ in_order-end (t ∷ ts) from to h = omega (arith, h.0, h.1, in_order-end ts t.en
 pub column_at-small : (ts : List Token) (from len : ℕ) → len ≤ 65536 → AreInOrder from len ts → column_at ts len ≤ 65537
 column_at-small [] from len l h = omega arith
 column_at-small (t ∷ ts) from len l h = omega (arith, h.1, in_order-end ts t.end len h.2)
+
+-- the tokens that were read to the end stand in order
+pub spans_at_end : (front : List Token) (text : List ℕ) (at : ℕ) → length text ≤ at → after front (tokens_from 0 at (drop at text)) ≡ tokens_from 0 0 text → AreInOrder 0 (length text) front
+spans_at_end front text at past same =
+    let end = at_drop_all (λ (bytes : List ℕ). after front (tokens_from 0 at bytes)) text at past in
+    let whole : tokens_from 0 0 text ≡ Ok front = sym same ∙ (end ∙ ap (λ (ts : List Token). Ok ts) (append-nil front)) in
+    in_order-moved (0 + 0) (0 + length text) 0 (length text) front (omega arith) (omega arith) (tokens_from-in_order text 0 0 front (omega arith) whole)

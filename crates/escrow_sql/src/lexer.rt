@@ -1,6 +1,9 @@
-ghost use Rattle.std.specs.Prelude.{◌≡◌, ◌<◌, ◌+◌, ◌-◌, ◌==◌, not, Ok, MatchResult, length, drop, slice_index, IfOk};
+ghost use Rattle.std.specs.Prelude.{◌≡◌, ◌<◌, ◌+◌, ◌-◌, ◌==◌, not, Ok, List, MatchResult, IfOk, IfErr, length, drop, slice_index};
 ghost use Rattle.std.specs.List.{prefix_len};
 ghost use Rattle.escrow_sql.specs.Lex.{tokens_of, piece_of, is_blank, IsWithin, IsFaultOf};
+ghost use Rattle.escrow_sql.specs.Token.{AreInOrder};
+ghost use Rattle.escrow_sql.specs.declared.fault.ParseFault.TheVariants.{Memory};
+ghost use Rattle.escrow_sql.specs.declared.token.Token.{Token};
 
 pub(crate) mod name;
 pub(crate) mod number;
@@ -72,7 +75,13 @@ fn piece_at(alloc: Global, text: &str, at: usize) -> Result<Piece, AllocError>
 /// the leftmost fault; of a text past [`MOST_BYTES`] that is the column behind them.
 #[tactic(auto, unfolding(crate::specs::Lex::tokens_of))]
 pub fn lex(alloc: Global, text: &str) -> Result<Seq<Token>, ParseFault>
-    ensures { MatchResult result (λ tokens. tokens_of text.now ≡ Ok tokens) (IsFaultOf (tokens_of text.now)) }
+    // What is answered are the tokens of the text.
+    ensures found { IfOk result (λ tokens. tokens_of text.now ≡ Ok tokens) }
+    ensures spans { IfOk result (AreInOrder 0 (length text.now)) }
+    ensures fault { IfErr result (IsFaultOf (tokens_of text.now)) }
+
+    // The tokens of a text are answered, unless memory runs out.
+    ensures only { (tokens : List Token) → tokens_of text.now ≡ Ok tokens → MatchResult result (λ x. x ≡ tokens) (λ e. e ≡ Memory) }
 {
     if MOST_BYTES < text.len() {
         return Err(ParseFault::Syntax { column: 65_537 });
@@ -99,3 +108,6 @@ pub fn lex(alloc: Global, text: &str) -> Result<Seq<Token>, ParseFault>
     }
     Ok(tokens)
 }
+
+#[cfg(test)]
+mod tests;

@@ -116,3 +116,6 @@ pub fn parse(alloc: Global, text: &str) -> Result<Request, ParseFault>
         }),
     }
 }
+
+#[cfg(test)]
+mod tests;

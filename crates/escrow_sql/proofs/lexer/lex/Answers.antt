@@ -1,6 +1,6 @@
 use Rattle.std.proofs.Common.{◌≡◌, ◌++◌, ◌∷◌, [], ◌+◌, arith, subst}
 use Rattle.escrow_sql.specs.Lex.{IsWithin}
-use Rattle.escrow_sql.proofs.TokenLemmas.{after-blank, after-one}
+use Rattle.escrow_sql.proofs.TokenLemmas.{after-blank, after-one, spans_at_end}
 use Rattle.escrow_sql.proofs.lexer.lex.Goals as goal
 
 pub loop-at-preserved-in-Blank : goal.loop-at-preserved-in-Blank
@@ -21,3 +21,6 @@ loop-at-preserved c =
       short = c.loop-at.invariant.short;
       same = rw grown (after-one c.loop-at.tokens c.args.text.now c.loop-at.at c.in-Token.len c.in-Token.kind _ _ (omega arith) w.0 c.in-Token.is c.in_ok-len.ensures.value c.loop-at.invariant.same);
     }
+
+pub returns-clause-spans : goal.returns-clause-spans
+returns-clause-spans c = spans_at_end c.loop-at.tokens c.args.text.now c.loop-at.at (omega arith) c.loop-at.invariant.same

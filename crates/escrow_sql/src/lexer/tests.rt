@@ -1,0 +1,57 @@
+use super::*;
+use crate::token::{Kind, Symbol};
+use crate::word::Word;
+use std::test::Fail;
+
+/// The column of a text's leftmost lexing fault, or 0 where it has none.
+fn fault_in(alloc: Global, text: &str) -> Result<u32, ParseFault> {
+    match lex(alloc, text) {
+        Ok(_) => Ok(0),
+        Err(ParseFault::Syntax { column }) => Ok(column),
+        Err(ParseFault::Memory) => Err(ParseFault::Memory),
+    }
+}
+
+#[test]
+fn finds_leftmost_fault(rt: HostRuntime) -> Result<(), Fail> {
+    for (text, column) in [
+        ("", 0),
+        ("5x", 0),
+        ("a ? !", 3),
+        ("aé", 2),
+        ("999999999999999", 0),
+        ("000000999999999999999", 0),
+        ("a 1000000000000000", 3),
+        ("abcdefghijklmnopqrstuvwxyz_$#0", 0),
+        (" abcdefghijklmnopqrstuvwxyz_$#01", 2),
+        ("a 'b''c", 3),
+        ("a 'b\tc", 3),
+        ("a 'b\tc'", 5),
+        ("a '\u{7f}'", 4),
+        ("'é'", 0),
+        ("a -- '?\u{1}", 0),
+        ("a -- '?\r?\n ?", 12),
+    ] {
+        assert_eq!(rt; fault_in(rt.alloc(), text)?, column, "in {text}");
+    }
+    Ok(())
+}
+
+#[test]
+fn gives_tokens_with_their_places(rt: HostRuntime) -> Result<(), Fail> {
+    let tokens = lex(rt.alloc(), "sEt a$1<=-5--x\n'b''c'")?;
+    let [set, name, at_most, minus, five, quoted] = tokens.as_slice() else {
+        assert!(rt; false, "not six tokens");
+        return Ok(());
+    };
+    assert!(rt; matches!(&set.kind, Kind::Word(Word::Set)));
+    assert!(rt; matches!(&name.kind, Kind::Name(text) if text.as_bytes() == b"A$1".as_slice()));
+    assert!(rt; matches!(&at_most.kind, Kind::Symbol(Symbol::AtMost)));
+    assert!(rt; matches!(&minus.kind, Kind::Symbol(Symbol::Minus)));
+    assert!(rt; matches!(&five.kind, Kind::Number(number) if number.get() == 5));
+    assert!(rt; matches!(&quoted.kind, Kind::Text(text) if text.as_str() == "b'c"));
+    assert_eq!(rt; (name.start, name.end), (4, 7));
+    assert_eq!(rt; (at_most.start, at_most.end), (7, 9));
+    assert_eq!(rt; (quoted.start, quoted.end), (15, 21));
+    Ok(())
+}
