@@ -39,7 +39,7 @@ none_applies [] e = tt
 none_applies (Some r ∷ rest) e = absurd (cc)
 none_applies (None ∷ rest) e = (refl, none_applies rest e)
 
-failed : (b : Bool) (r : Refusal) → refuse_if b r ≡ None → b ≡ false
+pub failed : (b : Bool) (r : Refusal) → refuse_if b r ≡ None → b ≡ false
 failed true r e = absurd (cc)
 failed false r e = refl
 
@@ -51,7 +51,7 @@ none_there : {A : Type 0} (o : Option A) → is_some o ≡ false → o ≡ None
 none_there (Some x) e = absurd (cc)
 none_there None e = refl
 
-some_there : {A : Type 0} (o : Option A) → is_none o ≡ false → (x : A) × (o ≡ Some x)
+pub some_there : {A : Type 0} (o : Option A) → is_none o ≡ false → (x : A) × (o ≡ Some x)
 some_there (Some x) e = (x, refl)
 some_there None e = absurd (cc)
 
@@ -81,15 +81,15 @@ inserted s session text table row valid none named made =
     let made_row : row_of s text ≡ Some row = rw named made in
     let stands : Row → Option Row = λ r. row_named s.rows r.table r.key in
     let new : row_named s.rows row.table row.key ≡ None =
-        let e : option_and_then stands (row_of s text) ≡ None =
-            none_there (option_and_then stands (row_of s text)) (failed (is_some (option_and_then stands (row_of s text))) refusal.RowExists each.1.1.1.0) in
-        rw made_row at e in
+    let e : option_and_then stands (row_of s text) ≡ None =
+    none_there (option_and_then stands (row_of s text)) (failed (is_some (option_and_then stands (row_of s text))) refusal.RowExists each.1.1.1.0) in
+    rw made_row at e in
     let safe : broken table.checks row.amounts [] [] ≡ None =
-        let e : insert_breach s text ≡ None = unbroken refusal.Check (insert_breach s text) each.1.1.1.1.1.0 in
-        rw (named, made) at e in
+    let e : insert_breach s text ≡ None = unbroken refusal.Check (insert_breach s text) each.1.1.1.1.1.0 in
+    rw (named, made) at e in
     let name : table.name ≡ text.table = name_found s.catalog text.table table named in
     let room : length (rows_of s.rows text.table) < 65536 =
-        below 65536 (length (rows_of s.rows text.table)) (failed (nat_le 65536 (length (rows_of s.rows text.table))) refusal.TableFull each.1.1.1.1.0) in
+    below 65536 (length (rows_of s.rows text.table)) (failed (nat_le 65536 (length (rows_of s.rows text.table))) refusal.TableFull each.1.1.1.1.0) in
     let at_name : table_named s.catalog table.name ≡ Some table = subst (λ (n : List ℕ). table_named s.catalog n ≡ Some table) (sym name) named in
     let at_room : length (rows_of s.rows table.name) < 65536 = subst (λ (n : List ℕ). length (rows_of s.rows n) < 65536) (sym name) room in
     insert_valid s table text.values row valid at_name made new at_room safe
@@ -105,11 +105,11 @@ insert_accepted s session text row valid none made =
 pub past_plan : (s : State) (session : ℕ) (text : UpdateText) (table : TableDef) (changes : List ℤ) (o : Option Refusal)
     → table_named s.catalog text.table ≡ Some table → plan_refusal table text ≡ None → changes ≡ planned_changes table.columns text.assign
     → o ≡ first_refusal (
-        refuse_if (is_none (updated_row s text)) refusal.NoSuchRow
-        ∷ refuse_if (nat_le 256 (length (own session s.held))) refusal.TooManyReservations
-        ∷ refuse_if (nat_lt 999999999999999 s.next_id) refusal.NoMoreIds
-        ∷ option_map refusal.Check (option_and_then (λ (row : Row). broken table.checks row.amounts changes (map (changes_to row) s.held)) (updated_row s text))
-        ∷ [])
+    refuse_if (is_none (updated_row s text)) refusal.NoSuchRow
+    ∷ refuse_if (nat_le 256 (length (own session s.held))) refusal.TooManyReservations
+    ∷ refuse_if (nat_lt 999999999999999 s.next_id) refusal.NoMoreIds
+    ∷ option_map refusal.Check (option_and_then (λ (row : Row). broken table.checks row.amounts changes (map (changes_to row) s.held)) (updated_row s text))
+    ∷ [])
     → first_refusal (update_refusals s session text) ≡ o
 past_plan s session text table changes o named planned asked e = rw (named, planned, ← asked) (sym e)
 
@@ -123,10 +123,10 @@ granted s session text table row valid of_session none named found =
     let more_ids : s.next_id ≤ 999999999999999 = not_past (failed (nat_lt 999999999999999 s.next_id) refusal.NoMoreIds each.1.1.1.1.0) in
     let room : length (own session s.held) < 256 = below 256 (length (own session s.held)) (failed (nat_le 256 (length (own session s.held))) refusal.TooManyReservations each.1.1.1.0) in
     let long : length (planned_changes (columns_named s text.table) text.assign) ≡ length row.amounts =
-        rw columns (length_planned s valid text.table text.row.value table row text.assign named found) in
+    rw columns (length_planned s valid text.table text.row.value table row text.assign named found) in
     let safe : broken table.checks row.amounts (planned_changes (columns_named s text.table) text.assign) (map (changes_to row) s.held) ≡ None =
-        let e : update_breach s text ≡ None = unbroken refusal.Check (update_breach s text) each.1.1.1.1.1.0 in
-        rw columns (rw (named, found) at e) in
+    let e : update_breach s text ≡ None = unbroken refusal.Check (update_breach s text) each.1.1.1.1.1.0 in
+    rw columns (rw (named, found) at e) in
     update_valid s table row (reservation_of s session text) valid named found of_session refl more_ids long room safe
   where
     not_past : nat_lt 999999999999999 s.next_id ≡ false → s.next_id ≤ 999999999999999

@@ -17,11 +17,12 @@ ascending_filter before p (x ∷ xs) h =
 pub ascending_map : {A : Type 0} (before : A → A → Bool) (f : A → A) → ((x y : A) → before (f x) (f y) ≡ before x y)
     → (xs : List A) → IsAscending before xs → IsAscending before (map f xs)
 ascending_map before f same [] h = tt
-ascending_map before f same (x ∷ xs) h =
-    (has_all (λ y. IsTrue (before (f x) y)) (map f xs) (λ y k.
-        let from = has_map f xs y k in
-        subst (λ z. IsTrue (before (f x) z)) from.2 (same x from.0 ∙ all_has (λ z. IsTrue (before x z)) xs h.0 from.0 from.1)),
-     ascending_map before f same xs h.1)
+ascending_map before f same (x ∷ xs) h = (
+  has_all (λ y. IsTrue (before (f x) y)) (map f xs) (λ y k.
+      let from = has_map f xs y k in
+      subst (λ z. IsTrue (before (f x) z)) from.2 (same x from.0 ∙ all_has (λ z. IsTrue (before x z)) xs h.0 from.0 from.1)),
+  ascending_map before f same xs h.1,
+)
 
 -- an item after all others at the end of an ascending list
 pub ascending_push : {A : Type 0} (before : A → A → Bool) (xs : List A) (y : A) → IsAscending before xs
@@ -29,10 +30,12 @@ pub ascending_push : {A : Type 0} (before : A → A → Bool) (xs : List A) (y :
 ascending_push before [] y h last = (tt, tt)
 ascending_push {A} before (x ∷ xs) y h last =
     let at : (z : A) → Has xs z ⊎ (y ≡ z) → IsTrue (before x z) = λ z. elim [
-        inl k ↦ all_has (λ z. IsTrue (before x z)) xs h.0 z k
-      | inr e ↦ subst (λ z. IsTrue (before x z)) e (last x (inl refl)) ] in
-    (has_all (λ z. IsTrue (before x z)) (xs ++ y ∷ []) (λ z k. at z (has_push xs y z k)),
-     ascending_push before xs y h.1 (λ z k. last z (inr k)))
+      | inl k ↦ all_has (λ z. IsTrue (before x z)) xs h.0 z k
+      | inr e ↦ subst (λ z. IsTrue (before x z)) e (last x (inl refl))
+    ] in (
+      has_all (λ z. IsTrue (before x z)) (xs ++ y ∷ []) (λ z k. at z (has_push xs y z k)),
+      ascending_push before xs y h.1 (λ z k. last z (inr k)),
+    )
 
 -- of two items of an ascending list one is before the other, or they are the same
 pub ascending_one : {A : Type 0} (before : A → A → Bool) (xs : List A) → IsAscending before xs → (x y : A) → Has xs x → Has xs y

@@ -50,7 +50,7 @@ row_amounts s valid chosen choice row h =
     let after : Row = row_after chosen row in
     let of_table = all_has (HasTable s.catalog) s.rows valid.rows row h in
     let long = some_weaker (λ t. IsRowOf t row) (λ t. length after.amounts ≡ length (reservables t.columns)) (table_named s.catalog row.table)
-        (λ t k. length-all_changed row.amounts (map (changes_to row) chosen) ∙ length_of_row t row k) of_table in
+    (λ t k. length-all_changed row.amounts (map (changes_to row) chosen) ∙ length_of_row t row k) of_table in
     amounts_if s valid after (table_named s.catalog row.table) refl long (safe_row s valid chosen choice row h)
 
 choice_amounts : (s : State) → IsValid s → (chosen : List Reservation) → IsChoice s.held chosen

@@ -59,11 +59,14 @@ merge_step f x false first second xs merge chosen (inl h) =
     let m = merge chosen h in
     (m.0, inl m.1, m.2)
 merge_step f x false first second xs merge chosen (inr h) =
-    let m = merge h.0 h.1 in
-    (x ∷ m.0, inr (m.0, m.1, refl), λ amounts.
-        ap (λ zs. all_changed (all_changed amounts (map f first)) (map f zs)) (sym h.2)
-        ∙ ap (λ zs. all_changed zs (map f h.0)) (sym (all_changed_later amounts (f x) (map f first)))
-        ∙ m.2 (changed amounts (f x)))
+    let m = merge h.0 h.1 in (
+      x ∷ m.0,
+      inr (m.0, m.1, refl),
+      λ amounts.
+          ap (λ zs. all_changed (all_changed amounts (map f first)) (map f zs)) (sym h.2)
+          ∙ ap (λ zs. all_changed zs (map f h.0)) (sym (all_changed_later amounts (f x) (map f first)))
+          ∙ m.2 (changed amounts (f x)),
+    )
 
 -- the changes of all items that pass a test, and then of a choice of the others, are those of one choice
 pub merge_choice : {A : Type 0} (f : A → List ℤ) (p : A → Bool) (xs chosen : List A)

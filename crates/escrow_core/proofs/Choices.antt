@@ -62,7 +62,7 @@ choice_filter p [] chosen h = h
 choice_filter {A} p (x ∷ xs) chosen h =
     let later : IsChoice (filter p xs) chosen → IsChoice (x ∷ xs) chosen = λ k. inl (choice_filter p xs chosen k) in
     let first : IsChoice (x ∷ filter p xs) chosen → IsChoice (x ∷ xs) chosen =
-        elim [ inl k ↦ later k | inr k ↦ inr (k.0, choice_filter p xs k.0 k.1, k.2) ] in
+    elim [ inl k ↦ later k | inr k ↦ inr (k.0, choice_filter p xs k.0 k.1, k.2) ] in
     cond_both (p x) (x ∷ filter p xs) (filter p xs) (λ zs. IsChoice zs chosen → IsChoice (x ∷ xs) chosen) (λ t. first) (λ f. later) h
 
 -- what passes a test is a choice of the list
@@ -85,8 +85,9 @@ choice_push (x ∷ xs) y chosen (inl h) =
     elim (choice_push xs y chosen h) [ inl k ↦ inl (inl k) | inr k ↦ inr (k.0, inl k.1, k.2) ]
 choice_push (x ∷ xs) y chosen (inr h) =
     elim (choice_push xs y h.0 h.1) [
-      inl k ↦ inl (inr (h.0, k, h.2))
-    | inr k ↦ inr (x ∷ k.0, inr (k.0, k.1, refl), ap (λ rest. x ∷ rest) k.2 ∙ h.2) ]
+      | inl k ↦ inl (inr (h.0, k, h.2))
+      | inr k ↦ inr (x ∷ k.0, inr (k.0, k.1, refl), ap (λ rest. x ∷ rest) k.2 ∙ h.2)
+    ]
 
 -- the items of a choice are items of the list
 pub choice_has : {A : Type 0} (xs chosen : List A) → IsChoice xs chosen → (x : A) → Has chosen x → Has xs x

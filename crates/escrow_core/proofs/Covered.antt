@@ -26,8 +26,8 @@ covered : (table : TableDef) (row : Row) → IsTable table → length row.amount
     → AllByRecursion (λ check. IsCovered check.coeffs row.amounts) table.checks
 covered table row is_table long =
     has_all (λ (check : Check). IsCovered check.coeffs row.amounts) table.checks (λ check h.
-        let whole = all_has (λ (c : Check). length c.coeffs ≡ length (reservables table.columns)) table.checks (checks_of_whole_row table is_table) check h in
-        omega arith)
+    let whole = all_has (λ (c : Check). length c.coeffs ≡ length (reservables table.columns)) table.checks (checks_of_whole_row table is_table) check h in
+    omega arith)
 
 -- a row that stands has as many amounts as its table has RESERVABLE columns
 pub length_found : (s : State) → IsValid s → (name : List ℕ) (key : Value) (table : TableDef) (row : Row)

@@ -32,7 +32,7 @@ has_filter p [] x h = absurd h
 has_filter {A} p (y ∷ ys) x h =
     let later : Has (filter p ys) x → Has (y ∷ ys) x × (p x ≡ true) = λ k. let found = has_filter p ys x k in (inr found.0, found.1) in
     let first : p y ≡ true → Has (y ∷ filter p ys) x → Has (y ∷ ys) x × (p x ≡ true) =
-        λ e. elim [ inl same ↦ (inl same, sym (ap p same) ∙ e) | inr k ↦ later k ] in
+    λ e. elim [ inl same ↦ (inl same, sym (ap p same) ∙ e) | inr k ↦ later k ] in
     cond_both (p y) (y ∷ filter p ys) (filter p ys) (λ zs. Has zs x → Has (y ∷ ys) x × (p x ≡ true)) first (λ e. later) h
 
 -- an item that passes stays in a filtered list

@@ -58,12 +58,12 @@ length-by_number {A} number m (suc n) xs numbered few =
     let last : A → Bool = λ x. number x == suc n in
     let other : A → Bool = λ x. not (number x == suc n) in
     let in_range : (x : A) → Has (filter other xs) x → (1 ≤ number x) × (number x ≤ n) = λ x h.
-        let kept = has_filter other xs x h in
-        let range = numbered x kept.0 in
-        let differs = eqb-false (number x) (suc n) (not-true (number x == suc n) kept.1) in
-        (range.0, below_last (number x) n range.1 differs) in
+    let kept = has_filter other xs x h in
+    let range = numbered x kept.0 in
+    let differs = eqb-false (number x) (suc n) (not-true (number x == suc n) kept.1) in
+    (range.0, below_last (number x) n range.1 differs) in
     let rest = length-by_number number m n (filter other xs) in_range
-        (λ k. le_trans (length-filter_filter (λ x. number x == k) other xs) (few k)) in
+    (λ k. le_trans (length-filter_filter (λ x. number x == k) other xs) (few k)) in
     let parts = length-filter_both last other (λ _. refl) xs in
     let of_last = few (suc n) in
     sum_below (length (filter last xs)) (length (filter other xs)) (length xs) m n parts of_last rest

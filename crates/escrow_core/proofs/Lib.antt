@@ -7,6 +7,10 @@ pub mod Choices
 pub mod Covered
 pub mod Granted
 pub mod Items
+pub mod LawsEnds
+pub mod LawsGrants
+pub mod LawsRefusals
+pub mod LawsSteps
 pub mod Lengths
 pub mod Made
 pub mod Orders

@@ -28,8 +28,9 @@ has_put before x [] y (inl e) = inl e
 has_put before x [] y (inr h) = absurd h
 has_put {A} before x (z ∷ zs) y h =
     let later : Has (z ∷ put before x zs) y → (x ≡ y) ⊎ Has (z ∷ zs) y = elim [
-        inl e ↦ inr (inl e)
-      | inr k ↦ elim (has_put before x zs y k) [ inl e ↦ inl e | inr l ↦ inr (inr l) ] ] in
+      | inl e ↦ inr (inl e)
+      | inr k ↦ elim (has_put before x zs y k) [ inl e ↦ inl e | inr l ↦ inr (inr l) ]
+    ] in
     cond_both (before x z) (x ∷ z ∷ zs) (z ∷ put before x zs) (λ ws. Has ws y → (x ≡ y) ⊎ Has (z ∷ zs) y) (λ _ k. k) (λ _. later) h
 
 pub length-put : {A : Type 0} (before : A → A → Bool) (x : A) (xs : List A) → length (put before x xs) ≡ length xs + 1
@@ -67,8 +68,11 @@ put_ascending before trans x [] other h = (tt, tt)
 put_ascending before trans x (z ∷ zs) other h =
     cond_both (before x z) (x ∷ z ∷ zs) (z ∷ put before x zs) (IsAscending before)
     (λ t. ((t, has_all (λ y. IsTrue (before x y)) zs (λ y k. trans x z y t (all_has (λ y. IsTrue (before z y)) zs h.0 y k))), h))
-    (λ f. (has_all (λ y. IsTrue (before z y)) (put before x zs) (λ y k.
-            elim (has_put before x zs y k) [
-              inl e ↦ subst (λ w. IsTrue (before z w)) e (other z (inl refl) f)
-            | inr l ↦ all_has (λ y. IsTrue (before z y)) zs h.0 y l ]),
-           put_ascending before trans x zs (λ y k. other y (inr k)) h.1))
+    (λ f. (
+      has_all (λ y. IsTrue (before z y)) (put before x zs) (λ y k.
+          elim (has_put before x zs y k) [
+            | inl e ↦ subst (λ w. IsTrue (before z w)) e (other z (inl refl) f)
+            | inr l ↦ all_has (λ y. IsTrue (before z y)) zs h.0 y l
+          ]),
+      put_ascending before trans x zs (λ y k. other y (inr k)) h.1,
+    ))

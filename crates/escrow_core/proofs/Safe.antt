@@ -56,6 +56,7 @@ row_unique rows table key row other order found h same =
     let tables : row.table ≡ other.table = row_is.0 ∙ sym other_is.0 in
     let keys : row.key ≡ other.key = row_is.1 ∙ sym other_is.1 in
     elim (ascending_one row_before rows order row other of_row.0 h) [
-        inl e ↦ e
+      | inl e ↦ e
       | inr (inl before) ↦ absurd (not_before_same row other tables keys before)
-      | inr (inr before) ↦ absurd (not_before_same other row (sym tables) (sym keys) before) ]
+      | inr (inr before) ↦ absurd (not_before_same other row (sym tables) (sym keys) before)
+    ]

@@ -35,10 +35,14 @@ some_image f P (Some x) p e each h = subst (λ q. IsSomeAnd q P) (sym e) (each x
 still_held : (s : State) (chosen : List Reservation) (r : Reservation) → IsHeldIn s r → IsHeldIn (record s { rows = applied s.rows chosen }) r
 still_held s chosen r h =
     let same_found : row_named (applied s.rows chosen) r.table r.key ≡ option_map (row_after chosen) (row_named s.rows r.table r.key) =
-        find_map (λ x. same_row x.table x.key r.table r.key) (row_after chosen) (λ _. refl) s.rows in
-    (h.0, h.1, h.2, some_image (row_after chosen) (λ (w : Row). length r.changes ≡ length w.amounts) (row_named s.rows r.table r.key)
-        (row_named (applied s.rows chosen) r.table r.key) same_found
-        (λ w e. e ∙ sym (length-all_changed w.amounts (map (changes_to w) chosen))) h.3)
+    find_map (λ x. same_row x.table x.key r.table r.key) (row_after chosen) (λ _. refl) s.rows in (
+      h.0,
+      h.1,
+      h.2,
+      some_image (row_after chosen) (λ (w : Row). length r.changes ≡ length w.amounts) (row_named s.rows r.table r.key)
+          (row_named (applied s.rows chosen) r.table r.key) same_found
+          (λ w e. e ∙ sym (length-all_changed w.amounts (map (changes_to w) chosen))) h.3,
+    )
 
 -- a committed row meets its checks after each choice of the other sessions' reservations
 meets_committed : (s : State) (session : ℕ) → IsValid s → (chosen : List Reservation) → IsChoice (others session s.held) chosen
@@ -57,17 +61,17 @@ commit_valid s session valid =
     let new : State = record s { rows = applied s.rows mine } in
     let Safe : List Reservation → Type 0 = λ c. AllByRecursion (MeetsChecks s.catalog) (applied (applied s.rows mine) c) in
     let met : (c : List Reservation) → IsChoice (others session s.held) c → (row : Row) → Has (applied s.rows mine) row → MeetsChecks s.catalog (row_after c row) =
-        λ c choice row h.
-            let from = has_map (row_after mine) s.rows row h in
-            subst (λ x. MeetsChecks s.catalog (row_after c x)) from.2 (meets_committed s session valid c choice from.0 from.1) in
+    λ c choice row h.
+    let from = has_map (row_after mine) s.rows row h in
+    subst (λ x. MeetsChecks s.catalog (row_after c x)) from.2 (meets_committed s session valid c choice from.0 from.1) in
     record {
       tables = valid.tables;
       catalog_order = valid.catalog_order;
       rows = map_all (HasTable s.catalog) (row_after mine) s.rows
-        (has_all (λ r. HasTable s.catalog (row_after mine r)) s.rows (λ r h. still_has_table s.catalog r mine (all_has (HasTable s.catalog) s.rows valid.rows r h)));
+          (has_all (λ r. HasTable s.catalog (row_after mine r)) s.rows (λ r h. still_has_table s.catalog r mine (all_has (HasTable s.catalog) s.rows valid.rows r h)));
       row_order = ascending_map row_before (row_after mine) (λ _ _. refl) s.rows valid.row_order;
       held = has_all (IsHeldIn new) (others session s.held)
-        (λ r h. still_held s mine r (all_has (IsHeldIn s) s.held valid.held r (has_filter other s.held r h).0));
+          (λ r h. still_held s mine r (all_has (IsHeldIn s) s.held valid.held r (has_filter other s.held r h).0));
       held_order = ascending_filter reservation_before other s.held valid.held_order;
       safe = choices_all Safe (others session s.held) (λ c h. safe_rows s.catalog (applied s.rows mine) c (met c h));
       few_tables = valid.few_tables;

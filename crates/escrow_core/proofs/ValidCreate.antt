@@ -32,7 +32,7 @@ name_with name columns key checks table e =
 
 name_of_columns : (text : CreateText) (table : TableDef) (columns : List Column) (key : ℕ)
     → cond (are_columns text.items columns key)
-        (option_and_then (λ checks. table_with text.table columns key (checks ++ range_checks columns)) (declared (names_of (reservables columns)) (checks_in text.items))) None ≡ Some table
+    (option_and_then (λ checks. table_with text.table columns key (checks ++ range_checks columns)) (declared (names_of (reservables columns)) (checks_in text.items))) None ≡ Some table
     → text.table ≡ table.name
 name_of_columns text table columns key e =
     let whole : List Check → Option TableDef = λ checks. table_with text.table columns key (checks ++ range_checks columns) in
@@ -48,21 +48,22 @@ still_named : (catalog : List TableDef) (table : TableDef) (name : List ℕ) (P 
     → IsSomeAnd (table_named catalog name) P → IsSomeAnd (table_named (with_table table catalog) name) P
 still_named catalog table name P new h =
     elim (cases_Bool (bytes_eq table.name name)) [
-      inl t ↦ absurd (subst (λ o. IsSomeAnd o P) (ap (table_named catalog) (sym (name_same table.name name t)) ∙ new) h)
-    | inr f ↦ subst (λ c. IsSomeAnd (table_named c name) P) (sym (with_table_put table catalog))
-        (subst (λ o. IsSomeAnd o P) (sym (find_put table_before (λ t. bytes_eq t.name name) table catalog f)) h) ]
+      | inl t ↦ absurd (subst (λ o. IsSomeAnd o P) (ap (table_named catalog) (sym (name_same table.name name t)) ∙ new) h)
+      | inr f ↦ subst (λ c. IsSomeAnd (table_named c name) P) (sym (with_table_put table catalog))
+          (subst (λ o. IsSomeAnd o P) (sym (find_put table_before (λ t. bytes_eq t.name name) table catalog f)) h)
+    ]
 
 -- a new table stands in its order
 in_order : (catalog : List TableDef) (table : TableDef) → table_named catalog table.name ≡ None → IsAscending table_before catalog
     → IsAscending table_before (with_table table catalog)
 in_order catalog table new ascending =
     let differs : (y : TableDef) → Has catalog y → ¬ (by_name table y ≡ Equal) = λ y h e.
-        let other : bytes_eq y.name table.name ≡ false = find_none (λ t. bytes_eq t.name table.name) catalog new y h in
-        let same : bytes_eq y.name table.name ≡ true = subst (λ n. bytes_eq y.name n ≡ true) (sym (table_tied table y e)) (same_name y.name) in
-        absurd (cc) in
+    let other : bytes_eq y.name table.name ≡ false = find_none (λ t. bytes_eq t.name table.name) catalog new y h in
+    let same : bytes_eq y.name table.name ≡ true = subst (λ n. bytes_eq y.name n ≡ true) (sym (table_tied table y e)) (same_name y.name) in
+    absurd (cc) in
     subst (IsAscending table_before) (sym (with_table_put table catalog))
     (put_ascending table_before (before_trans by_name table_total) table catalog
-        (λ y h f. not_before by_name table_total table y f (differs y h)) ascending)
+    (λ y h f. not_before by_name table_total table y f (differs y h)) ascending)
 
 -- CREATE TABLE keeps a valid state valid
 pub create_valid : (s : State) (text : CreateText) (table : TableDef) → IsValid s → defined text ≡ Some table
@@ -73,11 +74,12 @@ create_valid s text table valid made new room =
     let catalog : List TableDef = with_table table s.catalog in
     let Safe : List Reservation → Type 0 = λ c. AllByRecursion (MeetsChecks catalog) (applied s.rows c) in
     let is_table : (t : TableDef) → Has catalog t → IsTable t = λ t h.
-        elim (has_put table_before table s.catalog t (subst (λ c. Has c t) (with_table_put table s.catalog) h)) [
-          inl e ↦ subst IsTable e (text, made)
-        | inr k ↦ all_has IsTable s.catalog valid.tables t k ] in
+    elim (has_put table_before table s.catalog t (subst (λ c. Has c t) (with_table_put table s.catalog) h)) [
+      | inl e ↦ subst IsTable e (text, made)
+      | inr k ↦ all_has IsTable s.catalog valid.tables t k
+    ] in
     let meets : (c : List Reservation) → IsChoice s.held c → (row : Row) → Has s.rows row → MeetsChecks catalog (row_after c row) = λ c choice row h.
-        still_named s.catalog table row.table (λ t. AllByRecursion (λ check. Meets check (row_after c row).amounts) t.checks) free (safe_row s valid c choice row h) in
+    still_named s.catalog table row.table (λ t. AllByRecursion (λ check. Meets check (row_after c row).amounts) t.checks) free (safe_row s valid c choice row h) in
     record {
       tables = has_all IsTable catalog is_table;
       catalog_order = in_order s.catalog table free valid.catalog_order;

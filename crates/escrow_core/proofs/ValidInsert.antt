@@ -28,23 +28,23 @@ in_order : (rows : List Row) (row : Row) → row_named rows row.table row.key �
     → IsAscending row_before (with_row row rows)
 in_order rows row new ascending =
     let differs : (y : Row) → Has rows y → ¬ (by_row row y ≡ Equal) = λ y h e.
-        let other : same_row y.table y.key row.table row.key ≡ false = find_none (λ r. same_row r.table r.key row.table row.key) rows new y h in
-        let names = row_tied row y e in
-        let same : same_row y.table y.key row.table row.key ≡ true =
-            subst₂ (λ t k. same_row y.table y.key t k ≡ true) (sym names.0) (sym names.1) (same_row_itself y.table y.key) in
-        absurd (cc) in
+    let other : same_row y.table y.key row.table row.key ≡ false = find_none (λ r. same_row r.table r.key row.table row.key) rows new y h in
+    let names = row_tied row y e in
+    let same : same_row y.table y.key row.table row.key ≡ true =
+    subst₂ (λ t k. same_row y.table y.key t k ≡ true) (sym names.0) (sym names.1) (same_row_itself y.table y.key) in
+    absurd (cc) in
     subst (IsAscending row_before) (sym (with_row_put row rows))
     (put_ascending row_before (before_trans by_row row_total) row rows
-        (λ y h f. not_before by_row row_total row y f (differs y h)) ascending)
+    (λ y h f. not_before by_row row_total row y f (differs y h)) ascending)
 
 -- an open reservation isn't of a new row
 not_of_new : (rows : List Row) (row : Row) (r : Reservation) (P : Row → Type 0) → row_named rows row.table row.key ≡ None
     → IsSomeAnd (row_named rows r.table r.key) P → same_row row.table row.key r.table r.key ≡ false
 not_of_new rows row r P new h =
     false_from_ne_true (same_row row.table row.key r.table r.key) (λ t.
-        let names = row_same row.table row.key r.table r.key t in
-        let none : row_named rows r.table r.key ≡ None = subst₂ (λ n k. row_named rows n k ≡ None) names.0 names.1 new in
-        subst (λ o. IsSomeAnd o P) none h)
+    let names = row_same row.table row.key r.table r.key t in
+    let none : row_named rows r.table r.key ≡ None = subst₂ (λ n k. row_named rows n k ≡ None) names.0 names.1 new in
+    subst (λ o. IsSomeAnd o P) none h)
 
 -- and its row is found with the new one beside it
 still_found : (rows : List Row) (row : Row) (r : Reservation) (P : Row → Type 0) → row_named rows row.table row.key ≡ None
@@ -59,11 +59,11 @@ meets_new : (s : State) (table : TableDef) (row : Row) → IsValid s → table_n
     → (chosen : List Reservation) → IsChoice s.held chosen → MeetsChecks s.catalog (row_after chosen row)
 meets_new s table row valid named new granted chosen choice =
     let none : (r : Reservation) → Has chosen r → changes_to row r ≡ [] = λ r h.
-        let held = all_has (IsHeldIn s) s.held valid.held r (choice_has s.held chosen choice r h) in
-        let other = not_of_new s.rows row r (λ (w : Row). length r.changes ≡ length w.amounts) new held.3 in
-        cond-false (same_row row.table row.key r.table r.key) r.changes [] other in
+    let held = all_has (IsHeldIn s) s.held valid.held r (choice_has s.held chosen choice r h) in
+    let other = not_of_new s.rows row r (λ (w : Row). length r.changes ≡ length w.amounts) new held.3 in
+    cond-false (same_row row.table row.key r.table r.key) r.changes [] other in
     let same : changed row.amounts [] ≡ all_changed row.amounts (map (changes_to row) chosen) =
-        changed_nil row.amounts ∙ sym (all_changed_none (changes_to row) row.amounts chosen none) in
+    changed_nil row.amounts ∙ sym (all_changed_none (changes_to row) row.amounts chosen none) in
     some_from (λ (t : TableDef). AllByRecursion (λ check. Meets check (row_after chosen row).amounts) t.checks) (table_named s.catalog row.table) table named
     (subst (λ zs. AllByRecursion (λ check. Meets check zs) table.checks) same (granted_meets table.checks row.amounts [] [] [] granted refl))
 
@@ -73,7 +73,7 @@ few_with : (rows : List Row) (row : Row) (table : List ℕ) → length (rows_of 
 few_with rows row table few room =
     let p : Row → Bool = λ r. bytes_eq r.table table in
     let parts : length (rows_of (with_row row rows) table) ≡ length (filter p rows) + cond (p row) 1 0 =
-        ap (λ rs. length (filter p rs)) (with_row_put row rows) ∙ length-filter_put row_before p row rows in
+    ap (λ rs. length (filter p rs)) (with_row_put row rows) ∙ length-filter_put row_before p row rows in
     cond_both (p row) 1 0 (λ n. length (rows_of (with_row row rows) table) ≡ length (filter p rows) + n → length (rows_of (with_row row rows) table) ≤ 65536)
     (λ t e. let here : length (filter p rows) < 65536 = subst (λ n. length (rows_of rows n) < 65536) (name_same row.table table t) room in omega arith)
     (λ f e. omega arith) parts
@@ -91,11 +91,11 @@ insert_valid s table values row valid named made new room granted =
     let state : State = record s { rows = rows } in
     let is_row : HasTable s.catalog row = some_from (λ t. IsRowOf t row) (table_named s.catalog row.table) table of_table (values, row, made, refl, refl, refl, refl) in
     let cases : (P : Row → Type 0) → P row → ((r : Row) → Has s.rows r → P r) → (r : Row) → Has rows r → P r = λ P first others r h.
-        elim (has_put row_before row s.rows r (subst (λ rs. Has rs r) (with_row_put row s.rows) h)) [ inl e ↦ subst P e first | inr k ↦ others r k ] in
+    elim (has_put row_before row s.rows r (subst (λ rs. Has rs r) (with_row_put row s.rows) h)) [ inl e ↦ subst P e first | inr k ↦ others r k ] in
     let Safe : List Reservation → Type 0 = λ c. AllByRecursion (MeetsChecks s.catalog) (applied rows c) in
     let still_held : (r : Reservation) → Has s.held r → IsHeldIn state r = λ r h.
-        let was = all_has (IsHeldIn s) s.held valid.held r h in
-        (was.0, was.1, was.2, still_found s.rows row r (λ (w : Row). length r.changes ≡ length w.amounts) new was.3) in
+    let was = all_has (IsHeldIn s) s.held valid.held r h in
+    (was.0, was.1, was.2, still_found s.rows row r (λ (w : Row). length r.changes ≡ length w.amounts) new was.3) in
     record {
       tables = valid.tables;
       catalog_order = valid.catalog_order;
@@ -104,7 +104,7 @@ insert_valid s table values row valid named made new room granted =
       held = has_all (IsHeldIn state) s.held still_held;
       held_order = valid.held_order;
       safe = choices_all Safe s.held (λ c h. safe_rows s.catalog rows c
-        (cases (λ r. MeetsChecks s.catalog (row_after c r)) (meets_new s table row valid of_table new granted c h) (safe_row s valid c h)));
+          (cases (λ r. MeetsChecks s.catalog (row_after c r)) (meets_new s table row valid of_table new granted c h) (safe_row s valid c h)));
       few_tables = valid.few_tables;
       few_rows = λ t. few_with s.rows row t (valid.few_rows t) (subst (λ n. length (rows_of s.rows n) < 65536) name room);
       few_held = valid.few_held;

@@ -54,7 +54,7 @@ meets_own : (s : State) (table : TableDef) (row : Row) (r : Reservation)
 meets_own s table row r named same granted front choice =
     let of_table : table_named s.catalog row.table ≡ Some table = ap (table_named s.catalog) (row_same row.table row.key r.table r.key same).0 ∙ named in
     let met = granted_meets table.checks row.amounts r.changes (map (changes_to row) s.held) (map (changes_to row) front) granted
-        (choice_map (changes_to row) s.held front choice) in
+    (choice_map (changes_to row) s.held front choice) in
     some_from (λ (t : TableDef). AllByRecursion (λ check. Meets check (amounts_after row (front ++ r ∷ []))) t.checks) (table_named s.catalog row.table) table of_table
     (subst (λ zs. AllByRecursion (λ check. Meets check zs) table.checks) (amounts_own row front r same) met)
 
@@ -66,10 +66,11 @@ meets_push : (s : State) (table : TableDef) (row : Row) (r : Reservation) → Is
 meets_push s table row r valid named found granted front choice other h =
     let of_row = find_has (λ x. same_row x.table x.key r.table r.key) s.rows row found in
     elim (cases_Bool (same_row other.table other.key r.table r.key)) [
-      inl same ↦ subst (λ x. MeetsChecks s.catalog (row_after (front ++ r ∷ []) x)) (row_unique s.rows r.table r.key row other valid.row_order found h same)
-        (meets_own s table row r named of_row.1 granted front choice)
-    | inr differs ↦ subst (λ zs. MeetsChecks s.catalog (record other { amounts = zs })) (amounts_other other front r differs)
-        (safe_row s valid front choice other h) ]
+      | inl same ↦ subst (λ x. MeetsChecks s.catalog (row_after (front ++ r ∷ []) x)) (row_unique s.rows r.table r.key row other valid.row_order found h same)
+          (meets_own s table row r named of_row.1 granted front choice)
+      | inr differs ↦ subst (λ zs. MeetsChecks s.catalog (record other { amounts = zs })) (amounts_other other front r differs)
+          (safe_row s valid front choice other h)
+    ]
 
 -- few open reservations of a session, with one more
 few_own : (held : List Reservation) (r : Reservation) (session : ℕ) → length (own session held) ≤ 256 → length (own r.session held) < 256
@@ -77,11 +78,11 @@ few_own : (held : List Reservation) (r : Reservation) (session : ℕ) → length
 few_own held r session few room =
     let p : Reservation → Bool = λ x. x.session == session in
     let parts : length (filter p (held ++ r ∷ [])) ≡ length (filter p held) + length (filter p (r ∷ [])) =
-        ap length (filter-append p held (r ∷ [])) ∙ length-append (filter p held) (filter p (r ∷ [])) in
+    ap length (filter-append p held (r ∷ [])) ∙ length-append (filter p held) (filter p (r ∷ [])) in
     cond_both (p r) (r ∷ []) [] (λ zs. length (filter p (held ++ r ∷ [])) ≡ length (filter p held) + length zs → length (filter p (held ++ r ∷ [])) ≤ 256)
     (λ t e. let same : r.session ≡ session = eqb-true r.session session t in
-            let here : length (own session held) < 256 = subst (λ k. length (own k held) < 256) same room in
-            omega arith)
+    let here : length (own session held) < 256 = subst (λ k. length (own k held) < 256) same room in
+    omega arith)
     (λ f e. omega arith) parts
 
 -- a granted reservation keeps a valid state valid
@@ -95,22 +96,27 @@ update_valid s table row r valid named found of_session next more_ids long room 
     let new : State = record s { held = s.held ++ r ∷ []; next_id = s.next_id + 1 } in
     let old : (x : Reservation) → Has s.held x → IsHeldIn s x = all_has (IsHeldIn s) s.held valid.held in
     let first : 1 ≤ s.next_id = valid.ids.0 in
-    let is_held : IsHeldIn new r = (of_session, omega arith, omega arith,
-        some_from (λ (w : Row). length r.changes ≡ length w.amounts) (row_named s.rows r.table r.key) row found long) in
+    let is_held : IsHeldIn new r = (
+      of_session,
+      omega arith,
+      omega arith,
+      some_from (λ (w : Row). length r.changes ≡ length w.amounts) (row_named s.rows r.table r.key) row found long,
+    ) in
     let still_held : (x : Reservation) → Has s.held x → IsHeldIn new x = λ x h.
-        let was = old x h in
-        let below : x.id < s.next_id = was.2 in
-        (was.0, was.1, omega arith, was.3) in
+    let was = old x h in
+    let below : x.id < s.next_id = was.2 in
+    (was.0, was.1, omega arith, was.3) in
     let each_held : (x : Reservation) → Has (s.held ++ r ∷ []) x → IsHeldIn new x = λ x h.
-        elim (has_push s.held r x h) [ inl k ↦ still_held x k | inr e ↦ subst (IsHeldIn new) e is_held ] in
+    elim (has_push s.held r x h) [ inl k ↦ still_held x k | inr e ↦ subst (IsHeldIn new) e is_held ] in
     let in_order : (x : Reservation) → Has s.held x → IsTrue (reservation_before x r) = λ x h.
-        let below : x.id < s.next_id = (old x h).2 in
-        lt-ltb x.id r.id (omega arith) in
+    let below : x.id < s.next_id = (old x h).2 in
+    lt-ltb x.id r.id (omega arith) in
     let safe_push : (chosen : List Reservation) → IsChoice (s.held ++ r ∷ []) chosen → AllByRecursion (MeetsChecks s.catalog) (applied s.rows chosen) = λ chosen h.
-        elim (choice_push s.held r chosen h) [
-          inl k ↦ all_choices (λ c. AllByRecursion (MeetsChecks s.catalog) (applied s.rows c)) s.held valid.safe chosen k
-        | inr k ↦ subst (λ c. AllByRecursion (MeetsChecks s.catalog) (applied s.rows c)) k.2
-            (safe_rows s.catalog s.rows (k.0 ++ r ∷ []) (meets_push s table row r valid named found granted k.0 k.1)) ] in
+    elim (choice_push s.held r chosen h) [
+      | inl k ↦ all_choices (λ c. AllByRecursion (MeetsChecks s.catalog) (applied s.rows c)) s.held valid.safe chosen k
+      | inr k ↦ subst (λ c. AllByRecursion (MeetsChecks s.catalog) (applied s.rows c)) k.2
+          (safe_rows s.catalog s.rows (k.0 ++ r ∷ []) (meets_push s table row r valid named found granted k.0 k.1))
+    ] in
     record {
       tables = valid.tables;
       catalog_order = valid.catalog_order;

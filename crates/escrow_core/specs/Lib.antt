@@ -1,3 +1,4 @@
+pub mod Laws
 pub mod Reply
 pub mod State
 pub mod Step

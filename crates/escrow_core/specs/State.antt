@@ -21,6 +21,10 @@ pub record State : Type 0 where
   pub marks : List Mark
   pub next_id : ℕ
 
+-- a database without tables, in which nothing is open and the next id is 1
+abbrev pub empty : State
+empty = record { catalog = []; rows = []; held = []; marks = []; next_id = 1 }
+
 -- the table of a name
 abbrev pub table_named : List TableDef → List ℕ → Option TableDef
 table_named catalog name = find (λ table. bytes_eq table.name name) catalog

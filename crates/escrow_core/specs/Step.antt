@@ -108,7 +108,7 @@ updated_row s text = row_named s.rows text.table text.row.value
 abbrev pub update_breach : State → UpdateText → Option Breach
 update_breach s text =
     option_and_then (λ table. option_and_then (λ row.
-        broken table.checks row.amounts (planned_changes table.columns text.assign) (map (changes_to row) s.held))
+    broken table.checks row.amounts (planned_changes table.columns text.assign) (map (changes_to row) s.held))
     (updated_row s text)) (table_named s.catalog text.table)
 
 -- why a reservation isn't granted: no such table, a bad assignment, not the key, a bad value, no such
@@ -126,13 +126,13 @@ update_refusals s session text =
 -- the reservation that an UPDATE asks, with the next id
 abbrev pub reservation_of : State → ℕ → UpdateText → Reservation
 reservation_of s session text = record {
-    id = s.next_id;
-    session = session;
-    table = text.table;
-    key = text.row.value;
-    changes = planned_changes (columns_named s text.table) text.assign;
-    assigned = planned_columns (columns_named s text.table) text.assign;
-  }
+  id = s.next_id;
+  session = session;
+  table = text.table;
+  key = text.row.value;
+  changes = planned_changes (columns_named s text.table) text.assign;
+  assigned = planned_columns (columns_named s text.table) text.assign;
+}
 
 -- the reservation is the last of the open ones, and its id is taken
 abbrev pub after_update : State → ℕ → UpdateText → State

@@ -46,12 +46,7 @@ fn apply(alloc: Global, rows: &mut Vec<Row>, r: &Reservation)
 
 /// Adds the changes of each open reservation of a session to its row, in order of grant. Takes no
 /// memory.
-pub(crate) fn apply_own(
-    alloc: Global,
-    rows: &mut Vec<Row>,
-    held: &[Reservation],
-    session: Session,
-)
+pub(crate) fn apply_own(alloc: Global, rows: &mut Vec<Row>, held: &[Reservation], session: Session)
     requires { (i : ℕ) → HaveAmounts (applied rows.old.items (own session (take i held.now))) }
     ensures { rows.new.items ≡ applied rows.old.items (own session held.now) }
 {

@@ -3,7 +3,7 @@ use crate::reply::{Failure, Reply};
 use escrow_num::{Mark, Reservation, Row, Session};
 use escrow_schema::TableDef;
 use escrow_sql::Statement;
-use std::alloc::Global;
+use std::alloc::{AllocError, Global};
 use std::marker::Model;
 
 /// A database: its tables, their committed rows, the open reservations and savepoints of all
@@ -29,23 +29,24 @@ impl Model for Database {
 }
 
 impl Database {
-    ghost use Rattle.std.specs.Prelude.{◌≡◌, [], None, false, IfSome, is_some};
-    ghost use Rattle.escrow_core.specs.State.{is_open};
+    ghost use Rattle.std.specs.Prelude.{◌≡◌, None, false, IfSome, IfOk};
+    ghost use Rattle.escrow_core.specs.State.{empty, is_open};
     ghost use Rattle.escrow_core.specs.Valid.{IsValid};
     ghost use Rattle.escrow_core.specs.Reply.{failure_of};
     ghost use Rattle.escrow_core.specs.Step.{StepOrRefusal, may_fail};
 
-    /// A database without tables, in which nothing is open and the next id is 1. Takes no memory.
-    pub fn empty(alloc: Global) -> Self
-        ensures { result ≡ record { catalog = []; rows = []; held = []; marks = []; next_id = 1 } }
+    /// A database without tables, in which nothing is open and the next id is 1. Want of memory is
+    /// the only error.
+    pub fn empty(alloc: Global) -> Result<Self, AllocError>
+        ensures { IfOk result (λ d. d ≡ empty) }
     {
-        Database {
+        Ok(Database {
             catalog: Vec::new(alloc),
             rows: Vec::new(alloc),
             held: Vec::new(alloc),
             marks: Vec::new(alloc),
             next_id: 1,
-        }
+        })
     }
 
     /// The id that the next reservation takes. The state is valid at any time: whichever of the

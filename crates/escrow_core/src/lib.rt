@@ -14,6 +14,7 @@ mod finish;
 mod grant;
 mod held;
 mod insert;
+pub mod laws;
 pub mod reply;
 mod rows;
 mod run;
@@ -21,3 +22,6 @@ mod update;
 
 pub use database::Database;
 pub use reply::{Failure, Reply};
+
+#[cfg(test)]
+mod tests;

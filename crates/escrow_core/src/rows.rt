@@ -32,10 +32,7 @@ pub(crate) fn count_rows(rows: &[Row], table: Name) -> usize
 fn is_before(table: Name, key: &Value, row: &Row) -> bool
     ensures { result ≡ is_lt (row_cmp table key.now row.now.table row.now.key) }
 {
-    table
-        .cmp(&row.table)
-        .then(key.compare(&row.key))
-        .is_lt()
+    table.cmp(&row.table).then(key.compare(&row.key)).is_lt()
 }
 
 /// The place of the first row whose table and key are greater than these.

@@ -110,6 +110,12 @@ impl Database {
         if self.next_id > Self::LAST_ID {
             return Some(Refusal::NoMoreIds);
         }
-        first_breach(table.checks.as_slice(), row, plan.changes.as_slice(), &self.held).map(Refusal::Check)
+        first_breach(
+            table.checks.as_slice(),
+            row,
+            plan.changes.as_slice(),
+            &self.held,
+        )
+        .map(Refusal::Check)
     }
 }

@@ -7,4 +7,5 @@ pub mod PieceLemmas
 pub mod Predictive
 pub mod Reading
 pub mod Sentences
+pub mod Slices
 pub mod TokenLemmas

@@ -33,12 +33,12 @@ behind text at len one =
     tokens_from-skip (len - 1) (at + 1) (drop (at + 1) text) ∙ ap₂ (λ (n : ℕ) (bytes : List ℕ). tokens_from 0 n bytes) e d
 
 -- the tokens from a place on, by the piece that stands there
-abbrev by_piece : ℕ → List ℕ → Piece → Result (List Token) ℕ
+abbrev pub by_piece : ℕ → List ℕ → Piece → Result (List Token) ℕ
 by_piece at next (piece.Blank len) = tokens_from (len - 1) (at + 1) next
 by_piece at next (piece.Token k len) = with_token (record { kind = k; start = at; end = at + len }) (tokens_from (len - 1) (at + 1) next)
 by_piece at next (piece.Fault place) = Err (at + place + 1)
 
-tokens_from-piece : (c at : ℕ) (next : List ℕ) (p : Piece) → p ≡ piece_of c next → tokens_from 0 at (c ∷ next) ≡ by_piece at next p
+pub tokens_from-piece : (c at : ℕ) (next : List ℕ) (p : Piece) → p ≡ piece_of c next → tokens_from 0 at (c ∷ next) ≡ by_piece at next p
 tokens_from-piece c at next p e = rw e refl
 
 tokens_from-at : (text : List ℕ) (at : ℕ) (p : Piece) → at < length text → p ≡ piece_of (get_or text at 0) (drop (at + 1) text)
@@ -82,7 +82,7 @@ in_order-moved : (from to near far : ℕ) (ts : List Token) → near ≤ from �
 in_order-moved from to near far [] l e h = omega arith
 in_order-moved from to near far (t ∷ ts) l e h = (omega (arith, h.0), h.1, subst (λ (n : ℕ). AreInOrder t.end n ts) e h.2)
 
-with_token-Ok : (t : Token) (r : Result (List Token) ℕ) (ts : List Token) → with_token t r ≡ Ok ts → (us : List Token) × (r ≡ Ok us) × (ts ≡ t ∷ us)
+pub with_token-Ok : (t : Token) (r : Result (List Token) ℕ) (ts : List Token) → with_token t r ≡ Ok ts → (us : List Token) × (r ≡ Ok us) × (ts ≡ t ∷ us)
 with_token-Ok t (Ok us) ts h = (us, refl, cc)
 with_token-Ok t (Err column) ts h = absurd (cc)
 
@@ -131,9 +131,13 @@ pub column_at-small : (ts : List Token) (from len : ℕ) → len ≤ 65536 → A
 column_at-small [] from len l h = omega arith
 column_at-small (t ∷ ts) from len l h = omega (arith, h.1, in_order-end ts t.end len h.2)
 
+-- what was read to the end are the tokens
+pub whole_at_end : (front : List Token) (text : List ℕ) (at : ℕ) → length text ≤ at → after front (tokens_from 0 at (drop at text)) ≡ tokens_from 0 0 text → tokens_from 0 0 text ≡ Ok front
+whole_at_end front text at past same =
+    let end = at_drop_all (λ (bytes : List ℕ). after front (tokens_from 0 at bytes)) text at past in
+    sym same ∙ (end ∙ ap (λ (ts : List Token). Ok ts) (append-nil front))
+
 -- the tokens that were read to the end stand in order
 pub spans_at_end : (front : List Token) (text : List ℕ) (at : ℕ) → length text ≤ at → after front (tokens_from 0 at (drop at text)) ≡ tokens_from 0 0 text → AreInOrder 0 (length text) front
 spans_at_end front text at past same =
-    let end = at_drop_all (λ (bytes : List ℕ). after front (tokens_from 0 at bytes)) text at past in
-    let whole : tokens_from 0 0 text ≡ Ok front = sym same ∙ (end ∙ ap (λ (ts : List Token). Ok ts) (append-nil front)) in
-    in_order-moved (0 + 0) (0 + length text) 0 (length text) front (omega arith) (omega arith) (tokens_from-in_order text 0 0 front (omega arith) whole)
+    in_order-moved (0 + 0) (0 + length text) 0 (length text) front (omega arith) (omega arith) (tokens_from-in_order text 0 0 front (omega arith) (whole_at_end front text at past same))

@@ -1,4 +1,4 @@
-use Rattle.std.specs.Prelude.{◌≡◌, ℕ, zero, suc, pos, ◌+◌, ◌-◌, ◌==◌, Bool, true, false, not, ◌&&◌, ◌||◌, ◌<◌, ◌≤◌, nat_lt, nat_le, if◌then◌else◌, Option, Some, None, option_map, Result, Ok, Err, List, [], ◌∷◌, length, take, map, position}
+use Rattle.std.specs.Prelude.{◌≡◌, ℕ, zero, suc, pos, ◌+◌, ◌-◌, ◌==◌, Bool, true, false, not, ◌&&◌, ◌||◌, ◌<◌, ◌≤◌, nat_lt, nat_le, if◌then◌else◌, Option, Some, None, option_map, Result, Ok, Err, List, [], ◌∷◌, length, take, map, position, slice_range}
 use Rattle.std.specs.Char.{is_ascii_alphabetic, is_ascii_digit, to_ascii_uppercase}
 use Rattle.std.specs.List.{prefix_len}
 use Rattle.escrow_num.specs.Amount.{number_of}
@@ -128,6 +128,10 @@ tokens_from zero at (c ∷ next) = elim (piece_of c next) [
 -- looked into, and its fault is behind them
 unfoldable pub tokens_of : List ℕ → Result (List Token) ℕ
 tokens_of text = if nat_lt 65536 (length text) then Err 65537 else tokens_from 0 0 text
+
+-- a token is what its bytes, from its start to its end, are where they stand alone
+abbrev pub IsItsSlice : List ℕ → Token → Type 0
+IsItsSlice text t = tokens_of (slice_range text t.start t.end) ≡ Ok (record { kind = t.kind; start = 0; end = t.end - t.start } ∷ [])
 
 -- the fault of a text whose tokens these would be: its column, unless memory was refused
 abbrev pub IsFaultOf : Result (List Token) ℕ → ParseFault → Type 0

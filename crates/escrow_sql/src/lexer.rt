@@ -1,6 +1,6 @@
 ghost use Rattle.std.specs.Prelude.{◌≡◌, ◌<◌, ◌+◌, ◌-◌, ◌==◌, not, Ok, List, MatchResult, IfOk, IfErr, length, drop, slice_index};
-ghost use Rattle.std.specs.List.{prefix_len};
-ghost use Rattle.escrow_sql.specs.Lex.{tokens_of, piece_of, is_blank, IsWithin, IsFaultOf};
+ghost use Rattle.std.specs.List.{prefix_len, AllByRecursion};
+ghost use Rattle.escrow_sql.specs.Lex.{tokens_of, piece_of, is_blank, IsWithin, IsFaultOf, IsItsSlice};
 ghost use Rattle.escrow_sql.specs.Token.{AreInOrder};
 ghost use Rattle.escrow_sql.specs.declared.fault.ParseFault.TheVariants.{Memory};
 ghost use Rattle.escrow_sql.specs.declared.token.Token.{Token};
@@ -78,13 +78,16 @@ pub fn lex(alloc: Global, text: &str) -> Result<Seq<Token>, ParseFault>
     // What is answered are the tokens of the text.
     ensures found { IfOk result (λ tokens. tokens_of text.now ≡ Ok tokens) }
     ensures spans { IfOk result (AreInOrder 0 (length text.now)) }
+    ensures slices { IfOk result (AllByRecursion (IsItsSlice text.now)) }
     ensures fault { IfErr result (IsFaultOf (tokens_of text.now)) }
 
     // The tokens of a text are answered, unless memory runs out.
     ensures only { (tokens : List Token) → tokens_of text.now ≡ Ok tokens → MatchResult result (λ x. x ≡ tokens) (λ e. e ≡ Memory) }
 {
     if MOST_BYTES < text.len() {
-        return Err(ParseFault::Syntax { column: 65_537 });
+        return Err(ParseFault::Syntax {
+            column: MOST_BYTES as u32 + 1,
+        });
     }
     let mut tokens = Seq::new(alloc);
     let mut at = 0;

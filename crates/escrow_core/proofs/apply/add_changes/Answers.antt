@@ -23,11 +23,11 @@ loop-i-preserved c =
     let changes = c.args.changes.now in
     let long : length c.loop-i.amounts.items ≡ length first = ap length c.loop-i.invariant ∙ length-changed first (take c.loop-i.i changes) in
     elim c.if-i-len.branch [
-      then-i-len w ↦
-        let below : c.loop-i.i < length first = omega (arith, c.loop-i.amounts.ok.0) in
-        let more = changed_more first changes c.loop-i.i w.index.result.now c.index-changes-i.result below c.loop-i-test.true (rw (← c.loop-i.invariant) w.index.ensures) c.index-changes-i.is in
-        rw (w.amounts-is, w.plus.ensures) (ap (λ xs. set xs c.loop-i.i (w.index.result.now +ℤ c.index-changes-i.result)) c.loop-i.invariant ∙ sym more)
-    | else-i-len w ↦
-        let past : length first ≤ c.loop-i.i = omega (arith, c.loop-i.amounts.ok.0) in
-        rw w.amounts-is (c.loop-i.invariant ∙ sym (changed_past first changes c.loop-i.i past))
+      | then-i-len w ↦
+          let below : c.loop-i.i < length first = omega (arith, c.loop-i.amounts.ok.0) in
+          let more = changed_more first changes c.loop-i.i w.index.result.now c.index-changes-i.result below c.loop-i-test.true (rw (← c.loop-i.invariant) w.index.ensures) c.index-changes-i.is in
+          rw (w.amounts-is, w.plus.ensures) (ap (λ xs. set xs c.loop-i.i (w.index.result.now +ℤ c.index-changes-i.result)) c.loop-i.invariant ∙ sym more)
+      | else-i-len w ↦
+          let past : length first ≤ c.loop-i.i = omega (arith, c.loop-i.amounts.ok.0) in
+          rw w.amounts-is (c.loop-i.invariant ∙ sym (changed_past first changes c.loop-i.i past))
     ]

@@ -13,8 +13,8 @@ pub loop-i-preserved : goal.loop-i-preserved
 loop-i-preserved c =
     let below : c.loop-i.i < length c.args.rows.now.items = omega (arith, c.args.rows.now.ok.0) in
     elim c.if-is_of.branch [
-      then-is_of w ↦
-        rw w.rows-is (applied_then c.args.rows.now.items c.loop-i.rows.items c.args.r.now c.loop-i.i c.index_mut-row.result.now _ below c.loop-i.invariant c.index_mut-row.ensures.value (sym c.is_of.ensures ∙ w.if-is_of.true) (rw w.as_slice.ensures at w.change_row.ensures))
-    | else-is_of w ↦
-        rw w.rows-is (applied_else c.args.rows.now.items c.loop-i.rows.items c.args.r.now c.loop-i.i c.index_mut-row.result.now below c.loop-i.invariant c.index_mut-row.ensures.value (sym c.is_of.ensures ∙ w.if-is_of.false))
+      | then-is_of w ↦
+          rw w.rows-is (applied_then c.args.rows.now.items c.loop-i.rows.items c.args.r.now c.loop-i.i c.index_mut-row.result.now _ below c.loop-i.invariant c.index_mut-row.ensures.value (sym c.is_of.ensures ∙ w.if-is_of.true) (rw w.as_slice.ensures at w.change_row.ensures))
+      | else-is_of w ↦
+          rw w.rows-is (applied_else c.args.rows.now.items c.loop-i.rows.items c.args.r.now c.loop-i.i c.index_mut-row.result.now below c.loop-i.invariant c.index_mut-row.ensures.value (sym c.is_of.ensures ∙ w.if-is_of.false))
     ]

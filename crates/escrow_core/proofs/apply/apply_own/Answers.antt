@@ -14,10 +14,10 @@ apply-requires c =
 pub loop-r-preserved : goal.loop-r-preserved
 loop-r-preserved c =
     elim c.if-eq.branch [
-      then-eq w ↦
-        rw (w.rows-is, w.apply.ensures, c.loop-r.invariant)
-        (sym (own_applied c.args.session c.args.rows.now.items c.args.held.now c.loop-r.r-index c.r-item.result c.loop-r-test.true c.r-item.is (sym c.eq.ensures ∙ w.if-eq.true)))
-    | else-eq w ↦
-        rw (w.rows-is, c.loop-r.invariant)
-        (sym (own_skipped c.args.session c.args.rows.now.items c.args.held.now c.loop-r.r-index c.r-item.result c.loop-r-test.true c.r-item.is (sym c.eq.ensures ∙ w.if-eq.false)))
+      | then-eq w ↦
+          rw (w.rows-is, w.apply.ensures, c.loop-r.invariant)
+          (sym (own_applied c.args.session c.args.rows.now.items c.args.held.now c.loop-r.r-index c.r-item.result c.loop-r-test.true c.r-item.is (sym c.eq.ensures ∙ w.if-eq.true)))
+      | else-eq w ↦
+          rw (w.rows-is, c.loop-r.invariant)
+          (sym (own_skipped c.args.session c.args.rows.now.items c.args.held.now c.loop-r.r-index c.r-item.result c.loop-r-test.true c.r-item.is (sym c.eq.ensures ∙ w.if-eq.false)))
     ]

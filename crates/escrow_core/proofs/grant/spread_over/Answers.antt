@@ -19,10 +19,10 @@ loop-r-preserved c =
     let pending = map (changes_to row) (take i held) in
     let more = changes_more row held i r c.loop-r-test.true c.r-item.is in
     elim c.if-is_of.branch [
-      then-is_of w ↦
-        let own = changes_own row r (sym c.is_of.ensures ∙ w.if-is_of.true) in
-        rw (w.spread-is, more, own) (w.with-spread.ensures.added coeffs pending r.changes c.loop-r.invariant (rw w.as_slice.ensures at w.contribution.ensures.value))
-    | else-is_of w ↦
-        let none = changes_other row r (sym c.is_of.ensures ∙ w.if-is_of.false) in
-        rw (w.spread-is, more, none) (spread_past_nothing coeffs pending c.loop-r.spread c.loop-r.invariant)
+      | then-is_of w ↦
+          let own = changes_own row r (sym c.is_of.ensures ∙ w.if-is_of.true) in
+          rw (w.spread-is, more, own) (w.with-spread.ensures.added coeffs pending r.changes c.loop-r.invariant (rw w.as_slice.ensures at w.contribution.ensures.value))
+      | else-is_of w ↦
+          let none = changes_other row r (sym c.is_of.ensures ∙ w.if-is_of.false) in
+          rw (w.spread-is, more, none) (spread_past_nothing coeffs pending c.loop-r.spread c.loop-r.invariant)
     ]

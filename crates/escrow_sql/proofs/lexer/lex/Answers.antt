@@ -1,5 +1,6 @@
 use Rattle.std.proofs.Common.{◌≡◌, ◌++◌, ◌∷◌, [], ◌+◌, arith, subst}
 use Rattle.escrow_sql.specs.Lex.{IsWithin}
+use Rattle.escrow_sql.proofs.Slices.{slices_at_end}
 use Rattle.escrow_sql.proofs.TokenLemmas.{after-blank, after-one, spans_at_end}
 use Rattle.escrow_sql.proofs.lexer.lex.Goals as goal
 
@@ -24,3 +25,6 @@ loop-at-preserved c =
 
 pub returns-clause-spans : goal.returns-clause-spans
 returns-clause-spans c = spans_at_end c.loop-at.tokens c.args.text.now c.loop-at.at (omega arith) c.loop-at.invariant.same
+
+pub returns-clause-slices : goal.returns-clause-slices
+returns-clause-slices c = slices_at_end c.loop-at.tokens c.args.text.now c.loop-at.at c.loop-at.invariant.short (omega arith) c.loop-at.invariant.same

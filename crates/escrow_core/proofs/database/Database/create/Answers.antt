@@ -15,8 +15,8 @@ invariant_of-self c =
     let s : State = record { catalog = d.catalog.items; rows = d.rows.items; held = d.held.items; marks = d.marks.items; next_id = d.next_id } in
     let table = c.in-Ok.table in
     let none : first_refusal (create_refusals s c.args.session c.args.text.now) ≡ None =
-        subst (λ (t : State). first_refusal (create_refusals t c.args.session c.args.text.now) ≡ None) (sym c.self.view_is) c.in-Ok.ensures.accepted in
+    subst (λ (t : State). first_refusal (create_refusals t c.args.session c.args.text.now) ≡ None) (sym c.self.view_is) c.in-Ok.ensures.accepted in
     let placed : insert d.catalog.items c.table_place-place.result table ≡ with_table table d.catalog.items = rw (← c.deref.ensures.value) (c.table_place-place.ensures.place table refl) in
     rw (c.insert.ensures.items, placed)
     (either_list (λ (catalog : List TableDef). IsValid (record s { catalog = catalog })) (is_ok c.insert.result) (with_table table d.catalog.items) d.catalog.items
-        (create_accepted s c.args.session c.args.text.now table c.self.invariant none c.in-Ok.ensures.table) c.self.invariant)
+    (create_accepted s c.args.session c.args.text.now table c.self.invariant none c.in-Ok.ensures.table) c.self.invariant)

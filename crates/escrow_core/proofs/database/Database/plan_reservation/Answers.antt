@@ -17,6 +17,6 @@ returns-in-Some-grant_refusal-clause-refused c =
     let s = c.args.self.now in
     let table = c.in-Some.table.now in
     let named : table_named s.catalog c.args.text.now.table ≡ Some table =
-        let e : table_named c.self.inside.catalog.items c.args.text.now.table ≡ Some table = rw (← c.deref.ensures.value) (sym c.in-Some.ensures) in
-        subst (λ (t : State). table_named t.catalog c.args.text.now.table ≡ Some table) c.self.view_is e in
+    let e : table_named c.self.inside.catalog.items c.args.text.now.table ≡ Some table = rw (← c.deref.ensures.value) (sym c.in-Some.ensures) in
+    subst (λ (t : State). table_named t.catalog c.args.text.now.table ≡ Some table) c.self.view_is e in
     inl (past_plan s c.args.session c.args.text.now table c.in_ok-plan.plan.changes (Some c.in-Some-grant_refusal.refusal) named c.in_ok-plan.ensures.ok c.in_ok-plan.ensures.changes c.in-Some-grant_refusal.ensures.first, c.in-Some-grant_refusal.ensures.judged)

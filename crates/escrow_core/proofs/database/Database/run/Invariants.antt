@@ -5,7 +5,7 @@ use Rattle.escrow_core.proofs.database.Database.run.Given as goal
 
 abbrev pub invariant-loop-session : goal.invariant-loop-session
 invariant-loop-session l = record {
-    room : length l.events ≤ vec_capacity l.replies;
-    as_many : vec_len l.replies ≡ l.session-index;
-    run : IsRun l.initial.self (take l.session-index l.events) l.replies.items l.self;
-  }
+  room : length l.events ≤ vec_capacity l.replies;
+  as_many : vec_len l.replies ≡ l.session-index;
+  run : IsRun l.initial.self (take l.session-index l.events) l.replies.items l.self;
+}

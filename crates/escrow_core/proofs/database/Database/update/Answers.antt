@@ -13,11 +13,11 @@ invariant_of-self c =
     let session = c.args.session in
     let text = c.args.text.now in
     let none : first_refusal (update_refusals s session text) ≡ None =
-        subst (λ (t : State). first_refusal (update_refusals t session text) ≡ None) (sym c.self.view_is) c.in-Ok.ensures.accepted in
+    subst (λ (t : State). first_refusal (update_refusals t session text) ≡ None) (sym c.self.view_is) c.in-Ok.ensures.accepted in
     let plan = c.in-Ok.plan in
     let changes : plan.changes ≡ planned_changes (columns_named s text.table) text.assign =
-        subst (λ (t : State). plan.changes ≡ planned_changes (columns_named t text.table) text.assign) (sym c.self.view_is) c.in-Ok.ensures.changes in
+    subst (λ (t : State). plan.changes ≡ planned_changes (columns_named t text.table) text.assign) (sym c.self.view_is) c.in-Ok.ensures.changes in
     let assigned : plan.assigned ≡ planned_columns (columns_named s text.table) text.assign =
-        subst (λ (t : State). plan.assigned ≡ planned_columns (columns_named t text.table) text.assign) (sym c.self.view_is) c.in-Ok.ensures.assigned in
+    subst (λ (t : State). plan.assigned ≡ planned_columns (columns_named t text.table) text.assign) (sym c.self.view_is) c.in-Ok.ensures.assigned in
     rw (c.in-Ok-push.ensures.items, c.in-Ok.ensures.key, changes, assigned)
     (update_accepted s session text c.self.invariant c.in-Ok.ensures.session none)

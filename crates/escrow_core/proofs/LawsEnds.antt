@@ -1,0 +1,132 @@
+-- The ends of transactions: they commute, and keep a valid state valid in any order.
+use Rattle.std.specs.Prelude.{◌≡◌, ℕ, ℤ, ◌==◌, Bool, true, false, cond, not, List, [], ◌∷◌, map, filter, take}
+use Rattle.std.specs.List.{AllByRecursion}
+use Rattle.std.proofs.Common.{refl, sym, ap, ap₂, ◌∙◌, subst}
+use Rattle.std.proofs.lemmas.Bool.{cond_both, cond-false, false_from_ne_true, eqb-true}
+use Rattle.escrow_num.specs.declared.reservation.Mark.{Mark}
+use Rattle.escrow_num.specs.declared.reservation.Reservation.{Reservation}
+use Rattle.escrow_num.specs.declared.row.Row.{Row}
+use Rattle.escrow_num.specs.declared.session.End.{End}
+use Rattle.escrow_num.specs.declared.session.End.TheVariants as end
+use Rattle.escrow_num.specs.Session.{IsSession}
+use Rattle.escrow_sql.specs.declared.statement.Statement.{Statement}
+use Rattle.escrow_checks.specs.Form.{changed, all_changed}
+use Rattle.escrow_core.specs.declared.reply.Reply.{Reply}
+use Rattle.escrow_core.specs.Laws.{after_end, after_ends, empty}
+use Rattle.escrow_core.specs.State.{State, own, others, changes_to, applied}
+use Rattle.escrow_core.specs.Step.{step, IsRun}
+use Rattle.escrow_core.specs.Valid.{IsValid, MeetsChecks}
+use Rattle.escrow_core.proofs.Applying.{applied_none}
+use Rattle.escrow_core.proofs.Changes.{all_changed_later}
+use Rattle.escrow_core.proofs.Choices.{all_choices, choice_none}
+use Rattle.escrow_core.proofs.LawsSteps.{run_keeps_valid}
+use Rattle.escrow_core.proofs.ValidCommit.{commit_valid}
+use Rattle.escrow_core.proofs.ValidEmpty.{empty_valid}
+use Rattle.escrow_core.proofs.ValidRollback.{rollback_valid}
+
+-- two tests keep the same items in either order
+filter_kept : {A : Type 0} (p : A → Bool) (b : Bool) (x : A) (xs : List A)
+    → filter p (cond b (x ∷ xs) xs) ≡ cond b (cond (p x) (x ∷ filter p xs) (filter p xs)) (filter p xs)
+filter_kept p true x xs = refl
+filter_kept p false x xs = refl
+
+cond_swap : {A : Type 0} (a b : Bool) (x y : A) → cond a (cond b x y) y ≡ cond b (cond a x y) y
+cond_swap true true x y = refl
+cond_swap true false x y = refl
+cond_swap false true x y = refl
+cond_swap false false x y = refl
+
+filters_commute : {A : Type 0} (p q : A → Bool) (xs : List A) → filter p (filter q xs) ≡ filter q (filter p xs)
+filters_commute p q [] = refl
+filters_commute {A} p q (x ∷ xs) =
+    filter_kept p (q x) x (filter q xs)
+    ∙ cond_swap (q x) (p x) (x ∷ filter p (filter q xs)) (filter p (filter q xs))
+    ∙ ap (λ (zs : List A). cond (p x) (cond (q x) (x ∷ zs) zs) zs) (filters_commute p q xs)
+    ∙ sym (filter_kept q (p x) x (filter p xs))
+
+-- a test that asks more keeps what it keeps of the whole list
+filter_within : {A : Type 0} (p q : A → Bool) (xs : List A) → ((x : A) → p x ≡ true → q x ≡ true) → filter p (filter q xs) ≡ filter p xs
+filter_within p q [] within = refl
+filter_within {A} p q (x ∷ xs) within =
+    let rest = filter_within p q xs within in
+    cond_both (q x) (x ∷ filter q xs) (filter q xs) (λ zs. filter p zs ≡ filter p (x ∷ xs))
+    (λ _. ap (λ (zs : List A). cond (p x) (x ∷ zs) zs) rest)
+    (λ f. rest ∙ sym (cond-false (p x) (x ∷ filter p xs) (filter p xs) (false_from_ne_true (p x) (λ t. let yes = within x t in absurd (cc)))))
+
+-- a session's own stay when another's go
+own_stay : (a b : ℕ) (held : List Reservation) → ¬ (a ≡ b) → own b (others a held) ≡ own b held
+own_stay a b held differ =
+    filter_within (λ (r : Reservation). r.session == b) (λ (r : Reservation). not (r.session == a)) held
+    (λ r t. ap not (false_from_ne_true (r.session == a) (λ u. differ (sym (eqb-true r.session a u) ∙ eqb-true r.session b t))))
+
+-- increments commute
+all_changed_comm : (amounts : List ℤ) (xs ys : List (List ℤ)) → all_changed (all_changed amounts xs) ys ≡ all_changed (all_changed amounts ys) xs
+all_changed_comm amounts [] ys = refl
+all_changed_comm amounts (x ∷ xs) ys =
+    all_changed_comm (changed amounts x) xs ys ∙ ap (λ (zs : List ℤ). all_changed zs xs) (all_changed_later amounts x ys)
+
+applied_comm : (rows : List Row) (xs ys : List Reservation) → applied (applied rows xs) ys ≡ applied (applied rows ys) xs
+applied_comm [] xs ys = refl
+applied_comm (row ∷ rows) xs ys =
+    ap₂ (λ (first : Row) (rest : List Row). first ∷ rest)
+    (ap (λ (amounts : List ℤ). record row { amounts = amounts }) (all_changed_comm row.amounts (map (changes_to row) xs) (map (changes_to row) ys)))
+    (applied_comm rows xs ys)
+
+-- states of equal parts
+same_state : (s : State) (rows later : List Row) (held still : List Reservation) (marks left : List Mark) → rows ≡ later → held ≡ still → marks ≡ left
+    → (record s { rows = rows; held = held; marks = marks }) ≡ (record s { rows = later; held = still; marks = left })
+same_state s rows later held still marks left e f g = rw (e, f, g) refl
+
+-- the rows after two commits
+both_commit : (rows : List Row) (a b : ℕ) (held : List Reservation) → ¬ (a ≡ b)
+    → applied (applied rows (own a held)) (own b (others a held)) ≡ applied (applied rows (own b held)) (own a (others b held))
+both_commit rows a b held differ =
+    ap (applied (applied rows (own a held))) (own_stay a b held differ)
+    ∙ applied_comm rows (own a held) (own b held)
+    ∙ sym (ap (applied (applied rows (own b held))) (own_stay b a held (λ e. differ (sym e))))
+
+-- the ends of two sessions lead to one state in either order
+pub transactions_commute : (s : State) (a b : ℕ) (x y : End) → ¬ (a ≡ b) → after_end (after_end s a x) b y ≡ after_end (after_end s b y) a x
+unfolding step
+transactions_commute s a b end.Commit end.Commit differ =
+    same_state s _ _ _ _ _ _ (both_commit s.rows a b s.held differ)
+    (filters_commute (λ (r : Reservation). not (r.session == b)) (λ (r : Reservation). not (r.session == a)) s.held)
+    (filters_commute (λ (m : Mark). not (m.session == b)) (λ (m : Mark). not (m.session == a)) s.marks)
+transactions_commute s a b end.Commit end.Rollback differ =
+    same_state s _ _ _ _ _ _ (sym (ap (applied s.rows) (own_stay b a s.held (λ e. differ (sym e)))))
+    (filters_commute (λ (r : Reservation). not (r.session == b)) (λ (r : Reservation). not (r.session == a)) s.held)
+    (filters_commute (λ (m : Mark). not (m.session == b)) (λ (m : Mark). not (m.session == a)) s.marks)
+transactions_commute s a b end.Rollback end.Commit differ =
+    same_state s _ _ _ _ _ _ (ap (applied s.rows) (own_stay a b s.held differ))
+    (filters_commute (λ (r : Reservation). not (r.session == b)) (λ (r : Reservation). not (r.session == a)) s.held)
+    (filters_commute (λ (m : Mark). not (m.session == b)) (λ (m : Mark). not (m.session == a)) s.marks)
+transactions_commute s a b end.Rollback end.Rollback differ =
+    same_state s _ _ _ _ _ _ refl
+    (filters_commute (λ (r : Reservation). not (r.session == b)) (λ (r : Reservation). not (r.session == a)) s.held)
+    (filters_commute (λ (m : Mark). not (m.session == b)) (λ (m : Mark). not (m.session == a)) s.marks)
+
+-- an end keeps a valid state valid
+end_valid : (s : State) (session : ℕ) (x : End) → IsValid s → IsValid (after_end s session x)
+unfolding step
+end_valid s session end.Commit valid = commit_valid s session valid
+end_valid s session end.Rollback valid = rollback_valid s session valid
+
+ends_valid : (s : State) (ends : List (ℕ × End)) → IsValid s → IsValid (after_ends s ends)
+ends_valid s [] valid = valid
+ends_valid s (ending ∷ ends) valid = ends_valid (after_end s ending.0 ending.1) ends (end_valid s ending.0 ending.1 valid)
+
+-- and so do any ends in any order
+pub any_order_of_ends : (s : State) (ends : List (ℕ × End)) (n : ℕ) → IsValid s → IsValid (after_ends s (take n ends))
+any_order_of_ends s ends n valid = ends_valid s (take n ends) valid
+
+-- the committed rows are those after the empty choice
+pub committed_rows_meet_checks : (s : State) → IsValid s → AllByRecursion (MeetsChecks s.catalog) s.rows
+committed_rows_meet_checks s valid =
+    subst (AllByRecursion (MeetsChecks s.catalog)) (applied_none s.rows)
+    (all_choices (λ (c : List Reservation). AllByRecursion (MeetsChecks s.catalog) (applied s.rows c)) s.held valid.safe [] (choice_none s.held))
+
+-- so they do after any run from the beginning
+pub every_run_is_safe : (events : List (ℕ × Statement)) (answers : List Reply) (new : State)
+    → AllByRecursion (λ event. IsSession event.0) events → IsRun empty events answers new → AllByRecursion (MeetsChecks new.catalog) new.rows
+every_run_is_safe events answers new of_sessions h =
+    committed_rows_meet_checks new (run_keeps_valid empty events answers new empty_valid of_sessions h)

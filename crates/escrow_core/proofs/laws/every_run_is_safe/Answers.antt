@@ -1,0 +1,5 @@
+use Rattle.escrow_core.proofs.LawsEnds.{every_run_is_safe}
+use Rattle.escrow_core.proofs.laws.every_run_is_safe.Goals as goal
+
+pub returns : goal.returns
+returns c = every_run_is_safe

@@ -1,0 +1,95 @@
+//! Laws of the machine: facts about its definitions, each the contract of a function that does
+//! nothing. They say of its steps what O'Neil's escrow method (1986) promises of transactions.
+
+ghost use Rattle.escrow_core.specs.Laws.{StepKeepsValid, RunKeepsValid, RefusedChangesNothing, MachineNeverFails, CommitIsNeverRefused, RollbackIsNeverRefused, QueriesSeeCommitsAlone, ReservedTakesTheNextId, IdsNeverFall, TransactionsCommute, AnyOrderOfEnds, CommittedRowsMeetChecks, EveryRunIsSafe, GrantedInEveryChoice, OwnIncrementNotSpent, RefusedByAChoice};
+
+/// Whatever a session asks in a valid state, the state after it is valid: whichever of the open
+/// reservations are applied, each row meets each check of its table.
+pub fn step_keeps_valid()
+    ensures { StepKeepsValid }
+{}
+
+/// So is the state after any list of statements of any sessions, in any order, some of them refused
+/// for memory.
+pub fn run_keeps_valid()
+    ensures { RunKeepsValid }
+{}
+
+/// A refused statement changes nothing: catalog, rows, open reservations, savepoints and the next
+/// id are what they were.
+pub fn refused_changes_nothing()
+    ensures { RefusedChangesNothing }
+{}
+
+/// The machine itself is never refused memory, nor by a store: such a refusal is no reply of it.
+pub fn machine_never_fails()
+    ensures { MachineNeverFails }
+{}
+
+/// COMMIT has no refusal, since each reservation was granted over every choice of the open ones. It
+/// answers how many were applied.
+pub fn commit_is_never_refused()
+    ensures { CommitIsNeverRefused }
+{}
+
+/// ROLLBACK has no refusal. It answers how many reservations were dropped.
+pub fn rollback_is_never_refused()
+    ensures { RollbackIsNeverRefused }
+{}
+
+/// What a query shows is what was committed: a reservation shows in no row, not even to its own
+/// session, until its COMMIT adds its changes, and a ROLLBACK leaves no trace of it.
+pub fn queries_see_commits_alone()
+    ensures { QueriesSeeCommitsAlone }
+{}
+
+/// A reservation takes the next id, and the next id is then one more.
+pub fn reserved_takes_the_next_id()
+    ensures { ReservedTakesTheNextId }
+{}
+
+/// No statement lowers the next id.
+pub fn ids_never_fall()
+    ensures { IdsNeverFall }
+{}
+
+/// The ends of two sessions' transactions, each a commit or a rollback, lead to equal states in
+/// either order: changes are increments, and increments commute.
+pub fn transactions_commute()
+    ensures { TransactionsCommute }
+{}
+
+/// Whatever open transactions are committed or rolled back, in any order, the state is valid after
+/// each of them.
+pub fn any_order_of_ends()
+    ensures { AnyOrderOfEnds }
+{}
+
+/// In a valid state each committed row meets each check of its table.
+pub fn committed_rows_meet_checks()
+    ensures { CommittedRowsMeetChecks }
+{}
+
+/// After any list of statements of any sessions, in any order, some of them refused for memory, each
+/// committed row meets each check of its table.
+pub fn every_run_is_safe()
+    ensures { EveryRunIsSafe }
+{}
+
+/// What is granted is safe: whichever of the open reservations are applied with it, the row meets
+/// each check of its table.
+pub fn granted_in_every_choice()
+    ensures { GrantedInEveryChoice }
+{}
+
+/// An increment that isn't committed can't be spent, not even by the session that made it: what is
+/// granted is safe without any earlier reservation of that session.
+pub fn own_increment_not_spent()
+    ensures { OwnIncrementNotSpent }
+{}
+
+/// What a check refuses would be unsafe: with the new reservation some choice of the open ones brings
+/// the named check to the named worst value, beyond its limit.
+pub fn refused_by_a_choice()
+    ensures { RefusedByAChoice }
+{}

@@ -1,0 +1,15 @@
+use Rattle.std.proofs.Common.{◌≡◌, ◌≤◌, ◌+◌, length, take, vec_len, ℕ, List}
+use Rattle.escrow_server.specs.Script.{left}
+use Rattle.escrow_server.proofs.ScriptLemmas.{Continues}
+use Rattle.escrow_server.proofs.script.Script.next_line.Given as goal
+
+-- the line's bytes so far, and what is left of the script; no byte comes from nowhere
+abbrev pub invariant-loop-self : goal.invariant-loop-self
+invariant-loop-self g l = record {
+  so_far : (seen : List ℕ) × (l.self.line.items ≡ take 4097 seen)
+      × Continues seen (left l.fn.self.unread (g.R.Read.remaining l.fn.reader)) (left l.self.unread (g.R.Read.remaining l.reader));
+  fewer : vec_len l.self.line + length l.self.unread + l.self.bytes_left ≤ length l.fn.self.unread + l.fn.self.bytes_left;
+}
+
+abbrev pub decreases-loop-self : goal.decreases-loop-self
+decreases-loop-self g l = l.self.reads_left

@@ -1,0 +1,16 @@
+use Rattle.std.proofs.Common.{◌≡◌, List, ℕ, inl, inr, refl, ap, subst}
+use Rattle.escrow_sql.specs.declared.statement.Request.{Request}
+use Rattle.escrow_sql.specs.Parser.{Asks}
+use Rattle.escrow_core.specs.declared.reply.Reply.TheVariants.{Refused}
+use Rattle.escrow_server.proofs.serve.answer.Goals as goal
+
+pub returns-in-Ok : goal.returns-in-Ok
+returns-in-Ok c =
+    let asked = c.in-Ok.ensures in
+    let served = c.serve_request.ensures in
+    inl (served.0, subst (λ (r : Request). Asks c.args.text.now r) served.1 asked.found, served.2)
+
+pub returns-in-Err : goal.returns-in-Err
+returns-in-Err c =
+    let bad = c.in-Err.ensures in
+    inr (c.in-Err.fault, bad.fault, ap Refused c.refusal_of.ensures, refl)

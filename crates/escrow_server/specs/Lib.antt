@@ -1,0 +1,4 @@
+pub mod Line
+pub mod Output
+pub mod Script
+pub mod Text

@@ -1,0 +1,65 @@
+use Rattle.std.specs.Prelude.{◌≡◌, ◌⊎◌, ℕ, Option, Some, None, IsSomeAnd, IfSome, List, [], ◌∷◌, ◌++◌, length, slice_get, slice_set}
+use Rattle.std.specs.Io.KnownBytes.{Appends}
+use Rattle.escrow_num.specs.declared.refusal.Refusal.{Refusal}
+use Rattle.escrow_num.specs.declared.refusal.Refusal.TheVariants as refusal
+use Rattle.escrow_sql.specs.declared.fault.ParseFault.{ParseFault}
+use Rattle.escrow_sql.specs.declared.fault.ParseFault.TheVariants as fault
+use Rattle.escrow_sql.specs.declared.statement.Statement.{Statement}
+use Rattle.escrow_sql.specs.declared.statement.Request.TheVariants as request
+use Rattle.escrow_sql.specs.Parser.{Asks, IsFaultIn}
+use Rattle.escrow_core.specs.declared.reply.Reply.{Reply}
+use Rattle.escrow_core.specs.declared.reply.Reply.TheVariants as reply
+use Rattle.escrow_core.specs.State.{State}
+use Rattle.escrow_core.specs.Step.{StepOrRefusal}
+use Rattle.escrow_server.specs.Line.{Reading, nothing, statement, no_line, database_name, line_of, lines_of}
+use Rattle.escrow_server.specs.Text.{rendered, no_line_text}
+
+-- the refusal of a text that isn't served: 11 with the column of its first fault, or 51
+abbrev pub refusal_of : ParseFault → Refusal
+refusal_of (fault.Syntax column) = refusal.Syntax column
+refusal_of fault.Memory = refusal.Memory
+
+-- a text is a statement, and its answer is the machine's step or its refusal
+abbrev pub IsServed : State → ℕ → List ℕ → Reply → State → Type 0
+IsServed s session text answer new =
+    (asked : Statement) × Asks text (request.Statement asked) × StepOrRefusal s session asked answer new
+
+-- A text is none, and is refused with the column of its first fault; or it is refused for memory, as
+-- any text may be, since reading it takes memory. Nothing changes.
+abbrev pub IsRefused : State → List ℕ → Reply → State → Type 0
+IsRefused s text answer new = (f : ParseFault) × IsFaultIn text f × (answer ≡ reply.Refused (refusal_of f)) × (new ≡ s)
+
+-- the answer to a text of a session, and the state after it
+abbrev pub Answers : State → ℕ → List ℕ → Reply → State → Type 0
+Answers s session text answer new = IsServed s session text answer new ⊎ IsRefused s text answer new
+
+-- what a line writes, and the states of the databases after it: a statement is answered by the
+-- database at its place, and the others stay
+abbrev pub ServesLine : List State → Reading → List ℕ → List State → Type 0
+ServesLine states nothing out new = (out ≡ []) × (new ≡ states)
+ServesLine states no_line out new = (out ≡ no_line_text) × (new ≡ states)
+ServesLine states (statement place session text) out new =
+    IsSomeAnd (slice_get states place) (λ s. (answer : Reply) × (after : State) × Answers s session text answer after
+        × (out ≡ rendered (database_name place) session answer) × (new ≡ slice_set states place after))
+
+-- what the lines of a script write, one after another, and the states after them
+abbrev pub ServesLines : List State → List (List ℕ) → List ℕ → List State → Type 0
+ServesLines states [] out new = (out ≡ []) × (new ≡ states)
+ServesLines states (line ∷ lines) out new =
+    (first rest : List ℕ) × (mid : List State) × ServesLine states (line_of (length states) line) first mid
+    × ServesLines mid lines rest new × (out ≡ first ++ rest)
+
+-- THE OUTPUT OF A SCRIPT: what it writes from the databases' states, and the states after it
+abbrev pub Output : List ℕ → List State → List ℕ → List State → Type 0
+Output script states out new = ServesLines states (lines_of script) out new
+
+-- What a fault leaves: some lines of the script from its first on were served, and a front of their
+-- output was written.
+pub record StopsWithin (script : List ℕ) (states new : List State) (old_bytes new_bytes : Option (List ℕ)) : Type 0 where
+  pub served : List (List ℕ)
+  pub unserved : List (List ℕ)
+  pub written : List ℕ
+  pub unwritten : List ℕ
+  pub lines : lines_of script ≡ served ++ unserved
+  pub serves : ServesLines states served (written ++ unwritten) new
+  pub appends : Appends old_bytes new_bytes written

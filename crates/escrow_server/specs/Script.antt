@@ -1,0 +1,28 @@
+use Rattle.std.specs.Prelude.{◌≡◌, ℕ, ◌+◌, ◌==◌, Bool, true, false, nat_lt, Option, Some, None, List, [], ◌∷◌, ◌++◌, length, take, drop, ⊤}
+use Rattle.std.specs.Io.KnownBytes.{prepend_known}
+use Rattle.std.specs.List.{position_or_len}
+use Rattle.escrow_server.specs.Line.{lines_of}
+
+-- a line feed
+abbrev pub is_feed : ℕ → Bool
+is_feed b = b == 10
+
+-- the bytes that a script has left: those that were read and aren't taken, and those of its reader,
+-- where these are known
+abbrev pub left : List ℕ → Option (List ℕ) → Option (List ℕ)
+left unread remaining = prepend_known unread remaining
+
+-- The next line was taken: the bytes that were left are its bytes and the rest's lines, and of its
+-- bytes the first 4,097 were kept. Or there was none, and nothing is left.
+abbrev pub TakesLine : Bool → Option (List ℕ) → Option (List ℕ) → List ℕ → Type 0
+TakesLine found None rest kept = ⊤
+TakesLine found (Some bytes) None kept = ⊥
+TakesLine true (Some bytes) (Some rest) kept = (line : List ℕ) × (lines_of bytes ≡ line ∷ lines_of rest) × (kept ≡ take 4097 line)
+TakesLine false (Some bytes) (Some rest) kept = (lines_of bytes ≡ []) × (rest ≡ [])
+
+-- The bytes up to the first line feed went from what is unread to a line, of which 4,097 bytes are
+-- kept, and the line feed was taken; or all of them, where there is no line feed.
+pub record Moves (found : Bool) (unread rest line kept : List ℕ) : Type 0 where
+  pub is_found : found ≡ nat_lt (position_or_len is_feed unread) (length unread)
+  pub is_rest : rest ≡ drop (position_or_len is_feed unread + 1) unread
+  pub is_kept : kept ≡ take 4097 (line ++ take (position_or_len is_feed unread) unread)

@@ -1,0 +1,47 @@
+ghost use Rattle.std.specs.Prelude.{◌≡◌, ◌<◌, ◌≤◌, IfSome};
+ghost use Rattle.escrow_server.specs.Line.{database_name, place_of};
+
+/// The most databases that a server has.
+pub const MOST_DATABASES: u8 = 16;
+
+/// The name of the database at a place, counted from 0: `bank`, `bank2`, `bank3` and so on.
+pub fn database_name(place: usize) -> &'static str
+    requires { place < 16 }
+    ensures { result.now ≡ database_name place }
+{
+    match place {
+        0 => "bank",
+        1 => "bank2",
+        2 => "bank3",
+        3 => "bank4",
+        4 => "bank5",
+        5 => "bank6",
+        6 => "bank7",
+        7 => "bank8",
+        8 => "bank9",
+        9 => "bank10",
+        10 => "bank11",
+        11 => "bank12",
+        12 => "bank13",
+        13 => "bank14",
+        14 => "bank15",
+        15 => "bank16",
+        _ => unreachable!(),
+    }
+}
+
+/// The place of the database of a name, of so many databases.
+pub(crate) fn place_of(databases: usize, name: &[u8]) -> Option<usize>
+    requires { databases ≤ 16 }
+    ensures value { result ≡ place_of databases name.now }
+    ensures within { IfSome result (λ place. place < databases) }
+{
+    let mut left = databases;
+    while left > 0 {
+        left -= 1;
+        if database_name(left).as_bytes() == name {
+            return Some(left);
+        }
+    }
+    None
+}

@@ -1,0 +1,133 @@
+ghost use Rattle.std.specs.Prelude.{◌≡◌, ◌≤◌, ◌<◌, ◌+◌, ◌++◌, [], length, take, true, vec_len, IfOk, OnOk};
+ghost use Rattle.std.specs.List.{position_or_len};
+ghost use Rattle.std.specs.Io.KnownBytes.{Consumes, IsAtEnd};
+ghost use Rattle.escrow_server.specs.Script.{is_feed};
+
+use crate::fault::ServeFault;
+use crate::line::MOST_LINE;
+use crate::unread::Unread;
+use std::alloc::{AllocError, Global};
+use std::io::Read;
+
+/// The most bytes of a script.
+const MOST_BYTES: usize = 16_777_216;
+
+/// The most calls of a script's reader.
+const MOST_READS: usize = 33_554_432;
+
+/// A script that is read line by line: the bytes that aren't taken yet, and the line that was taken
+/// last. One byte more than a line may have is kept of a longer one, which tells that it is too
+/// long.
+#[derive(Debug, Drop)]
+pub(crate) struct Script {
+    unread: Unread,
+    line: Vec<u8>,
+    bytes_left: usize,
+    reads_left: usize,
+    ghost short: { vec_len line ≤ 4097 },
+    ghost few: { bytes_left ≤ 16777216 },
+}
+
+impl Script {
+    ghost use Rattle.escrow_server.specs.Script.{left, TakesLine, Moves};
+
+    /// A script of which nothing is read.
+    pub(crate) fn new(alloc: Global) -> Result<Script, AllocError>
+        ensures { IfOk result (λ s. s.unread ≡ []) }
+    {
+        Ok(Script {
+            unread: Unread::new(alloc)?,
+            line: Vec::new(alloc),
+            bytes_left: MOST_BYTES,
+            reads_left: MOST_READS,
+        })
+    }
+
+    /// The line that was taken last, without its line feed: all of it, or its first 4,097 bytes.
+    pub(crate) fn line(&self) -> &[u8]
+        ensures value { result.now ≡ self.now.line.items }
+        ensures within { length result.now ≤ 4097 }
+    {
+        self.line.as_slice()
+    }
+
+    /// Takes the next line, and answers whether there was one.
+    pub(crate) fn next_line<R: Read>(&mut self, reader: &mut R) -> Result<bool, ServeFault>
+        ensures taken { IfOk result (λ found. TakesLine found (left self.old.unread (R.remaining reader.old))
+            (left self.new.unread (R.remaining reader.new)) self.new.line.items) }
+        ensures less { IfOk result (λ found. found ≡ true →
+            self.new.bytes_left + length self.new.unread < self.old.bytes_left + length self.old.unread) }
+    {
+        self.line.clear();
+        while self.reads_left > 0 {
+            if self.take_front()? {
+                return Ok(true);
+            }
+            if self.fill(reader)? == 0 {
+                return Ok(!self.line.is_empty());
+            }
+        }
+        Err(ServeFault::Read)
+    }
+
+    /// Moves the unread bytes up to a line feed into the line, and answers whether there was one.
+    fn take_front(&mut self) -> Result<bool, AllocError>
+        ensures moved { IfOk result (λ found. Moves found self.old.unread self.new.unread self.old.line.items self.new.line.items) }
+        ensures less { IfOk result (λ found. vec_len self.new.line + length self.new.unread ≤ vec_len self.old.line + length self.old.unread) }
+        ensures fewer { IfOk result (λ found. found ≡ true →
+            vec_len self.new.line + length self.new.unread < vec_len self.old.line + length self.old.unread) }
+        ensures bytes { self.new.bytes_left ≡ self.old.bytes_left }
+        ensures reads { self.new.reads_left ≡ self.old.reads_left }
+    {
+        let bytes = self.unread.as_slice();
+        let len = line_len(bytes);
+        let found = len < bytes.len();
+        keep(&mut self.line, &bytes[..len])?;
+        self.unread.skip(len + 1);
+        Ok(found)
+    }
+
+    /// Reads the next bytes, once all that were read are taken, and answers how many.
+    fn fill<R: Read>(&mut self, reader: &mut R) -> Result<usize, ServeFault>
+        requires taken { self.old.unread ≡ [] }
+        requires more { 1 ≤ self.old.reads_left }
+        ensures read { OnOk result (Consumes (R.remaining reader.old) (R.remaining reader.new) self.new.unread) }
+        ensures count { IfOk result (λ count. count ≡ length self.new.unread) }
+        ensures end { IfOk result (λ count. count ≡ 0 → IsAtEnd (R.remaining reader.new)) }
+        ensures line { self.new.line ≡ self.old.line }
+        ensures bytes { IfOk result (λ count. self.new.bytes_left + count ≡ self.old.bytes_left) }
+        ensures reads { self.new.reads_left + 1 ≡ self.old.reads_left }
+    {
+        self.reads_left -= 1;
+        let count = self.unread.fill(reader)?;
+        if count > self.bytes_left {
+            return Err(ServeFault::Read);
+        }
+        self.bytes_left -= count;
+        Ok(count)
+    }
+}
+
+/// How many bytes stand before the first line feed, or in all where there is none.
+fn line_len(bytes: &[u8]) -> usize
+    ensures value { result ≡ position_or_len is_feed bytes.now }
+    ensures within { result ≤ length bytes.now }
+{
+    for (len, byte) in bytes.iter().enumerate() {
+        if *byte == b'\n' {
+            return len;
+        }
+    }
+    bytes.len()
+}
+
+/// Adds bytes to a line, of which no more than 4,097 are kept.
+fn keep(line: &mut Vec<u8>, bytes: &[u8]) -> Result<(), AllocError>
+    requires { vec_len line.old ≤ 4097 }
+    ensures ok { OnOk result (line.new.items ≡ take 4097 (line.old.items ++ bytes.now)) }
+    ensures short { vec_len line.new ≤ 4097 }
+{
+    let room = MOST_LINE + 1 - line.len();
+    line.extend_from_slice(&bytes[..room.min(bytes.len())])?;
+    Ok(())
+}

@@ -1,0 +1,120 @@
+ghost use Rattle.std.specs.Prelude.{◌≡◌, ◌≤◌, List, ℕ, length, take, vec_len, OnOk, OnErr, IfOk, IfSome};
+ghost use Rattle.std.specs.Io.KnownBytes.{Appends, IsAtEnd};
+ghost use Rattle.escrow_sql.specs.declared.statement.Statement.{Statement};
+ghost use Rattle.escrow_core.specs.Step.{StepOrRefusal};
+ghost use Rattle.escrow_server.specs.Line.{line_of};
+ghost use Rattle.escrow_server.specs.Output.{refusal_of, Answers, ServesLine, Output, StopsWithin};
+
+use crate::fault::ServeFault;
+use crate::line::{Line, classify};
+use crate::names::database_name;
+use crate::render::{render, render_no_line};
+use crate::script::Script;
+use escrow_core::{Database, Reply};
+use escrow_num::{Refusal, Session};
+use escrow_sql::{ParseFault, Request, parse};
+use std::alloc::{AllocError, Global};
+use std::io::{Read, Write};
+
+/// Serves a script: reads its lines in order, serves each in the database that it names, and writes
+/// its reply before the next line is read. There are 1 to 16 databases.
+///
+/// After a fault the lines served so far stand in the databases, and what was written is a front of
+/// their replies.
+pub fn serve_script<R: Read, W: Write>(
+    alloc: Global,
+    databases: &mut Vec<Database>,
+    reader: &mut R,
+    writer: &mut W,
+) -> Result<(), ServeFault>
+    requires some { 1 ≤ vec_len databases.old }
+    requires few { vec_len databases.old ≤ 16 }
+
+    // What was written and the states after it are those of the script, all of which was read.
+    ensures output { OnOk result (IfSome (R.remaining reader.old) (λ script. (out : List ℕ)
+        × Output script databases.old.items out databases.new.items × Appends (W.contents writer.old) (W.contents writer.new) out)) }
+    ensures end { OnOk result (IfSome (R.remaining reader.old) (λ script. IsAtEnd (R.remaining reader.new))) }
+
+    // After a fault some lines were served, and a front of their output was written.
+    ensures fault { OnErr result (IfSome (R.remaining reader.old) (λ script.
+        StopsWithin script databases.old.items databases.new.items (W.contents writer.old) (W.contents writer.new))) }
+{
+    let mut script = Script::new(alloc)?;
+    while script.next_line(reader)? {
+        let reply = serve_line(alloc, databases.as_mut_slice(), script.line())?;
+        write_whole(writer, reply.as_slice())?;
+    }
+    Ok(())
+}
+
+/// Serves one line, and answers the line of its reply, which is empty where there is none.
+fn serve_line(
+    alloc: Global,
+    databases: &mut [Database],
+    line: &[u8],
+) -> Result<Vec<u8>, AllocError>
+    requires { length databases.old ≤ 16 }
+    ensures ok { IfOk result (λ out. ServesLine databases.old (line_of (length databases.old) line.now) out.items databases.new) }
+    ensures err { OnErr result ((out : List ℕ) × ServesLine databases.old (line_of (length databases.old) line.now) out databases.new) }
+{
+    match classify(databases.len(), line) {
+        Line::Nothing => Ok(Vec::new(alloc)),
+        Line::NoLine => render_no_line(alloc),
+        Line::Statement {
+            database,
+            session,
+            text,
+        } => {
+            let reply = answer(alloc, &mut databases[database], session, text);
+            render(alloc, database_name(database), session, &reply)
+        }
+    }
+}
+
+/// Serves the text of a statement: a text that is none is refused, and changes nothing.
+fn answer(alloc: Global, database: &mut Database, session: Session, text: &str) -> Reply
+    ensures { Answers database.old session text.now result database.new }
+{
+    match parse(alloc, text) {
+        Ok(request) => serve_request(alloc, database, session, request),
+        Err(fault) => Reply::Refused(refusal_of(fault)),
+    }
+}
+
+/// Serves what a text asks.
+fn serve_request(
+    alloc: Global,
+    database: &mut Database,
+    session: Session,
+    request: Request,
+) -> Reply
+    ensures { (asked : Statement) × (request ≡ Request.Statement asked) × StepOrRefusal database.old session asked result database.new }
+{
+    let Request::Statement(statement) = request;
+    database.step(alloc, session, &statement)
+}
+
+/// The refusal of a text that isn't served.
+fn refusal_of(fault: ParseFault) -> Refusal
+    ensures { result ≡ refusal_of fault }
+{
+    match fault {
+        ParseFault::Syntax { column } => Refusal::Syntax { column },
+        ParseFault::Memory => Refusal::Memory,
+    }
+}
+
+/// Writes all of the bytes, or a front of them.
+fn write_whole<W: Write>(writer: &mut W, bytes: &[u8]) -> Result<(), ServeFault>
+    ensures ok { OnOk result (Appends (W.contents writer.old) (W.contents writer.new) bytes.now) }
+    ensures err { OnErr result ((len : ℕ) × Appends (W.contents writer.old) (W.contents writer.new) (take len bytes.now)) }
+{
+    let mut rest = bytes;
+    while !rest.is_empty() {
+        match writer.write(rest) {
+            Ok(0) | Err(_) => return Err(ServeFault::Write),
+            Ok(count) => rest = &rest[count..],
+        }
+    }
+    Ok(())
+}

@@ -1,0 +1,75 @@
+ghost use Rattle.std.specs.Prelude.{◌≡◌, [], length, drop, IfOk, OnOk};
+ghost use Rattle.std.specs.Io.KnownBytes.{Consumes, IsAtEnd};
+
+use crate::fault::ServeFault;
+use std::alloc::{AllocError, Global};
+use std::io::Read;
+use std::marker::Model;
+
+/// How many bytes are asked of a reader at a time.
+const CHUNK: usize = 8192;
+
+/// The bytes that were read from a reader and aren't taken yet.
+#[derive(Debug, Drop)]
+pub(crate) struct Unread {
+    chunk: Vec<u8>,
+    from: usize,
+    to: usize,
+}
+
+impl Model for Unread {
+    ghost use Rattle.std.specs.Prelude.{List, ℕ, ◌≡◌, ◌≤◌, length, slice_range};
+
+    ghost Value = { List ℕ };
+
+    ghost view = { λ u. slice_range u.chunk.items u.from u.to };
+
+    ghost invariant = { λ u. (u.from ≤ u.to) × (u.to ≤ length u.chunk.items) × (length u.chunk.items ≡ 8192) };
+}
+
+impl Unread {
+    /// Nothing, with room for what a read gives.
+    pub(crate) fn new(alloc: Global) -> Result<Unread, AllocError>
+        ensures { IfOk result (λ u. u ≡ []) }
+    {
+        Ok(Unread {
+            chunk: vec![in alloc; 0; CHUNK]?,
+            from: 0,
+            to: 0,
+        })
+    }
+
+    /// The bytes, in order.
+    pub(crate) fn as_slice(&self) -> &[u8]
+        ensures { result.now ≡ self.now }
+    {
+        &self.chunk[self.from..self.to]
+    }
+
+    /// Takes so many bytes from the front, or all where there are fewer.
+    pub(crate) fn skip(&mut self, count: usize)
+        ensures { self.new ≡ drop count self.old }
+    {
+        if count < self.to - self.from {
+            self.from += count;
+        } else {
+            self.from = self.to;
+        }
+    }
+
+    /// Reads the next bytes, once all are taken, and answers how many. There are none at the
+    /// reader's end alone.
+    pub(crate) fn fill<R: Read>(&mut self, reader: &mut R) -> Result<usize, ServeFault>
+        requires { self.old ≡ [] }
+        ensures read { OnOk result (Consumes (R.remaining reader.old) (R.remaining reader.new) self.new) }
+        ensures count { IfOk result (λ count. count ≡ length self.new) }
+        ensures end { IfOk result (λ count. count ≡ 0 → IsAtEnd (R.remaining reader.new)) }
+    {
+        let Ok(count) = reader.read(self.chunk.as_mut_slice()) else {
+            return Err(ServeFault::Read);
+        };
+        self.from = 0;
+        self.to = count;
+        Ok(count)
+    }
+}
