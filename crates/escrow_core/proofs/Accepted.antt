@@ -1,7 +1,7 @@
 -- What an accepted statement leaves valid: where no refusal applies, each test of a refusal failed.
-use Rattle.std.specs.Prelude.{◌≡◌, ℕ, ◌<◌, ◌≤◌, ◌+◌, Bool, true, false, cond, ℤ, nat_le, nat_lt, is_some, is_none, option_map, option_and_then, unwrap_or, Option, Some, None, List, [], ◌∷◌, ◌++◌, length, map}
+use Rattle.std.specs.Prelude.{◌≡◌, ℕ, ◌<◌, ◌≤◌, Bool, true, false, cond, ℤ, nat_le, nat_lt, is_some, is_none, option_map, option_and_then, Option, Some, None, List, [], ◌∷◌, length, map}
 use Rattle.std.specs.List.{AllByRecursion}
-use Rattle.std.proofs.Common.{refl, sym, ap, ◌∙◌, subst, arith}
+use Rattle.std.proofs.Common.{refl, sym, subst, arith}
 use Rattle.std.proofs.lemmas.Bool.Decides.{nat_tests}
 use Rattle.escrow_num.specs.declared.refusal.Refusal.{Refusal}
 use Rattle.escrow_num.specs.declared.refusal.Refusal.TheVariants as refusal
@@ -16,7 +16,7 @@ use Rattle.escrow_schema.specs.declared.table.TableDef.{TableDef}
 use Rattle.escrow_schema.specs.Definition.{defined}
 use Rattle.escrow_schema.specs.Fit.{fitted}
 use Rattle.escrow_schema.specs.Plan.{plan_refusal, planned_changes}
-use Rattle.escrow_core.specs.State.{State, table_named, row_named, rows_of, own, changes_to, with_table, with_row, is_open}
+use Rattle.escrow_core.specs.State.{State, table_named, row_named, rows_of, own, changes_to, with_table, with_row}
 use Rattle.escrow_core.specs.Step.{create_refusals, insert_refusals, update_refusals, row_of, insert_breach, update_breach, updated_row, columns_named, reservation_of, after_update}
 use Rattle.escrow_core.specs.Valid.{IsValid}
 use Rattle.std.specs.Prelude.{bytes_eq}

@@ -1,4 +1,4 @@
-use Rattle.std.specs.Prelude.{◌≡◌, ◌⊎◌, ℕ, ℤ, ◌+◌, Bool, true, false, not, nat_lt, nat_le, if◌then◌else◌, Option, Some, None, is_some, is_none, option_map, option_and_then, unwrap_or, MatchOption, List, [], ◌∷◌, ◌++◌, length, map}
+use Rattle.std.specs.Prelude.{◌≡◌, ◌⊎◌, ℕ, ◌+◌, Bool, true, false, not, nat_lt, nat_le, Option, Some, None, is_some, is_none, option_map, option_and_then, unwrap_or, MatchOption, List, [], ◌∷◌, ◌++◌, length, map}
 use Rattle.escrow_num.specs.declared.refusal.Refusal.{Refusal}
 use Rattle.escrow_num.specs.declared.refusal.Refusal.TheVariants as refusal
 use Rattle.escrow_num.specs.declared.refusal.Breach.{Breach}
@@ -12,7 +12,6 @@ use Rattle.escrow_sql.specs.declared.statement.InsertText.{InsertText}
 use Rattle.escrow_sql.specs.declared.statement.UpdateText.{UpdateText}
 use Rattle.escrow_checks.specs.Grant.{broken}
 use Rattle.escrow_schema.specs.declared.column.Column.{Column}
-use Rattle.escrow_schema.specs.declared.table.TableDef.{TableDef}
 use Rattle.escrow_schema.specs.Definition.{defined}
 use Rattle.escrow_schema.specs.Fit.{fitted}
 use Rattle.escrow_schema.specs.Plan.{plan_refusal, planned_changes, planned_columns}
@@ -20,7 +19,7 @@ use Rattle.escrow_core.specs.declared.reply.Reply.{Reply}
 use Rattle.escrow_core.specs.declared.reply.Reply.TheVariants as reply
 use Rattle.escrow_core.specs.declared.reply.Failure.TheVariants as failure
 use Rattle.escrow_core.specs.Reply.{failure_of, failure_of_refusal}
-use Rattle.escrow_core.specs.State.{State, table_named, row_named, rows_of, own, others, own_marks, other_marks, is_open, changes_to, applied, with_table, with_row}
+use Rattle.escrow_core.specs.State.{State, table_named, row_named, rows_of, own, others, other_marks, is_open, changes_to, applied, with_table, with_row}
 
 -- the first refusal that applies is the reply, and the state stays; otherwise the reply and the new state
 abbrev pub unless_refused : State → List (Option Refusal) → Reply → State → Reply × State

@@ -55,5 +55,5 @@ pub line_of_bytes : (databases : ℕ) (bytes front : List ℕ) → length bytes 
 line_of_bytes databases bytes front short e bad =
     let few : nat_lt 4096 (length bytes) ≡ false = le-ltb 4096 (length bytes) short in
     let good : is_utf8 (without_return bytes) ≡ false =
-        subst (λ (t : List ℕ). is_utf8 t ≡ false) e (false_from_ne_true (is_utf8 front) (λ h. bad (IsUtf8-from_is_utf8 front h))) in
+    subst (λ (t : List ℕ). is_utf8 t ≡ false) e (false_from_ne_true (is_utf8 front) (λ h. bad (IsUtf8-from_is_utf8 front h))) in
     rw (few, good) refl

@@ -59,9 +59,9 @@ onto_line-none x (y ∷ ys) = ap (onto_first x) (onto_line-none y ys)
 -- bytes up to their first line feed are the front of a line
 cut_step : (b : ℕ) (bytes rest : List ℕ) (t : Bool) → is_feed b ≡ t → position_or_len is_feed (b ∷ bytes) < length (b ∷ bytes)
     → (position_or_len is_feed bytes < length bytes
-        → lines_of (bytes ++ rest) ≡ onto_line (take (position_or_len is_feed bytes) bytes) ([] ∷ lines_of (drop (position_or_len is_feed bytes + 1) bytes ++ rest)))
+    → lines_of (bytes ++ rest) ≡ onto_line (take (position_or_len is_feed bytes) bytes) ([] ∷ lines_of (drop (position_or_len is_feed bytes + 1) bytes ++ rest)))
     → lines_of ((b ∷ bytes) ++ rest)
-        ≡ onto_line (take (position_or_len is_feed (b ∷ bytes)) (b ∷ bytes)) ([] ∷ lines_of (drop (position_or_len is_feed (b ∷ bytes) + 1) (b ∷ bytes) ++ rest))
+    ≡ onto_line (take (position_or_len is_feed (b ∷ bytes)) (b ∷ bytes)) ([] ∷ lines_of (drop (position_or_len is_feed (b ∷ bytes) + 1) (b ∷ bytes) ++ rest))
 cut_step b bytes rest true feed below more = rw feed refl
 cut_step b bytes rest false feed below more =
     let place = position_or_len is_feed bytes in
@@ -125,9 +125,11 @@ takes_line seen unread kept None remaining below is_kept h = tt
 takes_line seen unread kept (Some bytes) None below is_kept h = h
 takes_line seen unread kept (Some bytes) (Some rest) below is_kept h =
     let front = take (position_or_len is_feed unread) unread in
-    let others = lines_of (drop (position_or_len is_feed unread + 1) unread ++ rest) in
-    (seen ++ front,
-        h ∙ ap (onto_line seen) (cut unread rest below) ∙ sym (onto_line-append seen front ([] ∷ others)) ∙ onto_line-empty (seen ++ front) others, is_kept)
+    let others = lines_of (drop (position_or_len is_feed unread + 1) unread ++ rest) in (
+      seen ++ front,
+      h ∙ ap (onto_line seen) (cut unread rest below) ∙ sym (onto_line-append seen front ([] ∷ others)) ∙ onto_line-empty (seen ++ front) others,
+      is_kept,
+    )
 
 -- a script's end ends a line of which bytes were seen
 pub takes_last : (found : Bool) (seen kept : List ℕ) (bytes remaining : Option (List ℕ)) → IsAtEnd remaining → kept ≡ take 4097 seen

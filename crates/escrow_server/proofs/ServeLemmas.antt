@@ -49,7 +49,7 @@ pub serves_more : (states mid new : List State) (served : List (List ℕ)) (line
     → ServesLine mid (line_of (length mid) line) first new → ServesLines states (served ++ line ∷ []) (out ++ first) new
 serves_more states mid new [] line out first h step =
     let here : ServesLine states (line_of (length states) line) first new =
-        subst (λ (m : List State). ServesLine m (line_of (length m) line) first new) h.1 step in
+    subst (λ (m : List State). ServesLine m (line_of (length m) line) first new) h.1 step in
     (first, [], new, here, (refl, refl), ap (λ (o : List ℕ). o ++ first) h.0 ∙ sym (append-nil first))
 serves_more states mid new (l ∷ ls) line out first h step =
     (h.0, h.1 ++ first, h.2, h.3, serves_more h.2 mid new ls line h.1 first h.4 step, ap (λ (o : List ℕ). o ++ first) h.5 ∙ append_assoc h.0 h.1 first)

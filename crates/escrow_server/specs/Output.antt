@@ -40,7 +40,7 @@ ServesLine states nothing out new = (out ≡ []) × (new ≡ states)
 ServesLine states no_line out new = (out ≡ no_line_text) × (new ≡ states)
 ServesLine states (statement place session text) out new =
     IsSomeAnd (slice_get states place) (λ s. (answer : Reply) × (after : State) × Answers s session text answer after
-        × (out ≡ rendered (database_name place) session answer) × (new ≡ slice_set states place after))
+    × (out ≡ rendered (database_name place) session answer) × (new ≡ slice_set states place after))
 
 -- what the lines of a script write, one after another, and the states after them
 abbrev pub ServesLines : List State → List (List ℕ) → List ℕ → List State → Type 0

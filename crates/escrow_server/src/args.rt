@@ -71,7 +71,8 @@ const ABOUT: &str = "A server of tables whose RESERVABLE columns many sessions c
 It reads a script from standard input, one statement a line, and writes the
 replies to standard output, each as soon as its line is served.";
 
-const AFTER_HELP: &str = "A line of the script is a database, a point, a session from 1 to 64, a colon
+const AFTER_HELP: &str =
+    "A line of the script is a database, a point, a session from 1 to 64, a colon
 and a statement:
 
   bank.1: CREATE TABLE ACCOUNT (ID INTEGER PRIMARY KEY, BALANCE INTEGER RESERVABLE CHECK (BALANCE >= 50))
@@ -125,3 +126,6 @@ fn fault_of(alloc: Global, error: &Error) -> ArgFault
         },
     }
 }
+
+#[cfg(test)]
+mod tests;

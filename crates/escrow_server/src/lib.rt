@@ -1,19 +1,18 @@
 //! Scripts of statements: their lines, the text of replies, and the arguments of the program.
 //!
-//! Its one contract: the bytes that [`serve_script`] writes are those that the script's lines and
-//! the databases' states determine.
+//! Its one contract: what [`serve_script`] writes, and the states of the databases after it, are
+//! those of the script's lines, served one after another by the machine.
 #![tactic(auto)]
 
 pub mod args;
 pub mod fault;
-pub mod line;
-pub mod names;
-pub mod render;
+mod line;
+mod names;
+mod render;
 mod script;
 pub mod serve;
 mod unread;
 
 pub use args::{ArgFault, Args, Mode, read_args};
 pub use fault::ServeFault;
-pub use line::{Line, classify};
 pub use serve::serve_script;

@@ -6,11 +6,11 @@ use crate::names::place_of;
 use escrow_num::Session;
 
 /// The most bytes of a line, without its line feed and before its carriage return is dropped.
-pub const MOST_LINE: usize = 4096;
+pub(crate) const MOST_LINE: usize = 4096;
 
 /// What a line of a script is.
 #[derive(Clone, Copy, Debug)]
-pub enum Line<'a> {
+pub(crate) enum Line<'a> {
     /// A blank line, a comment or `@join`: it has no reply.
     Nothing,
     /// A statement.
@@ -27,7 +27,7 @@ pub enum Line<'a> {
 }
 
 /// What the bytes of a line are, without their line feed, for so many databases.
-pub fn classify(databases: usize, line: &[u8]) -> Line<'_>
+pub(crate) fn classify(databases: usize, line: &[u8]) -> Line<'_>
     requires { databases ≤ 16 }
     ensures reading { seen result ≡ line_of databases line.now }
     ensures place { IsPlaceIn databases result }

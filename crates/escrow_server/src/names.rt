@@ -1,11 +1,8 @@
 ghost use Rattle.std.specs.Prelude.{◌≡◌, ◌<◌, ◌≤◌, IfSome};
 ghost use Rattle.escrow_server.specs.Line.{database_name, place_of};
 
-/// The most databases that a server has.
-pub const MOST_DATABASES: u8 = 16;
-
 /// The name of the database at a place, counted from 0: `bank`, `bank2`, `bank3` and so on.
-pub fn database_name(place: usize) -> &'static str
+pub(crate) fn database_name(place: usize) -> &'static str
     requires { place < 16 }
     ensures { result.now ≡ database_name place }
 {

@@ -8,7 +8,7 @@ use std::alloc::{AllocError, Global};
 
 /// The line that answers a statement: the database and the session that it is for, what is
 /// answered, and a line feed.
-pub fn render(
+pub(crate) fn render(
     alloc: Global,
     database: &str,
     session: Session,
@@ -27,7 +27,7 @@ pub fn render(
 }
 
 /// The line that answers what is no line of a script.
-pub fn render_no_line(alloc: Global) -> Result<Vec<u8>, AllocError>
+pub(crate) fn render_no_line(alloc: Global) -> Result<Vec<u8>, AllocError>
     ensures { IfOk result (λ bytes. bytes.items ≡ no_line_text) }
 {
     let mut line = Vec::new(alloc);

@@ -48,11 +48,7 @@ pub fn serve_script<R: Read, W: Write>(
 }
 
 /// Serves one line, and answers the line of its reply, which is empty where there is none.
-fn serve_line(
-    alloc: Global,
-    databases: &mut [Database],
-    line: &[u8],
-) -> Result<Vec<u8>, AllocError>
+fn serve_line(alloc: Global, databases: &mut [Database], line: &[u8]) -> Result<Vec<u8>, AllocError>
     requires { length databases.old ≤ 16 }
     ensures ok { IfOk result (λ out. ServesLine databases.old (line_of (length databases.old) line.now) out.items databases.new) }
     ensures err { OnErr result ((out : List ℕ) × ServesLine databases.old (line_of (length databases.old) line.now) out databases.new) }

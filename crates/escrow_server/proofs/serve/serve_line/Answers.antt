@@ -26,7 +26,7 @@ returns-in-Statement-clause-ok c =
     let as_line = serves_as states (statement place c.in-Statement.session c.in-Statement.text.now) reading _ _ read.reading step in
     at_ok _ _ c.render.result
     (λ out e. subst (λ (o : List ℕ). ServesLine states reading o (slice_set states place c.answer-reply.new.database))
-        (sym (e ∙ ap (λ (name : List ℕ). rendered name c.in-Statement.session c.answer-reply.result) c.database_name.ensures)) as_line)
+    (sym (e ∙ ap (λ (name : List ℕ). rendered name c.in-Statement.session c.answer-reply.result) c.database_name.ensures)) as_line)
     c.render.ensures
 
 pub returns-in-Statement-clause-err : goal.returns-in-Statement-clause-err

@@ -17,10 +17,10 @@ returns-in_err-reply-clause-fault g c =
     let mid = c.loop-script.databases.items in
     let new = c.serve_line.new.databases in
     let turn = turn_of c.in_ok-next_line.field-0 c.next_line.new.self.line.items c.line.result.now served.err.0 mid c.as_mut_slice.result.now new _ _
-        c.if-branch.true c.line.ensures.value c.as_mut_slice.ensures.value c.line.ensures.within next.taken served.err.1 in
+    c.if-branch.true c.line.ensures.value c.as_mut_slice.ensures.value c.line.ensures.within next.taken served.err.1 in
     at_err c.from_residual-in_err-reply.result
     (turn_stopped c.args.databases.now.items mid new _ _ _ _ _ _ _ served.err.0 0 turn (put_back new mid c.loop-script.databases.len (omega arith)) stood
-        (appends_none (g.W.Write.contents c.loop-script.writer)))
+    (appends_none (g.W.Write.contents c.loop-script.writer)))
 
 pub returns-in_err-write_whole-clause-fault : goal.returns-in_err-write_whole-clause-fault
 returns-in_err-write_whole-clause-fault g c =
@@ -31,10 +31,10 @@ returns-in_err-write_whole-clause-fault g c =
     let mid = c.loop-script.databases.items in
     let new = c.serve_line.new.databases in
     let turn = turn_of c.in_ok-next_line.field-0 c.next_line.new.self.line.items c.line.result.now c.in_ok-reply.reply.items mid c.as_mut_slice.result.now new _ _
-        c.if-branch.true c.line.ensures.value c.as_mut_slice.ensures.value c.line.ensures.within next.taken served.ok in
+    c.if-branch.true c.line.ensures.value c.as_mut_slice.ensures.value c.line.ensures.within next.taken served.ok in
     at_err c.from_residual-in_err-write_whole.result
     (turn_stopped c.args.databases.now.items mid new _ _ _ _ _ _ _ c.in_ok-reply.reply.items wrote.err.0 turn (put_back new mid c.loop-script.databases.len (omega arith)) stood
-        (subst (λ (b : List ℕ). Appends (g.W.Write.contents c.loop-script.writer) (g.W.Write.contents c.write_whole.new.writer) (take wrote.err.0 b)) c.as_slice.ensures.value wrote.err.1))
+    (subst (λ (b : List ℕ). Appends (g.W.Write.contents c.loop-script.writer) (g.W.Write.contents c.write_whole.new.writer) (take wrote.err.0 b)) c.as_slice.ensures.value wrote.err.1))
 
 pub loop-script-preserved : goal.loop-script-preserved
 loop-script-preserved g c =
@@ -45,7 +45,7 @@ loop-script-preserved g c =
     let mid = c.loop-script.databases.items in
     let new = c.serve_line.new.databases in
     let turn = turn_of c.in_ok-next_line.field-0 c.next_line.new.self.line.items c.line.result.now c.in_ok-reply.reply.items mid c.as_mut_slice.result.now new _ _
-        c.if-branch.true c.line.ensures.value c.as_mut_slice.ensures.value c.line.ensures.within next.taken served.ok in
+    c.if-branch.true c.line.ensures.value c.as_mut_slice.ensures.value c.line.ensures.within next.taken served.ok in
     record {
       count = c.loop-script.invariant.count;
       stood = turn_served c.args.databases.now.items mid new _ _ _ _ _ _ _ c.in_ok-reply.reply.items turn (put_back new mid c.loop-script.databases.len (omega arith)) stood

@@ -14,6 +14,8 @@ loop-rest-preserved g c =
     let wrote = c.in-Ok.ensures in
     let rest : drop n c.loop-rest.rest.now ≡ drop (so_far.0 + n) bytes = ap (drop n) so_far.1 ∙ drop-drop n so_far.0 bytes in
     let now = subst (λ (r : List ℕ). Appends (contents c.loop-rest.writer) (contents c.write.new.self) (take n r)) so_far.1 wrote.bytes in
-    let both = appends_more _ _ _ (take so_far.0 bytes) (take n (drop so_far.0 bytes)) so_far.2 now in
-    (so_far.0 + n, take_rest c.loop-rest.rest.now n ∙ rest,
-        subst (λ (b : List ℕ). Appends (contents c.args.writer.now) (contents c.write.new.self) b) (sym (take-add so_far.0 n bytes)) both)
+    let both = appends_more _ _ _ (take so_far.0 bytes) (take n (drop so_far.0 bytes)) so_far.2 now in (
+      so_far.0 + n,
+      take_rest c.loop-rest.rest.now n ∙ rest,
+      subst (λ (b : List ℕ). Appends (contents c.args.writer.now) (contents c.write.new.self) b) (sym (take-add so_far.0 n bytes)) both,
+    )

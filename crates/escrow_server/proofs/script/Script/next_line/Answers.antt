@@ -18,10 +18,10 @@ returns-then-branch-eq0-clause-taken g c =
     let read = c.in_ok-fill.ensures in
     let so_far = c.loop-self.invariant.so_far in
     let stands = turn_goes_on c.in_ok-take_front.field-0 so_far.0 c.loop-self.self.unread c.take_front.new.self.unread c.loop-self.self.line.items c.take_front.new.self.line.items
-        _ (rem c.loop-self.reader) c.if-branch.false turn.moved so_far.1 so_far.2 in
+    _ (rem c.loop-self.reader) c.if-branch.false turn.moved so_far.1 so_far.2 in
     let same : c.fill.new.self.line.items ≡ c.take_front.new.self.line.items = cc in
     let reads = turn_reads (so_far.0 ++ c.loop-self.self.unread) c.take_front.new.self.line.items c.take_front.new.self.unread c.fill.new.self.line.items c.fill.new.self.unread
-        _ (rem c.loop-self.reader) (rem c.fill.new.reader) stands same read.read in
+    _ (rem c.loop-self.reader) (rem c.fill.new.reader) stands same read.read in
     turn_ends (not c.is_empty.result) (so_far.0 ++ c.loop-self.self.unread) c.fill.new.self.line.items c.fill.new.self.unread
     _ (rem c.fill.new.reader) reads (omega arith) (read.end c.if-branch-eq0.true)
     (some_by_test c.is_empty.result (vec_len c.fill.new.self.line) (length c.fill.new.self.line.items) c.is_empty.ensures c.fill.new.self.line.ok.0)
@@ -34,10 +34,10 @@ loop-self-preserved g c =
     let read = c.in_ok-fill.ensures in
     let so_far = c.loop-self.invariant.so_far in
     let stands = turn_goes_on c.in_ok-take_front.field-0 so_far.0 c.loop-self.self.unread c.take_front.new.self.unread c.loop-self.self.line.items c.take_front.new.self.line.items
-        _ (rem c.loop-self.reader) c.if-branch.false turn.moved so_far.1 so_far.2 in
+    _ (rem c.loop-self.reader) c.if-branch.false turn.moved so_far.1 so_far.2 in
     let same : c.fill.new.self.line.items ≡ c.take_front.new.self.line.items = cc in
     let reads = turn_reads (so_far.0 ++ c.loop-self.self.unread) c.take_front.new.self.line.items c.take_front.new.self.unread c.fill.new.self.line.items c.fill.new.self.unread
-        _ (rem c.loop-self.reader) (rem c.fill.new.reader) stands same read.read in
+    _ (rem c.loop-self.reader) (rem c.fill.new.reader) stands same read.read in
     let same_len : vec_len c.fill.new.self.line ≡ vec_len c.take_front.new.self.line = cc in
     record {
       so_far = (so_far.0 ++ c.loop-self.self.unread, reads.is_line, reads.goes_on);
