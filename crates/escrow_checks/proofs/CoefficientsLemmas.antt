@@ -1,8 +1,8 @@
 use Rattle.std.proofs.Common.{◌≡◌, ℕ, zero, suc, ◌+◌, ◌-◌, ◌≤◌, ◌<◌, ℤ, pos, neg_ℤ, ◌*◌, ◌^◌, ◌+ℤ◌, ◌*ℤ◌, ◌≤ℤ◌, List, [], ◌∷◌, ◌++◌, length, take, drop, set, get_or, replicate, min, refl, ap, ◌∙◌, sym, arith, append_assoc, subst, add-one}
-use Rattle.std.specs.Prelude.{Option, unwrap_or, slice_set, All, bytes_eq, if◌then◌else◌, Bool, true, false}
+use Rattle.std.specs.Prelude.{slice_set, All, bytes_eq, if◌then◌else◌, Bool, true, false}
 use Rattle.escrow_checks.specs.Condition.{unit_of}
 use Rattle.std.proofs.lemmas.Int.{ints}
-use Rattle.std.proofs.lemmas.List.{length-map, get_or-map, length-replicate, length-set, length-take-le, take_more, take_all}
+use Rattle.std.proofs.lemmas.List.{length-replicate, length-set, length-take-le, take_more, take_all}
 use Rattle.std.proofs.lemmas.List.Elements.{All-set, All-replicate, All-nil, All-cons}
 use Rattle.std.proofs.Math.Seq.{drop-cons, set-append_seam}
 use Rattle.escrow_checks.specs.Coefficients.{IsCoefficient, AreCoefficients, padded}
