@@ -20,7 +20,11 @@ fn two_databases(alloc: Global) -> Result<Vec<Database>, AllocError>
 }
 
 /// Serves a script in two databases without tables.
-fn serve<R: Read, W: Write>(alloc: Global, reader: &mut R, writer: &mut W) -> Result<(), ServeFault> {
+fn serve<R: Read, W: Write>(
+    alloc: Global,
+    reader: &mut R,
+    writer: &mut W,
+) -> Result<(), ServeFault> {
     let mut databases = two_databases(alloc)?;
     serve_script(alloc, &mut databases, reader, writer)
 }

@@ -1,12 +1,12 @@
 -- What is written piece by piece, and lines that are served one by one.
-use Rattle.std.proofs.Common.{◌≡◌, ℕ, zero, suc, ◌+◌, ◌-◌, ◌≤◌, ◌<◌, List, [], ◌∷◌, ◌++◌, length, take, drop, Option, Some, None, arith, refl, sym, ap, subst, ◌∙◌, append_assoc, inl, inr}
-use Rattle.std.specs.Prelude.{Result, Ok, Err, OnErr, IfOk, slice_get, slice_set, IsSomeAnd, IfSome, Bool, nat_lt, true, false, ⊤}
+use Rattle.std.proofs.Common.{◌≡◌, ℕ, ◌≤◌, List, [], ◌∷◌, ◌++◌, length, take, drop, Option, Some, None, arith, refl, sym, ap, subst, ◌∙◌, append_assoc, inl, inr}
+use Rattle.std.specs.Prelude.{Result, Ok, Err, OnErr, IfOk, slice_get, slice_set, IfSome, Bool, nat_lt, true, false, ⊤}
 use Rattle.std.specs.Io.KnownBytes.{Appends, IsAtEnd}
 use Rattle.std.proofs.lemmas.List.{append-nil, take_all, take_at, take-append-drop, length-take}
 use Rattle.std.proofs.lemmas.Bool.{lt-ltb, cases_lt}
 use Rattle.escrow_core.specs.declared.reply.Reply.{Reply}
 use Rattle.escrow_core.specs.State.{State}
-use Rattle.escrow_server.specs.Line.{Reading, statement, no_line, database_name, line_of, lines_of}
+use Rattle.escrow_server.specs.Line.{Reading, statement, database_name, line_of, lines_of}
 use Rattle.escrow_server.specs.Text.{rendered}
 use Rattle.escrow_server.specs.Output.{Answers, ServesLine, ServesLines, Output, StopsWithin}
 use Rattle.escrow_server.specs.Script.{TakesLine, left}

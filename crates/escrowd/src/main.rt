@@ -10,9 +10,8 @@ ghost use Rattle.std.specs.Prelude.{◌≡◌, ◌≤◌, vec_len, IfOk};
 use escrow_core::Database;
 use escrow_server::{ArgFault, Args, ServeFault, read_args, serve_script};
 use std::alloc::{AllocError, Global};
-use std::env;
-use std::io;
 use std::process::ExitCode;
+use std::{env, io};
 
 fn main(rt: HostRuntime) -> ExitCode {
     let Ok(words) = words(&rt) else {
@@ -49,7 +48,12 @@ fn serve(rt: &HostRuntime, count: u8) -> Result<(), ServeFault>
     requires most { count ≤ 16 }
 {
     let mut databases = empty_databases(rt.alloc(), count)?;
-    serve_script(rt.alloc(), &mut databases, &mut rt.stdin(), &mut rt.stdout())
+    serve_script(
+        rt.alloc(),
+        &mut databases,
+        &mut rt.stdin(),
+        &mut rt.stdout(),
+    )
 }
 
 /// So many databases without tables.

@@ -5,6 +5,7 @@ use std::io::{Error, ErrorKind, Read, Result, Write};
 use std::test::Fail;
 
 const SCRIPT: &str = "bank.1: COMMIT\nbank.2: ROLLBACK\nshop.1: COMMIT\n";
+
 const REPLIES: &str = "bank.1> OK committed 0\nbank.2> OK rolled back 0\nscript> ERR 12 line\n";
 
 /// Gives some bytes, three at a time, and then fails.
@@ -51,7 +52,15 @@ impl Write for FailingWriter {
 #[test]
 fn failing_readers(rt: HostRuntime) -> std::result::Result<(), Fail> {
     let alloc = rt.alloc();
-    for (bytes, written) in [(0, 0), (14, 0), (15, 23), (31, 23), (32, 48), (46, 48), (47, 68)] {
+    for (bytes, written) in [
+        (0, 0),
+        (14, 0),
+        (15, 23),
+        (31, 23),
+        (32, 48),
+        (46, 48),
+        (47, 68),
+    ] {
         let mut reader = FailingReader {
             rest: &SCRIPT.as_bytes()[..bytes],
         };

@@ -2,8 +2,11 @@
 use super::serve;
 use std::test::Fail;
 
-const CREATE: &str = "bank.1: CREATE TABLE ACCOUNT (ID INTEGER PRIMARY KEY, BALANCE INTEGER RESERVABLE CONSTRAINT MINIMUM_BALANCE CHECK (BALANCE >= 50))\n";
+const CREATE: &str =
+    "bank.1: CREATE TABLE ACCOUNT (ID INTEGER PRIMARY KEY, BALANCE INTEGER RESERVABLE CONSTRAINT MINIMUM_BALANCE CHECK (BALANCE >= 50))\n";
+
 const INSERT: &str = "bank.1: INSERT INTO ACCOUNT VALUES (1, 100)\n";
+
 const SET_UP: &str = "bank.1> OK created ACCOUNT\nbank.1> OK inserted\n";
 
 /// Scripts behind an account with a balance of 100, of which 50 have to stay.

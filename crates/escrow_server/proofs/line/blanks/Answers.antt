@@ -1,4 +1,4 @@
-use Rattle.std.proofs.Common.{◌≤◌, ◌<◌, ◌≡◌, length, arith, sym, rules}
+use Rattle.std.proofs.Common.{length, arith, sym, rules}
 use Rattle.std.proofs.lemmas.List.Sums.{prefix_len_is}
 use Rattle.escrow_server.specs.Line.{is_blank}
 use Rattle.escrow_server.proofs.line.blanks.Goals as goal

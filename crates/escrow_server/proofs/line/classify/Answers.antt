@@ -1,4 +1,4 @@
-use Rattle.std.proofs.Common.{◌≡◌, ◌≤◌, length, arith, ◌∙◌}
+use Rattle.std.proofs.Common.{arith, ◌∙◌}
 use Rattle.escrow_server.proofs.LineLemmas.{line_of_text, line_of_bytes}
 use Rattle.escrow_server.proofs.line.classify.Goals as goal
 

@@ -1,4 +1,4 @@
-use Rattle.std.proofs.Common.{◌≡◌, ◌==◌, position, Some, sym, ◌∙◌}
+use Rattle.std.proofs.Common.{◌≡◌, ◌==◌, position, Some}
 use Rattle.escrow_server.proofs.LineLemmas.{boundary_before, boundary_after}
 use Rattle.escrow_server.proofs.line.cut_at.Goals as goal
 

@@ -1,4 +1,4 @@
-use Rattle.std.proofs.Common.{◌≤◌, ◌<◌, ◌≡◌, length, arith, sym, rules}
+use Rattle.std.proofs.Common.{length, arith, sym, rules}
 use Rattle.std.proofs.lemmas.List.Sums.{position_or_len_is}
 use Rattle.escrow_server.specs.Script.{is_feed}
 use Rattle.escrow_server.proofs.script.line_len.Goals as goal

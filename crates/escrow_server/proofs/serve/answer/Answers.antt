@@ -1,4 +1,4 @@
-use Rattle.std.proofs.Common.{◌≡◌, List, ℕ, inl, inr, refl, ap, subst}
+use Rattle.std.proofs.Common.{inl, inr, refl, ap, subst}
 use Rattle.escrow_sql.specs.declared.statement.Request.{Request}
 use Rattle.escrow_sql.specs.Parser.{Asks}
 use Rattle.escrow_core.specs.declared.reply.Reply.TheVariants.{Refused}

@@ -1,9 +1,8 @@
-use Rattle.std.proofs.Common.{◌≡◌, ◌<◌, ℕ, List, length, get_or, Some, sym, ap, refl, subst, ◌∙◌}
+use Rattle.std.proofs.Common.{◌≡◌, ℕ, List, length, get_or, Some, sym, ap, refl, subst, ◌∙◌}
 use Rattle.std.specs.Prelude.{slice_get, slice_set}
-use Rattle.escrow_core.specs.State.{State}
 use Rattle.std.proofs.lemmas.Option.{slice_get-get_or}
 use Rattle.escrow_server.specs.Text.{no_line_text, rendered}
-use Rattle.escrow_server.specs.Line.{no_line, statement, line_of, database_name}
+use Rattle.escrow_server.specs.Line.{no_line, statement, line_of}
 use Rattle.escrow_server.specs.Output.{ServesLine}
 use Rattle.escrow_server.proofs.ServeLemmas.{serves_as, serves_statement, at_err, at_ok}
 use Rattle.escrow_server.proofs.serve.serve_line.Goals as goal

@@ -1,4 +1,4 @@
-use Rattle.std.proofs.Common.{◌≡◌, List, ℕ, take, arith, subst}
+use Rattle.std.proofs.Common.{List, ℕ, take, arith, subst}
 use Rattle.std.specs.Io.KnownBytes.{Appends}
 use Rattle.escrow_server.proofs.ServeLemmas.{stood_at_start, stopped, finished, ended, turn_of, turn_served, turn_stopped, put_back, appends_none, at_err}
 use Rattle.escrow_server.proofs.serve.serve_script.Goals as goal

@@ -1,4 +1,4 @@
-use Rattle.std.proofs.Common.{◌≡◌, ◌<◌, ◌++◌, length, arith, sym, true, false, not, Bool, ap, subst, ◌∙◌, eqb}
+use Rattle.std.proofs.Common.{◌≡◌, ◌++◌, length, arith, not}
 use Rattle.std.specs.Prelude.{vec_len}
 use Rattle.escrow_server.proofs.ScriptLemmas.{turn_takes, turn_goes_on, turn_reads, turn_ends, some_by_test, none_by_test}
 use Rattle.escrow_server.proofs.script.Script.next_line.Goals as goal

@@ -1,4 +1,4 @@
-use Rattle.std.proofs.Common.{arith, ◌≡◌, ◌≤◌, ◌<◌, ◌+◌, ap, sym, ◌∙◌, drop, length}
+use Rattle.std.proofs.Common.{arith, ◌+◌, ap, sym, ◌∙◌, drop, length}
 use Rattle.std.proofs.lemmas.Bool.{ltb-true}
 use Rattle.escrow_server.proofs.ScriptLemmas.{shorter, shorter_by_feed}
 use Rattle.escrow_server.proofs.script.Script.take_front.Goals as goal
