@@ -4,4 +4,5 @@ pub mod ExtremesLemmas
 pub mod FormLemmas
 pub mod LawsLemmas
 pub mod Products
+pub mod SlowLemmas
 pub mod SpreadLemmas

@@ -103,4 +103,6 @@ fn product(coefficient: Amount, amount: Amount) -> Wide
 }
 
 #[cfg(test)]
+mod slow;
+#[cfg(test)]
 mod tests;

@@ -29,10 +29,10 @@ impl Model for Database {
 }
 
 impl Database {
-    ghost use Rattle.std.specs.Prelude.{◌≡◌, None, false, IfSome, IfOk};
+    ghost use Rattle.std.specs.Prelude.{◌≡◌, None, true, false, IfSome, IfOk};
     ghost use Rattle.escrow_core.specs.State.{empty, is_open};
     ghost use Rattle.escrow_core.specs.Valid.{IsValid};
-    ghost use Rattle.escrow_core.specs.Reply.{failure_of};
+    ghost use Rattle.escrow_core.specs.Reply.{failure_of, holds_memory};
     ghost use Rattle.escrow_core.specs.Step.{StepOrRefusal, may_fail};
 
     /// A database without tables, in which nothing is open and the next id is 1. Want of memory is
@@ -67,11 +67,13 @@ impl Database {
 
     /// Serves one statement of a session, whole: the reply and the new state are those of the
     /// machine, which tries every choice of the open reservations; or memory was refused, and the
-    /// state is equal.
+    /// state is equal. A reply that holds memory comes with an equal state, so that it can be thrown
+    /// away where a copy of it finds no memory.
     #[tactic(auto, unfolding(crate::specs::Step::step))]
     pub fn step(&mut self, alloc: Global, session: Session, statement: &Statement) -> Reply
         ensures event { StepOrRefusal self.old session statement.now result self.new }
         ensures promised { may_fail self.old session statement.now ≡ false → failure_of result ≡ None }
+        ensures query { holds_memory result ≡ true → self.new ≡ self.old }
         ensures only_memory { IfSome (failure_of result) (λ f. f ≡ Failure.Memory) }
     {
         match statement {

@@ -1,4 +1,4 @@
-ghost use Rattle.std.specs.Prelude.{◌≡◌};
+ghost use Rattle.std.specs.Prelude.{◌≡◌, ◌↔◌, IsTrue};
 
 use escrow_num::{Name, Refusal};
 
@@ -39,6 +39,22 @@ impl Reply {
             Reply::Refused(Refusal::Memory) => Some(Failure::Memory),
             Reply::Refused(Refusal::Store) => Some(Failure::Store),
             _ => None,
+        }
+    }
+
+    /// Whether two replies are the same: what was done, and the number, the name or the refusal
+    /// that comes with it.
+    pub fn is_same(&self, other: &Reply) -> bool
+        ensures { IsTrue result ↔ (self.now ≡ other.now) }
+    {
+        match (self, other) {
+            (Reply::Refused(a), Reply::Refused(b)) => a.is_same(b),
+            (Reply::Created(a), Reply::Created(b)) => *a == *b,
+            (Reply::Inserted, Reply::Inserted) => true,
+            (Reply::Reserved { id: a }, Reply::Reserved { id: b }) => *a == *b,
+            (Reply::Committed { count: a }, Reply::Committed { count: b }) => *a == *b,
+            (Reply::RolledBack { count: a }, Reply::RolledBack { count: b }) => *a == *b,
+            _ => false,
         }
     }
 }

@@ -1,4 +1,4 @@
-ghost use Rattle.std.specs.Prelude.{◌≡◌};
+ghost use Rattle.std.specs.Prelude.{◌≡◌, ◌↔◌, IsTrue};
 ghost use Rattle.escrow_num.specs.Refusal.{number_of};
 
 use crate::name::Name;
@@ -7,7 +7,7 @@ use crate::wide::Wide;
 
 /// The limit of a check that a change could break: the check's name, the side, the worst value on
 /// that side, and the limit beyond which it lies.
-#[derive(Clone, Copy, Debug)]
+#[derive(Clone, Copy, Debug, PartialEq, Eq)]
 pub struct Breach {
     /// The check's name.
     pub check: Name,
@@ -17,6 +17,15 @@ pub struct Breach {
     pub worst: Wide,
     /// The limit of that side.
     pub limit: Wide,
+}
+
+impl Breach {
+    /// Whether two are the same: the check, the side, the worst value and the limit.
+    pub fn is_same(&self, other: &Breach) -> bool
+        ensures { IsTrue result ↔ (self.now ≡ other.now) }
+    {
+        *self == *other
+    }
 }
 
 /// Why a statement, a line or an opening is refused. Each has its number, which replies carry.
@@ -105,6 +114,20 @@ impl Refusal {
             Refusal::Store => 60,
             Refusal::ForeignStore => 61,
             Refusal::UnknownVersion => 62,
+        }
+    }
+
+    /// Whether two refusals are the same: the number, and the column or the breach where there is
+    /// one.
+    pub fn is_same(&self, other: &Refusal) -> bool
+        ensures { IsTrue result ↔ (self.now ≡ other.now) }
+    {
+        match (self, other) {
+            (Refusal::Syntax { column: a }, Refusal::Syntax { column: b }) => *a == *b,
+            (Refusal::Check(a), Refusal::Check(b)) => a.is_same(b),
+            (Refusal::Syntax { .. } | Refusal::Check(_), _) => false,
+            (_, Refusal::Syntax { .. } | Refusal::Check(_)) => false,
+            _ => self.number() == other.number(),
         }
     }
 }

@@ -4,6 +4,7 @@
 //! the first fault.
 #![tactic(auto)]
 
+pub(crate) mod copies;
 pub(crate) mod cursor;
 pub mod fault;
 pub(crate) mod halt;

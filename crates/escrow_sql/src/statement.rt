@@ -72,7 +72,7 @@ pub enum ColumnMark {
 }
 
 /// The text of a CHECK.
-#[derive(Clone, Copy, Debug)]
+#[derive(Clone, Copy, Debug, PartialEq, Eq)]
 pub struct CheckText {
     /// The name that is written behind CONSTRAINT, if one is.
     pub name: Option<Name>,
@@ -81,7 +81,7 @@ pub struct CheckText {
 }
 
 /// A condition of a CHECK: a column compared with a number.
-#[derive(Clone, Copy, Debug)]
+#[derive(Clone, Copy, Debug, PartialEq, Eq)]
 pub struct Condition {
     /// The column on the left.
     pub column: Name,
@@ -125,7 +125,7 @@ pub struct UpdateText {
 }
 
 /// An assignment, `column = source + change`, where a minus makes the change negative.
-#[derive(Clone, Copy, Debug)]
+#[derive(Clone, Copy, Debug, PartialEq, Eq)]
 pub struct Assign {
     /// The column that is assigned.
     pub column: Name,

@@ -1,101 +1,103 @@
+use super::slow::{slow_breach, slow_extremes};
 use super::*;
 use escrow_num::Side;
+use std::alloc::Global;
 use std::process::Abort;
-
-/// The low limit of the check under test, and its high one.
-const LOW: i64 = -10;
-
-const HIGH: i64 = 20;
+use std::test::Fail;
 
 fn amount(rt: &impl Abort, value: i64) -> Amount {
     Amount::new(value).expect(rt, "an amount")
 }
 
-/// The check that the second of three columns is from -10 to 20.
-fn check(rt: &impl Abort) -> Check {
+fn name(rt: &impl Abort, text: &[u8]) -> Name {
+    Name::new(text).expect(rt, "a name")
+}
+
+/// The check that a form is from -10 to 20.
+fn check(rt: &impl Abort, coeffs: Coefficients) -> Check {
     Check {
-        name: Name::new(b"LIMITS").expect(rt, "a name"),
-        coeffs: Coefficients::unit(3, 1),
+        name: name(rt, b"LIMITS"),
+        coeffs,
         span: Span {
-            lo: Some(Wide::from(amount(rt, LOW))),
-            hi: Some(Wide::from(amount(rt, HIGH))),
+            lo: Some(Wide::from(amount(rt, -10))),
+            hi: Some(Wide::from(amount(rt, 20))),
         },
     }
 }
 
-/// A row, or changes of one, whose second column is this.
-fn second(rt: &impl Abort, value: i64) -> [Amount; 3] {
-    [amount(rt, 999), amount(rt, value), amount(rt, -999)]
+/// A row's amounts, or changes of them.
+fn amounts(rt: &impl Abort, alloc: Global, values: &[i64]) -> Result<Seq<Amount>, AllocError> {
+    let mut amounts = Seq::new(alloc);
+    for value in values {
+        amounts.push(amount(rt, *value))?;
+    }
+    Ok(amounts)
 }
 
-/// The least and the greatest value that a value comes to, over every sublist of three changes, each
-/// of which is formed.
-fn slow_extremes(value: i64, changes: [i64; 3]) -> (i64, i64) {
-    let mut least = value;
-    let mut greatest = value;
-    for chosen in 0..8u32 {
-        let mut outcome = value;
-        for (change, bit) in changes.iter().zip(&[1, 2, 4]) {
-            if chosen & *bit != 0 {
-                outcome = outcome.wrapping_add(*change);
-            }
-        }
-        least = least.min(outcome);
-        greatest = greatest.max(outcome);
-    }
-    (least, greatest)
-}
-
-/// The first limit that two extremes leave.
-fn slow_breach(least: i64, greatest: i64) -> Option<(Side, i64, i64)> {
-    if least < LOW {
-        Some((Side::Low, least, LOW))
-    } else if HIGH < greatest {
-        Some((Side::High, greatest, HIGH))
-    } else {
-        None
-    }
+/// What is broken, part by part.
+fn parts(breach: Option<Breach>) -> Option<(Name, Side, Wide, Wide)> {
+    breach.map(|breach| (breach.check, breach.side, breach.worst, breach.limit))
 }
 
 /// Compares extremes and grant with the slow program, for three open reservations and a new one.
-fn agrees(rt: &impl Abort, value: i64, changes: [i64; 3], new: i64) {
-    let check = check(rt);
+fn agrees(
+    rt: &impl Abort,
+    alloc: Global,
+    check: &Check,
+    pending: &[Seq<Amount>; 3],
+    new: &[i64],
+) -> Result<(), Fail> {
+    let row = amounts(rt, alloc, &[5, 3, -4])?;
+    let new = amounts(rt, alloc, new)?;
+    let (row, new) = (row.as_slice(), new.as_slice());
     let spread = Spread::new()
-        .with(check.contribution(&second(rt, changes[0])))
-        .with(check.contribution(&second(rt, changes[1])))
-        .with(check.contribution(&second(rt, changes[2])));
-    let (least, greatest) = check.extremes(&second(rt, value), &spread);
-    let (low, high) = slow_extremes(value, changes);
-    assert_eq!(rt; least.get(), i128::from(low));
-    assert_eq!(rt; greatest.get(), i128::from(high));
-    let breach = check.breach(&second(rt, value), &second(rt, new), &spread);
-    let (low, high) = slow_extremes(value.wrapping_add(new), changes);
-    let slow = slow_breach(low, high);
-    assert_eq!(rt; breach.is_some(), slow.is_some());
-    if let (Some(breach), Some((side, worst, limit))) = (breach, slow) {
-        assert_eq!(rt; breach.side, side);
-        assert_eq!(rt; breach.worst.get(), i128::from(worst));
-        assert_eq!(rt; breach.limit.get(), i128::from(limit));
-    }
+        .with(check.contribution(pending[0].as_slice()))
+        .with(check.contribution(pending[1].as_slice()))
+        .with(check.contribution(pending[2].as_slice()));
+    let slow = slow_extremes(alloc, check, row, pending)?;
+    assert_eq!(rt; check.extremes(row, &spread), slow);
+    let slow = slow_breach(alloc, check, row, new, pending)?;
+    assert_eq!(rt; parts(check.breach(row, new, &spread)), parts(slow));
+    Ok(())
 }
 
-#[test]
-fn every_sublist_is_covered(rt: HostRuntime) {
-    for first in [-9, 4, 12] {
-        for second in [-3, 0, 7] {
-            for third in [-11, 5] {
-                for new in [-4, 0, 9] {
-                    agrees(&rt, 3, [first, second, third], new);
+/// Compares them for each three of some reservations, and each new one of them.
+fn always_agrees(rt: &impl Abort, alloc: Global, check: &Check) -> Result<(), Fail> {
+    let changes: [&[i64]; 5] = [&[], &[-9], &[4, 12], &[0, -3, 7], &[15, 7, -20]];
+    for first in changes {
+        for second in changes {
+            for third in changes {
+                let pending = [
+                    amounts(rt, alloc, first)?,
+                    amounts(rt, alloc, second)?,
+                    amounts(rt, alloc, third)?,
+                ];
+                for new in changes {
+                    agrees(rt, alloc, check, &pending, new)?;
                 }
             }
         }
     }
+    Ok(())
+}
+
+#[test]
+fn every_choice_is_covered(rt: HostRuntime) -> Result<(), Fail> {
+    let (a, b) = (name(&rt, b"A"), name(&rt, b"B"));
+    for coeffs in [
+        Coefficients::unit(3, 0),
+        Coefficients::unit(3, 1),
+        Coefficients::of_column(&[a, b, a], a),
+    ] {
+        always_agrees(&rt, rt.alloc(), &check(&rt, coeffs))?;
+    }
+    Ok(())
 }
 
 #[test]
 fn greatest_amounts(rt: HostRuntime) {
-    let check = check(&rt);
-    let row = second(&rt, Amount::LIMIT);
+    let check = check(&rt, Coefficients::unit(3, 1));
+    let row = [-999, Amount::LIMIT, 999].map(|value| amount(&rt, value));
     let spread = Spread::new()
         .with(check.contribution(&row))
         .with(check.contribution(&[]));

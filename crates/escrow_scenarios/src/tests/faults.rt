@@ -48,43 +48,74 @@ impl Write for FailingWriter {
     }
 }
 
-/// What was written before the fault are the replies to the lines that had come whole.
+/// Gives spaces without an end.
+#[derive(Drop)]
+struct EndlessReader;
+
+impl Read for EndlessReader {
+    fn read(&mut self, buf: &mut [u8]) -> Result<usize> {
+        for byte in buf.iter_mut() {
+            *byte = b' ';
+        }
+        Ok(buf.len())
+    }
+}
+
+/// How many bytes the replies have to the lines that came whole in so many bytes of the script.
+fn written_after(bytes: usize) -> usize {
+    match bytes {
+        0..=14 => 0,
+        15..=31 => 23,
+        32..=46 => 48,
+        _ => 68,
+    }
+}
+
+/// What was written before the fault are the replies to the lines that had come whole, wherever the
+/// reader fails.
 #[test]
 fn failing_readers(rt: HostRuntime) -> std::result::Result<(), Fail> {
     let alloc = rt.alloc();
-    for (bytes, written) in [
-        (0, 0),
-        (14, 0),
-        (15, 23),
-        (31, 23),
-        (32, 48),
-        (46, 48),
-        (47, 68),
-    ] {
-        let mut reader = FailingReader {
-            rest: &SCRIPT.as_bytes()[..bytes],
-        };
+    for bytes in 0..=SCRIPT.len() {
+        let rest = SCRIPT.as_bytes().get(..bytes).ok_or("past the script")?;
+        let mut reader = FailingReader { rest };
         let mut out = Vec::new(alloc);
         let served = serve(alloc, &mut reader, &mut out);
         assert_eq!(rt; served, Err(ServeFault::Read));
-        assert_eq!(rt; out.as_slice(), &REPLIES.as_bytes()[..written]);
+        let replies = REPLIES.as_bytes();
+        let front = replies
+            .get(..written_after(bytes))
+            .ok_or("past the replies")?;
+        assert_eq!(rt; out.as_slice(), front);
     }
     Ok(())
 }
 
-/// What was written before the fault is a front of the replies.
+/// What was written before the fault is a front of the replies, wherever the writer fails.
 #[test]
 fn failing_writers(rt: HostRuntime) -> std::result::Result<(), Fail> {
     let alloc = rt.alloc();
-    for (room, is_silent) in [(0, false), (10, true), (23, false), (30, true), (67, false)] {
+    for room in 0..REPLIES.len() {
         let mut writer = FailingWriter {
             taken: Vec::new(alloc),
             room,
-            is_silent,
+            is_silent: room % 2 == 0,
         };
         let served = serve(alloc, &mut SCRIPT.as_bytes(), &mut writer);
         assert_eq!(rt; served, Err(ServeFault::Write));
-        assert_eq!(rt; writer.taken.as_slice(), &REPLIES.as_bytes()[..room]);
+        let front = REPLIES.as_bytes().get(..room).ok_or("past the replies")?;
+        assert_eq!(rt; writer.taken.as_slice(), front);
     }
+    Ok(())
+}
+
+/// A script has at most 16,777,216 bytes: of one without an end no line is served.
+#[test]
+fn endless_readers(rt: HostRuntime) -> std::result::Result<(), Fail> {
+    let alloc = rt.alloc();
+    let mut out = Vec::new(alloc);
+    let served = serve(alloc, &mut EndlessReader, &mut out);
+    assert_eq!(rt; served, Err(ServeFault::Read));
+    assert!(rt; out.is_empty());
     Ok(())
 }

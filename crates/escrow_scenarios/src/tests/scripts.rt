@@ -123,3 +123,23 @@ fn hostile_lines(rt: HostRuntime) -> Result<(), Fail> {
     assert_eq!(rt; out.as_slice(), replies.as_bytes());
     Ok(())
 }
+
+/// A session holds at most 256 reservations.
+#[test]
+fn reservations_of_a_session(rt: HostRuntime) -> Result<(), Fail> {
+    let alloc = rt.alloc();
+    let mut script = format!(in alloc; "{CREATE}{INSERT}")?;
+    let mut wanted = String::from_str(alloc, SET_UP)?;
+    for id in 1..=257u16 {
+        script.push_str("bank.1: UPDATE ACCOUNT SET BALANCE = BALANCE + 1 WHERE ID = 1\n")?;
+        if id <= 256 {
+            wanted.push_str(format!(in alloc; "bank.1> OK reserved {id}\n")?.as_str())?;
+        }
+    }
+    script.push_str("bank.1: COMMIT\n")?;
+    wanted.push_str("bank.1> ERR 42 too many reservations\nbank.1> OK committed 256\n")?;
+    let mut out = Vec::new(alloc);
+    serve(alloc, &mut script.as_bytes(), &mut out)?;
+    assert_eq!(rt; out.as_slice(), wanted.as_bytes());
+    Ok(())
+}
