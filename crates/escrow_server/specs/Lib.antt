@@ -1,3 +1,4 @@
+pub mod Args
 pub mod Line
 pub mod Output
 pub mod Script

@@ -1,0 +1,72 @@
+use Rattle.std.specs.Prelude.{◌≡◌, ◌⊎◌, ◌&&◌, ℕ, Option, Some, None, option_map, option_and_then, List, [], ◌∷◌, true, bytes_eq, codes, nat_le, if◌then◌else◌}
+use Rattle.clap.specs.Walk.{Row, Rule, Text, byte_or_zero, first_of, is_empty}
+use Rattle.clap.specs.Simple.{App, matches_of, new_app, new_rule, with_rule}
+use Rattle.clap.specs.Kinds.{IsAmong, Kinds}
+use Rattle.clap.specs.Faults.{fault_of}
+use Rattle.clap.specs.declared.builder.action.ArgAction.TheVariants.{Set}
+use Rattle.clap.specs.declared.error.kind.ErrorKind.{ErrorKind}
+use Rattle.clap.specs.declared.error.kind.ErrorKind.TheVariants as kind
+use Rattle.escrow_server.specs.declared.args.Args.{Args}
+use Rattle.escrow_server.specs.declared.args.Mode.{Mode}
+use Rattle.escrow_server.specs.declared.args.Mode.TheVariants as mode
+
+-- THE COMMAND LINE, as clap's definitions take it
+
+-- a word that has to be there: the mode
+abbrev pub mode_rule : Rule
+mode_rule = record (new_rule (codes "mode")) { required = true; action = Some Set; value_names = 1 }
+
+-- an option that may be there: `--databases N`
+abbrev pub databases_rule : Rule
+databases_rule = record (new_rule (codes "databases")) { long = Some (codes "databases"); action = Some Set; value_names = 1 }
+
+-- the command of these two, to which clap adds `--help`
+abbrev pub app : App
+app = with_rule (with_rule (new_app (codes "escrowd")) mode_rule) databases_rule
+
+-- what is wrong with words before their values are read, or that they ask for help: nothing, or the
+-- kinds of which an error has one
+abbrev pub faults_of : List Text → Kinds
+faults_of words = fault_of app words
+
+-- WHAT WORDS ASK
+
+-- the mode of a name
+abbrev pub mode_of : Option Text → Option Mode
+mode_of None = None
+mode_of (Some name) = if bytes_eq name (codes "run") then Some mode.Run else None
+
+-- a number of databases, from 1 to 16
+abbrev pub allowed : ℕ → Option ℕ
+allowed count = if nat_le 1 count && nat_le count 16 then Some count else None
+
+-- how many databases a value asks, in decimal digits, and 1 where there is no value
+abbrev pub databases_of : Option Text → Option ℕ
+databases_of None = Some 1
+databases_of (Some value) = allowed (byte_or_zero value)
+
+-- the arguments that values ask, where both can be read
+abbrev pub values_ask : List Row → Option Args
+values_ask rows =
+    option_and_then (λ asked.
+    option_map (λ count. record { mode = asked; databases = count }) (databases_of (first_of (codes "databases") rows)))
+    (mode_of (first_of (codes "mode") rows))
+
+-- WHAT WORDS ASK, the program's name first: the arguments that their values ask, where nothing else
+-- is wrong with them
+abbrev pub asked_by : List Text → Option Args
+asked_by words = if is_empty (faults_of words) then values_ask (matches_of app words) else None
+
+-- THE EXIT STATUS
+
+-- for a kind of error: 0 for help, 1 for want of memory, 2 for a mistake
+abbrev pub status_of : ErrorKind → ℕ
+status_of kind.DisplayHelp = 0
+status_of kind.OutOfMemory = 1
+status_of _ = 2
+
+-- for words that can't be gone on with: 1 for want of memory; 2 where only a value can't be read;
+-- otherwise that of a kind of what is wrong
+abbrev pub IsStatus : Kinds → ℕ → Type 0
+IsStatus [] status = (status ≡ 1) ⊎ (status ≡ 2)
+IsStatus (k ∷ kinds) status = (status ≡ 1) ⊎ ((found : ErrorKind) × IsAmong found (k ∷ kinds) × (status ≡ status_of found))
