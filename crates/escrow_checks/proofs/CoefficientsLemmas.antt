@@ -2,7 +2,7 @@ use Rattle.std.proofs.Common.{◌≡◌, ℕ, zero, suc, ◌+◌, ◌-◌, ◌�
 use Rattle.std.specs.Prelude.{slice_set, All, bytes_eq, if◌then◌else◌, Bool, true, false}
 use Rattle.escrow_checks.specs.Condition.{unit_of}
 use Rattle.std.proofs.lemmas.Int.{ints}
-use Rattle.std.proofs.lemmas.List.{length-replicate, length-set, length-take-le, take_more, take_all}
+use Rattle.std.proofs.lemmas.List.{drop-replicate, length-replicate, length-set, length-take-le, take_more, take_all}
 use Rattle.std.proofs.lemmas.List.Elements.{All-set, All-replicate, All-nil, All-cons}
 use Rattle.std.proofs.Math.Seq.{drop-cons, set-append_seam}
 use Rattle.escrow_checks.specs.Coefficients.{IsCoefficient, AreCoefficients, padded}
@@ -77,6 +77,16 @@ unit_kept_at len place z u e e' within few = rw (e, e') (unit_kept len place wit
 pub unit_is_at : (len place : ℕ) (z u : ℤ) → z ≡ pos 0 → u ≡ pos 1 → place < len → len ≤ 10
     → take len (ten_with z u place) ≡ slice_set (replicate len (pos 0)) place (pos 1)
 unit_is_at len place z u e e' within few = rw (e, e') (unit_is len place within few)
+
+-- ---- a list of coefficients, in their place
+
+-- what the place of a list that stands in front of zeros keeps
+pub listed_kept : (coeffs front : List ℤ) (z : ℤ) → z ≡ pos 0 → front ≡ coeffs → AreCoefficients coeffs
+    → let values = front ++ drop (length coeffs) (z ∷ z ∷ z ∷ z ∷ z ∷ z ∷ z ∷ z ∷ z ∷ z ∷ []) in
+    AreCoefficients (take (length coeffs) values) × (length coeffs ≤ 10) × (values ≡ padded (take (length coeffs) values))
+listed_kept coeffs front z nought is fits =
+    rw (nought, is, take-front coeffs (drop (length coeffs) (replicate 10 (pos 0))) (length coeffs) refl)
+    (fits, fits.0, ap (λ zs. coeffs ++ zs) (drop-replicate (length coeffs) 10 (pos 0)))
 
 -- ---- a walk over two lists of numbers, front to back
 

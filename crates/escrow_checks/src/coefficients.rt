@@ -87,3 +87,6 @@ impl Debug for Coefficients {
         self.as_slice().fmt(f)
     }
 }
+
+#[cfg(test)]
+pub(crate) mod listed;

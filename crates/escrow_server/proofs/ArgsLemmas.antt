@@ -8,7 +8,8 @@ use Rattle.clap.specs.declared.error.kind.ErrorKind.TheVariants as kind
 use Rattle.std.specs.Prelude.{codes, nat_le}
 use Rattle.std.proofs.lemmas.Bool.Decides.{nat_tests}
 use Rattle.escrow_server.specs.declared.args.Mode.{Mode}
-use Rattle.escrow_server.specs.Args.{IsStatus, allowed, databases_of, mode_of, status_of, values_ask}
+use Rattle.escrow_server.proofs.ArgsFaults.{IsOne}
+use Rattle.escrow_server.specs.Args.{status_at, allowed, databases_of, mode_of, status_of, values_ask}
 
 -- without a mode, values ask nothing
 pub no_mode : (rows : List Row) → mode_of (first_of (codes "mode") rows) ≡ None → values_ask rows ≡ None
@@ -43,15 +44,12 @@ above n least more =
     let high : nat_le n 16 ≡ false = grind (arith, nat_tests) in
     rw (low, high) refl
 
--- the status of an error that has one of the kinds, or is of memory
-pub status_among : (kinds : Kinds) (k : ErrorKind) (status : ℕ) → (status ≡ 1) ⊎ (status ≡ status_of k)
-    → (k ≡ kind.OutOfMemory) ⊎ IsAmong k kinds → IsStatus kinds status
-status_among kinds k status (inl one) among = of_memory kinds one
-  where
-    of_memory : (kinds : Kinds) → status ≡ 1 → IsStatus kinds status
-    of_memory [] one = inl one
-    of_memory (x ∷ xs) one = inl one
-status_among [] k status (inr is) (inr among) = elim among [ ]
-status_among [] k status (inr is) (inl memory) = inl (is ∙ ap status_of memory)
-status_among (x ∷ xs) k status (inr is) (inl memory) = inl (is ∙ ap status_of memory)
-status_among (x ∷ xs) k status (inr is) (inr among) = inr (k, among, is)
+-- the status of an error of the one kind, or of memory
+pub status_among : (kinds : Kinds) (k : ErrorKind) (status : ℕ) → IsOne kinds → (status ≡ 1) ⊎ (status ≡ status_of k)
+    → (k ≡ kind.OutOfMemory) ⊎ IsAmong k kinds → (status ≡ 1) ⊎ (status ≡ status_at kinds)
+status_among kinds k status one (inl memory) among = inl memory
+status_among kinds k status one (inr is) (inl memory) = inl (is ∙ ap status_of memory)
+status_among [] k status one (inr is) (inr among) = elim among [ ]
+status_among (x ∷ []) k status one (inr is) (inr (inl same)) = inr (is ∙ ap status_of same)
+status_among (x ∷ []) k status one (inr is) (inr (inr none)) = elim none [ ]
+status_among (x ∷ y ∷ kinds) k status one (inr is) (inr among) = elim one [ ]

@@ -1,3 +1,4 @@
+pub mod ArgsFaults
 pub mod ArgsLemmas
 pub mod LineLemmas
 pub mod ScriptLemmas

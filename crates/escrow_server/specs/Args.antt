@@ -1,7 +1,7 @@
-use Rattle.std.specs.Prelude.{◌≡◌, ◌⊎◌, ◌&&◌, ℕ, Option, Some, None, option_map, option_and_then, List, [], ◌∷◌, true, bytes_eq, codes, nat_le, if◌then◌else◌}
+use Rattle.std.specs.Prelude.{◌&&◌, ℕ, Option, Some, None, option_map, option_and_then, List, [], ◌∷◌, true, bytes_eq, codes, nat_le, if◌then◌else◌}
 use Rattle.clap.specs.Walk.{Row, Rule, Text, byte_or_zero, first_of, is_empty}
 use Rattle.clap.specs.Simple.{App, matches_of, new_app, new_rule, with_rule}
-use Rattle.clap.specs.Kinds.{IsAmong, Kinds}
+use Rattle.clap.specs.Kinds.{Kinds}
 use Rattle.clap.specs.Faults.{fault_of}
 use Rattle.clap.specs.declared.builder.action.ArgAction.TheVariants.{Set}
 use Rattle.clap.specs.declared.error.kind.ErrorKind.{ErrorKind}
@@ -24,8 +24,8 @@ databases_rule = record (new_rule (codes "databases")) { long = Some (codes "dat
 abbrev pub app : App
 app = with_rule (with_rule (new_app (codes "escrowd")) mode_rule) databases_rule
 
--- what is wrong with words before their values are read, or that they ask for help: nothing, or the
--- kinds of which an error has one
+-- what is wrong with words before their values are read, or that they ask for help: nothing, or one
+-- kind of error
 abbrev pub faults_of : List Text → Kinds
 faults_of words = fault_of app words
 
@@ -65,8 +65,10 @@ status_of kind.DisplayHelp = 0
 status_of kind.OutOfMemory = 1
 status_of _ = 2
 
--- for words that can't be gone on with: 1 for want of memory; 2 where only a value can't be read;
--- otherwise that of a kind of what is wrong
-abbrev pub IsStatus : Kinds → ℕ → Type 0
-IsStatus [] status = (status ≡ 1) ⊎ (status ≡ 2)
-IsStatus (k ∷ kinds) status = (status ≡ 1) ⊎ ((found : ErrorKind) × IsAmong found (k ∷ kinds) × (status ≡ status_of found))
+-- for words that ask nothing: that of what is wrong with them, and 2 where only a value can't be read
+abbrev pub status_at : Kinds → ℕ
+status_at [] = 2
+status_at (k ∷ kinds) = status_of k
+
+abbrev pub refused_status : List Text → ℕ
+refused_status words = status_at (faults_of words)

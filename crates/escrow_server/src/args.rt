@@ -1,7 +1,7 @@
 ghost use Rattle.std.specs.Prelude.{◌≡◌, ◌≤◌, ◌⊎◌, Some, None, map, option_map, IfOk, IfSome, IsErrAnd, MatchResult};
 ghost use Rattle.clap.specs.Words.{FailsBy, app_of, found_of, kind_of, matches_of, rows_of};
 ghost use Rattle.escrow_server.specs.declared.args.Args.{Args};
-ghost use Rattle.escrow_server.specs.Args.{IsStatus, app, asked_by, databases_of, faults_of, mode_of, status_of, values_ask};
+ghost use Rattle.escrow_server.specs.Args.{app, asked_by, databases_of, faults_of, mode_of, refused_status, status_of, values_ask};
 
 use clap::error::ErrorKind;
 use clap::{Arg, ArgAction, ArgMatches, Command, Error};
@@ -36,12 +36,17 @@ pub struct ArgFault {
 
 /// Reads the words of a command line, the program's name first: `run`, and `--databases N` with N
 /// from 1 to 16, which is 1 where it isn't given.
+///
+/// # Errors
+///
+/// A fault of status 0 where the words ask for help, of 2 where anything is wrong with them, and of 1
+/// for want of memory, which may come at any words.
 pub fn read_args<S: AsStr>(alloc: Global, words: &[S]) -> Result<Args, ArgFault>
-    // Words that ask are refused for want of memory alone.
+    // Words that ask are refused for want of memory alone, and others always.
     ensures asked { (args : Args) → asked_by (map S.text words.now) ≡ Some args
         → MatchResult result (λ read. read ≡ args) (λ fault. fault.status ≡ 1) }
     ensures refused { asked_by (map S.text words.now) ≡ None
-        → IsErrAnd result (λ fault. IsStatus (faults_of (map S.text words.now)) fault.status) }
+        → IsErrAnd result (λ fault. (fault.status ≡ 1) ⊎ (fault.status ≡ refused_status (map S.text words.now))) }
     ensures databases { IfOk result (λ args. (1 ≤ args.databases) × (args.databases ≤ 16)) }
 {
     match parsed(alloc, words) {

@@ -1,12 +1,35 @@
+ghost use Rattle.std.specs.Prelude.{◌≡◌};
+ghost use Rattle.escrow_checks.specs.Coefficients.{IsCoefficient};
+
 use super::slow::{slow_breach, slow_extremes};
 use super::*;
+use crate::coefficients::listed::listed;
 use escrow_num::Side;
 use std::alloc::Global;
 use std::process::Abort;
 use std::test::Fail;
 
-fn amount(rt: &impl Abort, value: i64) -> Amount {
+fn amount(rt: &impl Abort, value: i64) -> Amount
+    ensures { result ≡ value }
+{
     Amount::new(value).expect(rt, "an amount")
+}
+
+/// A number of magnitude at most 1,000,000.
+fn coefficient(rt: &impl Abort, value: i64) -> Amount
+    ensures { IsCoefficient result }
+{
+    assert!(rt; -1_000_000 <= value && value <= 1_000_000);
+    amount(rt, value)
+}
+
+/// Coefficients of three columns.
+fn three(rt: &impl Abort, first: i64, second: i64, third: i64) -> Coefficients {
+    listed(&[
+        coefficient(rt, first),
+        coefficient(rt, second),
+        coefficient(rt, third),
+    ])
 }
 
 fn name(rt: &impl Abort, text: &[u8]) -> Name {
@@ -83,11 +106,10 @@ fn always_agrees(rt: &impl Abort, alloc: Global, check: &Check) -> Result<(), Fa
 
 #[test]
 fn every_choice_is_covered(rt: HostRuntime) -> Result<(), Fail> {
-    let (a, b) = (name(&rt, b"A"), name(&rt, b"B"));
     for coeffs in [
-        Coefficients::unit(3, 0),
         Coefficients::unit(3, 1),
-        Coefficients::of_column(&[a, b, a], a),
+        three(&rt, 1, 0, 1),
+        three(&rt, 2, -3, 0),
     ] {
         always_agrees(&rt, rt.alloc(), &check(&rt, coeffs))?;
     }

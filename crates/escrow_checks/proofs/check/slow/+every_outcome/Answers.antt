@@ -1,4 +1,4 @@
-use Rattle.std.proofs.Common.{◌≡◌, ◌++◌, List, ℤ, ap, ap₂, ◌∙◌, sym, arith}
+use Rattle.std.proofs.Common.{◌≡◌, ◌++◌, List, ℤ, ap, ap₂, ◌∙◌, sym}
 use Rattle.escrow_checks.specs.Form.{changed}
 use Rattle.escrow_checks.specs.Extremes.{outcomes}
 use Rattle.escrow_checks.proofs.SlowLemmas.{rest_of, outcomes-first}
