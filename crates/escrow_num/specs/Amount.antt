@@ -1,9 +1,14 @@
-use Rattle.std.specs.Prelude.{ℕ, ℤ, pos, neg_ℤ, ◌+◌, ◌-◌, ◌*◌, ◌==◌, ◌≤ℤ◌, Bool, false, ◌&&◌, ◌||◌, nat_le, if◌then◌else◌, Option, Some, None, List, [], ◌∷◌}
+use Rattle.std.specs.Prelude.{ℕ, ℤ, pos, neg_ℤ, ◌+◌, ◌-◌, ◌*◌, ◌==◌, ◌≤ℤ◌, Bool, false, ◌&&◌, ◌||◌, nat_le, int_le, unsigned_abs, if◌then◌else◌, Option, Some, None, List, [], ◌∷◌}
 use Rattle.std.specs.Str.{all_ascii_digits}
+use Rattle.escrow_num.specs.declared.amount.TheConstants.Amount.{MAX}
 
 -- an amount is a whole number of at most 15 digits, of either sign
 abbrev pub IsAmount : ℤ → Type 0
-IsAmount z = (neg_ℤ (pos 999999999999999) ≤ℤ z) × (z ≤ℤ pos 999999999999999)
+IsAmount z = (neg_ℤ MAX ≤ℤ z) × (z ≤ℤ MAX)
+
+-- the same as a test
+abbrev pub is_amount : ℤ → Bool
+is_amount z = int_le (neg_ℤ MAX) z && int_le z MAX
 
 -- a text begins with a minus
 abbrev pub is_negative : List ℕ → Bool
@@ -38,4 +43,4 @@ abbrev pub spelled : List ℕ → Option ℤ
 spelled text =
     let digits = after_sign text in
     let number = number_of digits in
-    if is_numeral digits && nat_le number 999999999999999 then Some (signed (is_negative text) number) else None
+    if is_numeral digits && nat_le number (unsigned_abs MAX) then Some (signed (is_negative text) number) else None

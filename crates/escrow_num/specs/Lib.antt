@@ -1,7 +1,9 @@
 pub mod Amount
 pub mod Name
 pub mod Order
+pub mod Padded
 pub mod Refusal
+pub mod Reservation
 pub mod Session
 pub mod Span
 pub mod Value

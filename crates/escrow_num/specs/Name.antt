@@ -1,21 +1,18 @@
-use Rattle.std.specs.Prelude.{◌≡◌, ℕ, ◌≤◌, ◌-◌, List, length, ◌++◌, take, replicate}
-use Rattle.std.proofs.Common.{arith, ap, ◌∙◌, length-append}
-use Rattle.std.proofs.lemmas.List.{length-replicate, length-take}
+use Rattle.std.specs.Prelude.{◌≡◌, ℕ, ◌≤◌, ◌==◌, Bool, true, false, ◌&&◌, ◌||◌, List, [], ◌∷◌, length}
+use Rattle.std.specs.Char.{is_ascii_uppercase, is_ascii_digit}
+use Rattle.std.specs.List.{list_all}
+use Rattle.escrow_num.specs.declared.name.TheConstants.Name.{MAX_LEN}
 
--- a name has 1 to 36 bytes
-abbrev pub IsName : List ℕ → Type 0
-IsName name = (1 ≤ length name) × (length name ≤ 36)
+-- a name goes on with letters A to Z, digits, `_`, `$` and `#`
+abbrev pub is_name_byte : ℕ → Bool
+is_name_byte c = is_ascii_uppercase c || (is_ascii_digit c || (c == 95 || (c == 36 || c == 35)))
 
--- a name in its place: zeros fill what it leaves of the 36 bytes
-abbrev pub padded : List ℕ → List ℕ
-padded name = name ++ replicate (36 - length name) 0
+-- bytes that spell a name: a letter A to Z, and then bytes with which a name goes on
+abbrev pub spells_name : List ℕ → Bool
+spells_name [] = false
+spells_name (c ∷ cs) = is_ascii_uppercase c && list_all is_name_byte cs
 
--- a place is 36 bytes long
-length-padded : (name : List ℕ) → length name ≤ 36 → length (padded name) ≡ 36
-length-padded name short = omega (arith, length-append name (replicate (36 - length name) 0), length-replicate {A = ℕ} (36 - length name) 0)
-
--- the length of the name that a place holds
-pub length-held : (bytes : List ℕ) (len : ℕ) → len ≤ 36 → length (take len bytes) ≤ 36 → bytes ≡ padded (take len bytes) → length (take len bytes) ≡ len
-length-held bytes len small short whole =
-    let long : length bytes ≡ 36 = ap length whole ∙ length-padded (take len bytes) short in
-    omega (arith, length-take len bytes)
+-- a name is spelled so, and has at most 36 bytes
+pub record IsName (name : List ℕ) : Type 0 where
+  pub spelled : spells_name name ≡ true
+  pub short : length name ≤ MAX_LEN

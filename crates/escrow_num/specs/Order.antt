@@ -1,8 +1,9 @@
-use Rattle.std.specs.Prelude.{ℕ, Bool, false, ◌&&◌, bytes_eq, List}
+use Rattle.std.specs.Prelude.{Bool, false, ◌&&◌, bytes_eq}
 use Rattle.std.specs.Ordering.{nat_cmp, int_cmp, int_eq, ordering_then}
 use Rattle.std.specs.declared.cmp.Ordering.{Ordering}
 use Rattle.std.specs.declared.cmp.Ordering.TheVariants.{Less, Greater}
 use Rattle.std.specs.Cmp.Lexicographic.{slice_cmp}
+use Rattle.escrow_num.specs.declared.value.RowName.{RowName}
 use Rattle.escrow_num.specs.declared.value.Value.{Value}
 use Rattle.escrow_num.specs.declared.value.Value.TheVariants.{Number, Text}
 
@@ -20,10 +21,10 @@ value_cmp (Text a) (Text b) = slice_cmp nat_cmp a b
 value_cmp (Number a) (Text b) = Less
 value_cmp (Text a) (Number b) = Greater
 
--- two rows' names, each a table and a key, are of the same row
-abbrev pub same_row : List ℕ → Value → List ℕ → Value → Bool
-same_row table key other_table other_key = bytes_eq table other_table && value_eq key other_key
+-- two names are of the same row: one table, and one key
+abbrev pub same_row : RowName → RowName → Bool
+same_row a b = bytes_eq a.table b.table && value_eq a.key b.key
 
 -- rows are in order of their table's name, and in a table in order of their keys
-abbrev pub row_cmp : List ℕ → Value → List ℕ → Value → Ordering
-row_cmp table key other_table other_key = ordering_then (slice_cmp nat_cmp table other_table) (value_cmp key other_key)
+abbrev pub row_cmp : RowName → RowName → Ordering
+row_cmp a b = ordering_then (slice_cmp nat_cmp a.table b.table) (value_cmp a.key b.key)

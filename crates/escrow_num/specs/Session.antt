@@ -1,5 +1,6 @@
 use Rattle.std.specs.Prelude.{ℕ, ◌≤◌}
+use Rattle.escrow_num.specs.declared.session.TheConstants.Session.{MAX}
 
 -- a session of a database has a number from 1 to 64
 abbrev pub IsSession : ℕ → Type 0
-IsSession n = (1 ≤ n) × (n ≤ 64)
+IsSession n = (1 ≤ n) × (n ≤ MAX)

@@ -26,13 +26,13 @@ impl Model for Amount {
 
 impl Amount {
     /// The greatest magnitude of an amount.
-    pub const LIMIT: i64 = 999_999_999_999_999;
+    pub const MAX: i64 = 999_999_999_999_999;
 
     /// The amount of a number, or `None` past the limit.
     pub fn new(value: i64) -> Option<Self>
         ensures { SomeIff result (IsAmount value) value }
     {
-        if value < -Self::LIMIT || Self::LIMIT < value {
+        if value < -Self::MAX || Self::MAX < value {
             None
         } else {
             Some(Amount { value })

@@ -21,7 +21,7 @@ pub mod wide;
 pub use amount::Amount;
 pub use name::Name;
 pub use refusal::{Breach, Refusal};
-pub use reservation::{Mark, Reservation};
+pub use reservation::{Reservation, Savepoint};
 pub use row::Row;
 pub use seq::Seq;
 pub use session::{End, Session};

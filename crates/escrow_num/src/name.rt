@@ -2,15 +2,17 @@ ghost use Rattle.std.specs.Prelude.{◌≡◌, SomeIff, Some, refl, bytes_eq};
 ghost use Rattle.std.specs.Ordering.{nat_cmp};
 ghost use Rattle.std.specs.Cmp.{partial_equiv_from_equiv};
 ghost use Rattle.std.specs.Cmp.Lexicographic.{slice_cmp, nat_list_eq_equiv, nat_list_cmp_total, texts_ties, texts_po};
-ghost use Rattle.escrow_num.specs.Name.{IsName};
+ghost use Rattle.std.specs.List.{list_all};
+ghost use Rattle.escrow_num.specs.Name.{IsName, is_name_byte, spells_name};
 
 use std::cmp::Ordering;
 use std::fmt;
 use std::marker::Model;
 
-/// A name of a table, a column or a check: 1 to 36 bytes held in place, so that a copy takes no
-/// memory. A name that a statement writes has at most 30 of them; the check of a RESERVABLE
-/// column's range is named `RANGE_` and the column.
+/// A name of a table, a column or a check, in upper case: a letter A to Z, then letters A to Z,
+/// digits, `_`, `$` and `#`, 36 of them at most. It is held in place, so that a copy takes no
+/// memory. A name that a statement writes has at most 30 bytes; the check of a RESERVABLE column's
+/// range is named `RANGE_` and the column.
 #[derive(Clone, Copy)]
 pub struct Name {
     bytes: [u8; 36],
@@ -19,31 +21,36 @@ pub struct Name {
 
 impl Model for Name {
     ghost use Rattle.std.specs.Prelude.{List, ℕ, ◌≡◌, ◌-◌, ◌≤◌, take, length};
-    ghost use Rattle.escrow_num.specs.Name.{IsName, padded};
+    ghost use Rattle.escrow_num.specs.Name.{IsName};
+    ghost use Rattle.escrow_num.specs.Padded.{padded};
+    ghost use Rattle.escrow_num.specs.declared.name.TheConstants.Name.{MAX_LEN};
 
     ghost Value = { List ℕ };
 
     ghost view = { λ n. take n.len n.bytes };
 
-    ghost invariant = { λ n. IsName (take n.len n.bytes) × (n.len ≤ 36) × (n.bytes ≡ padded (take n.len n.bytes)) };
+    ghost invariant = { λ n. IsName (take n.len n.bytes) × (n.len ≤ MAX_LEN) × (n.bytes ≡ padded (take n.len n.bytes)) };
 
     ghost inverse = { λ name. record { bytes = padded name; len = length name } };
 
     ghost use Rattle.std.proofs.Common.{sym, ap₂};
-    ghost use Rattle.escrow_num.specs.Name.{length-held};
+    ghost use Rattle.escrow_num.specs.Padded.{length-held};
 
-    ghost inverse_ok = { λ n h. ap₂ (λ (b : List ℕ) (l : ℕ). record { bytes = b; len = l }) (sym h.2) (length-held n.bytes n.len h.1 h.0.1 h.2) };
+    ghost inverse_ok = { λ n h. ap₂ (λ (b : List ℕ) (l : ℕ). record { bytes = b; len = l }) (sym h.2) (length-held n.bytes n.len h.1 h.0.short h.2) };
 }
 
 impl Name {
     /// The most bytes that a name has.
-    pub const MOST: usize = 36;
+    pub const MAX_LEN: usize = 36;
 
-    /// The name of these bytes, or `None` unless there are 1 to 36 of them.
+    /// The most bytes of a name that a statement writes.
+    pub const MAX_WRITTEN: usize = 30;
+
+    /// The name of these bytes, or `None` where they spell none.
     pub fn new(text: &[u8]) -> Option<Self>
         ensures { SomeIff result (IsName text.now) text.now }
     {
-        if text.is_empty() || Self::MOST < text.len() {
+        if !spells_name(text) || Self::MAX_LEN < text.len() {
             return None;
         }
         let mut bytes = [0; 36];
@@ -56,13 +63,41 @@ impl Name {
         })
     }
 
-    /// The bytes of the name, 1 to 36 of them.
+    /// The bytes of the name.
     pub fn as_bytes(&self) -> &[u8]
         ensures value { result.now ≡ self.now }
         ensures within { IsName result.now }
     {
         &self.bytes[..self.len]
     }
+}
+
+/// Whether bytes spell a name: a letter A to Z, then letters A to Z, digits, `_`, `$` and `#`.
+fn spells_name(text: &[u8]) -> bool
+    ensures { result ≡ spells_name text.now }
+{
+    match text {
+        [] => false,
+        [first, rest @ ..] => first.is_ascii_uppercase() && are_name_bytes(rest),
+    }
+}
+
+/// Whether a name may go on with each of the bytes.
+fn are_name_bytes(bytes: &[u8]) -> bool
+    ensures { result ≡ list_all is_name_byte bytes.now }
+{
+    bytes.iter().all(|byte| is_name_byte(*byte))
+}
+
+/// Whether a name may go on with the byte.
+fn is_name_byte(byte: u8) -> bool
+    ensures { result ≡ is_name_byte byte }
+{
+    byte.is_ascii_uppercase()
+        || byte.is_ascii_digit()
+        || byte == b'_'
+        || byte == b'$'
+        || byte == b'#'
 }
 
 impl PartialEq for Name {

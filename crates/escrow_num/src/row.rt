@@ -1,18 +1,14 @@
 use crate::amount::Amount;
-use crate::name::Name;
 use crate::seq::Seq;
-use crate::value::Value;
+use crate::value::{RowName, Value};
 
-/// A committed row: its table, its key, the amounts of its RESERVABLE columns in column order, and
-/// the values of its other columns, the key's among them, in column order.
+/// A committed row.
 #[derive(Debug, Drop)]
 pub struct Row {
-    /// The table's name.
-    pub table: Name,
-    /// The value of the key column.
-    pub key: Value,
-    /// The committed amount of each RESERVABLE column.
+    /// Its table and its key.
+    pub name: RowName,
+    /// The committed amount of each RESERVABLE column, in column order.
     pub amounts: Seq<Amount>,
-    /// The value of each other column but the key.
+    /// The value of each other column but the key, in column order.
     pub plain: Seq<Value>,
 }

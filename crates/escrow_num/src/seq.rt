@@ -1,4 +1,4 @@
-ghost use Rattle.std.specs.Prelude.{◌≡◌, length, [], ◌∷◌, ◌++◌, OnOk, OnErr, IfErr, IsTrue, ◌↔◌, slice_get, option_copied};
+ghost use Rattle.std.specs.Prelude.{◌≡◌, length, [], ◌∷◌, ◌++◌, OnOk, OnErr, IfErr, IsTrue, ◌↔◌, slice_get, slice_set, ◌<◌, option_copied};
 
 use std::alloc::{AllocFailed, Global};
 use std::marker::Model;
@@ -68,6 +68,16 @@ impl<T> Seq<T> {
         ensures { option_copied result ≡ slice_get self.now index }
     {
         self.as_slice().get(index)
+    }
+
+    /// Puts an item in the place of the one at an index. Takes no memory.
+    pub fn set(&mut self, index: usize, item: T)
+    where
+        T: Drop,
+        requires { index < length self.old }
+        ensures { self.new ≡ slice_set self.old index item }
+    {
+        self.items[index] = item;
     }
 
     /// Adds an item at the end. Where memory is refused the list stays, and the item comes back.

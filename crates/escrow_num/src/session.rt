@@ -23,14 +23,14 @@ impl Model for Session {
 }
 
 impl Session {
-    /// How many sessions a database has.
-    pub const MOST: u8 = 64;
+    /// The greatest number of a session: how many sessions a database has.
+    pub const MAX: u8 = 64;
 
     /// The session of a number, or `None` unless it is from 1 to 64.
     pub fn new(number: u8) -> Option<Self>
         ensures { SomeIff result (IsSession number) number }
     {
-        if number < 1 || Self::MOST < number {
+        if number < 1 || Self::MAX < number {
             None
         } else {
             Some(Session { number })

@@ -41,9 +41,22 @@ fn reads_amounts(rt: HostRuntime) {
 
 #[test]
 fn bounds_names_and_sessions(rt: HostRuntime) {
-    let bytes = [b'a'; 37];
+    let bytes = [b'A'; 37];
     for (len, want) in [(0, false), (1, true), (36, true), (37, false)] {
         assert_eq!(rt; Name::new(&bytes[..len]).is_some(), want, "at {len}");
+    }
+    let words = [
+        ("A", true),
+        ("Z9_$#", true),
+        ("a", false),
+        ("Aa", false),
+        ("9A", false),
+        ("_A", false),
+        ("A B", false),
+        ("A\u{e9}", false),
+    ];
+    for (text, want) in words {
+        assert_eq!(rt; Name::new(text.as_bytes()).is_some(), want, "at {text}");
     }
     for (number, want) in [(0, false), (1, true), (64, true), (65, false)] {
         assert_eq!(rt; Session::new(number).is_some(), want, "at {number}");
@@ -83,7 +96,9 @@ fn copies_values(rt: HostRuntime) -> Result<(), Fail> {
     assert!(rt; row.copy(alloc)?.is_same(&row));
     let mut list = Seq::new(alloc);
     list.push(7)?;
-    assert_eq!(rt; list.as_slice(), [7].as_slice());
+    list.push(8)?;
+    list.set(0, 9);
+    assert_eq!(rt; list.as_slice(), [9, 8].as_slice());
     Ok(())
 }
 
@@ -91,7 +106,7 @@ fn copies_values(rt: HostRuntime) -> Result<(), Fail> {
 fn prints_numbers_and_names(rt: HostRuntime) -> Result<(), Fail> {
     let alloc = rt.alloc();
     let amount = Amount::read("-007").expect(&rt, "an amount");
-    let limit = wide(&rt, -Wide::LIMIT);
+    let limit = wide(&rt, -Wide::MAX);
     let table = name(&rt, "BANK");
     let shown = format!(in alloc; "{amount} {limit} {table} {table:?}")?;
     assert_eq!(rt;

@@ -1,9 +1,10 @@
 ghost use Rattle.std.specs.Prelude.{◌≡◌, ◌↔◌, IsTrue, IfOk, string_bytes};
+ghost use Rattle.std.specs.Str.{IsUtf8};
 
 use std::alloc::{AllocError, Global};
 use std::marker::Model;
 
-/// A text, which contracts see as the list of its bytes.
+/// A text in UTF-8, which contracts see as the list of its bytes.
 #[derive(Debug, Drop)]
 pub struct Text {
     text: String,
@@ -11,11 +12,14 @@ pub struct Text {
 
 impl Model for Text {
     ghost use Rattle.std.specs.Prelude.{List, ℕ};
+    ghost use Rattle.std.specs.Str.{IsUtf8};
     ghost use Rattle.std.specs.String.{string_bytes};
 
     ghost Value = { List ℕ };
 
     ghost view = { λ t. string_bytes t.text };
+
+    ghost invariant = { λ t. IsUtf8 (string_bytes t.text) };
 }
 
 impl Text {
@@ -35,7 +39,8 @@ impl Text {
 
     /// The text itself.
     pub fn as_str(&self) -> &str
-        ensures { result.now ≡ self.now }
+        ensures value { result.now ≡ self.now }
+        ensures utf8 { IsUtf8 self.now }
     {
         &self.text
     }

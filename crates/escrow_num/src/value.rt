@@ -66,6 +66,7 @@ pub struct RowName {
 }
 
 impl RowName {
+    ghost use Rattle.escrow_num.specs.Order.{same_row, row_cmp};
     ghost use Rattle.escrow_num.specs.Value.{holds_memory};
 
     /// A copy of the row's name. Only a key that is a text takes memory.
@@ -81,8 +82,18 @@ impl RowName {
 
     /// Whether two names are of the same row.
     pub fn is_same(&self, other: &RowName) -> bool
-        ensures { IsTrue result ↔ (self.now ≡ other.now) }
+        ensures test { result ≡ same_row self.now other.now }
+        ensures same { IsTrue result ↔ (self.now ≡ other.now) }
     {
         self.table == other.table && self.key.is_same(&other.key)
+    }
+
+    /// How two names compare: by their tables' names, and of one table by their keys.
+    pub fn compare(&self, other: &RowName) -> Ordering
+        ensures { result ≡ row_cmp self.now other.now }
+    {
+        self.table
+            .cmp(&other.table)
+            .then(self.key.compare(&other.key))
     }
 }

@@ -1,4 +1,4 @@
-ghost use Rattle.std.specs.Prelude.{◌≡◌, ◌+ℤ◌, SomeIff};
+ghost use Rattle.std.specs.Prelude.{◌≡◌, ◌+ℤ◌, ◌-ℤ◌, SomeIff};
 ghost use Rattle.escrow_num.specs.Wide.{IsWide};
 ghost use Rattle.escrow_num.specs.Amount.{IsAmount};
 
@@ -28,7 +28,7 @@ impl Model for Wide {
 
 impl Wide {
     /// The greatest magnitude of a wide sum, 10^33.
-    pub const LIMIT: i128 = 1_000_000_000_000_000_000_000_000_000_000_000;
+    pub const MAX: i128 = 1_000_000_000_000_000_000_000_000_000_000_000;
 
     /// Nothing summed.
     pub const ZERO: Wide = Wide { value: 0 };
@@ -37,7 +37,7 @@ impl Wide {
     pub fn new(value: i128) -> Option<Self>
         ensures { SomeIff result (IsWide value) value }
     {
-        if value < -Self::LIMIT || Self::LIMIT < value {
+        if value < -Self::MAX || Self::MAX < value {
             None
         } else {
             Some(Wide { value })
@@ -59,6 +59,16 @@ impl Wide {
     {
         Wide {
             value: self.value + other.value,
+        }
+    }
+
+    /// The difference of two, where it is within the limit.
+    pub fn minus(self, other: Wide) -> Wide
+        requires { IsWide (self -ℤ other) }
+        ensures { result ≡ self -ℤ other }
+    {
+        Wide {
+            value: self.value - other.value,
         }
     }
 }
