@@ -1,9 +1,7 @@
--- Writing a name into its place, byte by byte, and showing it.
-use Rattle.std.proofs.Common.{◌≡◌, Bool, true, false, ℕ, ◌+◌, ◌-◌, ◌≤◌, ◌<◌, List, ◌∷◌, ◌++◌, length, take, set, get_or, replicate, arith, refl, subst, ◌∙◌, append_assoc, add-one}
+-- Writing a name into its place, byte by byte.
+use Rattle.std.proofs.Common.{◌≡◌, ℕ, ◌+◌, ◌-◌, ◌≤◌, ◌<◌, List, ◌∷◌, ◌++◌, length, take, set, get_or, replicate, arith, refl, subst, ◌∙◌, append_assoc, add-one}
 use Rattle.std.proofs.lemmas.List.{length-take-le, take_more}
 use Rattle.std.proofs.Math.Seq.{set-append_seam}
-use Rattle.std.specs.Str.{IsUtf8, is_utf8}
-use Rattle.std.proofs.lemmas.Str.{IsUtf8-from_is_utf8}
 
 replicate-suc : (n : ℕ) → replicate {A = ℕ} (n + 1) 0 ≡ 0 ∷ replicate n 0
 replicate-suc n = rw add-one refl
@@ -19,12 +17,3 @@ padded-more name i below short =
     let seam : set (front ++ 0 ∷ rest) i (get_or name i 0) ≡ front ++ get_or name i 0 ∷ rest =
     subst (λ (n : ℕ). set (front ++ 0 ∷ rest) n (get_or name i 0) ≡ front ++ get_or name i 0 ∷ rest) at (set-append_seam front 0 rest (get_or name i 0)) in
     rw (e, replicate-suc) (seam ∙ rw (take_more name i 0 below, append_assoc) refl)
-
--- the same of the test's result
-not_text_at : (bytes : List ℕ) (b : Bool) → is_utf8 bytes ≡ b → ¬ IsUtf8 bytes → b ≡ false
-not_text_at bytes true e h = absurd (h (IsUtf8-from_is_utf8 bytes e))
-not_text_at bytes false e h = refl
-
--- the test of bytes that are no text
-pub not_text : (bytes : List ℕ) → ¬ IsUtf8 bytes → is_utf8 bytes ≡ false
-not_text bytes h = not_text_at bytes (is_utf8 bytes) refl h

@@ -1,3 +1,4 @@
+-- Believed: what an amount is, and which amount a text spells.
 use Rattle.std.specs.Prelude.{ℕ, ℤ, pos, neg_ℤ, ◌+◌, ◌-◌, ◌*◌, ◌==◌, ◌≤ℤ◌, Bool, false, ◌&&◌, ◌||◌, nat_le, int_le, unsigned_abs, if◌then◌else◌, Option, Some, None, List, [], ◌∷◌}
 use Rattle.std.specs.Str.{all_ascii_digits}
 use Rattle.escrow_num.specs.declared.amount.TheConstants.Amount.{MAX}

@@ -1,3 +1,4 @@
+-- Believed: when values and the names of rows are the same, and their order.
 use Rattle.std.specs.Prelude.{Bool, false, ◌&&◌, bytes_eq}
 use Rattle.std.specs.Ordering.{nat_cmp, int_cmp, int_eq, ordering_then}
 use Rattle.std.specs.declared.cmp.Ordering.{Ordering}

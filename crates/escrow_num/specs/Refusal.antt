@@ -1,3 +1,4 @@
+-- Believed: each refusal's number, and the first refusal of several.
 use Rattle.std.specs.Prelude.{ℕ, Bool, if◌then◌else◌, Option, Some, None, List, [], ◌∷◌}
 use Rattle.escrow_num.specs.Span.{first_of_two}
 use Rattle.escrow_num.specs.declared.refusal.Refusal.{Refusal}

@@ -1,3 +1,4 @@
+-- Believed: what a reservation's changes add.
 use Rattle.std.specs.Prelude.{ℤ, pos, Option, unwrap_or, List, map}
 
 -- what each change adds to its column: nothing where the UPDATE doesn't assign it

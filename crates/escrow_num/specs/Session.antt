@@ -1,3 +1,4 @@
+-- Believed: what the number of a session is.
 use Rattle.std.specs.Prelude.{ℕ, ◌≤◌}
 use Rattle.escrow_num.specs.declared.session.TheConstants.Session.{MAX}
 

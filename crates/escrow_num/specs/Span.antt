@@ -1,3 +1,4 @@
+-- Believed: when a value is within limits, and the first limit that is left.
 use Rattle.std.specs.Prelude.{ℤ, ◌≤ℤ◌, int_lt, Option, Some, None, IfSome, if◌then◌else◌}
 use Rattle.escrow_num.specs.declared.span.Span.{Span}
 use Rattle.escrow_num.specs.declared.span.Side.{Side}

@@ -1,3 +1,4 @@
+-- Believed: which values hold memory.
 use Rattle.std.specs.Prelude.{Bool, true, false}
 use Rattle.escrow_num.specs.declared.value.Value.{Value}
 use Rattle.escrow_num.specs.declared.value.Value.TheVariants.{Number, Text}

@@ -1,3 +1,4 @@
+-- Believed: how great a sum may be.
 use Rattle.std.specs.Prelude.{ℤ, neg_ℤ, ◌≤ℤ◌}
 use Rattle.escrow_num.specs.declared.wide.TheConstants.Wide.{MAX}
 

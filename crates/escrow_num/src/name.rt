@@ -70,6 +70,16 @@ impl Name {
     {
         &self.bytes[..self.len]
     }
+
+    /// The name's text.
+    pub fn as_str(&self) -> &str
+        ensures { result.now ≡ self.now }
+    {
+        match str::from_utf8(self.as_bytes()) {
+            Ok(text) => text,
+            Err(_) => unreachable!(),
+        }
+    }
 }
 
 /// Whether bytes spell a name: a letter A to Z, then letters A to Z, digits, `_`, `$` and `#`.
@@ -139,27 +149,20 @@ impl Ord for Name {
     }
 }
 
-/// The name's text. A name that is no text is shown as a list of its bytes.
+/// The name's text.
 impl fmt::Display for Name {
-    ghost use Rattle.std.specs.Prelude.{Some, None, if◌then◌else◌};
-    ghost use Rattle.std.specs.Str.{is_utf8};
+    ghost use Rattle.std.specs.Prelude.{Some};
 
-    ghost output = { λ name. if is_utf8 name then Some name else None };
+    ghost output = { λ name. Some name };
 
     fn fmt<W: fmt::Write>(&self, f: &mut fmt::Formatter<W>) -> fmt::Result {
-        match str::from_utf8(self.as_bytes()) {
-            Ok(text) => fmt::Display::fmt(&text, f),
-            Err(_) => fmt::Debug::fmt(self.as_bytes(), f),
-        }
+        fmt::Display::fmt(self.as_str(), f)
     }
 }
 
-/// The name's text in quotes. A name that is no text is shown as a list of its bytes.
+/// The name's text in quotes.
 impl fmt::Debug for Name {
     fn fmt<W: fmt::Write>(&self, f: &mut fmt::Formatter<W>) -> fmt::Result {
-        match str::from_utf8(self.as_bytes()) {
-            Ok(text) => fmt::Debug::fmt(text, f),
-            Err(_) => fmt::Debug::fmt(self.as_bytes(), f),
-        }
+        fmt::Debug::fmt(self.as_str(), f)
     }
 }
