@@ -28,6 +28,9 @@ impl Amount {
     /// The greatest magnitude of an amount.
     pub const MAX: i64 = 999_999_999_999_999;
 
+    /// No amount at all: what a change that changes nothing adds.
+    pub const ZERO: Amount = Amount { value: 0 };
+
     /// The amount of a number, or `None` past the limit.
     pub fn new(value: i64) -> Option<Self>
         ensures { SomeIff result (IsAmount value) value }

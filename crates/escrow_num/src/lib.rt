@@ -6,17 +6,17 @@
 //! ([`Span::first_broken`]).
 #![tactic(auto)]
 
-pub mod amount;
-pub mod name;
-pub mod refusal;
-pub mod reservation;
-pub mod row;
-pub mod seq;
-pub mod session;
-pub mod span;
-pub mod text;
-pub mod value;
-pub mod wide;
+mod amount;
+mod name;
+mod refusal;
+mod reservation;
+mod row;
+mod seq;
+mod session;
+mod span;
+mod text;
+mod value;
+mod wide;
 
 pub use amount::Amount;
 pub use name::Name;

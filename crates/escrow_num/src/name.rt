@@ -63,6 +63,13 @@ impl Name {
         })
     }
 
+    /// Some name, for what has none yet.
+    pub(crate) fn blank() -> Self {
+        let mut bytes = [0; 36];
+        bytes[0] = b'A';
+        Name { bytes, len: 1 }
+    }
+
     /// The bytes of the name.
     pub fn as_bytes(&self) -> &[u8]
         ensures value { result.now ≡ self.now }

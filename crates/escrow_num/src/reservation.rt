@@ -3,6 +3,8 @@ use crate::name::Name;
 use crate::seq::Seq;
 use crate::session::Session;
 use crate::value::RowName;
+use std::alloc::Global;
+use std::default::MadeWith;
 
 /// An open reservation: what one UPDATE of RESERVABLE columns asks, until its transaction ends.
 #[derive(Debug, Drop)]
@@ -23,6 +25,18 @@ impl Reservation {
     pub const MAX_ID: u64 = 999_999_999_999_999;
 }
 
+/// A blank, which fills the places that a small vector doesn't use. Takes no memory.
+impl MadeWith<Global> for Reservation {
+    fn made_with(alloc: Global) -> Self {
+        Reservation {
+            id: 1,
+            session: Session::FIRST,
+            row: RowName::made_with(alloc),
+            changes: Seq::new(alloc),
+        }
+    }
+}
+
 /// A savepoint of a transaction.
 #[derive(Clone, Copy, Debug)]
 pub struct Savepoint {
@@ -32,4 +46,15 @@ pub struct Savepoint {
     pub name: Name,
     /// The next id when it was made: what came after it has this id or a greater one.
     pub id: u64,
+}
+
+/// A blank, which fills the places that a small vector doesn't use. Takes no memory.
+impl MadeWith<Global> for Savepoint {
+    fn made_with(_alloc: Global) -> Self {
+        Savepoint {
+            session: Session::FIRST,
+            name: Name::blank(),
+            id: 1,
+        }
+    }
 }

@@ -26,6 +26,9 @@ impl Session {
     /// The greatest number of a session: how many sessions a database has.
     pub const MAX: u8 = 64;
 
+    /// The first session.
+    pub const FIRST: Session = Session { number: 1 };
+
     /// The session of a number, or `None` unless it is from 1 to 64.
     pub fn new(number: u8) -> Option<Self>
         ensures { SomeIff result (IsSession number) number }

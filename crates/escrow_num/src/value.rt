@@ -5,6 +5,7 @@ use crate::name::Name;
 use crate::text::Text;
 use std::alloc::{AllocError, Global};
 use std::cmp::Ordering;
+use std::default::MadeWith;
 
 /// A value that a column can hold.
 #[derive(Debug, Drop)]
@@ -63,6 +64,16 @@ pub struct RowName {
     pub table: Name,
     /// The value of the row's key column.
     pub key: Value,
+}
+
+/// A blank, which fills a place that isn't used. Takes no memory.
+impl MadeWith<Global> for RowName {
+    fn made_with(_alloc: Global) -> Self {
+        RowName {
+            table: Name::blank(),
+            key: Value::Number(Amount::ZERO),
+        }
+    }
 }
 
 impl RowName {
