@@ -1,6 +1,7 @@
 -- What parsing says of a text, from what its lexing and reading say.
-use Rattle.std.proofs.Common.{◌≡◌, ◌≤◌, Result, Ok, Err, List, length, ℕ, sym, ap, ◌∙◌, subst, inr}
+use Rattle.std.proofs.Common.{◌≡◌, ◌+◌, ◌≤◌, Result, Ok, Err, List, length, ℕ, sym, ap, ◌∙◌, subst, inr}
 use Rattle.escrow_sql.specs.declared.statement.Request.{Request}
+use Rattle.escrow_sql.specs.declared.lexer.TheConstants.{MAX_TEXT}
 use Rattle.escrow_sql.specs.declared.token.Token.{Token}
 use Rattle.escrow_sql.specs.Token.{AreInOrder, column_at}
 use Rattle.escrow_sql.specs.Lex.{tokens_of}
@@ -14,7 +15,7 @@ use Rattle.escrow_sql.proofs.TokenLemmas.{tokens_of-in_order, in_order-rest, col
 
 -- the column of a fault fits
 pub column_fits : {V : Type 0} (g : Grammar V) (text : List ℕ) (tokens read rest : List Token) → tokens_of text ≡ Ok tokens → read ≡ tokens → run_whole g read ≡ Err rest
-    → column_at rest (length text) ≤ 65537
+    → column_at rest (length text) ≤ MAX_TEXT + 1
 column_fits g text tokens read rest h e fault =
     let order = tokens_of-in_order text tokens h in
     let left = run_whole-leaves g read rest fault in

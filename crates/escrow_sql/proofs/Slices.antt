@@ -7,6 +7,7 @@ use Rattle.std.proofs.lemmas.Bool.{cond_both, cond-true, cond-false, cases_Bool,
 use Rattle.std.proofs.lemmas.List.{length-take-le, length-take, length-drop, drop-drop, get_or-take}
 use Rattle.std.proofs.lemmas.List.Sums.{prefix_len_is, prefix_len-le-length, prefix_len_passes}
 use Rattle.escrow_num.specs.Amount.{number_of}
+use Rattle.escrow_sql.specs.declared.lexer.TheConstants.{MAX_TEXT}
 use Rattle.escrow_sql.specs.Word.{reserved}
 use Rattle.escrow_sql.specs.declared.lexer.piece.Piece.{Piece}
 use Rattle.escrow_sql.specs.declared.lexer.piece.Piece.TheVariants as piece
@@ -284,17 +285,17 @@ all_read text (c ∷ next) zero at ts d h =
     all_read-piece text at c next (piece_of c next) ts d (λ skip us. all_read text next skip (at + 1) us (drop_next text at c next d)) (piece_of-within c next) refl h
 all_read text (c ∷ next) (suc skip) at ts d h = all_read text next skip (at + 1) ts (drop_next text at c next d) h
 
-tokens_of-short : (text : List ℕ) (ts : List Token) → length text ≤ 65536 → tokens_from 0 0 text ≡ Ok ts → tokens_of text ≡ Ok ts
+tokens_of-short : (text : List ℕ) (ts : List Token) → length text ≤ MAX_TEXT → tokens_from 0 0 text ≡ Ok ts → tokens_of text ≡ Ok ts
 unfolding tokens_of
-tokens_of-short text ts l h = cond-false (nat_lt 65536 (length text)) (Err 65537) (tokens_from 0 0 text) (le-ltb 65536 (length text) l) ∙ h
+tokens_of-short text ts l h = cond-false (nat_lt MAX_TEXT (length text)) (Err (MAX_TEXT + 1)) (tokens_from 0 0 text) (le-ltb MAX_TEXT (length text) l) ∙ h
 
-all_slices : (text : List ℕ) (ts : List Token) → length text ≤ 65536 → AllByRecursion (IsRead text) ts → AllByRecursion (IsItsSlice text) ts
+all_slices : (text : List ℕ) (ts : List Token) → length text ≤ MAX_TEXT → AllByRecursion (IsRead text) ts → AllByRecursion (IsItsSlice text) ts
 all_slices text [] l h = tt
 all_slices text (t ∷ ts) l h =
-    let short : length (slice_range text t.start t.end) ≤ 65536 = omega (arith, length-take (t.end - t.start) (drop t.start text), length-drop t.start text) in
+    let short : length (slice_range text t.start t.end) ≤ MAX_TEXT = omega (arith, length-take (t.end - t.start) (drop t.start text), length-drop t.start text) in
     (tokens_of-short (slice_range text t.start t.end) (record { kind = t.kind; start = 0; end = t.end - t.start } ∷ []) short h.0, all_slices text ts l h.1)
 
 -- each token that was read is its slice
-pub slices_at_end : (front : List Token) (text : List ℕ) (at : ℕ) → length text ≤ 65536 → length text ≤ at → after front (tokens_from 0 at (drop at text)) ≡ tokens_from 0 0 text
+pub slices_at_end : (front : List Token) (text : List ℕ) (at : ℕ) → length text ≤ MAX_TEXT → length text ≤ at → after front (tokens_from 0 at (drop at text)) ≡ tokens_from 0 0 text
     → AllByRecursion (IsItsSlice text) front
 slices_at_end front text at l past same = all_slices text front l (all_read text text 0 0 front refl (whole_at_end front text at past same))

@@ -6,6 +6,7 @@ use Rattle.escrow_sql.specs.declared.lexer.piece.Piece.TheVariants as piece
 use Rattle.escrow_sql.specs.declared.token.Kind.{Kind}
 use Rattle.escrow_sql.specs.declared.token.Token.{Token}
 use Rattle.std.specs.Prelude.{nat_lt}
+use Rattle.escrow_sql.specs.declared.lexer.TheConstants.{MAX_TEXT}
 use Rattle.std.proofs.lemmas.Bool.{cond_both}
 use Rattle.std.proofs.lemmas.Bool.Decides.{nat_tests}
 use Rattle.escrow_sql.specs.Token.{AreInOrder, column_at}
@@ -110,10 +111,10 @@ tokens_from-in_order (c ∷ next) (suc skip) at ts l h =
     (tokens_from-in_order next skip (at + 1) ts (omega arith) h)
 
 -- the tokens of a text, which isn't too long, stand in order
-pub tokens_of-in_order : (text : List ℕ) (ts : List Token) → tokens_of text ≡ Ok ts → (length text ≤ 65536) × AreInOrder 0 (length text) ts
+pub tokens_of-in_order : (text : List ℕ) (ts : List Token) → tokens_of text ≡ Ok ts → (length text ≤ MAX_TEXT) × AreInOrder 0 (length text) ts
 unfolding tokens_of
 tokens_of-in_order text ts h =
-    cond_both (nat_lt 65536 (length text)) (Err 65537) (tokens_from 0 0 text) (λ (r : Result (List Token) ℕ). r ≡ Ok ts → (length text ≤ 65536) × AreInOrder 0 (length text) ts)
+    cond_both (nat_lt MAX_TEXT (length text)) (Err (MAX_TEXT + 1)) (tokens_from 0 0 text) (λ (r : Result (List Token) ℕ). r ≡ Ok ts → (length text ≤ MAX_TEXT) × AreInOrder 0 (length text) ts)
     (λ e q. absurd (cc))
     (λ e q. (grind (arith, nat_tests), in_order-moved (0 + 0) (0 + length text) 0 (length text) ts (omega arith) (omega arith) (tokens_from-in_order text 0 0 ts (omega arith) q))) h
 
@@ -127,7 +128,7 @@ in_order-end [] from to h = h
 in_order-end (t ∷ ts) from to h = omega (arith, h.0, h.1, in_order-end ts t.end to h.2)
 
 -- a column of a text fits
-pub column_at-small : (ts : List Token) (from len : ℕ) → len ≤ 65536 → AreInOrder from len ts → column_at ts len ≤ 65537
+pub column_at-small : (ts : List Token) (from len : ℕ) → len ≤ MAX_TEXT → AreInOrder from len ts → column_at ts len ≤ MAX_TEXT + 1
 column_at-small [] from len l h = omega arith
 column_at-small (t ∷ ts) from len l h = omega (arith, h.1, in_order-end ts t.end len h.2)
 

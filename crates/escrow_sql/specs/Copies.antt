@@ -1,12 +1,18 @@
 use Rattle.std.specs.Prelude.{Bool, true, false}
-use Rattle.escrow_num.specs.Value as value
+use Rattle.escrow_sql.specs.declared.statement.Literal.{Literal}
+use Rattle.escrow_sql.specs.declared.statement.Literal.TheVariants as literal
 use Rattle.escrow_sql.specs.declared.statement.Statement.{Statement}
 use Rattle.escrow_sql.specs.declared.statement.Statement.TheVariants as statement
 
--- a statement holds memory, which a copy of it takes too: a list does, and a key that is a text
+-- a literal holds memory, which a copy of it takes too: a text does
+abbrev pub literal_holds_memory : Literal → Bool
+literal_holds_memory (literal.Number amount) = false
+literal_holds_memory (literal.Text text) = true
+
+-- a statement holds memory: a list does, and a literal that is a text
 abbrev pub holds_memory : Statement → Bool
 holds_memory (statement.Create text) = true
 holds_memory (statement.Insert text) = true
-holds_memory (statement.Update text) = value.holds_memory text.row.value
+holds_memory (statement.Update text) = literal_holds_memory text.row.literal
 holds_memory statement.Commit = false
 holds_memory statement.Rollback = false

@@ -10,6 +10,7 @@ use Rattle.escrow_sql.specs.declared.token.Kind.TheVariants as kind
 use Rattle.escrow_sql.specs.declared.token.Token.{Token}
 use Rattle.escrow_sql.specs.declared.fault.ParseFault.{ParseFault}
 use Rattle.escrow_sql.specs.declared.fault.ParseFault.TheVariants as fault
+use Rattle.escrow_sql.specs.declared.lexer.TheConstants.{MAX_TEXT}
 use Rattle.escrow_sql.specs.declared.lexer.piece.Piece.{Piece}
 use Rattle.escrow_sql.specs.declared.lexer.piece.Piece.TheVariants as piece
 
@@ -124,10 +125,10 @@ tokens_from zero at (c ∷ next) = elim (piece_of c next) [
   | piece.Fault k ↦ Err (at + k + 1)
 ]
 
--- the tokens of a text, or the column of its leftmost fault; a text of more than 65,536 bytes isn't
+-- the tokens of a text, or the column of its leftmost fault; a text of too many bytes isn't
 -- looked into, and its fault is behind them
 unfoldable pub tokens_of : List ℕ → Result (List Token) ℕ
-tokens_of text = if nat_lt 65536 (length text) then Err 65537 else tokens_from 0 0 text
+tokens_of text = if nat_lt MAX_TEXT (length text) then Err (MAX_TEXT + 1) else tokens_from 0 0 text
 
 -- a token is what its bytes, from its start to its end, are where they stand alone
 abbrev pub IsItsSlice : List ℕ → Token → Type 0

@@ -1,6 +1,4 @@
 use Rattle.std.specs.Prelude.{◌≡◌, refl, ℕ, ℤ, pos, neg_ℤ, Bool, true, false, if◌then◌else◌, Option, Some, None, List, [], ◌∷◌}
-use Rattle.escrow_num.specs.declared.value.Value.{Value}
-use Rattle.escrow_num.specs.declared.value.Value.TheVariants as value
 use Rattle.escrow_sql.specs.Grammar.{Grammar, token, nothing, sequence, either, many, may_be_empty}
 use Rattle.escrow_sql.specs.declared.token.Symbol.{Symbol}
 use Rattle.escrow_sql.specs.declared.token.Symbol.TheVariants as symbols
@@ -20,6 +18,8 @@ use Rattle.escrow_sql.specs.declared.statement.CreateText.{CreateText}
 use Rattle.escrow_sql.specs.declared.statement.InsertText.{InsertText}
 use Rattle.escrow_sql.specs.declared.statement.Item.{Item}
 use Rattle.escrow_sql.specs.declared.statement.Item.TheVariants as items
+use Rattle.escrow_sql.specs.declared.statement.Literal.{Literal}
+use Rattle.escrow_sql.specs.declared.statement.Literal.TheVariants as literals
 use Rattle.escrow_sql.specs.declared.statement.Request.{Request}
 use Rattle.escrow_sql.specs.declared.statement.Request.TheVariants as requests
 use Rattle.escrow_sql.specs.declared.statement.Statement.{Statement}
@@ -97,12 +97,12 @@ unfoldable pub signed_number : Grammar ℤ
 signed_number = sequence (optional false sign) number with_sign
 
 -- literal = snum
-unfoldable pub literal : Grammar Value
-literal = meaning value.Number signed_number
+unfoldable pub literal : Grammar Literal
+literal = meaning literals.Number signed_number
 
 -- where = WHERE name "=" literal
 unfoldable pub where_part : Grammar WhereText
-where_part = word words.Where then sequence name (symbol symbols.Equal then literal) (λ c v. record { column = c; value = v })
+where_part = word words.Where then sequence name (symbol symbols.Equal then literal) (λ c l. record { column = c; literal = l })
 
 -- change = sign number
 unfoldable pub change : Grammar ℤ

@@ -1,10 +1,11 @@
 ghost use Rattle.std.specs.Prelude.{◌≡◌, ◌↔◌, IsTrue, IsOk, IfOk, false};
-ghost use Rattle.escrow_sql.specs.Copies.{holds_memory};
+ghost use Rattle.escrow_sql.specs.Copies.{holds_memory, literal_holds_memory};
 
 use crate::statement::{
-    ColumnMark, ColumnText, CreateText, InsertText, Item, Statement, UpdateText, WhereText,
+    CheckText, ColumnMark, ColumnText, CreateText, InsertText, Item, Literal, Statement, UpdateText,
+    WhereText,
 };
-use escrow_num::{Seq, Value};
+use escrow_num::Seq;
 use std::alloc::{AllocError, Global};
 
 /// What is copied and compared whole: the parts of a statement that hold memory, and what its lists
@@ -45,19 +46,54 @@ fn are_same<T: Copied>(items: &[T], others: &[T]) -> bool
     true
 }
 
-impl Copied for Value {
-    fn copy(&self, alloc: Global) -> Result<Value, AllocError> {
-        self.copy(alloc)
+impl Literal {
+    /// A copy of the literal. Only a text takes memory.
+    fn copied(&self, alloc: Global) -> Result<Literal, AllocError>
+        ensures same { IfOk result (λ l. l ≡ self.now) }
+        ensures succeeds { literal_holds_memory self.now ≡ false → IsOk result }
+    {
+        match self {
+            Literal::Number(number) => Ok(Literal::Number(*number)),
+            Literal::Text(text) => Ok(Literal::Text(text.copy(alloc)?)),
+        }
+    }
+}
+
+impl Copied for Literal {
+    fn copy(&self, alloc: Global) -> Result<Literal, AllocError> {
+        self.copied(alloc)
     }
 
-    fn is_same(&self, other: &Value) -> bool {
-        self.is_same(other)
+    fn is_same(&self, other: &Literal) -> bool {
+        match (self, other) {
+            (Literal::Number(a), Literal::Number(b)) => *a == *b,
+            (Literal::Text(a), Literal::Text(b)) => a.is_same(b),
+            _ => false,
+        }
+    }
+}
+
+impl Copied for CheckText {
+    fn copy(&self, _: Global) -> Result<CheckText, AllocError> {
+        Ok(CheckText {
+            name: self.name,
+            condition: self.condition,
+        })
+    }
+
+    fn is_same(&self, other: &CheckText) -> bool {
+        self.name == other.name && self.condition == other.condition
     }
 }
 
 impl Copied for ColumnMark {
-    fn copy(&self, _: Global) -> Result<ColumnMark, AllocError> {
-        Ok(*self)
+    fn copy(&self, alloc: Global) -> Result<ColumnMark, AllocError> {
+        match self {
+            ColumnMark::PrimaryKey => Ok(ColumnMark::PrimaryKey),
+            ColumnMark::Reservable => Ok(ColumnMark::Reservable),
+            ColumnMark::NotNull => Ok(ColumnMark::NotNull),
+            ColumnMark::Check(check) => Ok(ColumnMark::Check(check.copy(alloc)?)),
+        }
     }
 
     fn is_same(&self, other: &ColumnMark) -> bool {
@@ -65,7 +101,7 @@ impl Copied for ColumnMark {
             (ColumnMark::PrimaryKey, ColumnMark::PrimaryKey) => true,
             (ColumnMark::Reservable, ColumnMark::Reservable) => true,
             (ColumnMark::NotNull, ColumnMark::NotNull) => true,
-            (ColumnMark::Check(a), ColumnMark::Check(b)) => *a == *b,
+            (ColumnMark::Check(a), ColumnMark::Check(b)) => a.is_same(b),
             _ => false,
         }
     }
@@ -128,16 +164,14 @@ impl Copied for InsertText {
 }
 
 impl WhereText {
-    ghost use Rattle.escrow_num.specs.Value.{holds_memory as value_holds_memory};
-
     /// A copy of the condition. Only a text takes memory.
     fn copy(&self, alloc: Global) -> Result<WhereText, AllocError>
         ensures same { IfOk result (λ t. t ≡ self.now) }
-        ensures succeeds { value_holds_memory self.now.value ≡ false → IsOk result }
+        ensures succeeds { literal_holds_memory self.now.literal ≡ false → IsOk result }
     {
         Ok(WhereText {
             column: self.column,
-            value: self.value.copy(alloc)?,
+            literal: self.literal.copied(alloc)?,
         })
     }
 
@@ -145,17 +179,15 @@ impl WhereText {
     fn is_same(&self, other: &WhereText) -> bool
         ensures { IsTrue result ↔ (self.now ≡ other.now) }
     {
-        self.column == other.column && self.value.is_same(&other.value)
+        self.column == other.column && self.literal.is_same(&other.literal)
     }
 }
 
 impl UpdateText {
-    ghost use Rattle.escrow_num.specs.Value.{holds_memory as value_holds_memory};
-
     /// A copy of the UPDATE. Only a text in its WHERE takes memory.
     fn copy(&self, alloc: Global) -> Result<UpdateText, AllocError>
         ensures same { IfOk result (λ t. t ≡ self.now) }
-        ensures succeeds { value_holds_memory self.now.row.value ≡ false → IsOk result }
+        ensures succeeds { literal_holds_memory self.now.row.literal ≡ false → IsOk result }
     {
         Ok(UpdateText {
             table: self.table,

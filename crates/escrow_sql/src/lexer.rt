@@ -18,7 +18,7 @@ use escrow_num::Seq;
 use std::alloc::{AllocError, Global};
 
 /// The most bytes of a text that is looked into.
-pub const MOST_BYTES: usize = 65_536;
+pub const MAX_TEXT: usize = 65_536;
 
 /// Whether the byte is a blank.
 fn is_space(byte: u8) -> bool
@@ -44,7 +44,7 @@ fn read_piece(alloc: Global, text: &str, at: usize) -> Result<Piece, AllocError>
         return Ok(Piece::Blank(comment_len(rest)));
     }
     if first.is_ascii_alphabetic() {
-        return name::read_name(alloc, rest);
+        return Ok(name::read_name(rest));
     }
     if first.is_ascii_digit() {
         return Ok(number::read_number(rest));
@@ -72,7 +72,7 @@ fn piece_at(alloc: Global, text: &str, at: usize) -> Result<Piece, AllocError>
 }
 
 /// The tokens of a text, in order, each with the bytes that it takes. `Syntax` has the column of
-/// the leftmost fault; of a text past [`MOST_BYTES`] that is the column behind them.
+/// the leftmost fault; of a text past [`MAX_TEXT`] that is the column behind them.
 #[tactic(auto, unfolding(crate::specs::Lex::tokens_of))]
 pub fn lex(alloc: Global, text: &str) -> Result<Seq<Token>, ParseFault>
     // What is answered are the tokens of the text.
@@ -84,9 +84,9 @@ pub fn lex(alloc: Global, text: &str) -> Result<Seq<Token>, ParseFault>
     // The tokens of a text are answered, unless memory runs out.
     ensures only { (tokens : List Token) → tokens_of text.now ≡ Ok tokens → MatchResult result (λ x. x ≡ tokens) (λ e. e ≡ Memory) }
 {
-    if MOST_BYTES < text.len() {
+    if MAX_TEXT < text.len() {
         return Err(ParseFault::Syntax {
-            column: MOST_BYTES as u32 + 1,
+            column: MAX_TEXT as u32 + 1,
         });
     }
     let mut tokens = Seq::new(alloc);

@@ -19,7 +19,7 @@ pub use lexer::lex;
 pub use parser::parse;
 pub use statement::{
     Assign, CheckText, ColumnMark, ColumnText, Comparison, Condition, CreateText, InsertText, Item,
-    Request, Statement, TypeText, UpdateText, WhereText,
+    Literal, Request, Statement, TypeText, UpdateText, WhereText,
 };
 pub use token::{Kind, Symbol, Token};
 pub use word::Word;

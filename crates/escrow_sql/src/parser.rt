@@ -1,9 +1,10 @@
-ghost use Rattle.std.specs.Prelude.{◌≡◌, ◌≤◌, IfOk, IfErr, MatchResult};
+ghost use Rattle.std.specs.Prelude.{◌≡◌, ◌≤◌, ◌+◌, IfOk, IfErr, MatchResult};
 ghost use Rattle.escrow_sql.specs.Token.{column_at};
 ghost use Rattle.escrow_sql.specs.Grammar.{run, run_whole};
 ghost use Rattle.escrow_sql.specs.Cursor.{Advances, Ends};
 ghost use Rattle.escrow_sql.specs.Statement.{work, body, request};
 ghost use Rattle.escrow_sql.specs.Parser.{Asks, IsFaultIn};
+ghost use Rattle.escrow_sql.specs.declared.lexer.TheConstants.{MAX_TEXT};
 ghost use Rattle.escrow_sql.specs.declared.statement.Request.{Request};
 ghost use Rattle.escrow_sql.specs.declared.fault.ParseFault.TheVariants.{Memory};
 
@@ -83,7 +84,7 @@ impl Cursor<'_> {
 
 /// The column of the first of the tokens that are left, or behind a text of so many bytes.
 fn column_of(rest: &[Token], len: usize) -> u32
-    requires { column_at rest.now len ≤ 65537 }
+    requires { column_at rest.now len ≤ MAX_TEXT + 1 }
     ensures { result ≡ column_at rest.now len }
 {
     match rest {

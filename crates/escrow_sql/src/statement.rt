@@ -1,4 +1,4 @@
-use escrow_num::{Amount, Name, Seq, Value};
+use escrow_num::{Amount, Name, Seq, Text};
 
 /// What a text asks of the server.
 #[derive(Debug, Drop)]
@@ -59,7 +59,7 @@ pub enum TypeText {
 }
 
 /// What may stand behind a column's type.
-#[derive(Clone, Copy, Debug)]
+#[derive(Debug, Drop)]
 pub enum ColumnMark {
     /// `PRIMARY KEY`
     PrimaryKey,
@@ -72,7 +72,7 @@ pub enum ColumnMark {
 }
 
 /// The text of a CHECK.
-#[derive(Clone, Copy, Debug, PartialEq, Eq)]
+#[derive(Debug, Drop)]
 pub struct CheckText {
     /// The name that is written behind CONSTRAINT, if one is.
     pub name: Option<Name>,
@@ -110,7 +110,7 @@ pub struct InsertText {
     /// The table's name.
     pub table: Name,
     /// The literals, in order.
-    pub values: Seq<Value>,
+    pub values: Seq<Literal>,
 }
 
 /// The text of an UPDATE.
@@ -135,11 +135,20 @@ pub struct Assign {
     pub change: Amount,
 }
 
-/// The condition of a WHERE, `column = value`.
+/// The condition of a WHERE, `column = literal`.
 #[derive(Debug, Drop)]
 pub struct WhereText {
     /// The column.
     pub column: Name,
     /// The literal that it is compared with.
-    pub value: Value,
+    pub literal: Literal,
+}
+
+/// A literal, as written: it is a value only once it is known to fit a column.
+#[derive(Debug, Drop)]
+pub enum Literal {
+    /// A whole number.
+    Number(Amount),
+    /// A text.
+    Text(Text),
 }

@@ -1,4 +1,5 @@
-ghost use Rattle.std.specs.Prelude.{◌≡◌, ◌<◌, IfOk};
+ghost use Rattle.std.specs.Prelude.{◌≡◌, true, slice_index};
+ghost use Rattle.std.specs.Char.{is_ascii_alphabetic};
 ghost use Rattle.std.specs.List.{prefix_len};
 ghost use Rattle.escrow_sql.specs.Lex.{is_name_byte, name_piece};
 
@@ -6,10 +7,9 @@ use crate::lexer::piece::Piece;
 use crate::token::Kind;
 use crate::word::Word;
 use escrow_num::Name;
-use std::alloc::{AllocError, Global};
 
 /// The most bytes that a written name has.
-const MOST_BYTES: usize = 30;
+const MAX_WRITTEN: usize = 30;
 
 /// Whether a name may go on with the byte.
 fn goes_on(byte: u8) -> bool
@@ -23,26 +23,29 @@ fn goes_on(byte: u8) -> bool
 }
 
 /// How many bytes at the front a name may go on with.
-fn len_of(bytes: &[u8]) -> usize
+fn name_len(bytes: &[u8]) -> usize
     ensures { result ≡ prefix_len is_name_byte bytes.now }
 {
     bytes.iter().take_while(|byte| goes_on(**byte)).count()
 }
 
-/// The reserved word or the name at the front of the bytes.
+/// The reserved word or the name at the front of the bytes, the first of which is a letter.
 #[tactic(auto, unfolding(crate::specs::Lex::name_piece))]
-pub(super) fn read_name(alloc: Global, bytes: &[u8]) -> Result<Piece, AllocError>
-    requires { 0 < prefix_len is_name_byte bytes.now }
-    ensures { IfOk result (λ p. p ≡ name_piece bytes.now) }
+pub(super) fn read_name(bytes: &[u8]) -> Piece
+    requires { is_ascii_alphabetic (slice_index bytes.now 0) ≡ true }
+    ensures { result ≡ name_piece bytes.now }
 {
-    let len = len_of(bytes);
-    if MOST_BYTES < len {
-        return Ok(Piece::Fault(0));
+    let len = name_len(bytes);
+    if MAX_WRITTEN < len {
+        return Piece::Fault(0);
     }
-    let upper = bytes[..len].to_ascii_uppercase(alloc)?;
-    let kind = match Word::of(upper.as_slice()) {
+    let mut place = [0; MAX_WRITTEN];
+    let upper = &mut place[..len];
+    upper.copy_from_slice(&bytes[..len]);
+    upper.make_ascii_uppercase();
+    let kind = match Word::of(upper) {
         Some(word) => Kind::Word(word),
-        None => Kind::Name(Name::new(upper.as_slice()).unwrap()),
+        None => Kind::Name(Name::new(upper).unwrap()),
     };
-    Ok(Piece::Token(kind, len))
+    Piece::Token(kind, len)
 }

@@ -9,7 +9,7 @@ use crate::token::Kind;
 use escrow_num::Amount;
 
 /// How many digits stand at the front.
-fn len_of(bytes: &[u8]) -> usize
+fn digits_len(bytes: &[u8]) -> usize
     ensures { result ≡ prefix_len is_ascii_digit bytes.now }
 {
     bytes
@@ -37,7 +37,7 @@ fn value_of(digits: &[u8]) -> Option<Amount>
 pub(super) fn read_number(bytes: &[u8]) -> Piece
     ensures { result ≡ number_piece bytes.now }
 {
-    let len = len_of(bytes);
+    let len = digits_len(bytes);
     match value_of(&bytes[..len]) {
         Some(value) => Piece::Token(Kind::Number(value), len),
         None => Piece::Fault(0),

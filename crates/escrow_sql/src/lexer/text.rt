@@ -7,7 +7,7 @@ use escrow_num::Text;
 use std::alloc::{AllocError, Global};
 
 /// How many bytes a text takes behind its opening quote, or `None` where it has no end.
-fn len_of(body: &[u8]) -> Option<usize>
+fn quoted_len(body: &[u8]) -> Option<usize>
     ensures value { result ≡ text_rest false body.now }
     ensures within { IfSome result (λ len. (1 ≤ len) × (len ≤ length body.now)) }
     ensures quote { IfSome result (λ len. slice_index body.now (len - 1) ≡ 39) }
@@ -24,17 +24,17 @@ fn len_of(body: &[u8]) -> Option<usize>
 }
 
 /// Whether the byte may not stand in a text.
-fn is_barred(byte: u8) -> bool
+fn is_forbidden_byte(byte: u8) -> bool
     ensures { result ≡ is_forbidden byte }
 {
     byte < 0x20 || byte == 0x7f
 }
 
 /// The place of the first byte that may not stand in a text, if there is one.
-fn barred_place(bytes: &[u8]) -> Option<usize>
+fn forbidden_place(bytes: &[u8]) -> Option<usize>
     ensures { result ≡ position is_forbidden bytes.now }
 {
-    bytes.iter().position(|byte| is_barred(*byte))
+    bytes.iter().position(|byte| is_forbidden_byte(*byte))
 }
 
 /// A copy of the text, each doubled quote once.
@@ -59,10 +59,10 @@ pub(super) fn read_text(alloc: Global, body: &str) -> Result<Piece, AllocError>
     ensures { IfOk result (λ p. p ≡ text_piece body.now) }
 {
     let bytes = body.as_bytes();
-    let Some(len) = len_of(bytes) else {
+    let Some(len) = quoted_len(bytes) else {
         return Ok(Piece::Fault(0));
     };
-    if let Some(place) = barred_place(&bytes[..len]) {
+    if let Some(place) = forbidden_place(&bytes[..len]) {
         return Ok(Piece::Fault(1 + place));
     }
     let copy = copy_undoubled(alloc, &body[..len - 1])?;

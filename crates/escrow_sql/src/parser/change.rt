@@ -8,10 +8,10 @@ use crate::cursor::Cursor;
 use crate::halt::Halt;
 use crate::parser::part;
 use crate::parser::part::Part;
-use crate::statement::{Assign, InsertText, UpdateText, WhereText};
+use crate::statement::{Assign, InsertText, Literal, UpdateText, WhereText};
 use crate::token::Symbol;
 use crate::word::Word;
-use escrow_num::{Amount, Value};
+use escrow_num::Amount;
 use std::alloc::Global;
 
 /// The number, made negative by a minus.
@@ -69,11 +69,11 @@ impl Cursor<'_> {
 
     /// `signed_number`
     #[tactic(auto, unfolding(crate::specs::Statement::literal))]
-    fn literal(&mut self) -> Result<Value, Halt>
+    fn literal(&mut self) -> Result<Literal, Halt>
         ensures { Advances self.new.tokens.now result (run literal self.old.tokens.now) }
     {
         let number = self.signed_number()?;
-        Ok(Value::Number(number))
+        Ok(Literal::Number(number))
     }
 
     /// `WHERE name "=" literal`
@@ -84,8 +84,8 @@ impl Cursor<'_> {
         self.word(Word::Where)?;
         let column = self.name()?;
         self.symbol(Symbol::Equal)?;
-        let value = self.literal()?;
-        Ok(WhereText { column, value })
+        let literal = self.literal()?;
+        Ok(WhereText { column, literal })
     }
 
     /// `sign number`
@@ -143,14 +143,14 @@ impl Cursor<'_> {
     }
 }
 
-impl Part for Value {
+impl Part for Literal {
     ghost use Rattle.escrow_sql.specs.Statement.{literal, literal-not_empty};
 
     ghost grammar = { literal };
 
     ghost not_empty = { literal-not_empty };
 
-    fn read(_alloc: Global, cursor: &mut Cursor) -> Result<Value, Halt> {
+    fn read(_alloc: Global, cursor: &mut Cursor) -> Result<Literal, Halt> {
         cursor.literal()
     }
 }

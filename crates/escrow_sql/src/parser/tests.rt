@@ -1,6 +1,5 @@
 use super::*;
-use crate::statement::{ColumnMark, Comparison, Item, TypeText};
-use escrow_num::Value;
+use crate::statement::{ColumnMark, Comparison, Item, Literal, TypeText};
 use std::test::Fail;
 
 /// The column of a text's fault, or 0 where it has none.
@@ -83,7 +82,7 @@ fn reads_insert_and_update(rt: HostRuntime) -> Result<(), Fail> {
         assert!(rt; false, "no INSERT");
         return Ok(());
     };
-    let [Value::Number(key), Value::Number(balance)] = insert.values.as_slice() else {
+    let [Literal::Number(key), Literal::Number(balance)] = insert.values.as_slice() else {
         assert!(rt; false, "not two numbers");
         return Ok(());
     };

@@ -1,7 +1,7 @@
 use Rattle.std.proofs.Common.{◌≡◌, ◌+◌, ◌-◌, get_or, true, false, arith, inl, inr, ap, ◌∙◌}
 use Rattle.escrow_sql.proofs.LexLemmas.{text_rest-more}
-use Rattle.escrow_sql.proofs.lexer.text.len_of.Goals as goal
-use Rattle.escrow_sql.proofs.lexer.text.len_of.Goals.{then-byte-eq39, else-byte-eq39+else-closing}
+use Rattle.escrow_sql.proofs.lexer.text.quoted_len.Goals as goal
+use Rattle.escrow_sql.proofs.lexer.text.quoted_len.Goals.{then-byte-eq39, else-byte-eq39+else-closing}
 
 pub loop-i-preserved : goal.loop-i-preserved
 loop-i-preserved c = record {

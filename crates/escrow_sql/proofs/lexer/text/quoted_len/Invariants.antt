@@ -1,7 +1,7 @@
 use Rattle.std.proofs.Common.{◌≡◌, ◌≤◌, ◌+◌, ◌-◌, drop, get_or, true, false}
 use Rattle.std.specs.Prelude.{option_map}
 use Rattle.escrow_sql.specs.Lex.{text_rest}
-use Rattle.escrow_sql.proofs.lexer.text.len_of.Given as goal
+use Rattle.escrow_sql.proofs.lexer.text.quoted_len.Given as goal
 
 abbrev pub invariant-loop-i : goal.invariant-loop-i
 invariant-loop-i l = record {
