@@ -1,6 +1,6 @@
 -- What the definitions of tokens say of one byte more.
-use Rattle.std.proofs.Common.{◌≡◌, ℕ, suc, ◌+◌, ◌*◌, ◌-◌, ◌≤◌, ◌<◌, Bool, true, false, cond, Option, Some, None, List, [], ◌∷◌, ◌++◌, length, get_or, drop, arith, refl, sym, ap, ◌∙◌, append_assoc, append-nil, ◌⊎◌, inl, inr}
-use Rattle.std.specs.Prelude.{nat_le, nat_eq, option_map, not}
+use Rattle.std.proofs.Common.{◌≡◌, ℕ, suc, ◌+◌, ◌*◌, ◌-◌, ◌≤◌, ◌<◌, Bool, true, false, Option, Some, None, List, [], ◌∷◌, ◌++◌, length, get_or, drop, arith, refl, sym, ap, ◌∙◌, append_assoc, append-nil, ◌⊎◌, inl, inr}
+use Rattle.std.specs.Prelude.{nat_eq, option_map, not}
 use Rattle.std.proofs.lemmas.List.{at_drop_more}
 use Rattle.std.proofs.lemmas.Bool.Decides.{nat_tests}
 use Rattle.std.proofs.lemmas.Bool.{cases_lt}
@@ -14,17 +14,11 @@ pub number_after-least : (n : ℕ) (digits : List ℕ) → n ≤ number_after n 
 number_after-least n [] = omega arith
 number_after-least n (c ∷ cs) = omega (arith, number_after-least (10 * n + (c - 48)) cs)
 
-past : {A : Type 0} (n : ℕ) (x : A) → 999999999999999 < n → None ≡ cond (nat_le n 999999999999999) (Some x) None
-past n x h = grind (arith, nat_tests)
-
--- digits that are past the limit already stay past it
-pub past_limit : {A : Type 0} (x : A) (v i : ℕ) (digits : List ℕ) → i < length digits → 999999999999999 < 10 * v + (get_or digits i 0 - 48)
-    → number_after v (drop i digits) ≡ number_of digits → None ≡ cond (nat_le (number_of digits) 999999999999999) (Some x) None
-past_limit x v i digits below large same =
-    let e = at_drop_more (number_after v) digits i 0 below in
-    let l = number_after-least (10 * v + (get_or digits i 0 - 48)) (drop (i + 1) digits) in
-    let total : 999999999999999 < number_of digits = omega (arith, e, l, same) in
-    past (number_of digits) x total
+-- digits that are past a limit already stay past it
+pub past_limit : (limit v i : ℕ) (digits : List ℕ) → i < length digits → limit < 10 * v + (get_or digits i 0 - 48)
+    → number_after v (drop i digits) ≡ number_of digits → limit < number_of digits
+past_limit limit v i digits below past same =
+    omega (arith, at_drop_more (number_after v) digits i 0 below, number_after-least (10 * v + (get_or digits i 0 - 48)) (drop (i + 1) digits))
 
 shift-one : (i : ℕ) (o : Option ℕ) → option_map (λ n. i + n) (option_map (λ n. n + 1) o) ≡ option_map (λ n. i + 1 + n) o
 shift-one i None = refl

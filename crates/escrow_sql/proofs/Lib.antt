@@ -2,6 +2,7 @@ pub mod Faults
 pub mod Fronts
 pub mod Heads
 pub mod LexLemmas
+pub mod NameLemmas
 pub mod ParseLemmas
 pub mod PieceLemmas
 pub mod Predictive

@@ -1,6 +1,6 @@
 -- A piece takes at least one byte, and lies within the text.
 use Rattle.std.proofs.Common.{◌≡◌, ℕ, suc, pos, ◌+◌, ◌-◌, ◌≤◌, ◌<◌, Bool, true, false, cond, Option, Some, None, Result, Ok, Err, List, [], ◌∷◌, length, get_or, drop, take, arith, refl, sym, ap, ◌∙◌, subst, map}
-use Rattle.std.specs.Prelude.{nat_le, nat_lt, nat_eq, option_map, not, ◌&&◌, position, IfOk}
+use Rattle.std.specs.Prelude.{nat_lt, nat_eq, option_map, not, ◌&&◌, position, IfOk}
 use Rattle.std.specs.declared.alloc.AllocError.{AllocError}
 use Rattle.std.specs.Char.{is_ascii_alphabetic, is_ascii_digit, to_ascii_uppercase}
 use Rattle.std.specs.List.{prefix_len}
@@ -9,13 +9,15 @@ use Rattle.std.proofs.lemmas.Bool.Decides.{nat_tests}
 use Rattle.std.proofs.lemmas.List.{length-take-le, length-drop}
 use Rattle.std.proofs.lemmas.List.Sums.{prefix_len-le-length}
 use Rattle.std.proofs.lemmas.List.Quantifiers.{position-Some}
-use Rattle.escrow_num.specs.Amount.{number_of}
+use Rattle.escrow_num.specs.Amount.{is_amount, number_of}
+use Rattle.escrow_num.specs.declared.name.TheConstants.Name.{MAX_WRITTEN}
+use Rattle.escrow_sql.proofs.NameLemmas.{letter_goes_on}
 use Rattle.escrow_sql.specs.Word.{reserved}
 use Rattle.escrow_sql.specs.declared.lexer.piece.Piece.{Piece}
 use Rattle.escrow_sql.specs.declared.lexer.piece.Piece.TheVariants as piece
 use Rattle.escrow_sql.specs.declared.token.Kind.{Kind}
 use Rattle.escrow_sql.specs.declared.token.Kind.TheVariants as kind
-use Rattle.escrow_sql.specs.Lex.{IsWithin, piece_of, name_piece, number_piece, text_piece, text_from, closed_text, text_rest, undoubled, symbol_piece, is_name_byte, is_blank, is_forbidden, begins, word_or_name}
+use Rattle.escrow_sql.specs.Lex.{IsWithin, piece_of, name_piece, number_piece, text_piece, text_from, closed_text, text_rest, undoubled, symbol_piece, goes_on, is_blank, is_forbidden, begins, word_or_name}
 
 -- a front that begins with a byte that passes
 prefix_len-first : (p : ℕ → Bool) (c : ℕ) (next : List ℕ) → p c ≡ true → 1 ≤ prefix_len p (c ∷ next)
@@ -24,11 +26,10 @@ prefix_len-first p c next h = rw h (omega arith)
 name_within : (c : ℕ) (next : List ℕ) → is_ascii_alphabetic c ≡ true → IsWithin (length (c ∷ next)) (name_piece (c ∷ next))
 unfolding name_piece
 name_within c next h =
-    let len = prefix_len is_name_byte (c ∷ next) in
-    let passes : is_name_byte c ≡ true = rw h refl in
-    let one : 1 ≤ len = prefix_len-first is_name_byte c next passes in
-    let all : len ≤ length (c ∷ next) = prefix_len-le-length is_name_byte (c ∷ next) in
-    cond_both (nat_lt 30 len) (piece.Fault 0) (piece.Token (word_or_name (map to_ascii_uppercase (take len (c ∷ next))) (reserved (map to_ascii_uppercase (take len (c ∷ next))))) len)
+    let len = prefix_len goes_on (c ∷ next) in
+    let one : 1 ≤ len = prefix_len-first goes_on c next (letter_goes_on c h) in
+    let all : len ≤ length (c ∷ next) = prefix_len-le-length goes_on (c ∷ next) in
+    cond_both (nat_lt MAX_WRITTEN len) (piece.Fault 0) (piece.Token (word_or_name (map to_ascii_uppercase (take len (c ∷ next))) (reserved (map to_ascii_uppercase (take len (c ∷ next))))) len)
     (IsWithin (length (c ∷ next))) (λ e. omega arith) (λ e. (one, all))
 
 number_within : (c : ℕ) (next : List ℕ) → is_ascii_digit c ≡ true → IsWithin (length (c ∷ next)) (number_piece (c ∷ next))
@@ -38,7 +39,7 @@ number_within c next h =
     let value = number_of (take len (c ∷ next)) in
     let one : 1 ≤ len = prefix_len-first is_ascii_digit c next h in
     let all : len ≤ length (c ∷ next) = prefix_len-le-length is_ascii_digit (c ∷ next) in
-    cond_both (nat_le value 999999999999999) (piece.Token (kind.Number (pos value)) len) (piece.Fault 0)
+    cond_both (is_amount (pos value)) (piece.Token (kind.Number (pos value)) len) (piece.Fault 0)
     (IsWithin (length (c ∷ next))) (λ e. (one, all)) (λ e. omega arith)
 
 more_some : (o : Option ℕ) (n : ℕ) → option_map (λ m. m + 1) o ≡ Some n → (k : ℕ) × (o ≡ Some k) × (n ≡ k + 1)

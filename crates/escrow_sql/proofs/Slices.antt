@@ -1,12 +1,13 @@
 -- The bytes of a token, alone, are that token.
 use Rattle.std.proofs.Common.{◌≡◌, ℕ, zero, suc, pos, ◌+◌, ◌-◌, ◌≤◌, Bool, true, false, cond, Option, Some, None, Ok, Err, List, [], ◌∷◌, length, drop, take, arith, refl, sym, ap, ap₂, ◌∙◌, subst, map, inl, inr}
-use Rattle.std.specs.Prelude.{nat_le, nat_lt, option_map, not, ◌&&◌, ◌==◌, position, if◌then◌else◌, slice_range}
+use Rattle.std.specs.Prelude.{nat_lt, option_map, not, ◌&&◌, ◌==◌, position, if◌then◌else◌, slice_range}
 use Rattle.std.specs.Char.{is_ascii_alphabetic, is_ascii_digit, to_ascii_uppercase}
 use Rattle.std.specs.List.{prefix_len, AllByRecursion}
 use Rattle.std.proofs.lemmas.Bool.{cond_both, cond-true, cond-false, cases_Bool, and_cases, and_left, and_right, eqb-true, le-ltb}
 use Rattle.std.proofs.lemmas.List.{length-take-le, length-take, length-drop, drop-drop, get_or-take}
 use Rattle.std.proofs.lemmas.List.Sums.{prefix_len_is, prefix_len-le-length, prefix_len_passes}
-use Rattle.escrow_num.specs.Amount.{number_of}
+use Rattle.escrow_num.specs.Amount.{is_amount, number_of}
+use Rattle.escrow_num.specs.declared.name.TheConstants.Name.{MAX_WRITTEN}
 use Rattle.escrow_sql.specs.declared.lexer.TheConstants.{MAX_TEXT}
 use Rattle.escrow_sql.specs.Word.{reserved}
 use Rattle.escrow_sql.specs.declared.lexer.piece.Piece.{Piece}
@@ -15,7 +16,7 @@ use Rattle.escrow_sql.specs.declared.token.Kind.{Kind}
 use Rattle.escrow_sql.specs.declared.token.Kind.TheVariants as kind
 use Rattle.escrow_sql.specs.declared.token.Symbol.TheVariants as symbol
 use Rattle.escrow_sql.specs.declared.token.Token.{Token}
-use Rattle.escrow_sql.specs.Lex.{piece_of, name_piece, number_piece, text_piece, text_from, closed_text, text_rest, undoubled, symbol_piece, is_name_byte, is_blank, is_forbidden, begins, word_or_name, IsWithin, IsItsSlice, tokens_from, tokens_of, with_token}
+use Rattle.escrow_sql.specs.Lex.{piece_of, name_piece, number_piece, text_piece, text_from, closed_text, text_rest, undoubled, symbol_piece, goes_on, is_blank, is_forbidden, begins, word_or_name, IsWithin, IsItsSlice, tokens_from, tokens_of, with_token}
 use Rattle.escrow_sql.proofs.PieceLemmas.{piece_of-within}
 use Rattle.escrow_sql.proofs.TokenLemmas.{after, by_piece, tokens_from-piece, with_token-Ok, whole_at_end}
 
@@ -37,16 +38,16 @@ prefix_alone p xs =
 abbrev name_with : ℕ → List ℕ → Piece
 name_with len front =
     let upper = map to_ascii_uppercase front in
-    if nat_lt 30 len then piece.Fault 0 else piece.Token (word_or_name upper (reserved upper)) len
+    if nat_lt MAX_WRITTEN len then piece.Fault 0 else piece.Token (word_or_name upper (reserved upper)) len
 
 abbrev number_with : ℕ → List ℕ → Piece
-number_with len front = if nat_le (number_of front) 999999999999999 then piece.Token (kind.Number (pos (number_of front))) len else piece.Fault 0
+number_with len front = if is_amount (pos (number_of front)) then piece.Token (kind.Number (pos (number_of front))) len else piece.Fault 0
 
-name_alone : (xs : List ℕ) → name_piece (take (prefix_len is_name_byte xs) xs) ≡ name_piece xs
+name_alone : (xs : List ℕ) → name_piece (take (prefix_len goes_on xs) xs) ≡ name_piece xs
 unfolding name_piece
 name_alone xs =
-    let n = prefix_len is_name_byte xs in
-    let e = prefix_alone is_name_byte xs in
+    let n = prefix_len goes_on xs in
+    let e = prefix_alone goes_on xs in
     ap₂ (λ (l : ℕ) (front : List ℕ). name_with l front) e (ap (λ (l : ℕ). take l (take n xs)) e ∙ take_front n n xs (omega arith))
 
 number_alone : (xs : List ℕ) → number_piece (take (prefix_len is_ascii_digit xs) xs) ≡ number_piece xs
@@ -57,19 +58,19 @@ number_alone xs =
     ap₂ (λ (l : ℕ) (front : List ℕ). number_with l front) e (ap (λ (l : ℕ). take l (take n xs)) e ∙ take_front n n xs (omega arith))
 
 -- how long the token of a name or a number is
-name_len : (xs : List ℕ) (k : Kind) (len : ℕ) → name_piece xs ≡ piece.Token k len → len ≡ prefix_len is_name_byte xs
+name_len : (xs : List ℕ) (k : Kind) (len : ℕ) → name_piece xs ≡ piece.Token k len → len ≡ prefix_len goes_on xs
 unfolding name_piece
 name_len xs k len h =
-    let n = prefix_len is_name_byte xs in
+    let n = prefix_len goes_on xs in
     let upper = map to_ascii_uppercase (take n xs) in
-    cond_both (nat_lt 30 n) (piece.Fault 0) (piece.Token (word_or_name upper (reserved upper)) n) (λ (p : Piece). p ≡ piece.Token k len → len ≡ n) (λ e q. absurd (cc)) (λ e q. cc) h
+    cond_both (nat_lt MAX_WRITTEN n) (piece.Fault 0) (piece.Token (word_or_name upper (reserved upper)) n) (λ (p : Piece). p ≡ piece.Token k len → len ≡ n) (λ e q. absurd (cc)) (λ e q. cc) h
 
 number_len : (xs : List ℕ) (k : Kind) (len : ℕ) → number_piece xs ≡ piece.Token k len → len ≡ prefix_len is_ascii_digit xs
 unfolding number_piece
 number_len xs k len h =
     let n = prefix_len is_ascii_digit xs in
     let value = number_of (take n xs) in
-    cond_both (nat_le value 999999999999999) (piece.Token (kind.Number (pos value)) n) (piece.Fault 0) (λ (p : Piece). p ≡ piece.Token k len → len ≡ n) (λ e q. cc) (λ e q. absurd (cc)) h
+    cond_both (is_amount (pos value)) (piece.Token (kind.Number (pos value)) n) (piece.Fault 0) (λ (p : Piece). p ≡ piece.Token k len → len ≡ n) (λ e q. cc) (λ e q. absurd (cc)) h
 
 more_some : (o : Option ℕ) (n : ℕ) → option_map (λ m. m + 1) o ≡ Some n → (k : ℕ) × (o ≡ Some k) × (n ≡ suc k)
 more_some None n h = absurd (cc)

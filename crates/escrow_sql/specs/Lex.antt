@@ -1,7 +1,9 @@
-use Rattle.std.specs.Prelude.{◌≡◌, ℕ, zero, suc, pos, ◌+◌, ◌-◌, ◌==◌, Bool, true, false, not, ◌&&◌, ◌||◌, ◌<◌, ◌≤◌, nat_lt, nat_le, if◌then◌else◌, Option, Some, None, option_map, Result, Ok, Err, List, [], ◌∷◌, length, take, map, position, slice_range}
+use Rattle.std.specs.Prelude.{◌≡◌, ℕ, zero, suc, pos, ◌+◌, ◌-◌, ◌==◌, Bool, true, false, not, ◌&&◌, ◌||◌, ◌<◌, ◌≤◌, nat_lt, if◌then◌else◌, Option, Some, None, option_map, Result, Ok, Err, List, [], ◌∷◌, length, take, map, position, slice_range}
 use Rattle.std.specs.Char.{is_ascii_alphabetic, is_ascii_digit, to_ascii_uppercase}
 use Rattle.std.specs.List.{prefix_len}
-use Rattle.escrow_num.specs.Amount.{number_of}
+use Rattle.escrow_num.specs.Amount.{is_amount, number_of}
+use Rattle.escrow_num.specs.Name.{is_name_byte}
+use Rattle.escrow_num.specs.declared.name.TheConstants.Name.{MAX_WRITTEN}
 use Rattle.escrow_sql.specs.Word.{reserved}
 use Rattle.escrow_sql.specs.declared.word.Word.{Word}
 use Rattle.escrow_sql.specs.declared.token.Symbol.TheVariants as symbol
@@ -18,9 +20,9 @@ use Rattle.escrow_sql.specs.declared.lexer.piece.Piece.TheVariants as piece
 abbrev pub is_blank : ℕ → Bool
 is_blank c = c == 32 || (c == 9 || (c == 13 || c == 10))
 
--- a name goes on with ASCII letters, digits, `_`, `$` and `#`
-abbrev pub is_name_byte : ℕ → Bool
-is_name_byte c = is_ascii_alphabetic c || (is_ascii_digit c || (c == 95 || (c == 36 || c == 35)))
+-- a name goes on with bytes that, in upper case, stand in one: ASCII letters, digits, `_`, `$` and `#`
+abbrev pub goes_on : ℕ → Bool
+goes_on c = is_name_byte (to_ascii_uppercase c)
 
 -- characters below U+0020 and U+007F may not stand in a text
 abbrev pub is_forbidden : ℕ → Bool
@@ -36,19 +38,19 @@ abbrev pub word_or_name : List ℕ → Option Word → Kind
 word_or_name upper (Some w) = kind.Word w
 word_or_name upper None = kind.Name upper
 
--- the name at the front, as long as it goes on, in upper case; one of more than 30 bytes is a fault
+-- the name at the front, as long as it goes on, in upper case; one of too many bytes is a fault
 unfoldable pub name_piece : List ℕ → Piece
 name_piece bytes =
-    let len = prefix_len is_name_byte bytes in
+    let len = prefix_len goes_on bytes in
     let upper = map to_ascii_uppercase (take len bytes) in
-    if nat_lt 30 len then piece.Fault 0 else piece.Token (word_or_name upper (reserved upper)) len
+    if nat_lt MAX_WRITTEN len then piece.Fault 0 else piece.Token (word_or_name upper (reserved upper)) len
 
--- the number at the front, as long as it goes on; one past fifteen digits is a fault
+-- the number at the front, as long as it goes on; one that is no amount is a fault
 unfoldable pub number_piece : List ℕ → Piece
 number_piece bytes =
     let len = prefix_len is_ascii_digit bytes in
     let value = number_of (take len bytes) in
-    if nat_le value 999999999999999 then piece.Token (kind.Number (pos value)) len else piece.Fault 0
+    if is_amount (pos value) then piece.Token (kind.Number (pos value)) len else piece.Fault 0
 
 -- how many bytes a text takes behind its opening quote, with its closing one: a quote closes it
 -- (`closing`, where one stands just before) unless another follows

@@ -2,8 +2,8 @@ ghost use Rattle.std.specs.Prelude.{◌≡◌, ◌↔◌, IsTrue, IsOk, IfOk, fa
 ghost use Rattle.escrow_sql.specs.Copies.{holds_memory, literal_holds_memory};
 
 use crate::statement::{
-    CheckText, ColumnMark, ColumnText, CreateText, InsertText, Item, Literal, Statement, UpdateText,
-    WhereText,
+    CheckText, ColumnMark, ColumnText, CreateText, InsertText, Item, Literal, Statement,
+    UpdateText, WhereText,
 };
 use escrow_num::Seq;
 use std::alloc::{AllocError, Global};

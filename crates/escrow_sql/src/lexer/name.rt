@@ -1,30 +1,28 @@
 ghost use Rattle.std.specs.Prelude.{◌≡◌, true, slice_index};
 ghost use Rattle.std.specs.Char.{is_ascii_alphabetic};
 ghost use Rattle.std.specs.List.{prefix_len};
-ghost use Rattle.escrow_sql.specs.Lex.{is_name_byte, name_piece};
+ghost use Rattle.escrow_sql.specs.Lex.{goes_on, name_piece};
 
 use crate::lexer::piece::Piece;
 use crate::token::Kind;
 use crate::word::Word;
 use escrow_num::Name;
 
-/// The most bytes that a written name has.
-const MAX_WRITTEN: usize = 30;
-
 /// Whether a name may go on with the byte.
 fn goes_on(byte: u8) -> bool
-    ensures { result ≡ is_name_byte byte }
+    ensures { result ≡ goes_on byte }
 {
-    byte.is_ascii_alphabetic()
-        || byte.is_ascii_digit()
-        || byte == b'_'
-        || byte == b'$'
-        || byte == b'#'
+    let upper = byte.to_ascii_uppercase();
+    upper.is_ascii_uppercase()
+        || upper.is_ascii_digit()
+        || upper == b'_'
+        || upper == b'$'
+        || upper == b'#'
 }
 
 /// How many bytes at the front a name may go on with.
 fn name_len(bytes: &[u8]) -> usize
-    ensures { result ≡ prefix_len is_name_byte bytes.now }
+    ensures { result ≡ prefix_len goes_on bytes.now }
 {
     bytes.iter().take_while(|byte| goes_on(**byte)).count()
 }
@@ -36,10 +34,10 @@ pub(super) fn read_name(bytes: &[u8]) -> Piece
     ensures { result ≡ name_piece bytes.now }
 {
     let len = name_len(bytes);
-    if MAX_WRITTEN < len {
+    if Name::MAX_WRITTEN < len {
         return Piece::Fault(0);
     }
-    let mut place = [0; MAX_WRITTEN];
+    let mut place = [0; Name::MAX_WRITTEN];
     let upper = &mut place[..len];
     upper.copy_from_slice(&bytes[..len]);
     upper.make_ascii_uppercase();

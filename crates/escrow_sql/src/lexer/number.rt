@@ -1,7 +1,7 @@
-ghost use Rattle.std.specs.Prelude.{◌≡◌, ◌≤◌, pos, Some, None, if◌then◌else◌, nat_le};
+ghost use Rattle.std.specs.Prelude.{◌≡◌, pos, SomeIff};
 ghost use Rattle.std.specs.List.{prefix_len};
 ghost use Rattle.std.specs.Char.{is_ascii_digit};
-ghost use Rattle.escrow_num.specs.Amount.{number_of};
+ghost use Rattle.escrow_num.specs.Amount.{IsAmount, number_of};
 ghost use Rattle.escrow_sql.specs.Lex.{number_piece};
 
 use crate::lexer::piece::Piece;
@@ -20,12 +20,12 @@ fn digits_len(bytes: &[u8]) -> usize
 
 /// The number that the digits spell, or `None` past the limit of an amount.
 fn value_of(digits: &[u8]) -> Option<Amount>
-    ensures { result ≡ (if nat_le (number_of digits.now) 999999999999999 then Some (pos (number_of digits.now)) else None) }
+    ensures { SomeIff result (IsAmount (pos (number_of digits.now))) (pos (number_of digits.now)) }
 {
     let mut value: u64 = 0;
     for digit in digits {
         value = 10 * value + u64::from(digit.saturating_sub(b'0'));
-        if value > Amount::LIMIT as u64 {
+        if value > Amount::MAX as u64 {
             return None;
         }
     }
