@@ -1,11 +1,13 @@
 use Rattle.std.proofs.Common.{◌≡◌, ℕ, zero, suc, ◌+◌, ◌-◌, ◌≤◌, ◌<◌, ℤ, pos, neg_ℤ, ◌*◌, ◌^◌, ◌+ℤ◌, ◌*ℤ◌, ◌≤ℤ◌, List, [], ◌∷◌, ◌++◌, length, take, drop, set, get_or, replicate, min, refl, ap, ◌∙◌, sym, arith, append_assoc, subst, add-one}
 use Rattle.std.specs.Prelude.{slice_set, All, bytes_eq, if◌then◌else◌, Bool, true, false}
-use Rattle.escrow_checks.specs.Condition.{unit_of}
+use Rattle.escrow_checks.specs.Checks.{unit_of}
 use Rattle.std.proofs.lemmas.Int.{ints}
 use Rattle.std.proofs.lemmas.List.{drop-replicate, length-replicate, length-set, length-take-le, take_more, take_all}
 use Rattle.std.proofs.lemmas.List.Elements.{All-set, All-replicate, All-nil, All-cons}
 use Rattle.std.proofs.Math.Seq.{drop-cons, set-append_seam}
-use Rattle.escrow_checks.specs.Coefficients.{IsCoefficient, AreCoefficients, padded}
+use Rattle.escrow_checks.specs.Coefficients.{IsCoefficient, AreCoefficients}
+use Rattle.escrow_checks.specs.Padded.{padded}
+use Rattle.escrow_checks.specs.declared.coefficients.TheConstants.Coefficients.{MAX_LEN}
 use Rattle.escrow_checks.specs.Form.{form}
 use Rattle.escrow_checks.specs.Contribution.{IsProduct}
 use Rattle.escrow_checks.proofs.FormLemmas.{form-none}
@@ -37,18 +39,18 @@ pub length-one_at : (len place : ℕ) → length (one_at len place) ≡ len
 unfolding one_at
 length-one_at len place = length-set _ _ _ ∙ length-replicate len (pos 0)
 
-pub one_at_place : (len place : ℕ) → place < len → len ≤ 10 → set (replicate 10 (pos 0)) place (pos 1) ≡ one_at len place ++ replicate (10 - len) (pos 0)
+pub one_at_place : (len place : ℕ) → place < len → len ≤ MAX_LEN → set (replicate MAX_LEN (pos 0)) place (pos 1) ≡ one_at len place ++ replicate (MAX_LEN - len) (pos 0)
 unfolding one_at
 one_at_place len place within few =
-    let e : len + (10 - len) ≡ 10 = omega arith in
-    ap (λ zs. set zs place (pos 1)) (ap (λ n. replicate n (pos 0)) (sym e) ∙ replicate-add len (10 - len))
-    ∙ set-front (replicate len (pos 0)) (replicate (10 - len) (pos 0)) place (pos 1) (omega (arith, length-replicate len (pos 0)))
+    let e : len + (MAX_LEN - len) ≡ MAX_LEN = omega arith in
+    ap (λ zs. set zs place (pos 1)) (ap (λ n. replicate n (pos 0)) (sym e) ∙ replicate-add len (MAX_LEN - len))
+    ∙ set-front (replicate len (pos 0)) (replicate (MAX_LEN - len) (pos 0)) place (pos 1) (omega (arith, length-replicate len (pos 0)))
 
-pub take_one_at : (len place : ℕ) → place < len → len ≤ 10 → take len (set (replicate 10 (pos 0)) place (pos 1)) ≡ one_at len place
+pub take_one_at : (len place : ℕ) → place < len → len ≤ MAX_LEN → take len (set (replicate MAX_LEN (pos 0)) place (pos 1)) ≡ one_at len place
 take_one_at len place within few =
-    ap (take len) (one_at_place len place within few) ∙ take-front (one_at len place) (replicate (10 - len) (pos 0)) len (length-one_at len place)
+    ap (take len) (one_at_place len place within few) ∙ take-front (one_at len place) (replicate (MAX_LEN - len) (pos 0)) len (length-one_at len place)
 
-pub unit_is : (len place : ℕ) → place < len → len ≤ 10 → take len (set (replicate 10 (pos 0)) place (pos 1)) ≡ slice_set (replicate len (pos 0)) place (pos 1)
+pub unit_is : (len place : ℕ) → place < len → len ≤ MAX_LEN → take len (set (replicate MAX_LEN (pos 0)) place (pos 1)) ≡ slice_set (replicate len (pos 0)) place (pos 1)
 unfolding one_at
 unit_is len place within few = take_one_at len place within few
 
@@ -57,24 +59,24 @@ unfolding one_at
 All-one_at len place = All-set IsCoefficient (replicate len (pos 0)) place (pos 1) (omega (arith, ints), omega (arith, ints)) (All-replicate IsCoefficient len (pos 0) (omega (arith, ints), omega (arith, ints)))
 
 -- what the place of one column's coefficients keeps
-pub unit_kept : (len place : ℕ) → place < len → len ≤ 10
-    → let values = set (replicate 10 (pos 0)) place (pos 1) in AreCoefficients (take len values) × (len ≤ 10) × (values ≡ padded (take len values))
+pub unit_kept : (len place : ℕ) → place < len → len ≤ MAX_LEN
+    → let values = set (replicate MAX_LEN (pos 0)) place (pos 1) in AreCoefficients (take len values) × (len ≤ MAX_LEN) × (values ≡ padded (take len values))
 unit_kept len place within few =
     rw (take_one_at len place within few) (
       (omega (arith, length-one_at len place), All-one_at len place),
       few,
-      one_at_place len place within few ∙ ap (λ n. one_at len place ++ replicate (10 - n) (pos 0)) (sym (length-one_at len place)),
+      one_at_place len place within few ∙ ap (λ n. one_at len place ++ replicate (MAX_LEN - n) (pos 0)) (sym (length-one_at len place)),
     )
 
 -- the same with the numbers 0 and 1 by their names
 abbrev pub ten_with : ℤ → ℤ → ℕ → List ℤ
 ten_with z u place = set (z ∷ z ∷ z ∷ z ∷ z ∷ z ∷ z ∷ z ∷ z ∷ z ∷ []) place u
 
-pub unit_kept_at : (len place : ℕ) (z u : ℤ) → z ≡ pos 0 → u ≡ pos 1 → place < len → len ≤ 10
-    → AreCoefficients (take len (ten_with z u place)) × (len ≤ 10) × (ten_with z u place ≡ padded (take len (ten_with z u place)))
+pub unit_kept_at : (len place : ℕ) (z u : ℤ) → z ≡ pos 0 → u ≡ pos 1 → place < len → len ≤ MAX_LEN
+    → AreCoefficients (take len (ten_with z u place)) × (len ≤ MAX_LEN) × (ten_with z u place ≡ padded (take len (ten_with z u place)))
 unit_kept_at len place z u e e' within few = rw (e, e') (unit_kept len place within few)
 
-pub unit_is_at : (len place : ℕ) (z u : ℤ) → z ≡ pos 0 → u ≡ pos 1 → place < len → len ≤ 10
+pub unit_is_at : (len place : ℕ) (z u : ℤ) → z ≡ pos 0 → u ≡ pos 1 → place < len → len ≤ MAX_LEN
     → take len (ten_with z u place) ≡ slice_set (replicate len (pos 0)) place (pos 1)
 unit_is_at len place z u e e' within few = rw (e, e') (unit_is len place within few)
 
@@ -83,10 +85,10 @@ unit_is_at len place z u e e' within few = rw (e, e') (unit_is len place within 
 -- what the place of a list that stands in front of zeros keeps
 pub listed_kept : (coeffs front : List ℤ) (z : ℤ) → z ≡ pos 0 → front ≡ coeffs → AreCoefficients coeffs
     → let values = front ++ drop (length coeffs) (z ∷ z ∷ z ∷ z ∷ z ∷ z ∷ z ∷ z ∷ z ∷ z ∷ []) in
-    AreCoefficients (take (length coeffs) values) × (length coeffs ≤ 10) × (values ≡ padded (take (length coeffs) values))
+    AreCoefficients (take (length coeffs) values) × (length coeffs ≤ MAX_LEN) × (values ≡ padded (take (length coeffs) values))
 listed_kept coeffs front z nought is fits =
-    rw (nought, is, take-front coeffs (drop (length coeffs) (replicate 10 (pos 0))) (length coeffs) refl)
-    (fits, fits.0, ap (λ zs. coeffs ++ zs) (drop-replicate (length coeffs) 10 (pos 0)))
+    rw (nought, is, take-front coeffs (drop (length coeffs) (replicate MAX_LEN (pos 0))) (length coeffs) refl)
+    (fits, fits.0, ap (λ zs. coeffs ++ zs) (drop-replicate (length coeffs) MAX_LEN (pos 0)))
 
 -- ---- a walk over two lists of numbers, front to back
 
@@ -113,8 +115,8 @@ form-past (c ∷ cs) (a ∷ rest) (suc k) h = form-past cs rest k (omega arith)
 
 -- one more product summed
 pub walk_more : (coeffs amounts : List ℤ) (k : ℕ) (sum c a p next : ℤ) → k < length coeffs → k < length amounts → c ≡ get_or coeffs k c → a ≡ get_or amounts k a → p ≡ c *ℤ a → IsProduct p → next ≡ sum +ℤ p
-    → sum +ℤ form (drop k coeffs) (drop k amounts) ≡ form coeffs amounts → neg_ℤ (pos (10 ^ 21 * k)) ≤ℤ sum → sum ≤ℤ pos (10 ^ 21 * k)
-    → (next +ℤ form (drop (k + 1) coeffs) (drop (k + 1) amounts) ≡ form coeffs amounts) × (neg_ℤ (pos (10 ^ 21 * (k + 1))) ≤ℤ next) × (next ≤ℤ pos (10 ^ 21 * (k + 1)))
+    → sum +ℤ form (drop k coeffs) (drop k amounts) ≡ form coeffs amounts → neg_ℤ (pos (10 ^ 27 * k)) ≤ℤ sum → sum ≤ℤ pos (10 ^ 27 * k)
+    → (next +ℤ form (drop (k + 1) coeffs) (drop (k + 1) amounts) ≡ form coeffs amounts) × (neg_ℤ (pos (10 ^ 27 * (k + 1))) ≤ℤ next) × (next ≤ℤ pos (10 ^ 27 * (k + 1)))
 walk_more coeffs amounts k sum c a p next h h' e e' is small adds rest low high =
     (omega (arith, ints, form-next coeffs amounts k c a h h' e e'), omega (arith, ints, small), omega (arith, ints, small))
 
@@ -137,24 +139,24 @@ All-unit_of (column ∷ columns) name = All-cons IsCoefficient (if bytes_eq colu
     one_or_zero false = (omega (arith, ints), omega (arith, ints))
 
 -- one more place written
-pub unit_of-more : (columns : List (List ℕ)) (name column : List ℕ) (i : ℕ) → i < length columns → length columns ≤ 10 → column ≡ get_or columns i column
-    → set (unit_of (take i columns) name ++ replicate (10 - i) (pos 0)) i (if bytes_eq column name then pos 1 else pos 0) ≡ unit_of (take (i + 1) columns) name ++ replicate (10 - (i + 1)) (pos 0)
+pub unit_of-more : (columns : List (List ℕ)) (name column : List ℕ) (i : ℕ) → i < length columns → length columns ≤ MAX_LEN → column ≡ get_or columns i column
+    → set (unit_of (take i columns) name ++ replicate (MAX_LEN - i) (pos 0)) i (if bytes_eq column name then pos 1 else pos 0) ≡ unit_of (take (i + 1) columns) name ++ replicate (MAX_LEN - (i + 1)) (pos 0)
 unit_of-more columns name column i below few is =
     let front = unit_of (take i columns) name in
     let v : ℤ = if bytes_eq column name then pos 1 else pos 0 in
-    let rest = replicate (10 - (i + 1)) (pos 0) in
-    let e : 10 - i ≡ suc (10 - (i + 1)) = omega arith in
+    let rest = replicate (MAX_LEN - (i + 1)) (pos 0) in
+    let e : MAX_LEN - i ≡ suc (MAX_LEN - (i + 1)) = omega arith in
     let at : length front ≡ i = length-unit_of (take i columns) name ∙ length-take-le i columns (omega arith) in
     let seam : set (front ++ pos 0 ∷ rest) i v ≡ front ++ v ∷ rest = subst (λ (n : ℕ). set (front ++ pos 0 ∷ rest) n v ≡ front ++ v ∷ rest) at (set-append_seam front (pos 0) rest v) in
     let more : unit_of (take (i + 1) columns) name ≡ front ++ v ∷ [] = ap (λ zs. unit_of zs name) (take_more columns i column below ∙ ap (λ x. take i columns ++ x ∷ []) (sym is)) ∙ unit_of-append (take i columns) (column ∷ []) name in
     ap (λ n. set (front ++ replicate n (pos 0)) i v) e ∙ seam ∙ sym (ap (λ zs. zs ++ rest) more ∙ append_assoc front (v ∷ []) rest)
 
 -- all places written
-pub unit_of-kept : (columns : List (List ℕ)) (name : List ℕ) (values : List ℤ) (n : ℕ) → n ≡ length columns → n ≤ 10 → values ≡ unit_of (take n columns) name ++ replicate (10 - n) (pos 0)
+pub unit_of-kept : (columns : List (List ℕ)) (name : List ℕ) (values : List ℤ) (n : ℕ) → n ≡ length columns → n ≤ MAX_LEN → values ≡ unit_of (take n columns) name ++ replicate (MAX_LEN - n) (pos 0)
     → (take n values ≡ unit_of columns name) × AreCoefficients (take n values) × (values ≡ padded (take n values))
 unit_of-kept columns name values n is few whole =
     let all : take n columns ≡ columns = take_all n columns (omega arith) in
-    let whole' : values ≡ unit_of columns name ++ replicate (10 - n) (pos 0) = whole ∙ ap (λ zs. unit_of zs name ++ replicate (10 - n) (pos 0)) all in
+    let whole' : values ≡ unit_of columns name ++ replicate (MAX_LEN - n) (pos 0) = whole ∙ ap (λ zs. unit_of zs name ++ replicate (MAX_LEN - n) (pos 0)) all in
     let len : length (unit_of columns name) ≡ n = length-unit_of columns name ∙ sym is in
-    let front : take n values ≡ unit_of columns name = ap (take n) whole' ∙ take-front (unit_of columns name) (replicate (10 - n) (pos 0)) n len in
-    (front, rw front (omega (arith, len), All-unit_of columns name), whole' ∙ sym (ap padded front ∙ ap (λ k. unit_of columns name ++ replicate (10 - k) (pos 0)) len))
+    let front : take n values ≡ unit_of columns name = ap (take n) whole' ∙ take-front (unit_of columns name) (replicate (MAX_LEN - n) (pos 0)) n len in
+    (front, rw front (omega (arith, len), All-unit_of columns name), whole' ∙ sym (ap padded front ∙ ap (λ k. unit_of columns name ++ replicate (MAX_LEN - k) (pos 0)) len))

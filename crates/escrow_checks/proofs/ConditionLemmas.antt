@@ -1,11 +1,12 @@
-use Rattle.std.proofs.Common.{◌≡◌, ℕ, ◌+◌, ◌≤◌, ◌↔◌, Bool, true, false, ◌&&◌, ◌||◌, cond, ℤ, pos, ◌+ℤ◌, ◌*ℤ◌, List, [], ◌∷◌, ◌++◌, length, drop, Option, Some, None, refl, ap, ◌∙◌, sym, subst, arith}
+use Rattle.std.proofs.Common.{◌≡◌, ℕ, ◌+◌, ◌≤◌, ◌↔◌, Bool, true, false, ◌&&◌, ◌||◌, cond, ℤ, pos, ◌+ℤ◌, ◌*ℤ◌, List, [], ◌∷◌, ◌++◌, length, Option, Some, None, refl, ap, ◌∙◌, sym, subst, arith}
 use Rattle.std.specs.Prelude.{All, IfSome, nat_le, bytes_eq, option_map, option_and_then}
 use Rattle.std.specs.List.{list_any, IsDistinct, AllByRecursion}
 use Rattle.std.specs.Cmp.Lexicographic.{bytes_decides}
 use Rattle.std.proofs.lemmas.Int.{ints}
 use Rattle.std.proofs.lemmas.Bool.{false≢true}
 use Rattle.std.proofs.lemmas.Bool.Decides.{nat_tests}
-use Rattle.std.proofs.lemmas.List.{at_drop_all, append-nil}
+use Rattle.std.proofs.lemmas.Option.{cond_some}
+use Rattle.std.proofs.lemmas.List.{append-nil}
 use Rattle.std.proofs.lemmas.List.Elements.{All-nil, All-cons, All-head, All-tail}
 use Rattle.std.proofs.Math.IntN.{zero-*ℤ}
 use Rattle.escrow_num.specs.Span.{Holds}
@@ -15,7 +16,10 @@ use Rattle.escrow_sql.specs.declared.statement.CheckText.{CheckText}
 use Rattle.escrow_checks.specs.declared.check.Check.{Check}
 use Rattle.escrow_checks.specs.Form.{form}
 use Rattle.escrow_checks.specs.Grant.{Meets}
-use Rattle.escrow_checks.specs.Condition.{Compares, amount_of, MeetsText, span_of, is_limit, unit_of, check_name, declared_check, declared_from, declared}
+use Rattle.escrow_checks.specs.Condition.{Compares, amount_of, MeetsText}
+use Rattle.escrow_checks.specs.Checks.{span_of, is_limit, unit_of, check_name, check_of, checks_from, checks_of}
+use Rattle.escrow_checks.specs.declared.condition.TheConstants.{MAX_CHECKS}
+use Rattle.escrow_checks.specs.WrittenName.{is_written_name}
 use Rattle.escrow_checks.specs.Meaning.{MeanTheSame}
 use Rattle.escrow_checks.proofs.Products.{*ℤ-up}
 
@@ -26,17 +30,17 @@ abbrev pub after : List Check → Option (List Check) → Option (List Check)
 after checks rest = option_map (λ more. checks ++ more) rest
 
 -- no condition is left
-pub declared_all : (columns : List (List ℕ)) (texts : List CheckText) (checks : List Check) (i : ℕ) → length texts ≤ i
-    → declared_from columns texts 1 ≡ after checks (declared_from columns (drop i texts) (i + 1))
-    → declared_from columns texts 1 ≡ Some checks
-declared_all columns texts checks i past before =
-    before ∙ ap (after checks) (at_drop_all (λ ts. declared_from columns ts (i + 1)) texts i past) ∙ ap (λ zs. Some zs) (append-nil checks)
+pub checks_all : (columns : List (List ℕ)) (texts rest : List CheckText) (checks : List Check) (place : ℕ) → rest ≡ []
+    → checks_from columns texts 1 ≡ after checks (checks_from columns rest place)
+    → checks_from columns texts 1 ≡ Some checks
+checks_all columns texts rest checks place none before =
+    before ∙ ap (λ ts. after checks (checks_from columns ts place)) none ∙ ap (λ zs. Some zs) (append-nil checks)
 
--- within 32, what is declared is what the walk finds
-pub declared_is : (columns : List (List ℕ)) (texts : List CheckText) → length texts ≤ 32 → declared columns texts ≡ declared_from columns texts 1
-declared_is columns texts few =
-    let within : nat_le (length texts) 32 ≡ true = grind (arith, nat_tests) in
-    ap (λ b. cond b (declared_from columns texts 1) None) within
+-- where the CHECKs aren't too many, their checks are what the walk finds
+pub checks_is : (columns : List (List ℕ)) (texts : List CheckText) → length texts ≤ MAX_CHECKS → checks_of columns texts ≡ checks_from columns texts 1
+checks_is columns texts few =
+    let within : nat_le (length texts) MAX_CHECKS ≡ true = grind (arith, nat_tests) in
+    ap (λ b. cond b (checks_from columns texts 1) None) within
 
 -- ---- a row meets the checks exactly where it meets the conditions
 
@@ -94,17 +98,13 @@ and_first : (a b : Bool) → (a && b) ≡ true → a ≡ true
 and_first true b e = refl
 and_first false b e = absurd (false≢true e)
 
-given_when : {A : Type 0} (b : Bool) (x y : A) → cond b (Some x) None ≡ Some y → (b ≡ true) × (x ≡ y)
-given_when true x y e = (refl, cc)
-given_when false x y e = absurd cc
-
 -- one check and its condition
 check_means : (columns : List (List ℕ)) (amounts : List ℤ) (text : CheckText) (place : ℕ) (check : Check) → IsDistinct bytes_eq columns → length amounts ≡ length columns
-    → declared_check columns text place ≡ Some check → Meets check amounts ↔ MeetsText columns amounts text.condition
+    → check_of columns text place ≡ Some check → Meets check amounts ↔ MeetsText columns amounts text
 check_means columns amounts text place check distinct same gives =
     let name = text.condition.column in
     let span = span_of text.condition.comparison text.condition.limit in
-    let known = given_when (list_any (λ column. bytes_eq column name) columns && (is_limit span.lo && is_limit span.hi) && nat_le (length (check_name text place)) 30) (record { name = check_name text place; coeffs = unit_of columns name; span = span }) check gives in
+    let known = cond_some (list_any (λ column. bytes_eq column name) columns && (is_limit span.lo && is_limit span.hi) && is_written_name (check_name text place)) (record { name = check_name text place; coeffs = unit_of columns name; span = span }) check gives in
     let any = and_first (list_any (λ column. bytes_eq column name) columns) _ (and_first (list_any (λ column. bytes_eq column name) columns && (is_limit span.lo && is_limit span.hi)) _ known.0) in
     let value = form (unit_of columns name) amounts in
     let at = found_at (amount_of columns amounts name) value (λ a. Compares text.condition.comparison a text.condition.limit) (form-column columns amounts name distinct same any) in
@@ -118,15 +118,15 @@ unpack (Some check) None checks e = absurd cc
 unpack (Some check) (Some more) checks e = (check, more, refl, refl, cc)
 
 checks_mean : (columns : List (List ℕ)) (amounts : List ℤ) → IsDistinct bytes_eq columns → length amounts ≡ length columns → (texts : List CheckText) (place : ℕ) (checks : List Check)
-    → declared_from columns texts place ≡ Some checks
-    → All (λ check. Meets check amounts) checks ↔ All (λ text. MeetsText columns amounts text.condition) texts
+    → checks_from columns texts place ≡ Some checks
+    → All (λ check. Meets check amounts) checks ↔ All (MeetsText columns amounts) texts
 checks_mean columns amounts distinct same [] place checks gives =
     let none : [] ≡ checks = cc in
-    rw (← none) (λ h. All-nil (λ text. MeetsText columns amounts text.condition), λ h. All-nil (λ check. Meets check amounts))
+    rw (← none) (λ h. All-nil (MeetsText columns amounts), λ h. All-nil (λ check. Meets check amounts))
 checks_mean columns amounts distinct same (text ∷ texts) place checks gives =
     let P : Check → Type 0 = λ check. Meets check amounts in
-    let Q : CheckText → Type 0 = λ text. MeetsText columns amounts text.condition in
-    let parts = unpack (declared_check columns text place) (declared_from columns texts (place + 1)) checks gives in
+    let Q : CheckText → Type 0 = MeetsText columns amounts in
+    let parts = unpack (check_of columns text place) (checks_from columns texts (place + 1)) checks gives in
     let check = parts.0 in
     let more = parts.1 in
     let first = check_means columns amounts text place check distinct same parts.2 in
@@ -136,10 +136,42 @@ checks_mean columns amounts distinct same (text ∷ texts) place checks gives =
       λ h. All-cons P check more (first.1 (All-head Q text texts h)) (others.1 (All-tail Q text texts h)),
     )
 
-pub mean_the_same : (columns : List (List ℕ)) (texts : List CheckText) (checks : List Check) → declared columns texts ≡ Some checks → MeanTheSame columns texts checks
-mean_the_same columns texts checks gives = λ distinct amounts same.
-    checks_mean columns amounts distinct same texts 1 checks (within (nat_le (length texts) 32) (declared_from columns texts 1) checks gives)
+-- ---- the checks are as many as the CHECKs, each with a coefficient for each column
+
+length-unit_of : (columns : List (List ℕ)) (name : List ℕ) → length (unit_of columns name) ≡ length columns
+length-unit_of [] name = refl
+length-unit_of (column ∷ columns) name = omega (arith, length-unit_of columns name)
+
+whole_from : (columns : List (List ℕ)) (texts : List CheckText) (place : ℕ) (checks : List Check) → checks_from columns texts place ≡ Some checks
+    → (length checks ≡ length texts) × All (λ check. length check.coeffs ≡ length columns) checks
+whole_from columns [] place checks gives =
+    let none : [] ≡ checks = cc in
+    rw (← none) (refl, All-nil (λ check. length check.coeffs ≡ length columns))
+whole_from columns (text ∷ texts) place checks gives =
+    let IsWhole : Check → Type 0 = λ check. length check.coeffs ≡ length columns in
+    let parts = unpack (check_of columns text place) (checks_from columns texts (place + 1)) checks gives in
+    let rest = whole_from columns texts (place + 1) parts.1 parts.3 in
+    let first : IsWhole parts.0 = subst IsWhole (cond_some _ _ parts.0 parts.2).1 (length-unit_of columns text.condition.column) in
+    rw (← parts.4) (omega (arith, rest.0), All-cons IsWhole parts.0 parts.1 first rest.1)
+
+-- what is within the number of checks
+within_most : (columns : List (List ℕ)) (texts : List CheckText) (checks : List Check) → checks_of columns texts ≡ Some checks
+    → (length texts ≤ MAX_CHECKS) × (checks_from columns texts 1 ≡ Some checks)
+within_most columns texts checks gives = go (nat_le (length texts) MAX_CHECKS) refl gives
   where
-    within : (b : Bool) (o : Option (List Check)) (xs : List Check) → cond b o None ≡ Some xs → o ≡ Some xs
-    within true o xs e = e
-    within false o xs e = absurd cc
+    go : (b : Bool) → nat_le (length texts) MAX_CHECKS ≡ b → cond b (checks_from columns texts 1) None ≡ Some checks → (length texts ≤ MAX_CHECKS) × (checks_from columns texts 1 ≡ Some checks)
+    go true few found = (grind (arith, nat_tests, few), found)
+    go false many found = absurd cc
+
+pub checks_whole : (columns : List (List ℕ)) (texts : List CheckText) (checks : List Check) → checks_of columns texts ≡ Some checks
+    → (length checks ≡ length texts) × (length checks ≤ MAX_CHECKS) × All (λ check. length check.coeffs ≡ length columns) checks
+checks_whole columns texts checks gives =
+    let known = within_most columns texts checks gives in
+    let whole = whole_from columns texts 1 checks known.1 in
+    (whole.0, omega (arith, whole.0, known.0), whole.1)
+
+-- ---- and they mean the same
+
+pub mean_the_same : (columns : List (List ℕ)) (texts : List CheckText) (checks : List Check) → checks_of columns texts ≡ Some checks → MeanTheSame columns texts checks
+mean_the_same columns texts checks gives = λ distinct amounts same.
+    checks_mean columns amounts distinct same texts 1 checks (within_most columns texts checks gives).1

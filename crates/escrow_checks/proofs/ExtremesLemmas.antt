@@ -23,16 +23,16 @@ map-map f g (x ∷ xs) = ap (λ zs. f (g x) ∷ zs) (map-map f g xs)
 
 -- ---- the outcomes of one more reservation: those without it, and those with it
 
-pub outcomes-cons : (coeffs amounts changes : List ℤ) (pending : List (List ℤ)) → outcomes coeffs amounts (changes ∷ pending) ≡ outcomes coeffs amounts pending ++ outcomes coeffs (changed amounts changes) pending
-outcomes-cons coeffs amounts changes pending =
-    map-append (λ chosen. form coeffs (all_changed amounts chosen)) (sublists pending) (map (λ chosen. changes ∷ chosen) (sublists pending))
-    ∙ ap (λ zs. outcomes coeffs amounts pending ++ zs) (map-map (λ chosen. form coeffs (all_changed amounts chosen)) (λ chosen. changes ∷ chosen) (sublists pending))
+pub outcomes-cons : (coeffs amounts changes : List ℤ) (reservations : List (List ℤ)) → outcomes coeffs amounts (changes ∷ reservations) ≡ outcomes coeffs amounts reservations ++ outcomes coeffs (changed amounts changes) reservations
+outcomes-cons coeffs amounts changes reservations =
+    map-append (λ chosen. form coeffs (all_changed amounts chosen)) (sublists reservations) (map (λ chosen. changes ∷ chosen) (sublists reservations))
+    ∙ ap (λ zs. outcomes coeffs amounts reservations ++ zs) (map-map (λ chosen. form coeffs (all_changed amounts chosen)) (λ chosen. changes ∷ chosen) (sublists reservations))
 
 -- there is a choice: none of them
-pub some_outcome : (coeffs amounts : List ℤ) (pending : List (List ℤ)) → 0 < length (outcomes coeffs amounts pending)
+pub some_outcome : (coeffs amounts : List ℤ) (reservations : List (List ℤ)) → 0 < length (outcomes coeffs amounts reservations)
 some_outcome coeffs amounts [] = omega arith
-some_outcome coeffs amounts (changes ∷ pending) =
-    rw (outcomes-cons coeffs amounts changes pending, length-append (outcomes coeffs amounts pending) (outcomes coeffs (changed amounts changes) pending)) (omega (arith, some_outcome coeffs amounts pending))
+some_outcome coeffs amounts (changes ∷ reservations) =
+    rw (outcomes-cons coeffs amounts changes reservations, length-append (outcomes coeffs amounts reservations) (outcomes coeffs (changed amounts changes) reservations)) (omega (arith, some_outcome coeffs amounts reservations))
 
 -- ---- the smallest and the greatest of two lists in one
 
@@ -62,41 +62,41 @@ least_step f d falls = omega (arith, ints, clamps)
 greatest_step : (f d rises : ℤ) → int_max (f +ℤ rises) ((f +ℤ d) +ℤ rises) ≡ f +ℤ (int_max (pos 0) d +ℤ rises)
 greatest_step f d rises = omega (arith, ints, clamps)
 
-pub least_is : (coeffs amounts : List ℤ) (pending : List (List ℤ)) → length coeffs ≤ length amounts → least coeffs amounts pending ≡ form coeffs amounts +ℤ falls coeffs pending
+pub least_is : (coeffs amounts : List ℤ) (reservations : List (List ℤ)) → length coeffs ≤ length amounts → least coeffs amounts reservations ≡ form coeffs amounts +ℤ falls coeffs reservations
 least_is coeffs amounts [] fits = omega (arith, ints)
-least_is coeffs amounts (changes ∷ pending) fits =
+least_is coeffs amounts (changes ∷ reservations) fits =
     let with_new = changed amounts changes in
-    ap smallest (outcomes-cons coeffs amounts changes pending)
-    ∙ smallest-append (outcomes coeffs amounts pending) (outcomes coeffs with_new pending) (some_outcome coeffs amounts pending) (some_outcome coeffs with_new pending)
-    ∙ ap₂ int_min (least_is coeffs amounts pending fits) (least_is coeffs with_new pending (omega (arith, length-changed amounts changes)) ∙ ap (λ z. z +ℤ falls coeffs pending) (form-changed coeffs amounts changes fits))
-    ∙ least_step (form coeffs amounts) (form coeffs changes) (falls coeffs pending)
+    ap smallest (outcomes-cons coeffs amounts changes reservations)
+    ∙ smallest-append (outcomes coeffs amounts reservations) (outcomes coeffs with_new reservations) (some_outcome coeffs amounts reservations) (some_outcome coeffs with_new reservations)
+    ∙ ap₂ int_min (least_is coeffs amounts reservations fits) (least_is coeffs with_new reservations (omega (arith, length-changed amounts changes)) ∙ ap (λ z. z +ℤ falls coeffs reservations) (form-changed coeffs amounts changes fits))
+    ∙ least_step (form coeffs amounts) (form coeffs changes) (falls coeffs reservations)
 
-pub greatest_is : (coeffs amounts : List ℤ) (pending : List (List ℤ)) → length coeffs ≤ length amounts → greatest coeffs amounts pending ≡ form coeffs amounts +ℤ rises coeffs pending
+pub greatest_is : (coeffs amounts : List ℤ) (reservations : List (List ℤ)) → length coeffs ≤ length amounts → greatest coeffs amounts reservations ≡ form coeffs amounts +ℤ rises coeffs reservations
 greatest_is coeffs amounts [] fits = omega (arith, ints)
-greatest_is coeffs amounts (changes ∷ pending) fits =
+greatest_is coeffs amounts (changes ∷ reservations) fits =
     let with_new = changed amounts changes in
-    ap largest (outcomes-cons coeffs amounts changes pending)
-    ∙ largest-append (outcomes coeffs amounts pending) (outcomes coeffs with_new pending) (some_outcome coeffs amounts pending) (some_outcome coeffs with_new pending)
-    ∙ ap₂ int_max (greatest_is coeffs amounts pending fits) (greatest_is coeffs with_new pending (omega (arith, length-changed amounts changes)) ∙ ap (λ z. z +ℤ rises coeffs pending) (form-changed coeffs amounts changes fits))
-    ∙ greatest_step (form coeffs amounts) (form coeffs changes) (rises coeffs pending)
+    ap largest (outcomes-cons coeffs amounts changes reservations)
+    ∙ largest-append (outcomes coeffs amounts reservations) (outcomes coeffs with_new reservations) (some_outcome coeffs amounts reservations) (some_outcome coeffs with_new reservations)
+    ∙ ap₂ int_max (greatest_is coeffs amounts reservations fits) (greatest_is coeffs with_new reservations (omega (arith, length-changed amounts changes)) ∙ ap (λ z. z +ℤ rises coeffs reservations) (form-changed coeffs amounts changes fits))
+    ∙ greatest_step (form coeffs amounts) (form coeffs changes) (rises coeffs reservations)
 
 -- ---- the extremes by a spread
 
-pub least_by_spread : (coeffs amounts : List ℤ) (pending : List (List ℤ)) (spread : Spread) (f z : ℤ) → IsCovered coeffs amounts → IsSpread coeffs pending spread
-    → f ≡ form coeffs amounts → z ≡ f +ℤ spread.falls → z ≡ least coeffs amounts pending
-least_by_spread coeffs amounts pending spread f z covered known is sum = omega (arith, ints, known.0, least_is coeffs amounts pending covered)
+pub least_by_spread : (coeffs amounts : List ℤ) (reservations : List (List ℤ)) (spread : Spread) (f z : ℤ) → IsCovered coeffs amounts → IsSpread coeffs reservations spread
+    → f ≡ form coeffs amounts → z ≡ f +ℤ spread.falls → z ≡ least coeffs amounts reservations
+least_by_spread coeffs amounts reservations spread f z covered known is sum = omega (arith, ints, known.0, least_is coeffs amounts reservations covered)
 
-pub greatest_by_spread : (coeffs amounts : List ℤ) (pending : List (List ℤ)) (spread : Spread) (f z : ℤ) → IsCovered coeffs amounts → IsSpread coeffs pending spread
-    → f ≡ form coeffs amounts → z ≡ f +ℤ spread.rises → z ≡ greatest coeffs amounts pending
-greatest_by_spread coeffs amounts pending spread f z covered known is sum = omega (arith, ints, known.1, greatest_is coeffs amounts pending covered)
+pub greatest_by_spread : (coeffs amounts : List ℤ) (reservations : List (List ℤ)) (spread : Spread) (f z : ℤ) → IsCovered coeffs amounts → IsSpread coeffs reservations spread
+    → f ≡ form coeffs amounts → z ≡ f +ℤ spread.rises → z ≡ greatest coeffs amounts reservations
+greatest_by_spread coeffs amounts reservations spread f z covered known is sum = omega (arith, ints, known.1, greatest_is coeffs amounts reservations covered)
 
 -- what is broken, by a spread
-pub broken_by_spread : (check : Check) (amounts changes : List ℤ) (pending : List (List ℤ)) (spread : Spread) (f low high : ℤ) → IsCovered check.coeffs amounts → IsSpread check.coeffs pending spread
+pub broken_by_spread : (check : Check) (amounts changes : List ℤ) (reservations : List (List ℤ)) (spread : Spread) (f low high : ℤ) → IsCovered check.coeffs amounts → IsSpread check.coeffs reservations spread
     → f ≡ form check.coeffs amounts +ℤ form check.coeffs changes → low ≡ f +ℤ spread.falls → high ≡ f +ℤ spread.rises
     → (found : Option (Side × ℤ × ℤ)) → found ≡ first_broken_of check.span low high
-    → broken_by check amounts changes pending ≡ option_map (λ limit. record { check = check.name; side = limit.0; worst = limit.1; limit = limit.2 }) found
-broken_by_spread check amounts changes pending spread f low high covered known is is_low is_high found at =
+    → broken_by check amounts changes reservations ≡ option_map (λ limit. record { check = check.name; side = limit.0; worst = limit.1; limit = limit.2 }) found
+broken_by_spread check amounts changes reservations spread f low high covered known is is_low is_high found at =
     let with_new = changed amounts changes in
     let covered_new : IsCovered check.coeffs with_new = omega (arith, length-changed amounts changes, covered) in
     let moved : f ≡ form check.coeffs with_new = is ∙ sym (form-changed check.coeffs amounts changes covered) in
-    rw (at, least_by_spread check.coeffs with_new pending spread f low covered_new known moved is_low, greatest_by_spread check.coeffs with_new pending spread f high covered_new known moved is_high) refl
+    rw (at, least_by_spread check.coeffs with_new reservations spread f low covered_new known moved is_low, greatest_by_spread check.coeffs with_new reservations spread f high covered_new known moved is_high) refl

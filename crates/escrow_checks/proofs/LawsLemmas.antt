@@ -1,4 +1,4 @@
-use Rattle.std.proofs.Common.{◌≡◌, ◌<◌, ℤ, pos, ◌+ℤ◌, ◌≤ℤ◌, ◌<ℤ◌, ◌⊎◌, inl, inr, Bool, true, false, cond, not, List, [], ◌∷◌, ◌++◌, length, map, filter, Option, Some, None, refl, ap, ◌∙◌, sym, arith}
+use Rattle.std.proofs.Common.{◌≡◌, ◌<◌, ℤ, pos, ◌+ℤ◌, ◌≤ℤ◌, ◌<ℤ◌, ◌↔◌, ◌⊎◌, inl, inr, Bool, true, false, cond, not, List, [], ◌∷◌, ◌++◌, length, map, filter, Option, Some, None, refl, ap, ◌∙◌, sym, arith}
 use Rattle.std.specs.Prelude.{All, Contains, IfSome, int_lt, option_map}
 use Rattle.std.specs.Int.{int_min, int_max}
 use Rattle.std.proofs.lemmas.Int.{ints, clamps}
@@ -90,20 +90,20 @@ largest_given f (x ∷ y ∷ xs) h =
 
 -- ---- of a form, over the choices of the open reservations
 
-pub some_choice : (coeffs amounts : List ℤ) (pending : List (List ℤ)) → 0 < length (sublists pending)
-some_choice coeffs amounts pending = omega (arith, some_outcome coeffs amounts pending, length-map (sublists pending) (λ chosen. form coeffs (all_changed amounts chosen)))
+pub some_choice : (coeffs amounts : List ℤ) (reservations : List (List ℤ)) → 0 < length (sublists reservations)
+some_choice coeffs amounts reservations = omega (arith, some_outcome coeffs amounts reservations, length-map (sublists reservations) (λ chosen. form coeffs (all_changed amounts chosen)))
 
-pub least_below : (coeffs amounts : List ℤ) (pending : List (List ℤ)) → All (λ chosen. least coeffs amounts pending ≤ℤ form coeffs (all_changed amounts chosen)) (sublists pending)
-least_below coeffs amounts pending = smallest_below (λ chosen. form coeffs (all_changed amounts chosen)) (sublists pending)
+pub least_below : (coeffs amounts : List ℤ) (reservations : List (List ℤ)) → All (λ chosen. least coeffs amounts reservations ≤ℤ form coeffs (all_changed amounts chosen)) (sublists reservations)
+least_below coeffs amounts reservations = smallest_below (λ chosen. form coeffs (all_changed amounts chosen)) (sublists reservations)
 
-pub greatest_above : (coeffs amounts : List ℤ) (pending : List (List ℤ)) → All (λ chosen. form coeffs (all_changed amounts chosen) ≤ℤ greatest coeffs amounts pending) (sublists pending)
-greatest_above coeffs amounts pending = largest_above (λ chosen. form coeffs (all_changed amounts chosen)) (sublists pending)
+pub greatest_above : (coeffs amounts : List ℤ) (reservations : List (List ℤ)) → All (λ chosen. form coeffs (all_changed amounts chosen) ≤ℤ greatest coeffs amounts reservations) (sublists reservations)
+greatest_above coeffs amounts reservations = largest_above (λ chosen. form coeffs (all_changed amounts chosen)) (sublists reservations)
 
-pub least_reached : (coeffs amounts : List ℤ) (pending : List (List ℤ)) → IsReached coeffs amounts pending (least coeffs amounts pending)
-least_reached coeffs amounts pending = smallest_given (λ chosen. form coeffs (all_changed amounts chosen)) (sublists pending) (some_choice coeffs amounts pending)
+pub least_reached : (coeffs amounts : List ℤ) (reservations : List (List ℤ)) → IsReached coeffs amounts reservations (least coeffs amounts reservations)
+least_reached coeffs amounts reservations = smallest_given (λ chosen. form coeffs (all_changed amounts chosen)) (sublists reservations) (some_choice coeffs amounts reservations)
 
-pub greatest_reached : (coeffs amounts : List ℤ) (pending : List (List ℤ)) → IsReached coeffs amounts pending (greatest coeffs amounts pending)
-greatest_reached coeffs amounts pending = largest_given (λ chosen. form coeffs (all_changed amounts chosen)) (sublists pending) (some_choice coeffs amounts pending)
+pub greatest_reached : (coeffs amounts : List ℤ) (reservations : List (List ℤ)) → IsReached coeffs amounts reservations (greatest coeffs amounts reservations)
+greatest_reached coeffs amounts reservations = largest_given (λ chosen. form coeffs (all_changed amounts chosen)) (sublists reservations) (some_choice coeffs amounts reservations)
 
 -- ---- a row always meets a check exactly where the extremes are inside its limits
 
@@ -122,29 +122,29 @@ lower_high (Some hi) x y h k = omega (arith, ints)
 pub inside_moves : (span : Span) (low high low' high' : ℤ) → low ≤ℤ low' → high' ≤ℤ high → Inside span low high → Inside span low' high'
 inside_moves span low high low' high' up down inside = (raise_low span.lo low low' up inside.0, lower_high span.hi high high' down inside.1)
 
-pub always_from_inside : (check : Check) (amounts : List ℤ) (pending : List (List ℤ)) → Inside check.span (least check.coeffs amounts pending) (greatest check.coeffs amounts pending) → AlwaysMeets check amounts pending
-always_from_inside check amounts pending inside = λ k d h.
-    inside_moves check.span _ _ _ _ (least_below check.coeffs amounts pending k d h) (greatest_above check.coeffs amounts pending k d h) inside
+pub always_from_inside : (check : Check) (amounts : List ℤ) (reservations : List (List ℤ)) → Inside check.span (least check.coeffs amounts reservations) (greatest check.coeffs amounts reservations) → AlwaysMeets check amounts reservations
+always_from_inside check amounts reservations inside = λ k d h.
+    inside_moves check.span _ _ _ _ (least_below check.coeffs amounts reservations k d h) (greatest_above check.coeffs amounts reservations k d h) inside
 
-pub inside_from_always : (check : Check) (amounts : List ℤ) (pending : List (List ℤ)) → AlwaysMeets check amounts pending → Inside check.span (least check.coeffs amounts pending) (greatest check.coeffs amounts pending)
-inside_from_always check amounts pending always =
-    let low = least_reached check.coeffs amounts pending in
-    let high = greatest_reached check.coeffs amounts pending in
-    let at_low : Meets check (all_changed amounts low.0) = All-contains (λ chosen. Meets check (all_changed amounts chosen)) (sublists pending) low.0 always low.1 in
-    let at_high : Meets check (all_changed amounts high.0) = All-contains (λ chosen. Meets check (all_changed amounts chosen)) (sublists pending) high.0 always high.1 in
+pub inside_from_always : (check : Check) (amounts : List ℤ) (reservations : List (List ℤ)) → AlwaysMeets check amounts reservations → Inside check.span (least check.coeffs amounts reservations) (greatest check.coeffs amounts reservations)
+inside_from_always check amounts reservations always =
+    let low = least_reached check.coeffs amounts reservations in
+    let high = greatest_reached check.coeffs amounts reservations in
+    let at_low : Meets check (all_changed amounts low.0) = All-contains (λ chosen. Meets check (all_changed amounts chosen)) (sublists reservations) low.0 always low.1 in
+    let at_high : Meets check (all_changed amounts high.0) = All-contains (λ chosen. Meets check (all_changed amounts chosen)) (sublists reservations) high.0 always high.1 in
     (raise_low check.span.lo _ _ (omega (arith, ints, low.2)) at_low.0, lower_high check.span.hi _ _ (omega (arith, ints, high.2)) at_high.1)
 
 -- the same by the sums of falls and of rises
-pub always_from_sums : (check : Check) (amounts : List ℤ) (pending : List (List ℤ)) → IsCovered check.coeffs amounts
-    → Inside check.span (form check.coeffs amounts +ℤ falls check.coeffs pending) (form check.coeffs amounts +ℤ rises check.coeffs pending) → AlwaysMeets check amounts pending
-always_from_sums check amounts pending covered inside =
-    always_from_inside check amounts pending (rw (least_is check.coeffs amounts pending covered, greatest_is check.coeffs amounts pending covered) inside)
+pub always_from_sums : (check : Check) (amounts : List ℤ) (reservations : List (List ℤ)) → IsCovered check.coeffs amounts
+    → Inside check.span (form check.coeffs amounts +ℤ falls check.coeffs reservations) (form check.coeffs amounts +ℤ rises check.coeffs reservations) → AlwaysMeets check amounts reservations
+always_from_sums check amounts reservations covered inside =
+    always_from_inside check amounts reservations (rw (least_is check.coeffs amounts reservations covered, greatest_is check.coeffs amounts reservations covered) inside)
 
-pub sums_from_always : (check : Check) (amounts : List ℤ) (pending : List (List ℤ)) → IsCovered check.coeffs amounts
-    → AlwaysMeets check amounts pending → Inside check.span (form check.coeffs amounts +ℤ falls check.coeffs pending) (form check.coeffs amounts +ℤ rises check.coeffs pending)
-sums_from_always check amounts pending covered always =
-    let inside = inside_from_always check amounts pending always in
-    rw (least_is check.coeffs amounts pending covered, greatest_is check.coeffs amounts pending covered) at inside
+pub sums_from_always : (check : Check) (amounts : List ℤ) (reservations : List (List ℤ)) → IsCovered check.coeffs amounts
+    → AlwaysMeets check amounts reservations → Inside check.span (form check.coeffs amounts +ℤ falls check.coeffs reservations) (form check.coeffs amounts +ℤ rises check.coeffs reservations)
+sums_from_always check amounts reservations covered always =
+    let inside = inside_from_always check amounts reservations always in
+    rw (least_is check.coeffs amounts reservations covered, greatest_is check.coeffs amounts reservations covered) at inside
 
 -- ---- what is granted
 
@@ -169,6 +169,26 @@ inside_from_unbroken span low high e =
     let both = both_none (low_broken span.lo low) (high_broken span.hi high) e in
     (unbroken_low span.lo low both.0, unbroken_high span.hi high both.1)
 
+low_from_inside : (o : Option ℤ) (low : ℤ) → IfSome o (λ lo. lo ≤ℤ low) → low_broken o low ≡ None
+low_from_inside None low inside = refl
+low_from_inside (Some lo) low inside = grind (arith, ints)
+
+high_from_inside : (o : Option ℤ) (high : ℤ) → IfSome o (λ hi. high ≤ℤ hi) → high_broken o high ≡ None
+high_from_inside None high inside = refl
+high_from_inside (Some hi) high inside = grind (arith, ints)
+
+pub granted_where_always_met : (check : Check) (amounts changes : List ℤ) (reservations : List (List ℤ))
+    → (broken_by check amounts changes reservations ≡ None) ↔ AlwaysMeets check (changed amounts changes) reservations
+granted_where_always_met check amounts changes reservations =
+    let with_new = changed amounts changes in
+    let low = least check.coeffs with_new reservations in
+    let high = greatest check.coeffs with_new reservations in (
+      λ granted. always_from_inside check with_new reservations (inside_from_unbroken check.span low high (map_none _ (first_broken_of check.span low high) granted)),
+      λ always.
+          let inside = inside_from_always check with_new reservations always in
+          rw (low_from_inside check.span.lo low inside.0, high_from_inside check.span.hi high inside.1) refl,
+    )
+
 -- limits that hold with the new reservation, and without it, hold in every case
 inside_both : (o p : Option ℤ) (f d falls rises : ℤ)
     → IfSome o (λ lo. lo ≤ℤ (f +ℤ falls)) → IfSome p (λ hi. (f +ℤ rises) ≤ℤ hi)
@@ -179,19 +199,19 @@ inside_both None (Some hi) f d falls rises a b a' b' = (tt, omega (arith, ints, 
 inside_both (Some lo) None f d falls rises a b a' b' = (omega (arith, ints, clamps), tt)
 inside_both (Some lo) (Some hi) f d falls rises a b a' b' = (omega (arith, ints, clamps), omega (arith, ints, clamps))
 
-pub granted_stays_safe : (check : Check) (amounts changes : List ℤ) (pending : List (List ℤ)) → IsCovered check.coeffs amounts
-    → AlwaysMeets check amounts pending → broken_by check amounts changes pending ≡ None → AlwaysMeets check amounts (pending ++ changes ∷ [])
-granted_stays_safe check amounts changes pending covered always granted =
+pub granted_stays_safe : (check : Check) (amounts changes : List ℤ) (reservations : List (List ℤ)) → IsCovered check.coeffs amounts
+    → AlwaysMeets check amounts reservations → broken_by check amounts changes reservations ≡ None → AlwaysMeets check amounts (reservations ++ changes ∷ [])
+granted_stays_safe check amounts changes reservations covered always granted =
     let coeffs = check.coeffs in
     let with_new = changed amounts changes in
     let covered_new : IsCovered coeffs with_new = omega (arith, length-changed amounts changes, covered) in
-    let old = sums_from_always check amounts pending covered always in
-    let unbroken = map_none _ (first_broken_of check.span (least coeffs with_new pending) (greatest coeffs with_new pending)) granted in
-    let inside = inside_from_unbroken check.span (least coeffs with_new pending) (greatest coeffs with_new pending) unbroken in
-    let new = rw (least_is coeffs with_new pending covered_new, greatest_is coeffs with_new pending covered_new, form-changed coeffs amounts changes covered) at inside in
-    always_from_sums check amounts (pending ++ changes ∷ []) covered
-    (rw (falls-push coeffs pending changes, rises-push coeffs pending changes)
-    (inside_both check.span.lo check.span.hi (form coeffs amounts) (form coeffs changes) (falls coeffs pending) (rises coeffs pending) old.0 old.1 new.0 new.1))
+    let old = sums_from_always check amounts reservations covered always in
+    let unbroken = map_none _ (first_broken_of check.span (least coeffs with_new reservations) (greatest coeffs with_new reservations)) granted in
+    let inside = inside_from_unbroken check.span (least coeffs with_new reservations) (greatest coeffs with_new reservations) unbroken in
+    let new = rw (least_is coeffs with_new reservations covered_new, greatest_is coeffs with_new reservations covered_new, form-changed coeffs amounts changes covered) at inside in
+    always_from_sums check amounts (reservations ++ changes ∷ []) covered
+    (rw (falls-push coeffs reservations changes, rises-push coeffs reservations changes)
+    (inside_both check.span.lo check.span.hi (form coeffs amounts) (form coeffs changes) (falls coeffs reservations) (rises coeffs reservations) old.0 old.1 new.0 new.1))
 
 -- ---- what is refused
 
@@ -221,27 +241,27 @@ high_beyond span (Some hi) high found is e =
     let above : hi <ℤ high = grind (arith, ints, known.0) in
     rw (← known.1) (refl, (is, above))
 
-reached_at : (coeffs amounts : List ℤ) (pending : List (List ℤ)) (y z : ℤ) → z ≡ y → IsReached coeffs amounts pending y → IsReached coeffs amounts pending z
-reached_at coeffs amounts pending y z e h = (h.0, h.1, h.2 ∙ sym e)
+reached_at : (coeffs amounts : List ℤ) (reservations : List (List ℤ)) (y z : ℤ) → z ≡ y → IsReached coeffs amounts reservations y → IsReached coeffs amounts reservations z
+reached_at coeffs amounts reservations y z e h = (h.0, h.1, h.2 ∙ sym e)
 
-found_is_reached : (span : Span) (coeffs with_new : List ℤ) (pending : List (List ℤ)) (found : Side × ℤ × ℤ)
-    → first_broken_of span (least coeffs with_new pending) (greatest coeffs with_new pending) ≡ Some found
-    → IsBeyond span found.0 found.1 found.2 × IsReached coeffs with_new pending found.1
-found_is_reached span coeffs with_new pending found e =
-    let low = least coeffs with_new pending in
-    let high = greatest coeffs with_new pending in
+found_is_reached : (span : Span) (coeffs with_new : List ℤ) (reservations : List (List ℤ)) (found : Side × ℤ × ℤ)
+    → first_broken_of span (least coeffs with_new reservations) (greatest coeffs with_new reservations) ≡ Some found
+    → IsBeyond span found.0 found.1 found.2 × IsReached coeffs with_new reservations found.1
+found_is_reached span coeffs with_new reservations found e =
+    let low = least coeffs with_new reservations in
+    let high = greatest coeffs with_new reservations in
     elim (one_of_two (low_broken span.lo low) (high_broken span.hi high) found e) [
-      | inl at ↦ let known = low_beyond span span.lo low found refl at in (known.1, reached_at coeffs with_new pending low found.1 known.0 (least_reached coeffs with_new pending))
-      | inr at ↦ let known = high_beyond span span.hi high found refl at in (known.1, reached_at coeffs with_new pending high found.1 known.0 (greatest_reached coeffs with_new pending))
+      | inl at ↦ let known = low_beyond span span.lo low found refl at in (known.1, reached_at coeffs with_new reservations low found.1 known.0 (least_reached coeffs with_new reservations))
+      | inr at ↦ let known = high_beyond span span.hi high found refl at in (known.1, reached_at coeffs with_new reservations high found.1 known.0 (greatest_reached coeffs with_new reservations))
     ]
 
-pub refused_names_a_choice : (check : Check) (amounts changes : List ℤ) (pending : List (List ℤ)) (breach : Breach)
-    → broken_by check amounts changes pending ≡ Some breach
-    → (breach.check ≡ check.name) × IsBeyond check.span breach.side breach.worst breach.limit × IsReached check.coeffs (changed amounts changes) pending breach.worst
-refused_names_a_choice check amounts changes pending breach refused =
+pub refused_names_a_choice : (check : Check) (amounts changes : List ℤ) (reservations : List (List ℤ)) (breach : Breach)
+    → broken_by check amounts changes reservations ≡ Some breach
+    → (breach.check ≡ check.name) × IsBeyond check.span breach.side breach.worst breach.limit × IsReached check.coeffs (changed amounts changes) reservations breach.worst
+refused_names_a_choice check amounts changes reservations breach refused =
     let with_new = changed amounts changes in
-    let found = map_some _ (first_broken_of check.span (least check.coeffs with_new pending) (greatest check.coeffs with_new pending)) breach refused in
-    let known = found_is_reached check.span check.coeffs with_new pending found.0 found.1 in
+    let found = map_some _ (first_broken_of check.span (least check.coeffs with_new reservations) (greatest check.coeffs with_new reservations)) breach refused in
+    let known = found_is_reached check.span check.coeffs with_new reservations found.0 found.1 in
     rw found.2 (refl, known.0, known.1)
 
 -- ---- ends of reservations: the sums move inwards
@@ -311,47 +331,47 @@ any_choice_can_stay check amounts changes_of stays held covered always =
 
 -- ---- reservations of other rows
 
-pub other_rows_stay_safe : (check : Check) (amounts : List ℤ) (pending : List (List ℤ)) → IsCovered check.coeffs amounts
-    → AlwaysMeets check amounts pending → AlwaysMeets check amounts (pending ++ [] ∷ [])
-other_rows_stay_safe check amounts pending covered always =
+pub other_rows_stay_safe : (check : Check) (amounts : List ℤ) (reservations : List (List ℤ)) → IsCovered check.coeffs amounts
+    → AlwaysMeets check amounts reservations → AlwaysMeets check amounts (reservations ++ [] ∷ [])
+other_rows_stay_safe check amounts reservations covered always =
     let coeffs = check.coeffs in
     let none = form-none coeffs in
-    always_from_sums check amounts (pending ++ [] ∷ []) covered
+    always_from_sums check amounts (reservations ++ [] ∷ []) covered
     (inside_moves check.span _ _ _ _
-    (omega (arith, ints, clamps, falls-push coeffs pending [], none)) (omega (arith, ints, clamps, rises-push coeffs pending [], none))
-    (sums_from_always check amounts pending covered always))
+    (omega (arith, ints, clamps, falls-push coeffs reservations [], none)) (omega (arith, ints, clamps, rises-push coeffs reservations [], none))
+    (sums_from_always check amounts reservations covered always))
 
-falls-none : (coeffs : List ℤ) (pending : List (List ℤ)) → All (λ changes. changes ≡ []) pending → falls coeffs pending ≡ pos 0
+falls-none : (coeffs : List ℤ) (reservations : List (List ℤ)) → All (λ changes. changes ≡ []) reservations → falls coeffs reservations ≡ pos 0
 falls-none coeffs [] all = refl
-falls-none coeffs (changes ∷ pending) all =
-    let first : changes ≡ [] = All-head (λ changes. changes ≡ []) changes pending all in
+falls-none coeffs (changes ∷ reservations) all =
+    let first : changes ≡ [] = All-head (λ changes. changes ≡ []) changes reservations all in
     let none : form coeffs changes ≡ pos 0 = ap (form coeffs) first ∙ form-none coeffs in
-    omega (arith, ints, clamps, falls-none coeffs pending (All-tail (λ changes. changes ≡ []) changes pending all), none)
+    omega (arith, ints, clamps, falls-none coeffs reservations (All-tail (λ changes. changes ≡ []) changes reservations all), none)
 
-rises-none : (coeffs : List ℤ) (pending : List (List ℤ)) → All (λ changes. changes ≡ []) pending → rises coeffs pending ≡ pos 0
+rises-none : (coeffs : List ℤ) (reservations : List (List ℤ)) → All (λ changes. changes ≡ []) reservations → rises coeffs reservations ≡ pos 0
 rises-none coeffs [] all = refl
-rises-none coeffs (changes ∷ pending) all =
-    let first : changes ≡ [] = All-head (λ changes. changes ≡ []) changes pending all in
+rises-none coeffs (changes ∷ reservations) all =
+    let first : changes ≡ [] = All-head (λ changes. changes ≡ []) changes reservations all in
     let none : form coeffs changes ≡ pos 0 = ap (form coeffs) first ∙ form-none coeffs in
-    omega (arith, ints, clamps, rises-none coeffs pending (All-tail (λ changes. changes ≡ []) changes pending all), none)
+    omega (arith, ints, clamps, rises-none coeffs reservations (All-tail (λ changes. changes ≡ []) changes reservations all), none)
 
-pub new_row_is_safe : (check : Check) (amounts : List ℤ) (pending : List (List ℤ)) → IsCovered check.coeffs amounts
-    → broken_by check amounts [] [] ≡ None → All (λ changes. changes ≡ []) pending → AlwaysMeets check amounts pending
-new_row_is_safe check amounts pending covered granted all =
+pub new_row_is_safe : (check : Check) (amounts : List ℤ) (reservations : List (List ℤ)) → IsCovered check.coeffs amounts
+    → broken_by check amounts [] [] ≡ None → All (λ changes. changes ≡ []) reservations → AlwaysMeets check amounts reservations
+new_row_is_safe check amounts reservations covered granted all =
     let coeffs = check.coeffs in
     let same = changed amounts [] in
     let unbroken = map_none _ (first_broken_of check.span (least coeffs same []) (greatest coeffs same [])) granted in
     let inside = inside_from_unbroken check.span (least coeffs same []) (greatest coeffs same []) unbroken in
     let moved = form-changed coeffs amounts [] covered in
     let none = form-none coeffs in
-    always_from_sums check amounts pending covered
+    always_from_sums check amounts reservations covered
     (inside_moves check.span _ _ _ _
-    (omega (arith, ints, falls-none coeffs pending all, moved, none)) (omega (arith, ints, rises-none coeffs pending all, moved, none))
+    (omega (arith, ints, falls-none coeffs reservations all, moved, none)) (omega (arith, ints, rises-none coeffs reservations all, moved, none))
     inside)
 
-pub extremes_are_reached : (coeffs amounts : List ℤ) (pending : List (List ℤ))
-    → All (λ chosen. (least coeffs amounts pending ≤ℤ form coeffs (all_changed amounts chosen)) × (form coeffs (all_changed amounts chosen) ≤ℤ greatest coeffs amounts pending)) (sublists pending)
-    × IsReached coeffs amounts pending (least coeffs amounts pending)
-    × IsReached coeffs amounts pending (greatest coeffs amounts pending)
-extremes_are_reached coeffs amounts pending =
-    (λ k d h. (least_below coeffs amounts pending k d h, greatest_above coeffs amounts pending k d h), least_reached coeffs amounts pending, greatest_reached coeffs amounts pending)
+pub extremes_are_reached : (coeffs amounts : List ℤ) (reservations : List (List ℤ))
+    → All (λ chosen. (least coeffs amounts reservations ≤ℤ form coeffs (all_changed amounts chosen)) × (form coeffs (all_changed amounts chosen) ≤ℤ greatest coeffs amounts reservations)) (sublists reservations)
+    × IsReached coeffs amounts reservations (least coeffs amounts reservations)
+    × IsReached coeffs amounts reservations (greatest coeffs amounts reservations)
+extremes_are_reached coeffs amounts reservations =
+    (λ k d h. (least_below coeffs amounts reservations k d h, greatest_above coeffs amounts reservations k d h), least_reached coeffs amounts reservations, greatest_reached coeffs amounts reservations)

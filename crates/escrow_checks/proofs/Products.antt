@@ -36,15 +36,15 @@ product_within a b m n h k = omega (arith, unsigned_abs-mul a b, mul-le _ _ _ _ 
 
 -- a coefficient times an amount
 pub product_bound : (a b : ℤ) → IsCoefficient a → IsAmount b → IsProduct (a *ℤ b)
-product_bound a b h k = abs_within (a *ℤ b) (10 ^ 21) (product_within a b 1000000 (10 ^ 15) (within_abs a 1000000 (omega (arith, ints, h)) (omega (arith, ints, h))) (within_abs b (10 ^ 15) (omega (arith, ints, k)) (omega (arith, ints, k))))
+product_bound a b h k = abs_within (a *ℤ b) (10 ^ 27) (product_within a b (10 ^ 12) (10 ^ 15) (within_abs a (10 ^ 12) (omega (arith, ints, h)) (omega (arith, ints, h))) (within_abs b (10 ^ 15) (omega (arith, ints, k)) (omega (arith, ints, k))))
 
 -- the same product as 128 bits compute it
 pub product_in_128 : (a b x y r : ℤ) → IsCoefficient a → IsAmount b → x ≡ a → y ≡ b
     → r ≡ to_z w128 (of_z w128 (to_z w128 (of_z w128 x) *ℤ to_z w128 (of_z w128 y))) → r ≡ a *ℤ b
 product_in_128 a b x y r small fits e e' h =
-    let size_a : unsigned_abs a ≤ 1000000 = within_abs a 1000000 (omega (arith, ints, small)) (omega (arith, ints, small)) in
+    let size_a : unsigned_abs a ≤ (10 ^ 12) = within_abs a (10 ^ 12) (omega (arith, ints, small)) (omega (arith, ints, small)) in
     let size_b : unsigned_abs b ≤ 10 ^ 15 = within_abs b (10 ^ 15) (omega (arith, ints, fits)) (omega (arith, ints, fits)) in
     let fits_a : SFits w128 a = fits_signed_from_abs w128 a (omega arith) in
     let fits_b : SFits w128 b = fits_signed_from_abs w128 b (omega arith) in
-    let fits_product : SFits w128 (a *ℤ b) = fits_signed_mul w128 a b 1000000 (10 ^ 15) size_a size_b (omega arith) in
+    let fits_product : SFits w128 (a *ℤ b) = fits_signed_mul w128 a b (10 ^ 12) (10 ^ 15) size_a size_b (omega arith) in
     rw (e, e', to_z-of_z w128 a fits_a, to_z-of_z w128 b fits_b, to_z-of_z w128 (a *ℤ b) fits_product) at h

@@ -30,9 +30,9 @@ amounts-first amounts changes a c some more is is' all =
     (All-head IsAmount (a +ℤ c) (changed (rest_of amounts) (rest_of changes)) all', All-tail IsAmount (a +ℤ c) (changed (rest_of amounts) (rest_of changes)) all')
 
 -- the outcomes without the first reservation, and those with it
-pub outcomes-first : (coeffs amounts : List ℤ) (pending : List (List ℤ)) (first : List ℤ) → 1 ≤ length pending → first ≡ get_or pending 0 first
-    → outcomes coeffs amounts pending ≡ outcomes coeffs amounts (rest_of pending) ++ outcomes coeffs (changed amounts first) (rest_of pending)
+pub outcomes-first : (coeffs amounts : List ℤ) (reservations : List (List ℤ)) (first : List ℤ) → 1 ≤ length reservations → first ≡ get_or reservations 0 first
+    → outcomes coeffs amounts reservations ≡ outcomes coeffs amounts (rest_of reservations) ++ outcomes coeffs (changed amounts first) (rest_of reservations)
 outcomes-first coeffs amounts [] first some is = absurd (omega arith)
-outcomes-first coeffs amounts (changes ∷ pending) first some is =
-    outcomes-cons coeffs amounts changes pending
-    ∙ sym (ap₂ (λ (first : List ℤ) (rest : List (List ℤ)). outcomes coeffs amounts rest ++ outcomes coeffs (changed amounts first) rest) is (rest-cons changes pending))
+outcomes-first coeffs amounts (changes ∷ reservations) first some is =
+    outcomes-cons coeffs amounts changes reservations
+    ∙ sym (ap₂ (λ (first : List ℤ) (rest : List (List ℤ)). outcomes coeffs amounts rest ++ outcomes coeffs (changed amounts first) rest) is (rest-cons changes reservations))

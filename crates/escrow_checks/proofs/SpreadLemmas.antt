@@ -1,59 +1,146 @@
-use Rattle.std.proofs.Common.{◌≡◌, ℕ, ◌+◌, ℤ, pos, ◌+ℤ◌, ◌≤ℤ◌, ◌<ℤ◌, List, [], ◌∷◌, ◌++◌, arith, length-append}
+-- The two sums of a spread, with one reservation more or less, and their bounds.
+use Rattle.std.proofs.Common.{◌≡◌, ℕ, ◌≤◌, ◌<◌, ℤ, pos, ◌+ℤ◌, ◌-ℤ◌, ◌≤ℤ◌, ◌<ℤ◌, List, [], ◌∷◌, ◌++◌, length, arith}
 use Rattle.std.specs.Int.{int_min, int_max}
 use Rattle.std.proofs.lemmas.Int.{ints, clamps}
+use Rattle.std.proofs.lemmas.List.{append-nil}
 use Rattle.escrow_checks.specs.Contribution.{IsContribution, IsFall, IsRise}
 use Rattle.escrow_checks.specs.Form.{form}
-use Rattle.escrow_checks.specs.Spread.{falls, rises, IsSpread}
+use Rattle.escrow_checks.specs.Spread.{falls, rises, AreContributions, IsSpread}
 use Rattle.escrow_checks.specs.declared.spread.Spread.{Spread}
+use Rattle.escrow_checks.specs.declared.spread.TheConstants.Spread.{MAX_OPEN}
 use Rattle.escrow_checks.proofs.FormLemmas.{form-none}
 
--- the sums with one more reservation at the end
-pub falls-push : (coeffs : List ℤ) (pending : List (List ℤ)) (changes : List ℤ) → falls coeffs (pending ++ changes ∷ []) ≡ falls coeffs pending +ℤ int_min (pos 0) (form coeffs changes)
-falls-push coeffs [] changes = omega (arith, ints)
-falls-push coeffs (first ∷ pending) changes = omega (arith, ints, falls-push coeffs pending changes)
+-- ---- the sums with one reservation put among others
 
-pub rises-push : (coeffs : List ℤ) (pending : List (List ℤ)) (changes : List ℤ) → rises coeffs (pending ++ changes ∷ []) ≡ rises coeffs pending +ℤ int_max (pos 0) (form coeffs changes)
-rises-push coeffs [] changes = omega (arith, ints)
-rises-push coeffs (first ∷ pending) changes = omega (arith, ints, rises-push coeffs pending changes)
+pub falls-put : (coeffs : List ℤ) (before after : List (List ℤ)) (changes : List ℤ) → falls coeffs (before ++ changes ∷ after) ≡ falls coeffs (before ++ after) +ℤ int_min (pos 0) (form coeffs changes)
+falls-put coeffs [] after changes = omega (arith, ints)
+falls-put coeffs (first ∷ before) after changes = omega (arith, ints, falls-put coeffs before after changes)
 
--- falls are never above zero, rises never below it
-pub falls_below : (coeffs : List ℤ) (pending : List (List ℤ)) → falls coeffs pending ≤ℤ pos 0
-falls_below coeffs [] = omega (arith, ints)
-falls_below coeffs (changes ∷ pending) = omega (arith, ints, clamps, falls_below coeffs pending)
+pub rises-put : (coeffs : List ℤ) (before after : List (List ℤ)) (changes : List ℤ) → rises coeffs (before ++ changes ∷ after) ≡ rises coeffs (before ++ after) +ℤ int_max (pos 0) (form coeffs changes)
+rises-put coeffs [] after changes = omega (arith, ints)
+rises-put coeffs (first ∷ before) after changes = omega (arith, ints, rises-put coeffs before after changes)
 
-pub rises_above : (coeffs : List ℤ) (pending : List (List ℤ)) → pos 0 ≤ℤ rises coeffs pending
-rises_above coeffs [] = omega (arith, ints)
-rises_above coeffs (changes ∷ pending) = omega (arith, ints, clamps, rises_above coeffs pending)
+contributions-put : (coeffs : List ℤ) (before after : List (List ℤ)) (changes : List ℤ) → AreContributions coeffs (before ++ after) → IsContribution (form coeffs changes) → AreContributions coeffs (before ++ changes ∷ after)
+contributions-put coeffs [] after changes known within = (within, known)
+contributions-put coeffs (first ∷ before) after changes known within = (known.0, contributions-put coeffs before after changes known.1 within)
 
--- one more reservation that lowers the form, and one that doesn't
-pub lowered : (coeffs : List ℤ) (pending : List (List ℤ)) (changes : List ℤ) (low high z : ℤ) → low ≡ falls coeffs pending → high ≡ rises coeffs pending → z ≡ form coeffs changes → z <ℤ pos 0
-    → (low +ℤ z ≡ falls coeffs (pending ++ changes ∷ [])) × (high ≡ rises coeffs (pending ++ changes ∷ []))
-lowered coeffs pending changes low high z is_low is_high same below =
-    (omega (arith, ints, clamps, falls-push coeffs pending changes), omega (arith, ints, clamps, rises-push coeffs pending changes))
+contributions-left : (coeffs : List ℤ) (before after : List (List ℤ)) (changes : List ℤ) → AreContributions coeffs (before ++ changes ∷ after) → AreContributions coeffs (before ++ after)
+contributions-left coeffs [] after changes known = known.1
+contributions-left coeffs (first ∷ before) after changes known = (known.0, contributions-left coeffs before after changes known.1)
 
-pub raised : (coeffs : List ℤ) (pending : List (List ℤ)) (changes : List ℤ) (low high z : ℤ) → low ≡ falls coeffs pending → high ≡ rises coeffs pending → z ≡ form coeffs changes → pos 0 ≤ℤ z
-    → (low ≡ falls coeffs (pending ++ changes ∷ [])) × (high +ℤ z ≡ rises coeffs (pending ++ changes ∷ []))
-raised coeffs pending changes low high z is_low is_high same above =
-    (omega (arith, ints, clamps, falls-push coeffs pending changes), omega (arith, ints, clamps, rises-push coeffs pending changes))
+-- the contribution of the one that is put there
+contribution_put : (coeffs : List ℤ) (before after : List (List ℤ)) (changes : List ℤ) → AreContributions coeffs (before ++ changes ∷ after) → IsContribution (form coeffs changes)
+contribution_put coeffs [] after changes known = known.0
+contribution_put coeffs (first ∷ before) after changes known = contribution_put coeffs before after changes known.1
 
--- a reservation that changes nothing needs no place in the spread
-pub spread_past_nothing : (coeffs : List ℤ) (pending : List (List ℤ)) (spread : Spread) → IsSpread coeffs pending spread → IsSpread coeffs (pending ++ [] ∷ []) spread
-spread_past_nothing coeffs pending spread known = (
-  omega (arith, ints, clamps, falls-push coeffs pending [], form-none coeffs, known.0),
-  omega (arith, ints, clamps, rises-push coeffs pending [], form-none coeffs, known.1),
-  omega (arith, length-append pending ([] ∷ []), known.2),
+-- at the end
+pub falls-push : (coeffs : List ℤ) (reservations : List (List ℤ)) (changes : List ℤ) → falls coeffs (reservations ++ changes ∷ []) ≡ falls coeffs reservations +ℤ int_min (pos 0) (form coeffs changes)
+falls-push coeffs reservations changes = rw append-nil at (falls-put coeffs reservations [] changes)
+
+pub rises-push : (coeffs : List ℤ) (reservations : List (List ℤ)) (changes : List ℤ) → rises coeffs (reservations ++ changes ∷ []) ≡ rises coeffs reservations +ℤ int_max (pos 0) (form coeffs changes)
+rises-push coeffs reservations changes = rw append-nil at (rises-put coeffs reservations [] changes)
+
+-- ---- bounds of the sums
+
+pub falls_within : (coeffs : List ℤ) (reservations : List (List ℤ)) → AreContributions coeffs reservations → IsFall (length reservations) (falls coeffs reservations)
+falls_within coeffs [] known = (omega (arith, ints), omega (arith, ints))
+falls_within coeffs (changes ∷ reservations) known =
+    let rest = falls_within coeffs reservations known.1 in
+    (omega (arith, ints, clamps, rest, known.0), omega (arith, ints, clamps, rest))
+
+pub rises_within : (coeffs : List ℤ) (reservations : List (List ℤ)) → AreContributions coeffs reservations → IsRise (length reservations) (rises coeffs reservations)
+rises_within coeffs [] known = (omega (arith, ints), omega (arith, ints))
+rises_within coeffs (changes ∷ reservations) known =
+    let rest = rises_within coeffs reservations known.1 in
+    (omega (arith, ints, clamps, rest), omega (arith, ints, clamps, rest, known.0))
+
+fall_of_most : (z : ℤ) (count most : ℕ) → count ≤ most → IsFall count z → IsFall most z
+fall_of_most z count most few known = (omega (arith, ints, known), known.1)
+
+rise_of_most : (z : ℤ) (count most : ℕ) → count ≤ most → IsRise count z → IsRise most z
+rise_of_most z count most few known = (known.0, omega (arith, ints, known))
+
+-- two numbers are the sums of reservations
+abbrev pub HasSums : List ℤ → List (List ℤ) → ℤ → ℤ → Type 0
+HasSums coeffs reservations low high = (low ≡ falls coeffs reservations) × (high ≡ rises coeffs reservations) × AreContributions coeffs reservations
+
+-- ---- one reservation more, which contributes z
+
+-- where it lowers the form, the falls have z, and else the rises
+pub lowered : (coeffs : List ℤ) (before after : List (List ℤ)) (changes : List ℤ) (spread : Spread) (low high z : ℤ) → IsContribution z → z ≡ form coeffs changes → z <ℤ pos 0
+    → low ≡ spread.falls +ℤ z → high ≡ spread.rises → IsSpread coeffs (before ++ after) spread → HasSums coeffs (before ++ changes ∷ after) low high
+lowered coeffs before after changes spread low high z within same below is_low is_high known = (
+  omega (arith, ints, clamps, falls-put coeffs before after changes, known.0),
+  omega (arith, ints, clamps, rises-put coeffs before after changes, known.1),
+  contributions-put coeffs before after changes known.2 (omega (arith, ints, within), omega (arith, ints, within)),
 )
 
--- ---- the bounds of the sums, with one more reservation
+pub raised : (coeffs : List ℤ) (before after : List (List ℤ)) (changes : List ℤ) (spread : Spread) (low high z : ℤ) → IsContribution z → z ≡ form coeffs changes → pos 0 ≤ℤ z
+    → low ≡ spread.falls → high ≡ spread.rises +ℤ z → IsSpread coeffs (before ++ after) spread → HasSums coeffs (before ++ changes ∷ after) low high
+raised coeffs before after changes spread low high z within same above is_low is_high known = (
+  omega (arith, ints, clamps, falls-put coeffs before after changes, known.0),
+  omega (arith, ints, clamps, rises-put coeffs before after changes, known.1),
+  contributions-put coeffs before after changes known.2 (omega (arith, ints, within), omega (arith, ints, within)),
+)
 
-pub fall_more : (count : ℕ) (low z : ℤ) → IsFall count low → IsContribution z → z <ℤ pos 0 → IsFall (count + 1) (low +ℤ z)
-fall_more count low z h k below = (omega (arith, ints, h, k), omega (arith, ints, h, k))
+-- a spread that has room for one more
+abbrev pub HasRoom : Spread → Type 0
+HasRoom spread = (coeffs : List ℤ) × (reservations : List (List ℤ)) × IsSpread coeffs reservations spread × (length reservations < MAX_OPEN)
 
-pub rise_more : (count : ℕ) (high z : ℤ) → IsRise count high → IsContribution z → pos 0 ≤ℤ z → IsRise (count + 1) (high +ℤ z)
-rise_more count high z h k above = (omega (arith, ints, h, k), omega (arith, ints, h, k))
+pub fall_more : (spread : Spread) (z : ℤ) → HasRoom spread → IsContribution z → z <ℤ pos 0 → IsFall MAX_OPEN (spread.falls +ℤ z)
+fall_more spread z room within below =
+    let known = falls_within room.0 room.1 room.2.2 in
+    (omega (arith, ints, known, within, room.2.0, room.3), omega (arith, ints, known, room.2.0))
 
-pub fall_kept : (count : ℕ) (low : ℤ) → IsFall count low → IsFall (count + 1) low
-fall_kept count low h = (omega (arith, ints, h), h.1)
+pub rise_more : (spread : Spread) (z : ℤ) → HasRoom spread → IsContribution z → pos 0 ≤ℤ z → IsRise MAX_OPEN (spread.rises +ℤ z)
+rise_more spread z room within above =
+    let known = rises_within room.0 room.1 room.2.2 in
+    (omega (arith, ints, known, room.2.1), omega (arith, ints, known, within, room.2.1, room.3))
 
-pub rise_kept : (count : ℕ) (high : ℤ) → IsRise count high → IsRise (count + 1) high
-rise_kept count high h = (h.0, omega (arith, ints, h))
+-- ---- one reservation less, which contributed z
+
+-- falls are never above zero, rises never below it
+falls_below : (coeffs : List ℤ) (reservations : List (List ℤ)) → falls coeffs reservations ≤ℤ pos 0
+falls_below coeffs [] = omega (arith, ints)
+falls_below coeffs (changes ∷ reservations) = omega (arith, ints, clamps, falls_below coeffs reservations)
+
+rises_above : (coeffs : List ℤ) (reservations : List (List ℤ)) → pos 0 ≤ℤ rises coeffs reservations
+rises_above coeffs [] = omega (arith, ints)
+rises_above coeffs (changes ∷ reservations) = omega (arith, ints, clamps, rises_above coeffs reservations)
+
+pub unlowered : (coeffs : List ℤ) (before after : List (List ℤ)) (changes : List ℤ) (spread : Spread) (low high z : ℤ) → z ≡ form coeffs changes → z <ℤ pos 0
+    → low ≡ spread.falls -ℤ z → high ≡ spread.rises → IsSpread coeffs (before ++ changes ∷ after) spread → HasSums coeffs (before ++ after) low high
+unlowered coeffs before after changes spread low high z same below is_low is_high known = (
+  omega (arith, ints, clamps, falls-put coeffs before after changes, known.0),
+  omega (arith, ints, clamps, rises-put coeffs before after changes, known.1),
+  contributions-left coeffs before after changes known.2,
+)
+
+pub unraised : (coeffs : List ℤ) (before after : List (List ℤ)) (changes : List ℤ) (spread : Spread) (low high z : ℤ) → z ≡ form coeffs changes → pos 0 ≤ℤ z
+    → low ≡ spread.falls → high ≡ spread.rises -ℤ z → IsSpread coeffs (before ++ changes ∷ after) spread → HasSums coeffs (before ++ after) low high
+unraised coeffs before after changes spread low high z same above is_low is_high known = (
+  omega (arith, ints, clamps, falls-put coeffs before after changes, known.0),
+  omega (arith, ints, clamps, rises-put coeffs before after changes, known.1),
+  contributions-left coeffs before after changes known.2,
+)
+
+-- a spread that counts a reservation that contributed z
+abbrev pub HasOne : Spread → ℤ → Type 0
+HasOne spread z = (coeffs : List ℤ) × (before : List (List ℤ)) × (changes : List ℤ) × (after : List (List ℤ)) × IsSpread coeffs (before ++ changes ∷ after) spread × (z ≡ form coeffs changes)
+
+pub fall_less : (spread : Spread) (z : ℤ) → HasOne spread z → IsFall MAX_OPEN spread.falls → z <ℤ pos 0 → IsFall MAX_OPEN (spread.falls -ℤ z)
+fall_less spread z one known below =
+    (omega (arith, ints, known), omega (arith, ints, clamps, falls-put one.0 one.1 one.3 one.2, falls_below one.0 (one.1 ++ one.3), one.4.0, one.5))
+
+pub rise_less : (spread : Spread) (z : ℤ) → HasOne spread z → IsRise MAX_OPEN spread.rises → pos 0 ≤ℤ z → IsRise MAX_OPEN (spread.rises -ℤ z)
+rise_less spread z one known above =
+    (omega (arith, ints, clamps, rises-put one.0 one.1 one.3 one.2, rises_above one.0 (one.1 ++ one.3), one.4.1, one.5), omega (arith, ints, known))
+
+-- ---- a reservation that changes nothing adds nothing
+
+pub adds_nothing : (coeffs : List ℤ) (before after : List (List ℤ)) (spread : Spread) → IsSpread coeffs (before ++ after) spread → IsSpread coeffs (before ++ [] ∷ after) spread
+adds_nothing coeffs before after spread known = (
+  omega (arith, ints, clamps, falls-put coeffs before after [], form-none coeffs, known.0),
+  omega (arith, ints, clamps, rises-put coeffs before after [], form-none coeffs, known.1),
+  contributions-put coeffs before after [] known.2 (omega (arith, ints, form-none coeffs), omega (arith, ints, form-none coeffs)),
+)

@@ -1,21 +1,23 @@
+-- How large the sums of a check can grow. These bounds keep every sum within 128 bits; what is granted
+-- doesn't rest on them.
 use Rattle.std.specs.Prelude.{ℕ, ℤ, pos, neg_ℤ, ◌*◌, ◌^◌, ◌≤ℤ◌}
 
--- a coefficient times an amount: a number of magnitude at most 1,000,000 times 10^15
+-- a coefficient times an amount: a number of magnitude at most 10^12 times 10^15
 abbrev pub IsProduct : ℤ → Type 0
-IsProduct z = (neg_ℤ (pos (10 ^ 21)) ≤ℤ z) × (z ≤ℤ pos (10 ^ 21))
+IsProduct z = (neg_ℤ (pos (10 ^ 27)) ≤ℤ z) × (z ≤ℤ pos (10 ^ 27))
 
 -- what amounts, or changes, come to under a check: a sum of at most ten products
 abbrev pub IsContribution : ℤ → Type 0
-IsContribution z = (neg_ℤ (pos (10 ^ 22)) ≤ℤ z) × (z ≤ℤ pos (10 ^ 22))
+IsContribution z = (neg_ℤ (pos (10 ^ 28)) ≤ℤ z) × (z ≤ℤ pos (10 ^ 28))
 
 -- what a row's amounts and one reservation's changes come to together
 abbrev pub IsFormWithNew : ℤ → Type 0
-IsFormWithNew z = (neg_ℤ (pos (2 * 10 ^ 22)) ≤ℤ z) × (z ≤ℤ pos (2 * 10 ^ 22))
+IsFormWithNew z = (neg_ℤ (pos (2 * 10 ^ 28)) ≤ℤ z) × (z ≤ℤ pos (2 * 10 ^ 28))
 
 -- a sum of so many contributions, none of them above zero
 abbrev pub IsFall : ℕ → ℤ → Type 0
-IsFall count z = (neg_ℤ (pos (10 ^ 22 * count)) ≤ℤ z) × (z ≤ℤ pos 0)
+IsFall count z = (neg_ℤ (pos (10 ^ 28 * count)) ≤ℤ z) × (z ≤ℤ pos 0)
 
 -- a sum of so many contributions, none of them below zero
 abbrev pub IsRise : ℕ → ℤ → Type 0
-IsRise count z = (pos 0 ≤ℤ z) × (z ≤ℤ pos (10 ^ 22 * count))
+IsRise count z = (pos 0 ≤ℤ z) × (z ≤ℤ pos (10 ^ 28 * count))

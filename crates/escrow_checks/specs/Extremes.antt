@@ -5,7 +5,7 @@ use Rattle.escrow_checks.specs.Sublists.{sublists}
 
 -- what the form comes to after each choice of the open reservations, each a list of changes
 abbrev pub outcomes : List ℤ → List ℤ → List (List ℤ) → List ℤ
-outcomes coeffs amounts pending = map (λ chosen. form coeffs (all_changed amounts chosen)) (sublists pending)
+outcomes coeffs amounts reservations = map (λ chosen. form coeffs (all_changed amounts chosen)) (sublists reservations)
 
 -- the smallest of numbers
 abbrev pub smallest : List ℤ → ℤ
@@ -21,8 +21,8 @@ largest (x ∷ y ∷ rest) = int_max x (largest (y ∷ rest))
 
 -- the least that the form comes to, whichever of the open reservations are applied
 abbrev pub least : List ℤ → List ℤ → List (List ℤ) → ℤ
-least coeffs amounts pending = smallest (outcomes coeffs amounts pending)
+least coeffs amounts reservations = smallest (outcomes coeffs amounts reservations)
 
 -- the greatest that the form comes to, whichever of the open reservations are applied
 abbrev pub greatest : List ℤ → List ℤ → List (List ℤ) → ℤ
-greatest coeffs amounts pending = largest (outcomes coeffs amounts pending)
+greatest coeffs amounts reservations = largest (outcomes coeffs amounts reservations)

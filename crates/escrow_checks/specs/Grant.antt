@@ -12,18 +12,18 @@ Meets check amounts = Holds check.span (form check.coeffs amounts)
 
 -- a row meets a check whichever of the open reservations are applied
 abbrev pub AlwaysMeets : Check → List ℤ → List (List ℤ) → Type 0
-AlwaysMeets check amounts pending = All (λ chosen. Meets check (all_changed amounts chosen)) (sublists pending)
+AlwaysMeets check amounts reservations = All (λ chosen. Meets check (all_changed amounts chosen)) (sublists reservations)
 
 -- what a new reservation breaks of a check: the first limit beyond which an extreme lies, over the
 -- choices of the open reservations that hold the new one
 abbrev pub broken_by : Check → List ℤ → List ℤ → List (List ℤ) → Option Breach
-broken_by check amounts changes pending =
+broken_by check amounts changes reservations =
     let with_new = changed amounts changes in
     option_map (λ limit. record { check = check.name; side = limit.0; worst = limit.1; limit = limit.2 })
-    (first_broken_of check.span (least check.coeffs with_new pending) (greatest check.coeffs with_new pending))
+    (first_broken_of check.span (least check.coeffs with_new reservations) (greatest check.coeffs with_new reservations))
 
 -- the grant rule: the first check, in the table's order, that a new reservation breaks; it is
 -- granted where there is none
 abbrev pub broken : List Check → List ℤ → List ℤ → List (List ℤ) → Option Breach
-broken [] amounts changes pending = None
-broken (check ∷ checks) amounts changes pending = first_of_two (broken_by check amounts changes pending) (broken checks amounts changes pending)
+broken [] amounts changes reservations = None
+broken (check ∷ checks) amounts changes reservations = first_of_two (broken_by check amounts changes reservations) (broken checks amounts changes reservations)

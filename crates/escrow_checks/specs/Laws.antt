@@ -1,34 +1,66 @@
-use Rattle.std.specs.Prelude.{◌≡◌, ℤ, ◌≤ℤ◌, ◌<ℤ◌, Bool, not, List, [], ◌∷◌, ◌++◌, map, filter, All, Contains, Some, None}
+-- Believed: the statements of the laws in src/laws.rt.
+use Rattle.std.specs.Prelude.{◌≡◌, ℕ, ℤ, ◌≤◌, ◌≤ℤ◌, ◌<ℤ◌, ◌↔◌, Bool, true, not, List, [], ◌∷◌, ◌++◌, length, map, filter, All, Contains, Some, None, bytes_eq}
+use Rattle.std.specs.List.{list_any, IsDistinct}
 use Rattle.escrow_num.specs.declared.span.Span.{Span}
 use Rattle.escrow_num.specs.declared.span.Side.{Side}
 use Rattle.escrow_num.specs.declared.span.Side.TheVariants.{Low, High}
 use Rattle.escrow_num.specs.declared.refusal.Breach.{Breach}
+use Rattle.escrow_sql.specs.declared.statement.CheckText.{CheckText}
 use Rattle.escrow_checks.specs.declared.check.Check.{Check}
+use Rattle.escrow_checks.specs.declared.condition.TheConstants.{MAX_CHECKS}
 use Rattle.escrow_checks.specs.declared.spread.Spread.{Spread}
+use Rattle.escrow_checks.specs.Checks.{checks_of, unit_of}
+use Rattle.escrow_checks.specs.Condition.{amount_of}
+use Rattle.escrow_checks.specs.Meaning.{MeanTheSame}
 use Rattle.escrow_checks.specs.Form.{form, IsCovered, changed, all_changed}
 use Rattle.escrow_checks.specs.Sublists.{sublists}
 use Rattle.escrow_checks.specs.Extremes.{least, greatest}
 use Rattle.escrow_checks.specs.Spread.{IsSpread}
 use Rattle.escrow_checks.specs.Grant.{AlwaysMeets, broken_by}
 
+-- ---- of the checks that CHECKs declare
+
+-- checks mean what the CHECKs say that declare them
+abbrev pub ChecksMeanTheirTexts : Type 0
+ChecksMeanTheirTexts = (columns : List (List ℕ)) (texts : List CheckText) (checks : List Check) → checks_of columns texts ≡ Some checks → MeanTheSame columns texts checks
+
+-- there is one check for each CHECK, at most 32, each with a coefficient for each column
+abbrev pub ChecksAreWhole : Type 0
+ChecksAreWhole = (columns : List (List ℕ)) (texts : List CheckText) (checks : List Check) → checks_of columns texts ≡ Some checks
+    → (length checks ≡ length texts) × (length checks ≤ MAX_CHECKS) × All (λ check. length check.coeffs ≡ length columns) checks
+
+-- of columns with names of their own, the form of one column's coefficients is its amount
+abbrev pub UnitGivesTheAmount : Type 0
+UnitGivesTheAmount = (columns : List (List ℕ)) (amounts : List ℤ) (name : List ℕ)
+    → IsDistinct bytes_eq columns → length amounts ≡ length columns → list_any (λ column. bytes_eq column name) columns ≡ true
+    → amount_of columns amounts name ≡ Some (form (unit_of columns name) amounts)
+
+-- ---- of extremes and grants
+
 -- some choice of the open reservations brings the form to this value
 abbrev pub IsReached : List ℤ → List ℤ → List (List ℤ) → ℤ → Type 0
-IsReached coeffs amounts pending z = (chosen : List (List ℤ)) × Contains (sublists pending) chosen × (form coeffs (all_changed amounts chosen) ≡ z)
+IsReached coeffs amounts reservations z = (chosen : List (List ℤ)) × Contains (sublists reservations) chosen × (form coeffs (all_changed amounts chosen) ≡ z)
 
 -- every choice brings the form to a value from the least to the greatest, and some choice to each of those two
 abbrev pub ExtremesAreReached : Type 0
-ExtremesAreReached = (coeffs amounts : List ℤ) (pending : List (List ℤ))
-    → All (λ chosen. (least coeffs amounts pending ≤ℤ form coeffs (all_changed amounts chosen)) × (form coeffs (all_changed amounts chosen) ≤ℤ greatest coeffs amounts pending)) (sublists pending)
-    × IsReached coeffs amounts pending (least coeffs amounts pending)
-    × IsReached coeffs amounts pending (greatest coeffs amounts pending)
+ExtremesAreReached = (coeffs amounts : List ℤ) (reservations : List (List ℤ))
+    → All (λ chosen. (least coeffs amounts reservations ≤ℤ form coeffs (all_changed amounts chosen)) × (form coeffs (all_changed amounts chosen) ≤ℤ greatest coeffs amounts reservations)) (sublists reservations)
+    × IsReached coeffs amounts reservations (least coeffs amounts reservations)
+    × IsReached coeffs amounts reservations (greatest coeffs amounts reservations)
+
+-- a new reservation breaks nothing of a check exactly where the row, with the new one applied, meets
+-- the check whichever of the open ones are applied
+abbrev pub GrantedWhereAlwaysMet : Type 0
+GrantedWhereAlwaysMet = (check : Check) (amounts changes : List ℤ) (reservations : List (List ℤ))
+    → (broken_by check amounts changes reservations ≡ None) ↔ AlwaysMeets check (changed amounts changes) reservations
 
 -- what is granted leaves a row that always meets a check a row that always meets it
 abbrev pub GrantedStaysSafe : Type 0
-GrantedStaysSafe = (check : Check) (amounts changes : List ℤ) (pending : List (List ℤ))
+GrantedStaysSafe = (check : Check) (amounts changes : List ℤ) (reservations : List (List ℤ))
     → IsCovered check.coeffs amounts
-    → AlwaysMeets check amounts pending
-    → broken_by check amounts changes pending ≡ None
-    → AlwaysMeets check amounts (pending ++ changes ∷ [])
+    → AlwaysMeets check amounts reservations
+    → broken_by check amounts changes reservations ≡ None
+    → AlwaysMeets check amounts (reservations ++ changes ∷ [])
 
 -- the value lies beyond the limit that the span has on that side
 abbrev pub IsBeyond : Span → Side → ℤ → ℤ → Type 0
@@ -38,39 +70,48 @@ IsBeyond span High worst limit = (span.hi ≡ Some limit) × (limit <ℤ worst)
 -- what is refused names the check, the side and its limit, and a value beyond that limit to which
 -- some choice with the new reservation brings the form
 abbrev pub RefusedNamesAChoice : Type 0
-RefusedNamesAChoice = (check : Check) (amounts changes : List ℤ) (pending : List (List ℤ)) (breach : Breach)
-    → broken_by check amounts changes pending ≡ Some breach
-    → (breach.check ≡ check.name) × IsBeyond check.span breach.side breach.worst breach.limit × IsReached check.coeffs (changed amounts changes) pending breach.worst
+RefusedNamesAChoice = (check : Check) (amounts changes : List ℤ) (reservations : List (List ℤ)) (breach : Breach)
+    → broken_by check amounts changes reservations ≡ Some breach
+    → (breach.check ≡ check.name) × IsBeyond check.span breach.side breach.worst breach.limit × IsReached check.coeffs (changed amounts changes) reservations breach.worst
+
+-- ---- of the ends of reservations
 
 -- whichever of the open reservations are committed, the others left open, the row always meets the check
 abbrev pub AnyChoiceCanCommit : Type 0 → Type 0
-AnyChoiceCanCommit R = (check : Check) (amounts : List ℤ) (changes_of : R → List ℤ) (ends : R → Bool) (held : List R)
+AnyChoiceCanCommit R = (check : Check) (amounts : List ℤ) (changes_of : R → List ℤ) (ends : R → Bool) (reservations : List R)
     → IsCovered check.coeffs amounts
-    → AlwaysMeets check amounts (map changes_of held)
-    → AlwaysMeets check (all_changed amounts (map changes_of (filter ends held))) (map changes_of (filter (λ r. not (ends r)) held))
+    → AlwaysMeets check amounts (map changes_of reservations)
+    → AlwaysMeets check (all_changed amounts (map changes_of (filter ends reservations))) (map changes_of (filter (λ r. not (ends r)) reservations))
 
 -- whichever of the open reservations are dropped, the others left open, the row always meets the check
 abbrev pub AnyChoiceCanRollBack : Type 0 → Type 0
-AnyChoiceCanRollBack R = (check : Check) (amounts : List ℤ) (changes_of : R → List ℤ) (stays : R → Bool) (held : List R)
+AnyChoiceCanRollBack R = (check : Check) (amounts : List ℤ) (changes_of : R → List ℤ) (stays : R → Bool) (reservations : List R)
     → IsCovered check.coeffs amounts
-    → AlwaysMeets check amounts (map changes_of held)
-    → AlwaysMeets check amounts (map changes_of (filter stays held))
+    → AlwaysMeets check amounts (map changes_of reservations)
+    → AlwaysMeets check amounts (map changes_of (filter stays reservations))
+
+-- changes leave the number of amounts
+abbrev pub ChangesKeepTheNumber : Type 0
+ChangesKeepTheNumber = (amounts : List ℤ) (chosen : List (List ℤ)) → length (all_changed amounts chosen) ≡ length amounts
+
+-- ---- of other rows
 
 -- a row that always meets a check still does with one more reservation of another row
 abbrev pub OtherRowsStaySafe : Type 0
-OtherRowsStaySafe = (check : Check) (amounts : List ℤ) (pending : List (List ℤ))
+OtherRowsStaySafe = (check : Check) (amounts : List ℤ) (reservations : List (List ℤ))
     → IsCovered check.coeffs amounts
-    → AlwaysMeets check amounts pending
-    → AlwaysMeets check amounts (pending ++ [] ∷ [])
+    → AlwaysMeets check amounts reservations
+    → AlwaysMeets check amounts (reservations ++ [] ∷ [])
 
 -- a new row that breaks nothing always meets the check: the open reservations are of other rows
 abbrev pub NewRowIsSafe : Type 0
-NewRowIsSafe = (check : Check) (amounts : List ℤ) (pending : List (List ℤ))
+NewRowIsSafe = (check : Check) (amounts : List ℤ) (reservations : List (List ℤ))
     → IsCovered check.coeffs amounts
     → broken_by check amounts [] [] ≡ None
-    → All (λ changes. changes ≡ []) pending
-    → AlwaysMeets check amounts pending
+    → All (λ changes. changes ≡ []) reservations
+    → AlwaysMeets check amounts reservations
 
--- a reservation of another row leaves a spread what it is
+-- a reservation of another row, wherever it stands, leaves a row's spread
 abbrev pub OtherRowsAddNothing : Type 0
-OtherRowsAddNothing = (coeffs : List ℤ) (pending : List (List ℤ)) (spread : Spread) → IsSpread coeffs pending spread → IsSpread coeffs (pending ++ [] ∷ []) spread
+OtherRowsAddNothing = (coeffs : List ℤ) (before after : List (List ℤ)) (spread : Spread)
+    → IsSpread coeffs (before ++ after) spread → IsSpread coeffs (before ++ [] ∷ after) spread

@@ -1,3 +1,4 @@
+pub mod Checks
 pub mod Coefficients
 pub mod Condition
 pub mod Contribution
@@ -6,5 +7,7 @@ pub mod Form
 pub mod Grant
 pub mod Laws
 pub mod Meaning
+pub mod Padded
 pub mod Spread
 pub mod Sublists
+pub mod WrittenName

@@ -1,3 +1,4 @@
+-- Believed: that checks mean what the CHECKs say.
 use Rattle.std.specs.Prelude.{◌≡◌, ℕ, ℤ, ◌↔◌, List, length, All, bytes_eq}
 use Rattle.std.specs.List.{IsDistinct}
 use Rattle.escrow_sql.specs.declared.statement.CheckText.{CheckText}
@@ -6,7 +7,7 @@ use Rattle.escrow_checks.specs.Condition.{MeetsText}
 use Rattle.escrow_checks.specs.Grant.{Meets}
 
 -- of columns with names of their own, a row's amounts meet all the checks exactly where they meet
--- all the conditions as these are written
+-- all the CHECKs as these are written
 abbrev pub MeanTheSame : List (List ℕ) → List CheckText → List Check → Type 0
 MeanTheSame columns texts checks = IsDistinct bytes_eq columns → (amounts : List ℤ) → length amounts ≡ length columns
-    → (All (λ check. Meets check amounts) checks ↔ All (λ text. MeetsText columns amounts text.condition) texts)
+    → (All (λ check. Meets check amounts) checks ↔ All (MeetsText columns amounts) texts)

@@ -1,19 +1,27 @@
-use Rattle.std.specs.Prelude.{◌≡◌, ℤ, pos, ◌+ℤ◌, ◌≤◌, List, [], ◌∷◌, length}
+-- How the extremes are computed without forming a choice: what reservations add, by its sign. The
+-- grant rule is defined without these sums; the calls that take a spread are tied to it by them.
+use Rattle.std.specs.Prelude.{◌≡◌, ℤ, pos, ◌+ℤ◌, List, [], ◌∷◌}
 use Rattle.std.specs.Int.{int_min, int_max}
+use Rattle.std.specs.List.{AllByRecursion}
+use Rattle.escrow_checks.specs.Contribution.{IsContribution}
 use Rattle.escrow_checks.specs.Form.{form}
 use Rattle.escrow_checks.specs.declared.spread.Spread.{Spread}
 
 -- how far reservations can lower the form at most: the sum of what each adds, where that is negative
 abbrev pub falls : List ℤ → List (List ℤ) → ℤ
 falls coeffs [] = pos 0
-falls coeffs (changes ∷ pending) = int_min (pos 0) (form coeffs changes) +ℤ falls coeffs pending
+falls coeffs (changes ∷ reservations) = int_min (pos 0) (form coeffs changes) +ℤ falls coeffs reservations
 
 -- how far reservations can raise the form at most: the sum of what each adds, where that is positive
 abbrev pub rises : List ℤ → List (List ℤ) → ℤ
 rises coeffs [] = pos 0
-rises coeffs (changes ∷ pending) = int_max (pos 0) (form coeffs changes) +ℤ rises coeffs pending
+rises coeffs (changes ∷ reservations) = int_max (pos 0) (form coeffs changes) +ℤ rises coeffs reservations
 
--- a spread is that of these reservations under these coefficients: it has their sums, and counts
--- them, where it need not count those that change nothing
+-- what each reservation adds is within the bound of a contribution
+abbrev pub AreContributions : List ℤ → List (List ℤ) → Type 0
+AreContributions coeffs reservations = AllByRecursion (λ changes. IsContribution (form coeffs changes)) reservations
+
+-- a spread is that of these reservations under these coefficients: it has their two sums
 abbrev pub IsSpread : List ℤ → List (List ℤ) → Spread → Type 0
-IsSpread coeffs pending spread = (spread.falls ≡ falls coeffs pending) × (spread.rises ≡ rises coeffs pending) × (spread.count ≤ length pending)
+IsSpread coeffs reservations spread =
+    (spread.falls ≡ falls coeffs reservations) × (spread.rises ≡ rises coeffs reservations) × AreContributions coeffs reservations

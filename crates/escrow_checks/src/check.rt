@@ -62,12 +62,12 @@ impl Check {
     /// reservations whose spread this is. No choice is formed: O'Neil's `inf` and `sup` (1986) are
     /// the form with the falls, and with the rises.
     pub fn extremes(&self, amounts: &[Amount], spread: &Spread) -> (Wide, Wide)
-        ensures least { (pending : List (List ℤ)) → IsCovered self.now.coeffs amounts.now
-            → IsSpread self.now.coeffs pending spread.now
-            → result.0 ≡ least self.now.coeffs amounts.now pending }
-        ensures greatest { (pending : List (List ℤ)) → IsCovered self.now.coeffs amounts.now
-            → IsSpread self.now.coeffs pending spread.now
-            → result.1 ≡ greatest self.now.coeffs amounts.now pending }
+        ensures least { (reservations : List (List ℤ)) → IsCovered self.now.coeffs amounts.now
+            → IsSpread self.now.coeffs reservations spread.now
+            → result.0 ≡ least self.now.coeffs amounts.now reservations }
+        ensures greatest { (reservations : List (List ℤ)) → IsCovered self.now.coeffs amounts.now
+            → IsSpread self.now.coeffs reservations spread.now
+            → result.1 ≡ greatest self.now.coeffs amounts.now reservations }
         ensures ordered { result.0 ≤ℤ result.1 }
     {
         spread.around(self.form(amounts))
@@ -77,9 +77,9 @@ impl Check {
     /// an extreme lies, over every choice of the open reservations that holds the new one. `None`
     /// where it breaks nothing, which is how it is granted.
     pub fn breach(&self, amounts: &[Amount], changes: &[Amount], spread: &Spread) -> Option<Breach>
-        ensures { (pending : List (List ℤ)) → IsCovered self.now.coeffs amounts.now
-            → IsSpread self.now.coeffs pending spread.now
-            → result ≡ broken_by self.now amounts.now changes.now pending }
+        ensures { (reservations : List (List ℤ)) → IsCovered self.now.coeffs amounts.now
+            → IsSpread self.now.coeffs reservations spread.now
+            → result ≡ broken_by self.now amounts.now changes.now reservations }
     {
         let with_new = self.form(amounts).plus(self.contribution(changes));
         let (least, greatest) = spread.around(with_new);

@@ -1,37 +1,36 @@
-ghost use Rattle.std.specs.Prelude.{◌≡◌, ◌≤◌, ◌++◌, ◌&&◌, if◌then◌else◌, nat_le, length, codes, ℕ, ℤ, List, Some, None, IfOk, IsErr, IsErrOf};
+ghost use Rattle.std.specs.Prelude.{◌≡◌, ◌≤◌, ◌++◌, ◌&&◌, if◌then◌else◌, length, map, codes, ℕ, ℤ, List, Some, None, IfOk, IsErr, IsErrOf};
 ghost use Rattle.std.specs.Fmt.{decimal};
-ghost use Rattle.escrow_checks.specs.Condition.{check_name, declared_check, declared, is_amount, is_limit, span_of};
+ghost use Rattle.escrow_num.specs.Amount.{is_amount};
+ghost use Rattle.escrow_checks.specs.Checks.{check_name, check_of, checks_of, is_limit, span_of};
 ghost use Rattle.escrow_checks.specs.Meaning.{MeanTheSame};
+ghost use Rattle.escrow_checks.specs.WrittenName.{is_written_name};
 
 use crate::check::Check;
 use crate::coefficients::Coefficients;
 use crate::fault::CheckFault;
 use escrow_num::{Amount, Name, Seq, Span, Wide};
-use escrow_sql::{CheckText, Comparison};
+use escrow_sql::{CheckText, Comparison, Word};
 use std::alloc::Global;
 
 /// The most checks that a table declares.
-const MOST_CHECKS: usize = 32;
+pub const MAX_CHECKS: usize = 32;
 
-/// The most bytes of a declared check's name.
-const MOST_BYTES: usize = 30;
-
-/// The checks of a table's conditions, in their order, over its RESERVABLE columns. Each is named as
-/// it is written, or `CHECK_` and its place. [`CheckFault::Definition`] where there are more than 32,
-/// or a condition names another column, has a limit of more than 15 digits (after `<` or `>` moved
-/// it by one), or a name of more than 30 bytes.
+/// The checks of a table's CHECKs, in their order, over its RESERVABLE columns. Each is named as it
+/// is written, or `CHECK_` and its place. [`CheckFault::Definition`] where there are more than
+/// [`MAX_CHECKS`], or a condition names another column, has a limit of more than 15 digits (after
+/// `<` or `>` moved it by one), or a name that no statement can write.
 pub fn normalise(
     alloc: Global,
-    texts: &[CheckText],
+    texts: &[&CheckText],
     columns: &[Name],
 ) -> Result<Seq<Check>, CheckFault>
-    requires { length columns.now ≤ 10 }
-    ensures ok { IfOk result (λ checks. declared columns.now texts.now ≡ Some checks) }
-    ensures meaning { IfOk result (MeanTheSame columns.now texts.now) }
-    ensures definition { IsErrOf result CheckFault.Definition → declared columns.now texts.now ≡ None }
-    ensures broken { declared columns.now texts.now ≡ None → IsErr result }
+    requires { length columns.now ≤ Coefficients.MAX_LEN }
+    ensures ok { IfOk result (λ checks. checks_of columns.now (map (λ text. text.now) texts.now) ≡ Some checks) }
+    ensures meaning { IfOk result (MeanTheSame columns.now (map (λ text. text.now) texts.now)) }
+    ensures definition { IsErrOf result CheckFault.Definition → checks_of columns.now (map (λ text. text.now) texts.now) ≡ None }
+    ensures broken { checks_of columns.now (map (λ text. text.now) texts.now) ≡ None → IsErr result }
 {
-    if MOST_CHECKS < texts.len() {
+    if MAX_CHECKS < texts.len() {
         return Err(CheckFault::Definition);
     }
     let mut checks = Seq::new(alloc);
@@ -44,11 +43,11 @@ pub fn normalise(
     Ok(checks)
 }
 
-/// The check of a condition, at its place among those of its table.
+/// The check of a CHECK, at its place among those of its table.
 fn check_of(text: &CheckText, columns: &[Name], place: usize) -> Option<Check>
-    requires few { length columns.now ≤ 10 }
-    requires placed { place ≤ 32 }
-    ensures { result ≡ declared_check columns.now text.now place }
+    requires few { length columns.now ≤ Coefficients.MAX_LEN }
+    requires placed { place ≤ MAX_CHECKS }
+    ensures { result ≡ check_of columns.now text.now place }
 {
     let condition = text.condition;
     if !columns.contains(&condition.column) {
@@ -99,26 +98,36 @@ fn at_least(number: i64) -> Option<Span>
     })
 }
 
-/// The name of a check at its place, or `None` past 30 bytes.
+/// The name of a check at its place, or `None` where no statement can write it.
 fn name_of(text: &CheckText, place: usize) -> Option<Name>
-    requires { place ≤ 32 }
+    requires { place ≤ MAX_CHECKS }
     ensures { let name = check_name text.now place in
-        result ≡ (if nat_le (length name) 30 then Some name else None) }
+        result ≡ (if is_written_name name then Some name else None) }
 {
     let name = match text.name {
         Some(name) => name,
         None => numbered(place),
     };
-    if name.as_bytes().len() <= MOST_BYTES {
+    if is_written_name(&name) {
         Some(name)
     } else {
         None
     }
 }
 
+/// Whether a statement can write the name: it has at most [`Name::MAX_WRITTEN`] bytes, and is no
+/// reserved word.
+#[tactic(auto, unfolding(crate::specs::WrittenName::is_written_name))]
+pub fn is_written_name(name: &Name) -> bool
+    ensures { result ≡ is_written_name name.now }
+{
+    let text = name.as_bytes();
+    text.len() <= Name::MAX_WRITTEN && Word::of(text).is_none()
+}
+
 /// `CHECK_` and a place.
 fn numbered(place: usize) -> Name
-    requires { place ≤ 32 }
+    requires { place ≤ MAX_CHECKS }
     ensures { result ≡ codes "CHECK_" ++ decimal place }
 {
     let ones = b'0' + (place % 10) as u8;

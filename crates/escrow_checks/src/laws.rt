@@ -1,12 +1,34 @@
-//! Laws of the grant rule: facts about its definitions, each the contract of a function that does
-//! nothing. What keeps a database's state valid stands on them.
+//! Laws of checks and of the grant rule: facts about their definitions, each the contract of a
+//! function that does nothing. What keeps a database's state valid stands on them.
 
-ghost use Rattle.escrow_checks.specs.Laws.{ExtremesAreReached, GrantedStaysSafe, RefusedNamesAChoice, AnyChoiceCanCommit, AnyChoiceCanRollBack, OtherRowsStaySafe, NewRowIsSafe, OtherRowsAddNothing};
+ghost use Rattle.escrow_checks.specs.Laws.{ChecksMeanTheirTexts, ChecksAreWhole, UnitGivesTheAmount, ExtremesAreReached, GrantedWhereAlwaysMet, GrantedStaysSafe, RefusedNamesAChoice, AnyChoiceCanCommit, AnyChoiceCanRollBack, ChangesKeepTheNumber, OtherRowsStaySafe, NewRowIsSafe, OtherRowsAddNothing};
+
+/// A row meets all the checks that CHECKs declare exactly where it meets all the CHECKs as they are
+/// written.
+pub fn checks_mean_their_texts()
+    ensures { ChecksMeanTheirTexts }
+{}
+
+/// There is one check for each CHECK, with a coefficient for each RESERVABLE column.
+pub fn checks_are_whole()
+    ensures { ChecksAreWhole }
+{}
+
+/// The form of one column's coefficients is the column's amount.
+pub fn unit_gives_the_amount()
+    ensures { UnitGivesTheAmount }
+{}
 
 /// Every choice of the open reservations brings a form to a value from the least to the greatest,
 /// and some choice brings it to each of the two.
 pub fn extremes_are_reached()
     ensures { ExtremesAreReached }
+{}
+
+/// The grant rule grants exactly where every choice of the open reservations with the new one meets
+/// the check.
+pub fn granted_where_always_met()
+    ensures { GrantedWhereAlwaysMet }
 {}
 
 /// A row that meets a check whichever of the open reservations are applied still does with one more
@@ -31,6 +53,11 @@ pub fn any_choice_can_commit<R>()
 /// check whichever of those are applied.
 pub fn any_choice_can_roll_back<R>()
     ensures { AnyChoiceCanRollBack R }
+{}
+
+/// Changes leave the number of a row's amounts.
+pub fn changes_keep_the_number()
+    ensures { ChangesKeepTheNumber }
 {}
 
 /// A reservation of another row changes nothing of a row that always meets a check.

@@ -4,15 +4,15 @@
 //! Its one contract: a row meets the checks of [`normalise`] exactly where it meets the conditions.
 #![tactic(auto)]
 
-pub mod check;
-pub mod coefficients;
-pub mod condition;
-pub mod fault;
+mod check;
+mod coefficients;
+mod condition;
+mod fault;
 pub mod laws;
-pub mod spread;
+mod spread;
 
 pub use check::Check;
 pub use coefficients::Coefficients;
-pub use condition::normalise;
+pub use condition::{MAX_CHECKS, is_written_name, normalise};
 pub use fault::CheckFault;
 pub use spread::Spread;

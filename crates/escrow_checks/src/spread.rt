@@ -1,6 +1,7 @@
-ghost use Rattle.std.specs.Prelude.{◌≡◌, ℤ, ◌+ℤ◌, ◌≤ℤ◌, ◌+◌, ◌<◌, ◌≤◌, List, [], ◌∷◌, ◌++◌};
+ghost use Rattle.std.specs.Prelude.{◌≡◌, ℤ, ◌+ℤ◌, ◌≤ℤ◌, ◌<◌, List, [], ◌∷◌, ◌++◌, length};
 ghost use Rattle.escrow_checks.specs.Contribution.{IsContribution, IsFormWithNew, IsFall, IsRise};
 ghost use Rattle.escrow_checks.specs.Form.{form};
+ghost use Rattle.escrow_checks.specs.declared.spread.TheConstants.Spread.{MAX_OPEN};
 
 use escrow_num::Wide;
 
@@ -9,56 +10,71 @@ use escrow_num::Wide;
 /// amounts these are O'Neil's `inf` and `sup` (1986).
 #[derive(Clone, Copy, Debug)]
 pub struct Spread {
-    /// How many reservations were counted, at most 16,384.
-    pub count: u32,
     /// The sum of the negative contributions.
     pub falls: Wide,
     /// The sum of the positive contributions.
     pub rises: Wide,
-    ghost counted: { count ≤ 16384 },
-    ghost falls_within: { IsFall count falls },
-    ghost rises_within: { IsRise count rises },
+    ghost falls_within: { IsFall MAX_OPEN falls },
+    ghost rises_within: { IsRise MAX_OPEN rises },
 }
 
 impl Spread {
     ghost use Rattle.escrow_checks.specs.Spread.{IsSpread};
 
     /// The most reservations that are open at a time: 64 sessions, each with at most 256.
-    pub const MOST: u32 = 16384;
+    pub const MAX_OPEN: usize = 16_384;
 
     /// The spread of no reservation.
     pub fn new() -> Self
-        ensures count { result.count ≡ 0 }
-        ensures none { (coeffs : List ℤ) → IsSpread coeffs [] result }
+        ensures { (coeffs : List ℤ) → IsSpread coeffs [] result }
     {
         Spread {
-            count: 0,
             falls: Wide::ZERO,
             rises: Wide::ZERO,
         }
     }
 
-    /// The spread with one more reservation, which contributes so much to the form.
+    /// The spread with one more reservation, which contributes so much to the form, wherever it
+    /// stands among the others.
     pub fn with(self, contribution: Wide) -> Self
-        requires room { self.count < 16384 }
         requires within { IsContribution contribution }
-        ensures count { result.count ≡ self.count + 1 }
-        ensures added { (coeffs : List ℤ) (pending : List (List ℤ)) (changes : List ℤ)
-            → IsSpread coeffs pending self → contribution ≡ form coeffs changes
-            → IsSpread coeffs (pending ++ changes ∷ []) result }
+        requires room { (coeffs : List ℤ) × (reservations : List (List ℤ))
+            × IsSpread coeffs reservations self × (length reservations < Spread.MAX_OPEN) }
+        ensures added { (coeffs : List ℤ) (before after : List (List ℤ)) (changes : List ℤ)
+            → IsSpread coeffs (before ++ after) self → contribution ≡ form coeffs changes
+            → IsSpread coeffs (before ++ changes ∷ after) result }
     {
-        let count = self.count + 1;
         if contribution < Wide::ZERO {
             Spread {
-                count,
                 falls: self.falls.plus(contribution),
                 rises: self.rises,
             }
         } else {
             Spread {
-                count,
                 falls: self.falls,
                 rises: self.rises.plus(contribution),
+            }
+        }
+    }
+
+    /// The spread without one of its reservations, which contributes so much to the form, wherever
+    /// it stands among the others.
+    pub fn without(self, contribution: Wide) -> Self
+        requires contained { (coeffs : List ℤ) × (before : List (List ℤ)) × (changes : List ℤ) × (after : List (List ℤ))
+            × IsSpread coeffs (before ++ changes ∷ after) self × (contribution ≡ form coeffs changes) }
+        ensures removed { (coeffs : List ℤ) (before after : List (List ℤ)) (changes : List ℤ)
+            → IsSpread coeffs (before ++ changes ∷ after) self → contribution ≡ form coeffs changes
+            → IsSpread coeffs (before ++ after) result }
+    {
+        if contribution < Wide::ZERO {
+            Spread {
+                falls: self.falls.minus(contribution),
+                rises: self.rises,
+            }
+        } else {
+            Spread {
+                falls: self.falls,
+                rises: self.rises.minus(contribution),
             }
         }
     }

@@ -68,11 +68,11 @@ pub(super) fn every_outcome(
     alloc: Global,
     check: &Check,
     amounts: &[Amount],
-    pending: &[Seq<Amount>],
+    reservations: &[Seq<Amount>],
 ) -> Result<Seq<Wide>, SlowFault>
-    ensures { IfOk result (λ found. found ≡ outcomes check.now.coeffs amounts.now pending.now) }
+    ensures { IfOk result (λ found. found ≡ outcomes check.now.coeffs amounts.now reservations.now) }
 {
-    match pending {
+    match reservations {
         [] => Ok(Seq::from_vec(Vec::from_slice(alloc, &[check.form(amounts)])?)),
         [first, rest @ ..] => {
             let with_first = changed(alloc, amounts, first.as_slice())?;
@@ -111,12 +111,12 @@ pub(super) fn slow_extremes(
     alloc: Global,
     check: &Check,
     amounts: &[Amount],
-    pending: &[Seq<Amount>],
+    reservations: &[Seq<Amount>],
 ) -> Result<(Wide, Wide), SlowFault>
-    ensures least { IfOk result (λ found. found.0 ≡ least check.now.coeffs amounts.now pending.now) }
-    ensures greatest { IfOk result (λ found. found.1 ≡ greatest check.now.coeffs amounts.now pending.now) }
+    ensures least { IfOk result (λ found. found.0 ≡ least check.now.coeffs amounts.now reservations.now) }
+    ensures greatest { IfOk result (λ found. found.1 ≡ greatest check.now.coeffs amounts.now reservations.now) }
 {
-    let found = every_outcome(alloc, check, amounts, pending)?;
+    let found = every_outcome(alloc, check, amounts, reservations)?;
     Ok((smallest(found.as_slice()), largest(found.as_slice())))
 }
 
@@ -137,12 +137,12 @@ pub(super) fn slow_breach(
     check: &Check,
     amounts: &[Amount],
     changes: &[Amount],
-    pending: &[Seq<Amount>],
+    reservations: &[Seq<Amount>],
 ) -> Result<Option<Breach>, SlowFault>
-    ensures { IfOk result (λ breach. breach ≡ broken_by check.now amounts.now changes.now pending.now) }
+    ensures { IfOk result (λ breach. breach ≡ broken_by check.now amounts.now changes.now reservations.now) }
 {
     let with_new = changed(alloc, amounts, changes)?;
-    let (least, greatest) = slow_extremes(alloc, check, with_new.as_slice(), pending)?;
+    let (least, greatest) = slow_extremes(alloc, check, with_new.as_slice(), reservations)?;
     let Some((side, worst, limit)) = first_broken(check.span, least, greatest) else {
         return Ok(None);
     };

@@ -1,5 +1,6 @@
-ghost use Rattle.std.specs.Prelude.{◌≡◌};
+ghost use Rattle.std.specs.Prelude.{◌≡◌, ◌≤◌, length};
 ghost use Rattle.escrow_checks.specs.Coefficients.{IsCoefficient};
+ghost use Rattle.escrow_checks.specs.Spread.{IsSpread};
 
 use super::slow::{slow_breach, slow_extremes};
 use super::*;
@@ -62,24 +63,33 @@ fn parts(breach: Option<Breach>) -> Option<(Name, Side, Wide, Wide)> {
     breach.map(|breach| (breach.check, breach.side, breach.worst, breach.limit))
 }
 
+/// The spread of reservations.
+fn spread_of(check: &Check, reservations: &[Seq<Amount>]) -> Spread
+    requires { length reservations.now ≤ Spread.MAX_OPEN }
+    ensures { IsSpread check.now.coeffs reservations.now result }
+{
+    let mut spread = Spread::new();
+    for changes in reservations {
+        spread = spread.with(check.contribution(changes.as_slice()));
+    }
+    spread
+}
+
 /// Compares extremes and grant with the slow program, for three open reservations and a new one.
 fn agrees(
     rt: &impl Abort,
     alloc: Global,
     check: &Check,
-    pending: &[Seq<Amount>; 3],
+    reservations: &[Seq<Amount>; 3],
     new: &[i64],
 ) -> Result<(), Fail> {
     let row = amounts(rt, alloc, &[5, 3, -4])?;
     let new = amounts(rt, alloc, new)?;
     let (row, new) = (row.as_slice(), new.as_slice());
-    let spread = Spread::new()
-        .with(check.contribution(pending[0].as_slice()))
-        .with(check.contribution(pending[1].as_slice()))
-        .with(check.contribution(pending[2].as_slice()));
-    let slow = slow_extremes(alloc, check, row, pending)?;
+    let spread = spread_of(check, reservations);
+    let slow = slow_extremes(alloc, check, row, reservations)?;
     assert_eq!(rt; check.extremes(row, &spread), slow);
-    let slow = slow_breach(alloc, check, row, new, pending)?;
+    let slow = slow_breach(alloc, check, row, new, reservations)?;
     assert_eq!(rt; parts(check.breach(row, new, &spread)), parts(slow));
     Ok(())
 }
@@ -90,13 +100,13 @@ fn always_agrees(rt: &impl Abort, alloc: Global, check: &Check) -> Result<(), Fa
     for first in changes {
         for second in changes {
             for third in changes {
-                let pending = [
+                let reservations = [
                     amounts(rt, alloc, first)?,
                     amounts(rt, alloc, second)?,
                     amounts(rt, alloc, third)?,
                 ];
                 for new in changes {
-                    agrees(rt, alloc, check, &pending, new)?;
+                    agrees(rt, alloc, check, &reservations, new)?;
                 }
             }
         }
@@ -117,13 +127,16 @@ fn every_choice_is_covered(rt: HostRuntime) -> Result<(), Fail> {
 }
 
 #[test]
-fn greatest_amounts(rt: HostRuntime) {
+fn greatest_amounts(rt: HostRuntime) -> Result<(), Fail> {
     let check = check(&rt, Coefficients::unit(3, 1));
-    let row = [-999, Amount::LIMIT, 999].map(|value| amount(&rt, value));
-    let spread = Spread::new()
-        .with(check.contribution(&row))
-        .with(check.contribution(&[]));
-    let (least, greatest) = check.extremes(&row, &spread);
+    let row = amounts(&rt, rt.alloc(), &[-999, Amount::MAX, 999])?;
+    let reservations = [
+        amounts(&rt, rt.alloc(), &[-999, Amount::MAX, 999])?,
+        amounts(&rt, rt.alloc(), &[])?,
+    ];
+    let spread = spread_of(&check, &reservations);
+    let (least, greatest) = check.extremes(row.as_slice(), &spread);
     assert_eq!(rt; least.get(), 999_999_999_999_999);
     assert_eq!(rt; greatest.get(), 1_999_999_999_999_998);
+    Ok(())
 }

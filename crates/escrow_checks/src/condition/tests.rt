@@ -25,8 +25,8 @@ fn conditions_give_checks(rt: HostRuntime) -> Result<(), Fail> {
         name: Some(name(&rt, b"B_LOW")),
         condition: text(&rt, b"B", Comparison::Above, 5).condition,
     };
-    let unnamed = text(&rt, b"A", Comparison::Below, Amount::LIMIT);
-    let checks = normalise(rt.alloc(), &[named, unnamed], &columns)?;
+    let unnamed = text(&rt, b"A", Comparison::Below, Amount::MAX);
+    let checks = normalise(rt.alloc(), &[&named, &unnamed], &columns)?;
     let checks = checks.as_slice();
     assert_eq!(rt; checks.len(), 2);
     assert_eq!(rt; checks[0].name.as_bytes(), b"B_LOW".as_slice());
@@ -42,10 +42,10 @@ fn conditions_give_checks(rt: HostRuntime) -> Result<(), Fail> {
 fn limits_past_15_digits(rt: HostRuntime) {
     let columns = [name(&rt, b"A")];
     for past in [
-        text(&rt, b"A", Comparison::Below, -Amount::LIMIT),
-        text(&rt, b"A", Comparison::Above, Amount::LIMIT),
+        text(&rt, b"A", Comparison::Below, -Amount::MAX),
+        text(&rt, b"A", Comparison::Above, Amount::MAX),
     ] {
-        let refused = normalise(rt.alloc(), &[past], &columns);
+        let refused = normalise(rt.alloc(), &[&past], &columns);
         assert!(rt; matches!(refused, Err(CheckFault::Definition)));
     }
 }

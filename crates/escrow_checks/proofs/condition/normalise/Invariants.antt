@@ -1,7 +1,7 @@
-use Rattle.std.proofs.Common.{◌≡◌, ◌+◌, drop}
-use Rattle.escrow_checks.specs.Condition.{declared_from}
+use Rattle.std.proofs.Common.{◌≡◌, ◌+◌, drop, map}
+use Rattle.escrow_checks.specs.Checks.{checks_from}
 use Rattle.escrow_checks.proofs.ConditionLemmas.{after}
 use Rattle.escrow_checks.proofs.condition.normalise.Given as goal
 
 abbrev pub invariant-loop-i : goal.invariant-loop-i
-invariant-loop-i l = declared_from l.columns l.texts 1 ≡ after l.checks (declared_from l.columns (drop l.i l.texts) (l.i + 1))
+invariant-loop-i l = checks_from l.columns (map (λ text. text.now) l.texts) 1 ≡ after l.checks (checks_from l.columns (map (λ text. text.now) (drop l.i l.texts)) (l.i + 1))

@@ -5,13 +5,13 @@ use Rattle.escrow_checks.proofs.ExtremesLemmas.{broken_by_spread}
 use Rattle.escrow_checks.proofs.check.Check.breach.Goals as goal
 
 pub returns-in_err-side : goal.returns-in_err-side
-returns-in_err-side c = λ pending covered known.
+returns-in_err-side c = λ reservations covered known.
     let check = c.args.self.now in
     let is : c.plus-with_new.result ≡ form check.coeffs c.args.amounts.now +ℤ form check.coeffs c.args.changes.now = omega (arith, ints) in
-    c.from_residual.ensures ∙ sym (broken_by_spread check c.args.amounts.now c.args.changes.now pending c.args.spread.now c.plus-with_new.result c.around-least.result.0 c.around-least.result.1 covered known is c.around-least.ensures.least c.around-least.ensures.greatest None (sym c.in_err-side.was ∙ c.first_broken.ensures.first))
+    c.from_residual.ensures ∙ sym (broken_by_spread check c.args.amounts.now c.args.changes.now reservations c.args.spread.now c.plus-with_new.result c.around-least.result.0 c.around-least.result.1 covered known is c.around-least.ensures.least c.around-least.ensures.greatest None (sym c.in_err-side.was ∙ c.first_broken.ensures.first))
 
 pub returns : goal.returns
-returns c = λ pending covered known.
+returns c = λ reservations covered known.
     let check = c.args.self.now in
     let is : c.plus-with_new.result ≡ form check.coeffs c.args.amounts.now +ℤ form check.coeffs c.args.changes.now = omega (arith, ints) in
-    sym (broken_by_spread check c.args.amounts.now c.args.changes.now pending c.args.spread.now c.plus-with_new.result c.around-least.result.0 c.around-least.result.1 covered known is c.around-least.ensures.least c.around-least.ensures.greatest (Some (c.in_ok-side.side, c.in_ok-side.worst, c.in_ok-side.limit)) (sym c.in_ok-side.was ∙ c.first_broken.ensures.first))
+    sym (broken_by_spread check c.args.amounts.now c.args.changes.now reservations c.args.spread.now c.plus-with_new.result c.around-least.result.0 c.around-least.result.1 covered known is c.around-least.ensures.least c.around-least.ensures.greatest (Some (c.in_ok-side.side, c.in_ok-side.worst, c.in_ok-side.limit)) (sym c.in_ok-side.was ∙ c.first_broken.ensures.first))

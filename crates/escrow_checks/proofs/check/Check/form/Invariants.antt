@@ -7,6 +7,6 @@ invariant-loop-coefficient l = record {
   can_next : (goal.iterator-loop-coefficient).can_next l.coefficient-iterator;
   is_finite : (goal.iterator-loop-coefficient).is_finite l.coefficient-iterator;
   rest : l.sum +ℤ form (drop (length l.yielded) l.self.coeffs) (drop (length l.yielded) l.amounts) ≡ form l.self.coeffs l.amounts;
-  low : neg_ℤ (pos (10 ^ 21 * length l.yielded)) ≤ℤ l.sum;
-  high : l.sum ≤ℤ pos (10 ^ 21 * length l.yielded);
+  low : neg_ℤ (pos (10 ^ 27 * length l.yielded)) ≤ℤ l.sum;
+  high : l.sum ≤ℤ pos (10 ^ 27 * length l.yielded);
 }
