@@ -3,7 +3,8 @@ use Rattle.std.proofs.Common.{◌≡◌, ℕ, ◌+◌, ◌<◌, true, Ok, Err, L
 use Rattle.std.proofs.lemmas.List.{append-nil}
 use Rattle.std.proofs.Math.Seq.{take-append_seam, take-append-add, drop-append_seam}
 use Rattle.escrow_sql.specs.declared.token.Token.{Token}
-use Rattle.escrow_sql.specs.Grammar.{Grammar, Sentence, Begins, IsFirstFault, run, ended, whole_of, run_whole, is_predictive}
+use Rattle.escrow_sql.specs.Grammar.{Grammar, Sentence, Begins, IsFirstFault}
+use Rattle.escrow_sql.specs.Predictive.{run, ended, whole_of, run_whole, is_predictive}
 use Rattle.escrow_sql.proofs.Heads.{SameHead}
 use Rattle.escrow_sql.proofs.Reading.{Read}
 use Rattle.escrow_sql.proofs.Sentences.{reads_back}

@@ -5,7 +5,8 @@ use Rattle.std.proofs.lemmas.Bool.{and_parts, not-true, eqb-true, cond-true, con
 use Rattle.escrow_sql.specs.declared.token.Kind.{Kind}
 use Rattle.escrow_sql.specs.declared.token.Token.{Token}
 use Rattle.escrow_sql.specs.Token.{class_of}
-use Rattle.escrow_sql.specs.Grammar.{Grammar, token, nothing, sequence, either, many, Sentence, Repeats, run, and_then, starts, first, more, may_be_empty, apart, is_predictive}
+use Rattle.escrow_sql.specs.Grammar.{Grammar, token, nothing, sequence, either, many, Sentence, Repeats}
+use Rattle.escrow_sql.specs.Predictive.{run, and_then, starts, first, more, may_be_empty, apart, is_predictive}
 use Rattle.escrow_sql.proofs.Heads.{SameHead, starts-same, same_behind}
 use Rattle.escrow_sql.proofs.Reading.{Read, items, items-none, items-unrolled, onto, and_then-Ok, Ok-same, run-shorter}
 

@@ -4,7 +4,7 @@ use Rattle.std.specs.Prelude.{◌==◌, not}
 use Rattle.std.proofs.lemmas.Bool.{or_cases, or_left, or_right, or_parts, or_from, and_parts, not-true, false_from_ne_true, eqb-true}
 use Rattle.escrow_sql.specs.declared.token.Token.{Token}
 use Rattle.escrow_sql.specs.Token.{class_of}
-use Rattle.escrow_sql.specs.Grammar.{has, starts, apart}
+use Rattle.escrow_sql.specs.Predictive.{has, starts, apart}
 
 pub has-front : (a b : List ℕ) (c : ℕ) → has a c ≡ true → has (a ++ b) c ≡ true
 has-front [] b c h = absurd (cc)

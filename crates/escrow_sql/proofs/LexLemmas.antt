@@ -7,7 +7,7 @@ use Rattle.std.proofs.lemmas.Bool.{cases_lt}
 use Rattle.std.proofs.lemmas.Str.{encode_ascii, inside_one, length-encode, len_utf8_bounds}
 use lib.Utf8.{encode}
 use Rattle.escrow_num.specs.Amount.{number_after, number_of}
-use Rattle.escrow_sql.specs.Lex.{text_rest, undoubled}
+use Rattle.escrow_sql.specs.Scan.{text_rest, undoubled}
 
 -- digits only make a number greater
 pub number_after-least : (n : ℕ) (digits : List ℕ) → n ≤ number_after n digits

@@ -5,7 +5,9 @@ pub mod LexLemmas
 pub mod NameLemmas
 pub mod ParseLemmas
 pub mod PieceLemmas
+pub mod Pieces
 pub mod Predictive
+pub mod QuotedLemmas
 pub mod Reading
 pub mod Sentences
 pub mod Slices

@@ -4,51 +4,58 @@ use Rattle.escrow_sql.specs.declared.statement.Request.{Request}
 use Rattle.escrow_sql.specs.declared.lexer.TheConstants.{MAX_TEXT}
 use Rattle.escrow_sql.specs.declared.token.Token.{Token}
 use Rattle.escrow_sql.specs.Token.{AreInOrder, column_at}
-use Rattle.escrow_sql.specs.Lex.{tokens_of}
-use Rattle.escrow_sql.specs.Grammar.{Grammar, Sentence, run_whole}
+use Rattle.escrow_sql.specs.Lex.{IsLexed}
+use Rattle.escrow_sql.specs.Grammar.{Grammar, Sentence}
+use Rattle.escrow_sql.specs.Predictive.{run_whole}
 use Rattle.escrow_sql.specs.Statement.{request}
 use Rattle.escrow_sql.specs.Parser.{Asks, IsFaultColumn}
 use Rattle.escrow_sql.proofs.Faults.{read_sentence, sentence_read, first_fault}
+use Rattle.escrow_sql.proofs.Pieces.{only_lexed, lexed_once, lexed_short}
 use Rattle.escrow_sql.proofs.Predictive.{request-is_predictive}
 use Rattle.escrow_sql.proofs.Reading.{run_whole-leaves}
-use Rattle.escrow_sql.proofs.TokenLemmas.{tokens_of-in_order, in_order-rest, column_at-small}
+use Rattle.escrow_sql.proofs.TokenLemmas.{tokens_in_order, in_order-rest, column_at-small}
 
 -- the column of a fault fits
-pub column_fits : {V : Type 0} (g : Grammar V) (text : List ℕ) (tokens read rest : List Token) → tokens_of text ≡ Ok tokens → read ≡ tokens → run_whole g read ≡ Err rest
+pub column_fits : {V : Type 0} (g : Grammar V) (text : List ℕ) (tokens read rest : List Token) → IsLexed text (Ok tokens) → read ≡ tokens → run_whole g read ≡ Err rest
     → column_at rest (length text) ≤ MAX_TEXT + 1
 column_fits g text tokens read rest h e fault =
-    let order = tokens_of-in_order text tokens h in
+    let short = lexed_short text tokens h in
+    let order = tokens_in_order text tokens (only_lexed text (Ok tokens) short h) in
     let left = run_whole-leaves g read rest fault in
-    let near = in_order-rest left.0 rest 0 (length text) (subst (λ (ts : List Token). AreInOrder 0 (length text) ts) (sym e ∙ left.1) order.1) in
-    column_at-small rest near.0 (length text) order.0 near.1
+    let near = in_order-rest left.0 rest 0 (length text) (subst (λ (ts : List Token). AreInOrder 0 (length text) ts) (sym e ∙ left.1) order) in
+    column_at-small rest near.0 (length text) short near.1
 
 -- what was read is what the text asks
-pub asked : (text : List ℕ) (tokens read : List Token) (r : Request) → tokens_of text ≡ Ok tokens → read ≡ tokens → run_whole request read ≡ Ok r → Asks text r
+pub asked : (text : List ℕ) (tokens read : List Token) (r : Request) → IsLexed text (Ok tokens) → read ≡ tokens → run_whole request read ≡ Ok r → Asks text r
 asked text tokens read r h e ok = (tokens, h, read_sentence request request-is_predictive tokens r (ap (run_whole request) (sym e) ∙ ok))
 
 -- what the text asks is what reading gives
-pub answered : (text : List ℕ) (tokens : List Token) (r : Request) → tokens_of text ≡ Ok tokens → Asks text r → run_whole request tokens ≡ Ok r
+pub answered : (text : List ℕ) (tokens : List Token) (r : Request) → IsLexed text (Ok tokens) → Asks text r → run_whole request tokens ≡ Ok r
 answered text tokens r h a =
-    let both : ◌≡◌ {A = Result (List Token) ℕ} (Ok a.0) (Ok tokens) = sym a.1 ∙ h in
+    let both : ◌≡◌ {A = Result (List Token) ℕ} (Ok a.0) (Ok tokens) = lexed_once text (Ok a.0) (Ok tokens) a.1 h in
     let same : a.0 ≡ tokens = cc in
     sentence_read request request-is_predictive tokens r (subst (λ (ts : List Token). Sentence request ts r) same a.2)
 
 -- where reading stops is the first fault of a text without a lexing fault
-pub fault_column : (text : List ℕ) (tokens read rest : List Token) → tokens_of text ≡ Ok tokens → read ≡ tokens → run_whole request read ≡ Err rest
+pub fault_column : (text : List ℕ) (tokens read rest : List Token) → IsLexed text (Ok tokens) → read ≡ tokens → run_whole request read ≡ Err rest
     → IsFaultColumn text (column_at rest (length text))
 fault_column text tokens read rest h e fault =
     let f = first_fault request request-is_predictive tokens rest (ap (run_whole request) (sym e) ∙ fault) in
     inr (tokens, f.0, h, f.1, ap (λ (ts : List Token). column_at ts (length text)) f.2)
 
 -- a text that asks something has no fault where reading stops, and no lexing fault
-pub not_asked : (text : List ℕ) (tokens read rest : List Token) (r : Request) → tokens_of text ≡ Ok tokens → read ≡ tokens → run_whole request read ≡ Err rest → Asks text r → ⊥
+pub not_asked : (text : List ℕ) (tokens read rest : List Token) (r : Request) → IsLexed text (Ok tokens) → read ≡ tokens → run_whole request read ≡ Err rest → Asks text r → ⊥
 not_asked text tokens read rest r h e fault a =
     let both : ◌≡◌ {A = Result Request (List Token)} (Err rest) (Ok r) = sym fault ∙ (ap (run_whole request) e ∙ answered text tokens r h a) in cc
 
-pub not_lexed : (text : List ℕ) (column : ℕ) (r : Request) → tokens_of text ≡ Err column → Asks text r → ⊥
-not_lexed text column r h a = let both : ◌≡◌ {A = Result (List Token) ℕ} (Err column) (Ok a.0) = sym h ∙ a.1 in cc
+pub not_lexed : (text : List ℕ) (column : ℕ) (r : Request) → IsLexed text (Err column) → Asks text r → ⊥
+not_lexed text column r h a = let both : ◌≡◌ {A = Result (List Token) ℕ} (Err column) (Ok a.0) = lexed_once text (Err column) (Ok a.0) h a.1 in cc
 
 -- two requests that a text asks are the same
-pub asked_same : (text : List ℕ) (tokens read : List Token) (r q : Request) → tokens_of text ≡ Ok tokens → read ≡ tokens → run_whole request read ≡ Ok r → Asks text q → r ≡ q
+pub asked_same : (text : List ℕ) (tokens read : List Token) (r q : Request) → IsLexed text (Ok tokens) → read ≡ tokens → run_whole request read ≡ Ok r → Asks text q → r ≡ q
 asked_same text tokens read r q h e ok a =
     let both : ◌≡◌ {A = Result Request (List Token)} (Ok r) (Ok q) = sym ok ∙ (ap (run_whole request) e ∙ answered text tokens q h a) in cc
+
+pub asks_once : (text : List ℕ) (r q : Request) → Asks text r → Asks text q → r ≡ q
+asks_once text r q a b =
+    let both : ◌≡◌ {A = Result Request (List Token)} (Ok r) (Ok q) = sym (answered text a.0 r a.1 a) ∙ answered text a.0 q a.1 b in cc

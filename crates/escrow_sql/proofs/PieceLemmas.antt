@@ -1,23 +1,24 @@
 -- A piece takes at least one byte, and lies within the text.
-use Rattle.std.proofs.Common.{◌≡◌, ℕ, suc, pos, ◌+◌, ◌-◌, ◌≤◌, ◌<◌, Bool, true, false, cond, Option, Some, None, Result, Ok, Err, List, [], ◌∷◌, length, get_or, drop, take, arith, refl, sym, ap, ◌∙◌, subst, map}
-use Rattle.std.specs.Prelude.{nat_lt, nat_eq, option_map, not, ◌&&◌, position, IfOk}
+use Rattle.std.proofs.Common.{◌≡◌, ℕ, suc, pos, ◌+◌, ◌-◌, ◌≤◌, ◌<◌, Bool, true, false, cond, Some, None, Result, Ok, Err, List, [], ◌∷◌, length, get_or, drop, take, arith, refl, sym, ap, ◌∙◌, subst, map}
+use Rattle.std.specs.Prelude.{nat_lt, nat_eq, not, ◌&&◌, position, IfOk}
 use Rattle.std.specs.declared.alloc.AllocError.{AllocError}
 use Rattle.std.specs.Char.{is_ascii_alphabetic, is_ascii_digit, to_ascii_uppercase}
 use Rattle.std.specs.List.{prefix_len}
 use Rattle.std.proofs.lemmas.Bool.{cond_both}
 use Rattle.std.proofs.lemmas.Bool.Decides.{nat_tests}
-use Rattle.std.proofs.lemmas.List.{length-take-le, length-drop}
+use Rattle.std.proofs.lemmas.List.{length-drop}
 use Rattle.std.proofs.lemmas.List.Sums.{prefix_len-le-length}
-use Rattle.std.proofs.lemmas.List.Quantifiers.{position-Some}
 use Rattle.escrow_num.specs.Amount.{is_amount, number_of}
 use Rattle.escrow_num.specs.declared.name.TheConstants.Name.{MAX_WRITTEN}
 use Rattle.escrow_sql.proofs.NameLemmas.{letter_goes_on}
+use Rattle.escrow_sql.proofs.QuotedLemmas.{text_within}
 use Rattle.escrow_sql.specs.Word.{reserved}
 use Rattle.escrow_sql.specs.declared.lexer.piece.Piece.{Piece}
 use Rattle.escrow_sql.specs.declared.lexer.piece.Piece.TheVariants as piece
 use Rattle.escrow_sql.specs.declared.token.Kind.{Kind}
 use Rattle.escrow_sql.specs.declared.token.Kind.TheVariants as kind
-use Rattle.escrow_sql.specs.Lex.{IsWithin, piece_of, name_piece, number_piece, text_piece, text_from, closed_text, text_rest, undoubled, symbol_piece, goes_on, is_blank, is_forbidden, begins, word_or_name}
+use Rattle.escrow_sql.specs.Lex.{name_piece, number_piece, symbol_piece, goes_on, is_blank, is_forbidden, begins, word_or_name}
+use Rattle.escrow_sql.specs.Scan.{IsWithin, piece_of, text_piece, text_from, closed_text, text_rest, undoubled}
 
 -- a front that begins with a byte that passes
 prefix_len-first : (p : ℕ → Bool) (c : ℕ) (next : List ℕ) → p c ≡ true → 1 ≤ prefix_len p (c ∷ next)
@@ -41,34 +42,6 @@ number_within c next h =
     let all : len ≤ length (c ∷ next) = prefix_len-le-length is_ascii_digit (c ∷ next) in
     cond_both (is_amount (pos value)) (piece.Token (kind.Number (pos value)) len) (piece.Fault 0)
     (IsWithin (length (c ∷ next))) (λ e. (one, all)) (λ e. omega arith)
-
-more_some : (o : Option ℕ) (n : ℕ) → option_map (λ m. m + 1) o ≡ Some n → (k : ℕ) × (o ≡ Some k) × (n ≡ k + 1)
-more_some None n h = absurd (cc)
-more_some (Some k) n h = (k, refl, cc)
-
--- a text's end lies within the bytes
-pub text_rest-within : (closing : Bool) (body : List ℕ) (n : ℕ) → text_rest closing body ≡ Some n → n ≤ length body
-text_rest-within true [] n h = let e : 0 ≡ n = cc in omega arith
-text_rest-within false [] n h = absurd (cc)
-text_rest-within true (c ∷ cs) n h =
-    cond_both (nat_eq c 39) (option_map (λ m. m + 1) (text_rest false cs)) (Some 0) (λ (o : Option ℕ). o ≡ Some n → n ≤ length (c ∷ cs))
-    (λ e q. let m = more_some (text_rest false cs) n q in omega (arith, text_rest-within false cs m.0 m.1, m.2))
-    (λ e q. let z : 0 ≡ n = cc in omega arith) h
-text_rest-within false (c ∷ cs) n h =
-    let m = more_some (text_rest (nat_eq c 39) cs) n h in
-    omega (arith, text_rest-within (nat_eq c 39) cs m.0 m.1, m.2)
-
-forbidden_within : (body : List ℕ) (len : ℕ) → len ≤ length body → (o : Option ℕ) → position is_forbidden (take len body) ≡ o → IsWithin (suc (length body)) (closed_text body len o)
-forbidden_within body len l None h = (omega arith, omega arith)
-forbidden_within body len l (Some k) h = omega (arith, (position-Some is_forbidden (take len body) k 0 h).0, length-take-le len body l)
-
-text_within_from : (body : List ℕ) (o : Option ℕ) → text_rest false body ≡ o → IsWithin (suc (length body)) (text_from body o)
-text_within_from body None h = omega arith
-text_within_from body (Some len) h = forbidden_within body len (text_rest-within false body len h) (position is_forbidden (take len body)) refl
-
-text_within : (body : List ℕ) → IsWithin (suc (length body)) (text_piece body)
-unfolding text_piece
-text_within body = text_within_from body (text_rest false body) refl
 
 equal_within : (a b : Kind) (next : List ℕ) → IsWithin (suc (length next)) (cond (begins 61 next) (piece.Token a 2) (piece.Token b 1))
 equal_within a b [] = (omega arith, omega arith)
@@ -126,11 +99,11 @@ pub open_text : (body : List ℕ) → None ≡ text_rest false body → piece.Fa
 unfolding text_piece
 open_text body h = ap (text_from body) h
 
-pub forbidden_text : (body : List ℕ) (len k : ℕ) → Some len ≡ text_rest false body → Some k ≡ position is_forbidden (take len body) → piece.Fault (1 + k) ≡ text_piece body
+pub forbidden_text : (body : List ℕ) (len k : ℕ) → Some len ≡ text_rest false body → Some k ≡ position is_forbidden (take (len - 1) body) → piece.Fault (1 + k) ≡ text_piece body
 unfolding text_piece
 forbidden_text body len k h e = ap (closed_text body len) e ∙ ap (text_from body) h
 
-pub whole_text : (body copy : List ℕ) (len : ℕ) → Some len ≡ text_rest false body → None ≡ position is_forbidden (take len body)
+pub whole_text : (body copy : List ℕ) (len : ℕ) → Some len ≡ text_rest false body → None ≡ position is_forbidden (take (len - 1) body)
     → copy ≡ undoubled false (take (len - 1) body) → piece.Token (kind.Text copy) (1 + len) ≡ text_piece body
 unfolding text_piece
 whole_text body copy len h e same = ap (λ (t : List ℕ). piece.Token (kind.Text t) (1 + len)) same ∙ (ap (closed_text body len) e ∙ ap (text_from body) h)

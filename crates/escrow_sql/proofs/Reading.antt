@@ -6,7 +6,8 @@ use Rattle.escrow_sql.specs.declared.token.Token.{Token}
 use Rattle.escrow_sql.specs.declared.token.Symbol.TheVariants as symbols
 use Rattle.escrow_sql.specs.declared.token.Kind.TheVariants as kind
 use Rattle.escrow_sql.specs.Token.{class_of}
-use Rattle.escrow_sql.specs.Grammar.{Grammar, token, nothing, sequence, either, many, run, run_many, and_then, starts, first, may_be_empty, ended, whole_of, run_whole}
+use Rattle.escrow_sql.specs.Grammar.{Grammar, token, nothing, sequence, either, many}
+use Rattle.escrow_sql.specs.Predictive.{run, run_many, and_then, starts, first, may_be_empty, ended, whole_of, run_whole}
 use Rattle.escrow_sql.specs.Statement.{list, symbol, ◌then◌}
 
 -- what reading gives: a value and what is left, or what is left from the fault on

@@ -4,7 +4,8 @@ use Rattle.std.specs.Prelude.{◌==◌, ◌&&◌, not, if◌then◌else◌}
 use Rattle.std.proofs.lemmas.Bool.{or_left, or_right, and_parts, and_from, not-true, eq-eqb, cond-true, cond-false}
 use Rattle.escrow_sql.specs.declared.token.Token.{Token}
 use Rattle.escrow_sql.specs.Token.{class_of}
-use Rattle.escrow_sql.specs.Grammar.{Grammar, token, nothing, sequence, either, many, Sentence, Repeats, run, and_then, has, starts, first, more, may_be_empty, apart, is_predictive}
+use Rattle.escrow_sql.specs.Grammar.{Grammar, token, nothing, sequence, either, many, Sentence, Repeats}
+use Rattle.escrow_sql.specs.Predictive.{run, and_then, has, starts, first, more, may_be_empty, apart, is_predictive}
 use Rattle.escrow_sql.proofs.Heads.{has-front, has-back, starts-none, apart-none, cut, none_of_both}
 use Rattle.escrow_sql.proofs.Reading.{Read, items, items-none, items-unrolled, onto}
 

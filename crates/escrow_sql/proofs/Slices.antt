@@ -1,9 +1,9 @@
 -- The bytes of a token, alone, are that token.
-use Rattle.std.proofs.Common.{◌≡◌, ℕ, zero, suc, pos, ◌+◌, ◌-◌, ◌≤◌, Bool, true, false, cond, Option, Some, None, Ok, Err, List, [], ◌∷◌, length, drop, take, arith, refl, sym, ap, ap₂, ◌∙◌, subst, map, inl, inr}
-use Rattle.std.specs.Prelude.{nat_lt, option_map, not, ◌&&◌, ◌==◌, position, if◌then◌else◌, slice_range}
+use Rattle.std.proofs.Common.{◌≡◌, ℕ, zero, suc, pos, ◌+◌, ◌-◌, ◌≤◌, Bool, false, cond, Ok, List, [], ◌∷◌, length, drop, take, arith, refl, sym, ap, ap₂, ◌∙◌, subst, map, inl, inr}
+use Rattle.std.specs.Prelude.{nat_lt, not, ◌&&◌, ◌==◌, if◌then◌else◌, slice_range}
 use Rattle.std.specs.Char.{is_ascii_alphabetic, is_ascii_digit, to_ascii_uppercase}
 use Rattle.std.specs.List.{prefix_len, AllByRecursion}
-use Rattle.std.proofs.lemmas.Bool.{cond_both, cond-true, cond-false, cases_Bool, and_cases, and_left, and_right, eqb-true, le-ltb}
+use Rattle.std.proofs.lemmas.Bool.{cond_both, cond-true, cond-false, cases_Bool, and_cases, and_left, and_right, eqb-true}
 use Rattle.std.proofs.lemmas.List.{length-take-le, length-take, length-drop, drop-drop, get_or-take}
 use Rattle.std.proofs.lemmas.List.Sums.{prefix_len_is, prefix_len-le-length, prefix_len_passes}
 use Rattle.escrow_num.specs.Amount.{is_amount, number_of}
@@ -16,8 +16,11 @@ use Rattle.escrow_sql.specs.declared.token.Kind.{Kind}
 use Rattle.escrow_sql.specs.declared.token.Kind.TheVariants as kind
 use Rattle.escrow_sql.specs.declared.token.Symbol.TheVariants as symbol
 use Rattle.escrow_sql.specs.declared.token.Token.{Token}
-use Rattle.escrow_sql.specs.Lex.{piece_of, name_piece, number_piece, text_piece, text_from, closed_text, text_rest, undoubled, symbol_piece, goes_on, is_blank, is_forbidden, begins, word_or_name, IsWithin, IsItsSlice, tokens_from, tokens_of, with_token}
+use Rattle.escrow_sql.specs.Lex.{name_piece, number_piece, symbol_piece, goes_on, is_blank, begins, word_or_name, IsItsSlice, with_token}
+use Rattle.escrow_sql.specs.Scan.{piece_of, text_piece, IsWithin, tokens_from}
 use Rattle.escrow_sql.proofs.PieceLemmas.{piece_of-within}
+use Rattle.escrow_sql.proofs.Pieces.{is_lexed}
+use Rattle.escrow_sql.proofs.QuotedLemmas.{text_alone}
 use Rattle.escrow_sql.proofs.TokenLemmas.{after, by_piece, tokens_from-piece, with_token-Ok, whole_at_end}
 
 take_front : (m n : ℕ) (xs : List ℕ) → m ≤ n → take m (take n xs) ≡ take m xs
@@ -71,57 +74,6 @@ number_len xs k len h =
     let n = prefix_len is_ascii_digit xs in
     let value = number_of (take n xs) in
     cond_both (is_amount (pos value)) (piece.Token (kind.Number (pos value)) n) (piece.Fault 0) (λ (p : Piece). p ≡ piece.Token k len → len ≡ n) (λ e q. cc) (λ e q. absurd (cc)) h
-
-more_some : (o : Option ℕ) (n : ℕ) → option_map (λ m. m + 1) o ≡ Some n → (k : ℕ) × (o ≡ Some k) × (n ≡ suc k)
-more_some None n h = absurd (cc)
-more_some (Some k) n h = let e : k + 1 ≡ n = cc in (k, refl, omega arith)
-
-doubled_step : (c m n : ℕ) (cs : List ℕ) → (c == 39) ≡ true → n ≡ suc m → text_rest false (take m cs) ≡ Some m → text_rest true (take n (c ∷ cs)) ≡ Some n
-doubled_step c m n cs q e ih = rw e (rw q (ap (option_map (λ m. m + 1)) ih ∙ ap (λ (k : ℕ). Some k) (omega arith)))
-
--- a text's bytes, alone, have its end
-text_rest-alone : (closing : Bool) (body : List ℕ) (n : ℕ) → text_rest closing body ≡ Some n → text_rest closing (take n body) ≡ Some n
-text_rest-alone true [] n h = let e : n ≡ 0 = cc in rw e refl
-text_rest-alone false [] n h = absurd (cc)
-text_rest-alone true (c ∷ cs) n h =
-    elim (cases_Bool (c == 39)) [
-      | inl q ↦
-          let m = more_some (text_rest false cs) n (sym (cond-true (c == 39) (option_map (λ m. m + 1) (text_rest false cs)) (Some 0) q) ∙ h) in
-          doubled_step c m.0 n cs q m.2 (text_rest-alone false cs m.0 m.1)
-      | inr q ↦
-          let e : Some 0 ≡ Some n = sym (cond-false (c == 39) (option_map (λ m. m + 1) (text_rest false cs)) (Some 0) q) ∙ h in
-          let z : n ≡ 0 = cc in rw z refl
-    ]
-text_rest-alone false (c ∷ cs) n h =
-    let m = more_some (text_rest (c == 39) cs) n h in
-    rw m.2 (ap (option_map (λ m. m + 1)) (text_rest-alone (c == 39) cs m.0 m.1) ∙ ap (λ (k : ℕ). Some k) (omega arith))
-
-closed_front : (body : List ℕ) (len : ℕ) (o : Option ℕ) → take (len - 1) (take len body) ≡ take (len - 1) body → closed_text (take len body) len o ≡ closed_text body len o
-closed_front body len None f = ap (λ (front : List ℕ). piece.Token (kind.Text (undoubled false front)) (1 + len)) f
-closed_front body len (Some k) f = refl
-
-closed_alone : (body : List ℕ) (len : ℕ) → closed_text (take len body) len (position is_forbidden (take len (take len body))) ≡ closed_text body len (position is_forbidden (take len body))
-closed_alone body len =
-    let e = take_front len len body (omega arith) in
-    let f = take_front (len - 1) len body (omega arith) in
-    ap (λ (front : List ℕ). closed_text (take len body) len (position is_forbidden front)) e
-    ∙ closed_front body len (position is_forbidden (take len body)) f
-
-closed_len : (body : List ℕ) (n : ℕ) (o : Option ℕ) (k : Kind) (len : ℕ) → closed_text body n o ≡ piece.Token k len → len ≡ 1 + n
-closed_len body n None k len h = cc
-closed_len body n (Some place) k len h = absurd (cc)
-
-text_alone_at : (body : List ℕ) (o : Option ℕ) (k : Kind) (len : ℕ) → text_rest false body ≡ o → text_from body o ≡ piece.Token k len
-    → text_from (take (len - 1) body) (text_rest false (take (len - 1) body)) ≡ piece.Token k len
-text_alone_at body None k len e h = absurd (cc)
-text_alone_at body (Some n) k len e h =
-    let l = closed_len body n (position is_forbidden (take n body)) k len h in
-    let m : len - 1 ≡ n = omega arith in
-    rw m (ap (text_from (take n body)) (text_rest-alone false body n e) ∙ (closed_alone body n ∙ h))
-
-text_alone : (body : List ℕ) (k : Kind) (len : ℕ) → text_piece body ≡ piece.Token k len → text_piece (take (len - 1) body) ≡ piece.Token k len
-unfolding text_piece
-text_alone body k len h = text_alone_at body (text_rest false body) k len refl h
 
 -- a symbol other than `<` and `>` is the same whatever follows
 symbol_other : (c : ℕ) (x y : List ℕ) → (c == 60) ≡ false → (c == 62) ≡ false → symbol_piece c x ≡ symbol_piece c y
@@ -286,15 +238,11 @@ all_read text (c ∷ next) zero at ts d h =
     all_read-piece text at c next (piece_of c next) ts d (λ skip us. all_read text next skip (at + 1) us (drop_next text at c next d)) (piece_of-within c next) refl h
 all_read text (c ∷ next) (suc skip) at ts d h = all_read text next skip (at + 1) ts (drop_next text at c next d) h
 
-tokens_of-short : (text : List ℕ) (ts : List Token) → length text ≤ MAX_TEXT → tokens_from 0 0 text ≡ Ok ts → tokens_of text ≡ Ok ts
-unfolding tokens_of
-tokens_of-short text ts l h = cond-false (nat_lt MAX_TEXT (length text)) (Err (MAX_TEXT + 1)) (tokens_from 0 0 text) (le-ltb MAX_TEXT (length text) l) ∙ h
-
 all_slices : (text : List ℕ) (ts : List Token) → length text ≤ MAX_TEXT → AllByRecursion (IsRead text) ts → AllByRecursion (IsItsSlice text) ts
 all_slices text [] l h = tt
 all_slices text (t ∷ ts) l h =
     let short : length (slice_range text t.start t.end) ≤ MAX_TEXT = omega (arith, length-take (t.end - t.start) (drop t.start text), length-drop t.start text) in
-    (tokens_of-short (slice_range text t.start t.end) (record { kind = t.kind; start = 0; end = t.end - t.start } ∷ []) short h.0, all_slices text ts l h.1)
+    (is_lexed (slice_range text t.start t.end) (Ok (record { kind = t.kind; start = 0; end = t.end - t.start } ∷ [])) short h.0, all_slices text ts l h.1)
 
 -- each token that was read is its slice
 pub slices_at_end : (front : List Token) (text : List ℕ) (at : ℕ) → length text ≤ MAX_TEXT → length text ≤ at → after front (tokens_from 0 at (drop at text)) ≡ tokens_from 0 0 text

@@ -5,13 +5,11 @@ use Rattle.escrow_sql.specs.declared.lexer.piece.Piece.{Piece}
 use Rattle.escrow_sql.specs.declared.lexer.piece.Piece.TheVariants as piece
 use Rattle.escrow_sql.specs.declared.token.Kind.{Kind}
 use Rattle.escrow_sql.specs.declared.token.Token.{Token}
-use Rattle.std.specs.Prelude.{nat_lt}
 use Rattle.escrow_sql.specs.declared.lexer.TheConstants.{MAX_TEXT}
-use Rattle.std.proofs.lemmas.Bool.{cond_both}
-use Rattle.std.proofs.lemmas.Bool.Decides.{nat_tests}
 use Rattle.escrow_sql.specs.Token.{AreInOrder, column_at}
 use Rattle.escrow_sql.proofs.PieceLemmas.{piece_of-within}
-use Rattle.escrow_sql.specs.Lex.{tokens_from, tokens_of, piece_of, with_token, IsWithin}
+use Rattle.escrow_sql.specs.Lex.{with_token}
+use Rattle.escrow_sql.specs.Scan.{tokens_from, piece_of, IsWithin}
 
 -- these tokens, and then those
 abbrev pub after : List Token → Result (List Token) ℕ → Result (List Token) ℕ
@@ -32,6 +30,13 @@ behind text at len one =
     let e : at + 1 + (len - 1) ≡ at + len = omega arith in
     let d : drop (len - 1) (drop (at + 1) text) ≡ drop (at + len) text = drop-drop _ _ text ∙ ap (λ (n : ℕ). drop n text) (omega arith) in
     tokens_from-skip (len - 1) (at + 1) (drop (at + 1) text) ∙ ap₂ (λ (n : ℕ) (bytes : List ℕ). tokens_from 0 n bytes) e d
+
+pub tokens_from-behind : (c : ℕ) (next : List ℕ) (at len : ℕ) → 1 ≤ len → tokens_from (len - 1) (at + 1) next ≡ tokens_from 0 (at + len) (drop len (c ∷ next))
+tokens_from-behind c next at zero one = absurd (omega arith)
+tokens_from-behind c next at (suc len) one =
+    let less : suc len - 1 ≡ len = omega arith in
+    let end : at + 1 + len ≡ at + suc len = omega arith in
+    ap (λ (n : ℕ). tokens_from n (at + 1) next) less ∙ (tokens_from-skip len (at + 1) next ∙ ap (λ (n : ℕ). tokens_from 0 n (drop len next)) end)
 
 -- the tokens from a place on, by the piece that stands there
 abbrev pub by_piece : ℕ → List ℕ → Piece → Result (List Token) ℕ
@@ -56,7 +61,7 @@ pub tokens_from-token : (text : List ℕ) (at len : ℕ) (k : Kind) → at < len
 tokens_from-token text at len k below one e =
     tokens_from-at text at (piece.Token k len) below e ∙ ap (with_token (record { kind = k; start = at; end = at + len })) (behind text at len one)
 
-pub tokens_from-fault : (text : List ℕ) (at place : ℕ) → at < length text → piece.Fault place ≡ piece_of (get_or text at 0) (drop (at + 1) text)
+tokens_from-fault : (text : List ℕ) (at place : ℕ) → at < length text → piece.Fault place ≡ piece_of (get_or text at 0) (drop (at + 1) text)
     → tokens_from 0 at (drop at text) ≡ Err (at + place + 1)
 tokens_from-fault text at place below e = tokens_from-at text at (piece.Fault place) below e
 
@@ -110,13 +115,10 @@ tokens_from-in_order (c ∷ next) (suc skip) at ts l h =
     in_order-moved (at + 1 + skip) (at + 1 + length next) (at + suc skip) (at + length (c ∷ next)) ts (omega arith) (omega arith)
     (tokens_from-in_order next skip (at + 1) ts (omega arith) h)
 
--- the tokens of a text, which isn't too long, stand in order
-pub tokens_of-in_order : (text : List ℕ) (ts : List Token) → tokens_of text ≡ Ok ts → (length text ≤ MAX_TEXT) × AreInOrder 0 (length text) ts
-unfolding tokens_of
-tokens_of-in_order text ts h =
-    cond_both (nat_lt MAX_TEXT (length text)) (Err (MAX_TEXT + 1)) (tokens_from 0 0 text) (λ (r : Result (List Token) ℕ). r ≡ Ok ts → (length text ≤ MAX_TEXT) × AreInOrder 0 (length text) ts)
-    (λ e q. absurd (cc))
-    (λ e q. (grind (arith, nat_tests), in_order-moved (0 + 0) (0 + length text) 0 (length text) ts (omega arith) (omega arith) (tokens_from-in_order text 0 0 ts (omega arith) q))) h
+-- the tokens of a text stand in order
+pub tokens_in_order : (text : List ℕ) (ts : List Token) → tokens_from 0 0 text ≡ Ok ts → AreInOrder 0 (length text) ts
+tokens_in_order text ts h =
+    in_order-moved (0 + 0) (0 + length text) 0 (length text) ts (omega arith) (omega arith) (tokens_from-in_order text 0 0 ts (omega arith) h)
 
 -- what is true of the tokens is true of those that are left of them
 pub in_order-rest : (front rest : List Token) (from to : ℕ) → AreInOrder from to (front ++ rest) → (near : ℕ) × AreInOrder near to rest
@@ -138,7 +140,12 @@ whole_at_end front text at past same =
     let end = at_drop_all (λ (bytes : List ℕ). after front (tokens_from 0 at bytes)) text at past in
     sym same ∙ (end ∙ ap (λ (ts : List Token). Ok ts) (append-nil front))
 
+-- where a fault was met is the fault
+pub fault_met : (front : List Token) (text : List ℕ) (at place : ℕ) (p : Piece) → at < length text → p ≡ piece.Fault place → p ≡ piece_of (get_or text at 0) (drop (at + 1) text)
+    → after front (tokens_from 0 at (drop at text)) ≡ tokens_from 0 0 text → tokens_from 0 0 text ≡ Err (at + place + 1)
+fault_met front text at place p below e is same = sym same ∙ ap (after front) (tokens_from-fault text at place below (sym e ∙ is))
+
 -- the tokens that were read to the end stand in order
 pub spans_at_end : (front : List Token) (text : List ℕ) (at : ℕ) → length text ≤ at → after front (tokens_from 0 at (drop at text)) ≡ tokens_from 0 0 text → AreInOrder 0 (length text) front
 spans_at_end front text at past same =
-    in_order-moved (0 + 0) (0 + length text) 0 (length text) front (omega arith) (omega arith) (tokens_from-in_order text 0 0 front (omega arith) (whole_at_end front text at past same))
+    tokens_in_order text front (whole_at_end front text at past same)

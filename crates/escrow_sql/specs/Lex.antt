@@ -1,4 +1,5 @@
-use Rattle.std.specs.Prelude.{◌≡◌, ℕ, zero, suc, pos, ◌+◌, ◌-◌, ◌==◌, Bool, true, false, not, ◌&&◌, ◌||◌, ◌<◌, ◌≤◌, nat_lt, if◌then◌else◌, Option, Some, None, option_map, Result, Ok, Err, List, [], ◌∷◌, length, take, map, position, slice_range}
+-- To be believed: what the tokens of a text are, and where its leftmost lexing fault is.
+use Rattle.std.specs.Prelude.{◌≡◌, ℕ, pos, ◌+◌, ◌-◌, ◌==◌, Bool, false, not, ◌&&◌, ◌||◌, nat_lt, if◌then◌else◌, MatchBool, ◌⊎◌, Option, Some, None, Result, Ok, Err, List, [], ◌∷◌, ◌++◌, length, take, drop, map, position, slice_range}
 use Rattle.std.specs.Char.{is_ascii_alphabetic, is_ascii_digit, to_ascii_uppercase}
 use Rattle.std.specs.List.{prefix_len}
 use Rattle.escrow_num.specs.Amount.{is_amount, number_of}
@@ -52,33 +53,26 @@ number_piece bytes =
     let value = number_of (take len bytes) in
     if is_amount (pos value) then piece.Token (kind.Number (pos value)) len else piece.Fault 0
 
--- how many bytes a text takes behind its opening quote, with its closing one: a quote closes it
--- (`closing`, where one stands just before) unless another follows
-abbrev pub text_rest : Bool → List ℕ → Option ℕ
-text_rest true [] = Some 0
-text_rest false [] = None
-text_rest true (c ∷ cs) = if c == 39 then option_map (λ n. n + 1) (text_rest false cs) else Some 0
-text_rest false (c ∷ cs) = option_map (λ n. n + 1) (text_rest (c == 39) cs)
+-- a text with each quote in it twice
+abbrev pub doubled : List ℕ → List ℕ
+doubled [] = []
+doubled (c ∷ cs) = if c == 39 then 39 ∷ 39 ∷ doubled cs else c ∷ doubled cs
 
--- the bytes, each doubled quote once: one that stands right behind a quote that was taken is dropped
-abbrev pub undoubled : Bool → List ℕ → List ℕ
-undoubled behind [] = []
-undoubled true (c ∷ cs) = if c == 39 then undoubled false cs else (c ∷ undoubled false cs)
-undoubled false (c ∷ cs) = c ∷ undoubled (c == 39) cs
+-- behind a quote the bytes are a text with each quote doubled, a quote that no quote follows, and the rest
+pub record IsQuoted (bytes text rest : List ℕ) : Type 0 where
+  pub written : bytes ≡ doubled text ++ 39 ∷ rest
+  pub ended : begins 39 rest ≡ false
 
--- a text of so many bytes behind its opening quote, or the fault at the first forbidden character
-abbrev pub closed_text : List ℕ → ℕ → Option ℕ → Piece
-closed_text body len (Some k) = piece.Fault (1 + k)
-closed_text body len None = piece.Token (kind.Text (undoubled false (take (len - 1) body))) (1 + len)
+-- a text in quotes, which take two bytes more, or the fault at its first forbidden character
+abbrev pub quoted_piece : List ℕ → Option ℕ → Piece
+quoted_piece text None = piece.Token (kind.Text text) (length (doubled text) + 2)
+quoted_piece text (Some place) = piece.Fault (1 + place)
 
--- the text behind an opening quote; the quote is the fault of a text without an end
-abbrev pub text_from : List ℕ → Option ℕ → Piece
-text_from body None = piece.Fault 0
-text_from body (Some len) = closed_text body len (position is_forbidden (take len body))
-
--- the text at the front, of which these bytes stand behind the opening quote
-unfoldable pub text_piece : List ℕ → Piece
-text_piece body = text_from body (text_rest false body)
+-- what a quote in front of the bytes begins: the text in quotes, or a fault at the quote where there is none
+abbrev pub IsTextPiece : List ℕ → Piece → Type 0
+IsTextPiece bytes p =
+    ((text : List ℕ) × (rest : List ℕ) × IsQuoted bytes text rest × (p ≡ quoted_piece text (position is_forbidden (doubled text))))
+    ⊎ (((text rest : List ℕ) → IsQuoted bytes text rest → ⊥) × (p ≡ piece.Fault 0))
 
 -- the longest symbol that begins with c and goes on with these bytes
 unfoldable pub symbol_piece : ℕ → List ℕ → Piece
@@ -95,48 +89,49 @@ symbol_piece c next =
     else if c == 62 then (if begins 61 next then piece.Token (kind.Symbol symbol.AtLeast) 2 else piece.Token (kind.Symbol symbol.Above) 1)
     else piece.Fault 0
 
--- what the bytes begin with: a blank, a comment to the line's end, or a token, by its first byte
-unfoldable pub piece_of : ℕ → List ℕ → Piece
-piece_of c next =
+-- what bytes begin with where their first is no quote: a blank, a comment to the line's end, or a token
+unfoldable pub plain_piece : ℕ → List ℕ → Piece
+plain_piece c next =
     if is_blank c then piece.Blank 1
     else if c == 45 && begins 45 next then piece.Blank (prefix_len (λ b. not (b == 10)) (c ∷ next))
     else if is_ascii_alphabetic c then name_piece (c ∷ next)
     else if is_ascii_digit c then number_piece (c ∷ next)
-    else if c == 39 then text_piece next
     else symbol_piece c next
 
--- a piece takes at least one byte and ends within so many; a fault is among them
-abbrev pub IsWithin : ℕ → Piece → Type 0
-IsWithin room (piece.Blank len) = (1 ≤ len) × (len ≤ room)
-IsWithin room (piece.Token k len) = (1 ≤ len) × (len ≤ room)
-IsWithin room (piece.Fault place) = place < room
+-- the piece that bytes begin with
+abbrev pub IsPiece : List ℕ → Piece → Type 0
+IsPiece [] p = ⊥
+IsPiece (c ∷ next) p = MatchBool (c == 39) (IsTextPiece next p) (p ≡ plain_piece c next)
+
+-- the bytes are these pieces, one after another; behind a fault nothing is looked into
+abbrev pub ArePieces : List ℕ → List Piece → Type 0
+ArePieces bytes [] = bytes ≡ []
+ArePieces bytes (piece.Blank len ∷ ps) = IsPiece bytes (piece.Blank len) × ArePieces (drop len bytes) ps
+ArePieces bytes (piece.Token k len ∷ ps) = IsPiece bytes (piece.Token k len) × ArePieces (drop len bytes) ps
+ArePieces bytes (piece.Fault place ∷ ps) = IsPiece bytes (piece.Fault place) × (ps ≡ [])
 
 -- the tokens with one more before them
 abbrev pub with_token : Token → Result (List Token) ℕ → Result (List Token) ℕ
 with_token t (Ok ts) = Ok (t ∷ ts)
 with_token t (Err column) = Err column
 
--- the tokens of the bytes that stand from `at` on in a text, where the first `skip` of them belong to
--- what stands before; or the column of the leftmost fault
-abbrev pub tokens_from : ℕ → ℕ → List ℕ → Result (List Token) ℕ
-tokens_from skip at [] = Ok []
-tokens_from (suc skip) at (c ∷ next) = tokens_from skip (at + 1) next
-tokens_from zero at (c ∷ next) = elim (piece_of c next) [
-  | piece.Blank len ↦ tokens_from (len - 1) (at + 1) next
-  | piece.Token k len ↦ with_token (record { kind = k; start = at; end = at + len }) (tokens_from (len - 1) (at + 1) next)
-  | piece.Fault k ↦ Err (at + k + 1)
-]
+-- the tokens among pieces that stand from `at` on in a text, each with its place, or the column of the fault
+abbrev pub tokens_at : ℕ → List Piece → Result (List Token) ℕ
+tokens_at at [] = Ok []
+tokens_at at (piece.Blank len ∷ ps) = tokens_at (at + len) ps
+tokens_at at (piece.Token k len ∷ ps) = with_token (record { kind = k; start = at; end = at + len }) (tokens_at (at + len) ps)
+tokens_at at (piece.Fault place ∷ ps) = Err (at + place + 1)
 
--- the tokens of a text, or the column of its leftmost fault; a text of too many bytes isn't
--- looked into, and its fault is behind them
-unfoldable pub tokens_of : List ℕ → Result (List Token) ℕ
-tokens_of text = if nat_lt MAX_TEXT (length text) then Err (MAX_TEXT + 1) else tokens_from 0 0 text
+-- a text has these tokens, or its leftmost fault at this column; a text of too many bytes isn't looked
+-- into, and its fault is behind the most that are
+abbrev pub IsLexed : List ℕ → Result (List Token) ℕ → Type 0
+IsLexed text r = MatchBool (nat_lt MAX_TEXT (length text)) (r ≡ Err (MAX_TEXT + 1)) ((ps : List Piece) × ArePieces text ps × (r ≡ tokens_at 0 ps))
 
 -- a token is what its bytes, from its start to its end, are where they stand alone
 abbrev pub IsItsSlice : List ℕ → Token → Type 0
-IsItsSlice text t = tokens_of (slice_range text t.start t.end) ≡ Ok (record { kind = t.kind; start = 0; end = t.end - t.start } ∷ [])
+IsItsSlice text t = IsLexed (slice_range text t.start t.end) (Ok (record { kind = t.kind; start = 0; end = t.end - t.start } ∷ []))
 
--- the fault of a text whose tokens these would be: its column, unless memory was refused
-abbrev pub IsFaultOf : Result (List Token) ℕ → ParseFault → Type 0
-IsFaultOf tokens (fault.Syntax column) = tokens ≡ Err column
-IsFaultOf tokens fault.Memory = Unit {0}
+-- the fault of a text: its column, unless memory was refused
+abbrev pub IsLexFault : List ℕ → ParseFault → Type 0
+IsLexFault text (fault.Syntax column) = IsLexed text (Err column)
+IsLexFault text fault.Memory = Unit {0}

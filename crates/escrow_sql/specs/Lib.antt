@@ -1,8 +1,12 @@
 pub mod Copies
 pub mod Cursor
 pub mod Grammar
+pub mod Laws
 pub mod Lex
 pub mod Parser
+pub mod Parts
+pub mod Predictive
+pub mod Scan
 pub mod Statement
 pub mod Token
 pub mod Word

@@ -1,5 +1,6 @@
-use Rattle.std.specs.Prelude.{◌≡◌, refl, ℕ, ℤ, pos, neg_ℤ, Bool, true, false, if◌then◌else◌, Option, Some, None, List, [], ◌∷◌}
-use Rattle.escrow_sql.specs.Grammar.{Grammar, token, nothing, sequence, either, many, may_be_empty}
+-- To be believed: the grammar of statements, and what each sentence of it means.
+use Rattle.std.specs.Prelude.{ℕ, ℤ, pos, neg_ℤ, Bool, true, false, if◌then◌else◌, Option, Some, None, List, [], ◌∷◌}
+use Rattle.escrow_sql.specs.Grammar.{Grammar, token, nothing, sequence, either, many}
 use Rattle.escrow_sql.specs.declared.token.Symbol.{Symbol}
 use Rattle.escrow_sql.specs.declared.token.Symbol.TheVariants as symbols
 use Rattle.escrow_sql.specs.declared.token.Kind.{Kind}
@@ -184,16 +185,3 @@ body =
 -- request = body [ ";" ]
 unfoldable pub request : Grammar Request
 request = meaning requests.Statement (before body (optional tt (symbol symbols.Semicolon)))
-
--- a literal, a mark and an item have a token each
-pub literal-not_empty : may_be_empty literal ≡ false
-unfolding literal signed_number sign
-literal-not_empty = refl
-
-pub mark-not_empty : may_be_empty mark ≡ false
-unfolding mark check constraint
-mark-not_empty = refl
-
-pub item-not_empty : may_be_empty item ≡ false
-unfolding item column
-item-not_empty = refl

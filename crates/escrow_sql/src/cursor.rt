@@ -1,5 +1,5 @@
 ghost use Rattle.std.specs.Prelude.{◌≡◌, [], ◌∷◌, false, Ok, MatchBool};
-ghost use Rattle.escrow_sql.specs.Grammar.{run, starts};
+ghost use Rattle.escrow_sql.specs.Predictive.{run, starts};
 ghost use Rattle.escrow_sql.specs.Cursor.{Advances};
 ghost use Rattle.escrow_sql.specs.Token.{class_of};
 ghost use Rattle.escrow_sql.specs.Statement.{word, symbol, name, number};

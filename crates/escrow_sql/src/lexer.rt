@@ -1,15 +1,16 @@
 ghost use Rattle.std.specs.Prelude.{◌≡◌, ◌<◌, ◌+◌, ◌-◌, ◌==◌, not, Ok, List, MatchResult, IfOk, IfErr, length, drop, slice_index};
 ghost use Rattle.std.specs.List.{prefix_len, AllByRecursion};
-ghost use Rattle.escrow_sql.specs.Lex.{tokens_of, piece_of, is_blank, IsWithin, IsFaultOf, IsItsSlice};
+ghost use Rattle.escrow_sql.specs.Lex.{is_blank, IsLexed, IsLexFault, IsItsSlice};
+ghost use Rattle.escrow_sql.specs.Scan.{piece_of, IsWithin};
 ghost use Rattle.escrow_sql.specs.Token.{AreInOrder};
 ghost use Rattle.escrow_sql.specs.declared.fault.ParseFault.TheVariants.{Memory};
 ghost use Rattle.escrow_sql.specs.declared.token.Token.{Token};
 
-pub(crate) mod name;
-pub(crate) mod number;
-pub(crate) mod piece;
-pub(crate) mod symbol;
-pub(crate) mod text;
+mod name;
+mod number;
+mod piece;
+mod symbol;
+mod text;
 
 use crate::fault::ParseFault;
 use crate::lexer::piece::Piece;
@@ -28,7 +29,7 @@ fn is_space(byte: u8) -> bool
 }
 
 /// What the text begins with from a place on.
-#[tactic(auto, unfolding(crate::specs::Lex::piece_of))]
+#[tactic(auto, unfolding(crate::specs::Scan::piece_of))]
 fn read_piece(alloc: Global, text: &str, at: usize) -> Result<Piece, AllocError>
     requires { at < length text.now }
     ensures { IfOk result (λ p. p ≡ piece_of (slice_index text.now at) (drop (at + 1) text.now)) }
@@ -73,16 +74,15 @@ fn piece_at(alloc: Global, text: &str, at: usize) -> Result<Piece, AllocError>
 
 /// The tokens of a text, in order, each with the bytes that it takes. `Syntax` has the column of
 /// the leftmost fault; of a text past [`MAX_TEXT`] that is the column behind them.
-#[tactic(auto, unfolding(crate::specs::Lex::tokens_of))]
 pub fn lex(alloc: Global, text: &str) -> Result<Seq<Token>, ParseFault>
     // What is answered are the tokens of the text.
-    ensures found { IfOk result (λ tokens. tokens_of text.now ≡ Ok tokens) }
+    ensures found { IfOk result (λ tokens. IsLexed text.now (Ok tokens)) }
     ensures spans { IfOk result (AreInOrder 0 (length text.now)) }
     ensures slices { IfOk result (AllByRecursion (IsItsSlice text.now)) }
-    ensures fault { IfErr result (IsFaultOf (tokens_of text.now)) }
+    ensures fault { IfErr result (IsLexFault text.now) }
 
     // The tokens of a text are answered, unless memory runs out.
-    ensures only { (tokens : List Token) → tokens_of text.now ≡ Ok tokens → MatchResult result (λ x. x ≡ tokens) (λ e. e ≡ Memory) }
+    ensures only { (tokens : List Token) → IsLexed text.now (Ok tokens) → MatchResult result (λ x. x ≡ tokens) (λ e. e ≡ Memory) }
 {
     if MAX_TEXT < text.len() {
         return Err(ParseFault::Syntax {

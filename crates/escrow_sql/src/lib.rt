@@ -4,18 +4,19 @@
 //! the first fault.
 #![tactic(auto)]
 
-pub(crate) mod copies;
-pub(crate) mod cursor;
-pub mod fault;
-pub(crate) mod halt;
-pub mod lexer;
-pub mod parser;
-pub mod statement;
-pub mod token;
-pub mod word;
+mod copies;
+mod cursor;
+mod fault;
+mod halt;
+pub mod laws;
+mod lexer;
+mod parser;
+mod statement;
+mod token;
+mod word;
 
 pub use fault::ParseFault;
-pub use lexer::lex;
+pub use lexer::{MAX_TEXT, lex};
 pub use parser::parse;
 pub use statement::{
     Assign, CheckText, ColumnMark, ColumnText, Comparison, Condition, CreateText, InsertText, Item,

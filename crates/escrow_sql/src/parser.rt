@@ -1,6 +1,6 @@
 ghost use Rattle.std.specs.Prelude.{◌≡◌, ◌≤◌, ◌+◌, IfOk, IfErr, MatchResult};
 ghost use Rattle.escrow_sql.specs.Token.{column_at};
-ghost use Rattle.escrow_sql.specs.Grammar.{run, run_whole};
+ghost use Rattle.escrow_sql.specs.Predictive.{run, run_whole};
 ghost use Rattle.escrow_sql.specs.Cursor.{Advances, Ends};
 ghost use Rattle.escrow_sql.specs.Statement.{work, body, request};
 ghost use Rattle.escrow_sql.specs.Parser.{Asks, IsFaultIn};
@@ -8,9 +8,9 @@ ghost use Rattle.escrow_sql.specs.declared.lexer.TheConstants.{MAX_TEXT};
 ghost use Rattle.escrow_sql.specs.declared.statement.Request.{Request};
 ghost use Rattle.escrow_sql.specs.declared.fault.ParseFault.TheVariants.{Memory};
 
-pub(crate) mod change;
-pub(crate) mod create;
-pub(crate) mod part;
+mod change;
+mod create;
+mod part;
 
 use crate::cursor::Cursor;
 use crate::fault::ParseFault;

@@ -1,5 +1,6 @@
 ghost use Rattle.std.specs.Prelude.{◌≡◌, ◌-◌, ◌≤◌, IfOk, IfSome, false, length, position, string_bytes, slice_index};
-ghost use Rattle.escrow_sql.specs.Lex.{text_rest, undoubled, text_piece, is_forbidden};
+ghost use Rattle.escrow_sql.specs.Lex.{is_forbidden};
+ghost use Rattle.escrow_sql.specs.Scan.{text_rest, undoubled, text_piece};
 
 use crate::lexer::piece::Piece;
 use crate::token::Kind;
@@ -58,13 +59,13 @@ fn copy_undoubled(alloc: Global, raw: &str) -> Result<String, AllocError>
 pub(super) fn read_text(alloc: Global, body: &str) -> Result<Piece, AllocError>
     ensures { IfOk result (λ p. p ≡ text_piece body.now) }
 {
-    let bytes = body.as_bytes();
-    let Some(len) = quoted_len(bytes) else {
+    let Some(len) = quoted_len(body.as_bytes()) else {
         return Ok(Piece::Fault(0));
     };
-    if let Some(place) = forbidden_place(&bytes[..len]) {
+    let raw = &body[..len - 1];
+    if let Some(place) = forbidden_place(raw.as_bytes()) {
         return Ok(Piece::Fault(1 + place));
     }
-    let copy = copy_undoubled(alloc, &body[..len - 1])?;
+    let copy = copy_undoubled(alloc, raw)?;
     Ok(Piece::Token(Kind::Text(Text::from_string(copy)), 1 + len))
 }

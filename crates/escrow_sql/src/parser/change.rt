@@ -1,5 +1,5 @@
 ghost use Rattle.std.specs.Prelude.{◌≡◌, refl};
-ghost use Rattle.escrow_sql.specs.Grammar.{run, starts, first};
+ghost use Rattle.escrow_sql.specs.Predictive.{run, starts, first};
 ghost use Rattle.escrow_sql.specs.Cursor.{Advances};
 ghost use Rattle.escrow_sql.specs.Statement.{optional, sign, signed_number, with_sign, literal, where_part, change, assign, update, insert};
 ghost use Rattle.std.specs.Prelude.{false};
@@ -144,7 +144,8 @@ impl Cursor<'_> {
 }
 
 impl Part for Literal {
-    ghost use Rattle.escrow_sql.specs.Statement.{literal, literal-not_empty};
+    ghost use Rattle.escrow_sql.specs.Statement.{literal};
+    ghost use Rattle.escrow_sql.specs.Parts.{literal-not_empty};
 
     ghost grammar = { literal };
 

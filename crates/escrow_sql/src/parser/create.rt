@@ -1,5 +1,5 @@
 ghost use Rattle.std.specs.Prelude.{◌≡◌};
-ghost use Rattle.escrow_sql.specs.Grammar.{run, starts, first};
+ghost use Rattle.escrow_sql.specs.Predictive.{run, starts, first};
 ghost use Rattle.escrow_sql.specs.Cursor.{Advances};
 ghost use Rattle.escrow_sql.specs.Statement.{comparison, condition, constraint, check, mark, digits, type_text, column, item, create};
 
@@ -177,7 +177,8 @@ impl Cursor<'_> {
 }
 
 impl Part for ColumnMark {
-    ghost use Rattle.escrow_sql.specs.Statement.{mark, mark-not_empty};
+    ghost use Rattle.escrow_sql.specs.Statement.{mark};
+    ghost use Rattle.escrow_sql.specs.Parts.{mark-not_empty};
 
     ghost grammar = { mark };
 
@@ -195,7 +196,8 @@ impl Repeated for ColumnMark {
 }
 
 impl Part for Item {
-    ghost use Rattle.escrow_sql.specs.Statement.{item, item-not_empty};
+    ghost use Rattle.escrow_sql.specs.Statement.{item};
+    ghost use Rattle.escrow_sql.specs.Parts.{item-not_empty};
 
     ghost grammar = { item };
 

@@ -1,5 +1,6 @@
 ghost use Rattle.std.specs.Prelude.{◌≡◌, false};
-ghost use Rattle.escrow_sql.specs.Grammar.{Grammar, run, starts, first, may_be_empty, many};
+ghost use Rattle.escrow_sql.specs.Grammar.{Grammar, many};
+ghost use Rattle.escrow_sql.specs.Predictive.{run, starts, first, may_be_empty};
 ghost use Rattle.escrow_sql.specs.Cursor.{Advances};
 ghost use Rattle.escrow_sql.specs.Statement.{list};
 

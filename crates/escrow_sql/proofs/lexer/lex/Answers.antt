@@ -1,7 +1,10 @@
-use Rattle.std.proofs.Common.{◌≡◌, ◌++◌, ◌∷◌, [], ◌+◌, arith, subst}
-use Rattle.escrow_sql.specs.Lex.{IsWithin}
+use Rattle.std.proofs.Common.{◌≡◌, ℕ, Result, Ok, Err, List, ◌++◌, ◌∷◌, [], ◌+◌, arith, subst}
+use Rattle.escrow_sql.specs.Lex.{IsLexed}
+use Rattle.escrow_sql.specs.Scan.{IsWithin}
+use Rattle.escrow_sql.specs.declared.token.Token.{Token}
+use Rattle.escrow_sql.proofs.Pieces.{is_lexed, lexed_once}
 use Rattle.escrow_sql.proofs.Slices.{slices_at_end}
-use Rattle.escrow_sql.proofs.TokenLemmas.{after-blank, after-one, spans_at_end}
+use Rattle.escrow_sql.proofs.TokenLemmas.{after-blank, after-one, whole_at_end, spans_at_end, fault_met}
 use Rattle.escrow_sql.proofs.lexer.lex.Goals as goal
 
 pub loop-at-preserved-in-Blank : goal.loop-at-preserved-in-Blank
@@ -28,3 +31,26 @@ returns-clause-spans c = spans_at_end c.loop-at.tokens c.args.text.now c.loop-at
 
 pub returns-clause-slices : goal.returns-clause-slices
 returns-clause-slices c = slices_at_end c.loop-at.tokens c.args.text.now c.loop-at.at c.loop-at.invariant.short (omega arith) c.loop-at.invariant.same
+
+pub returns-in-Fault-clause-fault : goal.returns-in-Fault-clause-fault
+returns-in-Fault-clause-fault c =
+    is_lexed c.args.text.now (Err (c.loop-at.at + c.in-Fault.place + 1)) c.loop-at.invariant.short
+    (fault_met c.loop-at.tokens c.args.text.now c.loop-at.at c.in-Fault.place _ (omega arith) c.in-Fault.is c.in_ok-len.ensures.value c.loop-at.invariant.same)
+
+pub returns-in-Fault-clause-only : goal.returns-in-Fault-clause-only
+returns-in-Fault-clause-only c = λ tokens h.
+    let fault : IsLexed c.args.text.now (Err (c.loop-at.at + c.in-Fault.place + 1)) = is_lexed c.args.text.now (Err (c.loop-at.at + c.in-Fault.place + 1)) c.loop-at.invariant.short
+    (fault_met c.loop-at.tokens c.args.text.now c.loop-at.at c.in-Fault.place _ (omega arith) c.in-Fault.is c.in_ok-len.ensures.value c.loop-at.invariant.same) in
+    let both : ◌≡◌ {A = Result (List Token) ℕ} (Err (c.loop-at.at + c.in-Fault.place + 1)) (Ok tokens) = lexed_once c.args.text.now _ _ fault h in
+    absurd (cc)
+
+pub returns-clause-found : goal.returns-clause-found
+returns-clause-found c =
+    is_lexed c.args.text.now (Ok c.loop-at.tokens) c.loop-at.invariant.short (whole_at_end c.loop-at.tokens c.args.text.now c.loop-at.at (omega arith) c.loop-at.invariant.same)
+
+pub returns-clause-only : goal.returns-clause-only
+returns-clause-only c = λ tokens h.
+    let found : IsLexed c.args.text.now (Ok c.loop-at.tokens) =
+    is_lexed c.args.text.now (Ok c.loop-at.tokens) c.loop-at.invariant.short (whole_at_end c.loop-at.tokens c.args.text.now c.loop-at.at (omega arith) c.loop-at.invariant.same) in
+    let both : ◌≡◌ {A = Result (List Token) ℕ} (Ok c.loop-at.tokens) (Ok tokens) = lexed_once c.args.text.now _ _ found h in
+    cc

@@ -1,5 +1,5 @@
 use Rattle.std.proofs.Common.{length, drop, ◌-◌, ◌≡◌, ◌≤◌}
-use Rattle.escrow_sql.specs.Lex.{tokens_from}
+use Rattle.escrow_sql.specs.Scan.{tokens_from}
 use Rattle.escrow_sql.proofs.TokenLemmas.{after}
 use Rattle.escrow_sql.specs.declared.lexer.TheConstants.{MAX_TEXT}
 use Rattle.escrow_sql.proofs.lexer.lex.Given as goal

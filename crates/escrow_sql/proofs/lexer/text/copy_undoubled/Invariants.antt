@@ -1,6 +1,6 @@
 use Rattle.std.proofs.Common.{◌≡◌, ◌++◌, false}
 use Rattle.std.specs.String.{string_bytes}
-use Rattle.escrow_sql.specs.Lex.{undoubled}
+use Rattle.escrow_sql.specs.Scan.{undoubled}
 use Rattle.escrow_sql.proofs.lexer.text.copy_undoubled.Given as goal
 
 abbrev pub invariant-loop-c : goal.invariant-loop-c

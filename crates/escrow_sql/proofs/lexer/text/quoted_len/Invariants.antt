@@ -1,6 +1,6 @@
 use Rattle.std.proofs.Common.{◌≡◌, ◌≤◌, ◌+◌, ◌-◌, drop, get_or, true, false}
 use Rattle.std.specs.Prelude.{option_map}
-use Rattle.escrow_sql.specs.Lex.{text_rest}
+use Rattle.escrow_sql.specs.Scan.{text_rest}
 use Rattle.escrow_sql.proofs.lexer.text.quoted_len.Given as goal
 
 abbrev pub invariant-loop-i : goal.invariant-loop-i

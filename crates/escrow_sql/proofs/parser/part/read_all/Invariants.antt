@@ -1,5 +1,6 @@
 use Rattle.std.proofs.Common.{◌≡◌, length}
-use Rattle.escrow_sql.specs.Grammar.{run, many}
+use Rattle.escrow_sql.specs.Grammar.{many}
+use Rattle.escrow_sql.specs.Predictive.{run}
 use Rattle.escrow_sql.proofs.Reading.{with_front}
 use Rattle.escrow_sql.proofs.parser.part.read_all.Given as goal
 

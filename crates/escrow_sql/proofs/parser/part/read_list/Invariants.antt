@@ -1,5 +1,5 @@
 use Rattle.std.proofs.Common.{◌≡◌, length}
-use Rattle.escrow_sql.specs.Grammar.{run}
+use Rattle.escrow_sql.specs.Predictive.{run}
 use Rattle.escrow_sql.specs.Statement.{list}
 use Rattle.escrow_sql.proofs.Reading.{with_front}
 use Rattle.escrow_sql.proofs.parser.part.read_list.Given as goal

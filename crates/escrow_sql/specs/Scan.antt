@@ -1,0 +1,64 @@
+-- Helps only: how the lexer goes through a text, from left to right. Contracts of public calls rest on Lex.
+use Rattle.std.specs.Prelude.{ℕ, zero, suc, ◌+◌, ◌-◌, ◌==◌, Bool, true, false, not, ◌&&◌, ◌<◌, ◌≤◌, if◌then◌else◌, Option, Some, None, option_map, Result, Ok, Err, List, [], ◌∷◌, take, position}
+use Rattle.std.specs.Char.{is_ascii_alphabetic, is_ascii_digit}
+use Rattle.std.specs.List.{prefix_len}
+use Rattle.escrow_sql.specs.Lex.{is_blank, is_forbidden, begins, name_piece, number_piece, symbol_piece, with_token}
+use Rattle.escrow_sql.specs.declared.lexer.piece.Piece.{Piece}
+use Rattle.escrow_sql.specs.declared.lexer.piece.Piece.TheVariants as piece
+use Rattle.escrow_sql.specs.declared.token.Kind.TheVariants as kind
+use Rattle.escrow_sql.specs.declared.token.Token.{Token}
+
+-- how many bytes a text takes behind its opening quote, with its closing one: a quote closes it
+-- (`closing`, where one stands just before) unless another follows
+abbrev pub text_rest : Bool → List ℕ → Option ℕ
+text_rest true [] = Some 0
+text_rest false [] = None
+text_rest true (c ∷ cs) = if c == 39 then option_map (λ n. n + 1) (text_rest false cs) else Some 0
+text_rest false (c ∷ cs) = option_map (λ n. n + 1) (text_rest (c == 39) cs)
+
+-- the bytes, each doubled quote once: one that stands right behind a quote that was taken is dropped
+abbrev pub undoubled : Bool → List ℕ → List ℕ
+undoubled behind [] = []
+undoubled true (c ∷ cs) = if c == 39 then undoubled false cs else (c ∷ undoubled false cs)
+undoubled false (c ∷ cs) = c ∷ undoubled (c == 39) cs
+
+-- a text of so many bytes behind its opening quote, or the fault at the first forbidden character
+abbrev pub closed_text : List ℕ → ℕ → Option ℕ → Piece
+closed_text body len (Some k) = piece.Fault (1 + k)
+closed_text body len None = piece.Token (kind.Text (undoubled false (take (len - 1) body))) (1 + len)
+
+-- the text behind an opening quote; the quote is the fault of a text without an end
+abbrev pub text_from : List ℕ → Option ℕ → Piece
+text_from body None = piece.Fault 0
+text_from body (Some len) = closed_text body len (position is_forbidden (take (len - 1) body))
+
+-- the text at the front, of which these bytes stand behind the opening quote
+unfoldable pub text_piece : List ℕ → Piece
+text_piece body = text_from body (text_rest false body)
+
+-- what the bytes begin with: a blank, a comment to the line's end, or a token, by its first byte
+unfoldable pub piece_of : ℕ → List ℕ → Piece
+piece_of c next =
+    if is_blank c then piece.Blank 1
+    else if c == 45 && begins 45 next then piece.Blank (prefix_len (λ b. not (b == 10)) (c ∷ next))
+    else if is_ascii_alphabetic c then name_piece (c ∷ next)
+    else if is_ascii_digit c then number_piece (c ∷ next)
+    else if c == 39 then text_piece next
+    else symbol_piece c next
+
+-- a piece takes at least one byte and ends within so many; a fault is among them
+abbrev pub IsWithin : ℕ → Piece → Type 0
+IsWithin room (piece.Blank len) = (1 ≤ len) × (len ≤ room)
+IsWithin room (piece.Token k len) = (1 ≤ len) × (len ≤ room)
+IsWithin room (piece.Fault place) = place < room
+
+-- the tokens of the bytes that stand from `at` on in a text, where the first `skip` of them belong to
+-- what stands before; or the column of the leftmost fault
+abbrev pub tokens_from : ℕ → ℕ → List ℕ → Result (List Token) ℕ
+tokens_from skip at [] = Ok []
+tokens_from (suc skip) at (c ∷ next) = tokens_from skip (at + 1) next
+tokens_from zero at (c ∷ next) = elim (piece_of c next) [
+  | piece.Blank len ↦ tokens_from (len - 1) (at + 1) next
+  | piece.Token k len ↦ with_token (record { kind = k; start = at; end = at + len }) (tokens_from (len - 1) (at + 1) next)
+  | piece.Fault k ↦ Err (at + k + 1)
+]
