@@ -1,0 +1,177 @@
+//! Readers and writers: slow ones, those that fail, and the longest script.
+use super::serve;
+use escrow_server::ServeFault;
+use std::io::{Error, ErrorKind, Read, Result, Write};
+use std::test::Fail;
+
+const SCRIPT: &str = "bank.1: COMMIT\nbank.2: ROLLBACK\nshop.1: COMMIT\n";
+
+const REPLIES: &str = "bank.1> OK committed 0\nbank.2> OK rolled back 0\nscript> ERR 12 line\n";
+
+/// Gives so many bytes at a time, and at their end fails, or says that they end.
+#[derive(Drop)]
+struct SlowReader<'a> {
+    rest: &'a [u8],
+    at_a_time: usize,
+    fails: bool,
+}
+
+impl Read for SlowReader<'_> {
+    fn read(&mut self, buf: &mut [u8]) -> Result<usize> {
+        if self.rest.is_empty() && self.fails {
+            return Err(Error::from(ErrorKind::Other));
+        }
+        let most = buf.len().min(self.at_a_time);
+        self.rest.read(&mut buf[..most])
+    }
+}
+
+/// Takes so many bytes, seven at a time, and then fails, or takes nothing.
+#[derive(Drop)]
+struct FailingWriter {
+    taken: Vec<u8>,
+    room: usize,
+    is_silent: bool,
+}
+
+impl Write for FailingWriter {
+    fn write(&mut self, buf: &[u8]) -> Result<usize> {
+        let count = buf.len().min(self.room).min(7);
+        if count == 0 && !self.is_silent {
+            return Err(Error::from(ErrorKind::Other));
+        }
+        self.taken.extend_from_slice(&buf[..count])?;
+        self.room -= count;
+        Ok(count)
+    }
+
+    fn flush(&mut self) -> Result<()> {
+        Ok(())
+    }
+}
+
+/// Gives a script of so many bytes: comments of 4,096 bytes each, and as its last line a statement.
+#[derive(Drop)]
+struct LongReader {
+    left: usize,
+}
+
+impl Read for LongReader {
+    fn read(&mut self, buf: &mut [u8]) -> Result<usize> {
+        let count = buf.len().min(self.left);
+        for (place, byte) in buf[..count].iter_mut().enumerate() {
+            *byte = byte_before(self.left - place);
+        }
+        self.left -= count;
+        Ok(count)
+    }
+}
+
+/// The byte of the long script with which so many are left.
+fn byte_before(left: usize) -> u8 {
+    if left % 4096 == 1 {
+        return b'\n';
+    }
+    if left > 4096 {
+        return b'-';
+    }
+    "bank.1: COMMIT"
+        .as_bytes()
+        .get(4096 - left)
+        .copied()
+        .unwrap_or(b' ')
+}
+
+/// How many bytes the replies have to the lines that came whole in so many bytes of the script.
+fn written_after(bytes: usize) -> usize {
+    match bytes {
+        0..=14 => 0,
+        15..=31 => 23,
+        32..=46 => 48,
+        _ => 68,
+    }
+}
+
+/// What was written before the fault are the replies to the lines that had come whole, wherever the
+/// reader fails.
+#[test]
+fn failing_readers(rt: HostRuntime) -> std::result::Result<(), Fail> {
+    let alloc = rt.alloc();
+    for bytes in 0..=SCRIPT.len() {
+        let mut reader = SlowReader {
+            rest: SCRIPT.as_bytes().get(..bytes).ok_or("past the script")?,
+            at_a_time: 3,
+            fails: true,
+        };
+        let mut out = Vec::new(alloc);
+        let served = serve(alloc, 1, &mut reader, &mut out);
+        assert_eq!(rt; served, Err(ServeFault::Read));
+        let replies = REPLIES.as_bytes();
+        let prefix = replies
+            .get(..written_after(bytes))
+            .ok_or("past the replies")?;
+        assert_eq!(rt; out.as_slice(), prefix);
+    }
+    Ok(())
+}
+
+/// What was written before the fault is a prefix of the replies, wherever the writer fails.
+#[test]
+fn failing_writers(rt: HostRuntime) -> std::result::Result<(), Fail> {
+    let alloc = rt.alloc();
+    for room in 0..REPLIES.len() {
+        let mut writer = FailingWriter {
+            taken: Vec::new(alloc),
+            room,
+            is_silent: room % 2 == 0,
+        };
+        let served = serve(alloc, 1, &mut SCRIPT.as_bytes(), &mut writer);
+        assert_eq!(rt; served, Err(ServeFault::Write));
+        let prefix = REPLIES.as_bytes().get(..room).ok_or("past the replies")?;
+        assert_eq!(rt; writer.taken.as_slice(), prefix);
+    }
+    Ok(())
+}
+
+/// A script of 1,500 lines that comes byte by byte is served as a whole.
+#[test]
+fn one_byte_at_a_time(rt: HostRuntime) -> std::result::Result<(), Fail> {
+    let alloc = rt.alloc();
+    let mut script = String::new(alloc);
+    let mut replies = String::new(alloc);
+    for _round in 0..500u16 {
+        script.push_str(SCRIPT)?;
+        replies.push_str(REPLIES)?;
+    }
+    let mut reader = SlowReader {
+        rest: script.as_bytes(),
+        at_a_time: 1,
+        fails: false,
+    };
+    let mut out = Vec::new(alloc);
+    serve(alloc, 1, &mut reader, &mut out)?;
+    assert_eq!(rt; out.as_slice(), replies.as_bytes());
+    Ok(())
+}
+
+/// A script has at most 16,777,216 bytes: one of that length is served to its last line, of one that is
+/// longer by a byte, or has no end, the reading fails.
+#[test]
+fn longest_script(rt: HostRuntime) -> std::result::Result<(), Fail> {
+    let alloc = rt.alloc();
+    let mut out = Vec::new(alloc);
+    let served = serve(alloc, 1, &mut LongReader { left: 16_777_216 }, &mut out);
+    assert_eq!(rt; served, Ok(()));
+    assert_eq!(rt; out.as_slice(), "bank.1> OK committed 0\n".as_bytes());
+    for left in [16_777_217, usize::MAX] {
+        let mut out = Vec::new(alloc);
+        let served = serve(alloc, 1, &mut LongReader { left }, &mut out);
+        assert_eq!(rt; served, Err(ServeFault::Read));
+        assert!(rt;
+            "bank.1> OK committed 0\n"
+                .as_bytes()
+                .starts_with(out.as_slice())
+        );
+    }
+    Ok(())
+}
