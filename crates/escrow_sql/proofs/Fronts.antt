@@ -4,9 +4,10 @@ use Rattle.std.specs.Prelude.{◌==◌, ◌&&◌, not}
 use Rattle.std.proofs.lemmas.Bool.{and_parts, not-true, eqb-true, cond-true, cond-false, cases_Bool}
 use Rattle.escrow_sql.specs.declared.token.Kind.{Kind}
 use Rattle.escrow_sql.specs.declared.token.Token.{Token}
-use Rattle.escrow_sql.specs.Token.{class_of}
+use Rattle.escrow_sql.specs.Classes.{class_number}
 use Rattle.escrow_sql.specs.Grammar.{Grammar, token, nothing, sequence, either, many, Sentence, Repeats}
 use Rattle.escrow_sql.specs.Predictive.{run, and_then, starts, first, more, may_be_empty, apart, is_predictive}
+use Rattle.escrow_sql.proofs.ClassLemmas.{same_class}
 use Rattle.escrow_sql.proofs.Heads.{SameHead, starts-same, same_behind}
 use Rattle.escrow_sql.proofs.Reading.{Read, items, items-none, items-unrolled, onto, and_then-Ok, Ok-same, run-shorter}
 
@@ -182,15 +183,15 @@ stuck_items {A} a e ta sa (suc n) ts rest l h =
 pub took : {V : Type 0} (g : Grammar V) → is_predictive g ≡ true → (ts rest : List Token) (v : V) → run g ts ≡ Ok (v, rest) → Took (run g) (Sentence g) ts v rest
 took (token like f) p [] rest v h = absurd (cc)
 took {V} (token like f) p (t ∷ ts) rest v h =
-    elim (cases_Bool (class_of t.kind == class_of like)) [
+    elim (cases_Bool (class_number t.kind == class_number like)) [
       | inl e ↦
-          let q = Pair-same (f t.kind) v ts rest (sym (cond-true (class_of t.kind == class_of like) (Ok (f t.kind, ts)) (Err (t ∷ ts)) e) ∙ h) in (
+          let q = Pair-same (f t.kind) v ts rest (sym (cond-true (class_number t.kind == class_number like) (Ok (f t.kind, ts)) (Err (t ∷ ts)) e) ∙ h) in (
             t ∷ [],
             ap (λ (us : List Token). t ∷ us) q.1,
-            (t, refl, eqb-true (class_of t.kind) (class_of like) e, sym q.0),
-            λ other s. cond-true (class_of t.kind == class_of like) (Ok (f t.kind, other)) (Err (t ∷ other)) e ∙ ap (λ (x : V). Ok (x, other)) q.0,
+            (t, refl, same_class t.kind like (eqb-true (class_number t.kind) (class_number like) e), sym q.0),
+            λ other s. cond-true (class_number t.kind == class_number like) (Ok (f t.kind, other)) (Err (t ∷ other)) e ∙ ap (λ (x : V). Ok (x, other)) q.0,
           )
-      | inr e ↦ absurd (let both : ◌≡◌ {A = Read V} (Err (t ∷ ts)) (Ok (v, rest)) = sym (cond-false (class_of t.kind == class_of like) (Ok (f t.kind, ts)) (Err (t ∷ ts)) e) ∙ h in cc)
+      | inr e ↦ absurd (let both : ◌≡◌ {A = Read V} (Err (t ∷ ts)) (Ok (v, rest)) = sym (cond-false (class_number t.kind == class_number like) (Ok (f t.kind, ts)) (Err (t ∷ ts)) e) ∙ h in cc)
     ]
 took {V} (nothing d) p ts rest v h =
     let q = Pair-same d v ts rest h in ([], q.1, (refl, sym q.0), λ other s. ap (λ (x : V). Ok (x, other)) q.0)
@@ -234,10 +235,10 @@ no_token : {V : Type 0} (like : Kind) (f : Kind → V) (other : List Token) → 
 no_token like f [] s = refl
 no_token like f (u ∷ us) s = absurd s
 
-other_token : {V : Type 0} (like : Kind) (f : Kind → V) (t : Token) (ts other : List Token) → (class_of t.kind == class_of like) ≡ false → SameHead (t ∷ ts) other → run (token like f) other ≡ Err other
+other_token : {V : Type 0} (like : Kind) (f : Kind → V) (t : Token) (ts other : List Token) → (class_number t.kind == class_number like) ≡ false → SameHead (t ∷ ts) other → run (token like f) other ≡ Err other
 other_token like f t ts [] e s = absurd s
 other_token like f t ts (u ∷ us) e s =
-    cond-false (class_of u.kind == class_of like) (Ok (f u.kind, us)) (Err (u ∷ us)) (ap (λ (c : ℕ). c == class_of like) (sym s) ∙ e)
+    cond-false (class_number u.kind == class_number like) (Ok (f u.kind, us)) (Err (u ∷ us)) (ap (λ (c : ℕ). c == class_number like) (sym s) ∙ e)
 
 -- where reading stopped, a sentence begins with what stands before, and reading stops there whatever follows
 pub stuck : {V : Type 0} (g : Grammar V) → is_predictive g ≡ true → (ts rest : List Token) → run g ts ≡ Err rest → Stuck (run g) (Sentence g) ts rest
@@ -245,11 +246,11 @@ stuck {V} (token like f) p [] rest h =
     subst (λ (r : List Token). Stuck (run (token like f)) (Sentence (token like f)) [] r) (Err-same {V = V} [] rest h)
     ([], refl, sample (token like f), no_token like f)
 stuck {V} (token like f) p (t ∷ ts) rest h =
-    elim (cases_Bool (class_of t.kind == class_of like)) [
-      | inl e ↦ absurd (let both : ◌≡◌ {A = Read V} (Ok (f t.kind, ts)) (Err rest) = sym (cond-true (class_of t.kind == class_of like) (Ok (f t.kind, ts)) (Err (t ∷ ts)) e) ∙ h in cc)
+    elim (cases_Bool (class_number t.kind == class_number like)) [
+      | inl e ↦ absurd (let both : ◌≡◌ {A = Read V} (Ok (f t.kind, ts)) (Err rest) = sym (cond-true (class_number t.kind == class_number like) (Ok (f t.kind, ts)) (Err (t ∷ ts)) e) ∙ h in cc)
       | inr e ↦
           subst (λ (r : List Token). Stuck (run (token like f)) (Sentence (token like f)) (t ∷ ts) r)
-          (Err-same {V = V} (t ∷ ts) rest (sym (cond-false (class_of t.kind == class_of like) (Ok (f t.kind, ts)) (Err (t ∷ ts)) e) ∙ h))
+          (Err-same {V = V} (t ∷ ts) rest (sym (cond-false (class_number t.kind == class_number like) (Ok (f t.kind, ts)) (Err (t ∷ ts)) e) ∙ h))
           ([], refl, sample (token like f), λ other s. other_token like f t ts other e s)
     ]
 stuck (nothing d) p ts rest h = absurd (cc)

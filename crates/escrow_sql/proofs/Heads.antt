@@ -3,7 +3,7 @@ use Rattle.std.proofs.Common.{◌≡◌, ℕ, true, false, List, [], ◌∷◌, 
 use Rattle.std.specs.Prelude.{◌==◌, not}
 use Rattle.std.proofs.lemmas.Bool.{or_cases, or_left, or_right, or_parts, or_from, and_parts, not-true, false_from_ne_true, eqb-true}
 use Rattle.escrow_sql.specs.declared.token.Token.{Token}
-use Rattle.escrow_sql.specs.Token.{class_of}
+use Rattle.escrow_sql.specs.Classes.{class_number}
 use Rattle.escrow_sql.specs.Predictive.{has, starts, apart}
 
 pub has-front : (a b : List ℕ) (c : ℕ) → has a c ≡ true → has (a ++ b) c ≡ true
@@ -27,7 +27,7 @@ has-none (d ∷ ds) b c h =
 
 pub starts-none : (a b : List ℕ) (ts : List Token) → starts (a ++ b) ts ≡ false → (starts a ts ≡ false) × (starts b ts ≡ false)
 starts-none a b [] h = (refl, refl)
-starts-none a b (t ∷ ts) h = has-none a b (class_of t.kind) h
+starts-none a b (t ∷ ts) h = has-none a b (class_number t.kind) h
 
 -- what is among the one isn't among the other
 pub apart-none : (cs ds : List ℕ) (c : ℕ) → apart cs ds ≡ true → has ds c ≡ true → has cs c ≡ false
@@ -44,7 +44,7 @@ abbrev pub SameHead : List Token → List Token → Type 0
 SameHead [] [] = Unit {0}
 SameHead [] (u ∷ us) = ⊥
 SameHead (t ∷ ts) [] = ⊥
-SameHead (t ∷ ts) (u ∷ us) = class_of t.kind ≡ class_of u.kind
+SameHead (t ∷ ts) (u ∷ us) = class_number t.kind ≡ class_number u.kind
 
 pub starts-same : (cs : List ℕ) (x y : List Token) → SameHead x y → starts cs x ≡ starts cs y
 starts-same cs [] [] h = refl

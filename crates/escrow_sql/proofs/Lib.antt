@@ -1,3 +1,4 @@
+pub mod ClassLemmas
 pub mod Faults
 pub mod Fronts
 pub mod Heads

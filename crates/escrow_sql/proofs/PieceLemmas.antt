@@ -17,7 +17,7 @@ use Rattle.escrow_sql.specs.declared.lexer.piece.Piece.{Piece}
 use Rattle.escrow_sql.specs.declared.lexer.piece.Piece.TheVariants as piece
 use Rattle.escrow_sql.specs.declared.token.Kind.{Kind}
 use Rattle.escrow_sql.specs.declared.token.Kind.TheVariants as kind
-use Rattle.escrow_sql.specs.Lex.{name_piece, number_piece, symbol_piece, goes_on, is_blank, is_forbidden, begins, word_or_name}
+use Rattle.escrow_sql.specs.Lex.{plain_piece, name_piece, number_piece, symbol_piece, goes_on, is_blank, is_forbidden, begins, word_or_name}
 use Rattle.escrow_sql.specs.Scan.{IsWithin, piece_of, text_piece, text_from, closed_text, text_rest, undoubled}
 
 -- a front that begins with a byte that passes
@@ -77,15 +77,17 @@ first_of_both true b h = refl
 first_of_both false true h = h
 first_of_both false false h = h
 
-pub piece_of-within : (c : ℕ) (next : List ℕ) → IsWithin (suc (length next)) (piece_of c next)
-unfolding piece_of
-piece_of-within c next =
+plain_within : (c : ℕ) (next : List ℕ) → IsWithin (suc (length next)) (plain_piece c next)
+unfolding plain_piece
+plain_within c next =
     let n = length next in
     either_within (suc n) (is_blank c) (piece.Blank 1) _ (λ e. (omega arith, omega arith)) (λ e.
     either_within (suc n) (nat_eq c 45 && begins 45 next) (piece.Blank (prefix_len (λ b. not (nat_eq b 10)) (c ∷ next))) _ (λ e. comment_within c next (first_of_both (nat_eq c 45) (begins 45 next) e)) (λ e.
     either_within (suc n) (is_ascii_alphabetic c) _ _ (λ e. name_within c next e) (λ e.
-    either_within (suc n) (is_ascii_digit c) _ _ (λ e. number_within c next e) (λ e.
-    either_within (suc n) (nat_eq c 39) _ _ (λ e. text_within next) (λ e. symbol_within c next)))))
+    either_within (suc n) (is_ascii_digit c) _ _ (λ e. number_within c next e) (λ e. symbol_within c next))))
+
+pub piece_of-within : (c : ℕ) (next : List ℕ) → IsWithin (suc (length next)) (piece_of c next)
+piece_of-within c next = either_within (suc (length next)) (nat_eq c 39) (text_piece next) (plain_piece c next) (λ e. text_within next) (λ e. plain_within c next)
 
 -- what was read at a place lies within what the text has from there on
 pub read_within : (r : Result Piece AllocError) (text : List ℕ) (at : ℕ) → at < length text

@@ -1,7 +1,7 @@
 -- The lexer finds the pieces of a text, and their tokens.
 use Rattle.std.proofs.Common.{◌≡◌, ℕ, zero, suc, ◌+◌, ◌≤◌, Bool, true, false, Result, Ok, Err, List, [], ◌∷◌, length, drop, arith, refl, sym, ap, ◌∙◌, subst, inl, inr}
 use Rattle.std.specs.Prelude.{◌==◌, nat_lt, MatchBool}
-use Rattle.std.proofs.lemmas.Bool.{cases_Bool, eqb-true, le-ltb}
+use Rattle.std.proofs.lemmas.Bool.{cases_Bool, cond-true, cond-false, le-ltb}
 use Rattle.std.proofs.lemmas.Bool.Decides.{nat_tests}
 use Rattle.std.proofs.lemmas.List.{length-drop}
 use Rattle.escrow_sql.specs.Lex.{IsPiece, IsTextPiece, plain_piece, ArePieces, tokens_at, with_token, IsLexed}
@@ -14,14 +14,6 @@ use Rattle.escrow_sql.proofs.PieceLemmas.{piece_of-within}
 use Rattle.escrow_sql.proofs.QuotedLemmas.{text_piece-is, text_piece-only}
 use Rattle.escrow_sql.proofs.TokenLemmas.{tokens_from-piece, tokens_from-behind}
 
-piece_of-quote : (c : ℕ) (next : List ℕ) → c ≡ 39 → piece_of c next ≡ text_piece next
-unfolding piece_of
-piece_of-quote c next e = rw e refl
-
-piece_of-plain : (c : ℕ) (next : List ℕ) → (c == 39) ≡ false → piece_of c next ≡ plain_piece c next
-unfolding piece_of plain_piece
-piece_of-plain c next e = rw e refl
-
 match_true : (b : Bool) (P Q : Type 0) → b ≡ true → P → MatchBool b P Q
 match_true b P Q e p = rw e p
 
@@ -32,15 +24,15 @@ match_false b P Q e q = rw e q
 is_piece : (c : ℕ) (next : List ℕ) → IsPiece (c ∷ next) (piece_of c next)
 is_piece c next =
     elim (cases_Bool (c == 39)) [
-      | inl e ↦ match_true (c == 39) _ _ e (subst (IsTextPiece next) (sym (piece_of-quote c next (eqb-true c 39 e))) (text_piece-is next))
-      | inr e ↦ match_false (c == 39) _ _ e (piece_of-plain c next e)
+      | inl e ↦ match_true (c == 39) _ _ e (subst (IsTextPiece next) (sym (cond-true (c == 39) (text_piece next) (plain_piece c next) e)) (text_piece-is next))
+      | inr e ↦ match_false (c == 39) _ _ e (cond-false (c == 39) (text_piece next) (plain_piece c next) e)
     ]
 
 only_piece : (c : ℕ) (next : List ℕ) (p : Piece) → IsPiece (c ∷ next) p → p ≡ piece_of c next
 only_piece c next p h =
     elim (cases_Bool (c == 39)) [
-      | inl e ↦ text_piece-only next p (rw e at h) ∙ sym (piece_of-quote c next (eqb-true c 39 e))
-      | inr e ↦ (rw e at h) ∙ sym (piece_of-plain c next e)
+      | inl e ↦ text_piece-only next p (rw e at h) ∙ sym (cond-true (c == 39) (text_piece next) (plain_piece c next) e)
+      | inr e ↦ (rw e at h) ∙ sym (cond-false (c == 39) (text_piece next) (plain_piece c next) e)
     ]
 
 -- the tokens of pieces are those that the lexer finds

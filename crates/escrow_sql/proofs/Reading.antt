@@ -5,7 +5,7 @@ use Rattle.std.proofs.lemmas.Bool.{cond_both}
 use Rattle.escrow_sql.specs.declared.token.Token.{Token}
 use Rattle.escrow_sql.specs.declared.token.Symbol.TheVariants as symbols
 use Rattle.escrow_sql.specs.declared.token.Kind.TheVariants as kind
-use Rattle.escrow_sql.specs.Token.{class_of}
+use Rattle.escrow_sql.specs.Classes.{class_number}
 use Rattle.escrow_sql.specs.Grammar.{Grammar, token, nothing, sequence, either, many}
 use Rattle.escrow_sql.specs.Predictive.{run, run_many, and_then, starts, first, may_be_empty, ended, whole_of, run_whole}
 use Rattle.escrow_sql.specs.Statement.{list, symbol, ◌then◌}
@@ -59,7 +59,7 @@ run_many-takes {A} classes read h (suc n) ts r e =
 pub run-takes : {V : Type 0} (g : Grammar V) (ts : List Token) (r : V × List Token) → run g ts ≡ Ok r → at_least (may_be_empty g) + length r.1 ≤ length ts
 run-takes (token like f) [] r e = absurd (cc)
 run-takes {V} (token like f) (t ∷ ts) r e =
-    cond_both (class_of t.kind == class_of like) (Ok (f t.kind, ts)) (Err (t ∷ ts)) (λ (q : Read V). q ≡ Ok r → 1 + length r.1 ≤ length (t ∷ ts))
+    cond_both (class_number t.kind == class_number like) (Ok (f t.kind, ts)) (Err (t ∷ ts)) (λ (q : Read V). q ≡ Ok r → 1 + length r.1 ≤ length (t ∷ ts))
     (λ s q. omega (arith, left {A = V} (f t.kind, ts) r q)) (λ s q. absurd (cc)) e
 run-takes {V} (nothing d) ts r e = omega (arith, left {A = V} (d, ts) r e)
 run-takes {V} (sequence a b f) ts r e =
@@ -172,13 +172,13 @@ all-kept g e front ts rest x whole s h same = sym (front_again front x (all g re
 abbrev behind_comma : {A : Type 0} → Grammar A → Grammar A
 behind_comma g = symbol symbols.Comma then g
 
-list-starts : (ts after : List Token) → run (symbol symbols.Comma) ts ≡ Ok (tt, after) → starts (class_of (kind.Symbol symbols.Comma) ∷ []) ts ≡ true
+list-starts : (ts after : List Token) → run (symbol symbols.Comma) ts ≡ Ok (tt, after) → starts (class_number (kind.Symbol symbols.Comma) ∷ []) ts ≡ true
 list-starts [] after h = absurd (cc)
 list-starts (t ∷ ts) after h =
-    cond_both (class_of t.kind == class_of (kind.Symbol symbols.Comma)) (Ok (tt, ts)) (Err (t ∷ ts)) (λ (q : Read (Unit {0})). q ≡ Ok (tt, after) → starts (class_of (kind.Symbol symbols.Comma) ∷ []) (t ∷ ts) ≡ true)
+    cond_both (class_number t.kind == class_number (kind.Symbol symbols.Comma)) (Ok (tt, ts)) (Err (t ∷ ts)) (λ (q : Read (Unit {0})). q ≡ Ok (tt, after) → starts (class_number (kind.Symbol symbols.Comma) ∷ []) (t ∷ ts) ≡ true)
     (λ s q. rw s refl) (λ s q. absurd (cc)) h
 
-pub list-last : {A : Type 0} (g : Grammar A) (ts rest : List Token) (x : A) → run g ts ≡ Ok (x, rest) → starts (class_of (kind.Symbol symbols.Comma) ∷ []) rest ≡ false
+pub list-last : {A : Type 0} (g : Grammar A) (ts rest : List Token) (x : A) → run g ts ≡ Ok (x, rest) → starts (class_number (kind.Symbol symbols.Comma) ∷ []) rest ≡ false
     → run (list g) ts ≡ Ok (x ∷ [], rest)
 list-last {A} g ts rest x h s =
     ap (λ (r : Read A). and_then r (λ x rest. onto x (all (behind_comma g) rest))) h ∙ ap (onto x) (all-none (behind_comma g) rest s)
@@ -206,7 +206,7 @@ list-kept g front ts rest after x whole h c same =
 
 -- the last of a list
 pub list-ended : {A : Type 0} (g : Grammar A) (front : List A) (ts rest : List Token) (x : A) (whole : Read (List A))
-    → run g ts ≡ Ok (x, rest) → starts (class_of (kind.Symbol symbols.Comma) ∷ []) rest ≡ false
+    → run g ts ≡ Ok (x, rest) → starts (class_number (kind.Symbol symbols.Comma) ∷ []) rest ≡ false
     → with_front front (run (list g) ts) ≡ whole → whole ≡ Ok (front ++ x ∷ [], rest)
 list-ended g front ts rest x whole h s same = sym same ∙ ap (with_front front) (list-last g ts rest x h s)
 
@@ -241,7 +241,7 @@ run_many-leaves {A} classes read h (suc n) ts =
 run-leaves : {V : Type 0} (g : Grammar V) (ts : List Token) → Leaves (run g ts) ts
 run-leaves (token like f) [] = ([], refl)
 run-leaves {V} (token like f) (t ∷ ts) =
-    cond_both (class_of t.kind == class_of like) (Ok (f t.kind, ts)) (Err (t ∷ ts)) (λ (r : Read V). Leaves r (t ∷ ts)) (λ s. (t ∷ [], refl)) (λ s. ([], refl))
+    cond_both (class_number t.kind == class_number like) (Ok (f t.kind, ts)) (Err (t ∷ ts)) (λ (r : Read V). Leaves r (t ∷ ts)) (λ s. (t ∷ [], refl)) (λ s. ([], refl))
 run-leaves (nothing d) ts = ([], refl)
 run-leaves (sequence a b f) ts =
     and_then-leaves (run a ts) (λ x rest. and_then (run b rest) (λ y end. Ok (f x y, end))) ts (run-leaves a ts)

@@ -3,9 +3,10 @@ use Rattle.std.proofs.Common.{◌≡◌, ℕ, Bool, true, false, Ok, Err, List, 
 use Rattle.std.specs.Prelude.{◌==◌, ◌&&◌, not, if◌then◌else◌}
 use Rattle.std.proofs.lemmas.Bool.{or_left, or_right, and_parts, and_from, not-true, eq-eqb, cond-true, cond-false}
 use Rattle.escrow_sql.specs.declared.token.Token.{Token}
-use Rattle.escrow_sql.specs.Token.{class_of}
+use Rattle.escrow_sql.specs.Classes.{class_number}
 use Rattle.escrow_sql.specs.Grammar.{Grammar, token, nothing, sequence, either, many, Sentence, Repeats}
 use Rattle.escrow_sql.specs.Predictive.{run, and_then, has, starts, first, more, may_be_empty, apart, is_predictive}
+use Rattle.escrow_sql.proofs.ClassLemmas.{same_number}
 use Rattle.escrow_sql.proofs.Heads.{has-front, has-back, starts-none, apart-none, cut, none_of_both}
 use Rattle.escrow_sql.proofs.Reading.{Read, items, items-none, items-unrolled, onto}
 
@@ -30,35 +31,35 @@ repeats_lead S P lead (x ∷ xs) u w ts e h =
     ]
 
 -- a sentence's first token is of a class that sentences begin with
-pub leads : {V : Type 0} (g : Grammar V) (u : Token) (w ts : List Token) (v : V) → ts ≡ u ∷ w → Sentence g ts v → has (first g) (class_of u.kind) ≡ true
+pub leads : {V : Type 0} (g : Grammar V) (u : Token) (w ts : List Token) (v : V) → ts ≡ u ∷ w → Sentence g ts v → has (first g) (class_number u.kind) ≡ true
 leads (token like f) u w ts v e h =
     let both : h.0 ∷ [] ≡ u ∷ w = sym h.1 ∙ e in
     let same : u ≡ h.0 = cc in
-    or_left (class_of u.kind == class_of like) false (eq-eqb (class_of u.kind) (class_of like) (ap (λ (t : Token). class_of t.kind) same ∙ h.2))
+    or_left (class_number u.kind == class_number like) false (eq-eqb (class_number u.kind) (class_number like) (ap (λ (t : Token). class_number t.kind) same ∙ same_number h.0.kind like h.2))
 leads (nothing d) u w ts v e h = absurd (let both : [] ≡ u ∷ w = sym h.0 ∙ e in cc)
 leads (sequence a b f) u w ts v e h =
     elim (cut h.0 h.1 u w (sym h.4 ∙ e)) [
       | inl c ↦
           let m = empty-sentence a h.2 h.0 c.0 h.5 in
-          has-back (first a) (if may_be_empty a then first b else []) (class_of u.kind)
-          (subst (λ (cs : List ℕ). has cs (class_of u.kind) ≡ true) (sym (cond-true (may_be_empty a) (first b) [] m)) (leads b u w h.1 h.3 c.1 h.6))
-      | inr c ↦ has-front (first a) (if may_be_empty a then first b else []) (class_of u.kind) (leads a u c.0 h.0 h.2 c.1 h.5)
+          has-back (first a) (if may_be_empty a then first b else []) (class_number u.kind)
+          (subst (λ (cs : List ℕ). has cs (class_number u.kind) ≡ true) (sym (cond-true (may_be_empty a) (first b) [] m)) (leads b u w h.1 h.3 c.1 h.6))
+      | inr c ↦ has-front (first a) (if may_be_empty a then first b else []) (class_number u.kind) (leads a u c.0 h.0 h.2 c.1 h.5)
     ]
-leads (either a b) u w ts v e (inl h) = has-front (first a) (first b) (class_of u.kind) (leads a u w ts v e h)
-leads (either a b) u w ts v e (inr h) = has-back (first a) (first b) (class_of u.kind) (leads b u w ts v e h)
-leads (many a f) u w ts v e h = repeats_lead (Sentence a) (λ t. has (first a) (class_of t.kind) ≡ true) (leads a) h.0 u w ts e h.1
+leads (either a b) u w ts v e (inl h) = has-front (first a) (first b) (class_number u.kind) (leads a u w ts v e h)
+leads (either a b) u w ts v e (inr h) = has-back (first a) (first b) (class_number u.kind) (leads b u w ts v e h)
+leads (many a f) u w ts v e h = repeats_lead (Sentence a) (λ t. has (first a) (class_number t.kind) ≡ true) (leads a) h.0 u w ts e h.1
 
 -- what a part may be followed by, where the next part is read behind it
-not_more : (closes opens : List ℕ) (t y : List Token) → apart closes opens ≡ true → ((u : Token) (w : List Token) → t ≡ u ∷ w → has opens (class_of u.kind) ≡ true)
+not_more : (closes opens : List ℕ) (t y : List Token) → apart closes opens ≡ true → ((u : Token) (w : List Token) → t ≡ u ∷ w → has opens (class_number u.kind) ≡ true)
     → (t ≡ [] → starts closes y ≡ false) → starts closes (t ++ y) ≡ false
 not_more closes opens [] y a h k = k refl
-not_more closes opens (u ∷ w) y a h k = apart-none closes opens (class_of u.kind) a (h u w refl)
+not_more closes opens (u ∷ w) y a h k = apart-none closes opens (class_number u.kind) a (h u w refl)
 
 chosen : (b : Bool) (cs : List ℕ) (y : List Token) → b ≡ true → starts (if b then cs else []) y ≡ false → starts cs y ≡ false
 chosen b cs y e h = subst (λ (ds : List ℕ). starts ds y ≡ false) (cond-true b cs [] e) h
 
 -- tokens that begin as sentences do
-starts-first : (cs : List ℕ) (w y : List Token) → ((u : Token) (v : List Token) → w ≡ u ∷ v → has cs (class_of u.kind) ≡ true) → (w ≡ [] → ⊥) → starts cs (w ++ y) ≡ true
+starts-first : (cs : List ℕ) (w y : List Token) → ((u : Token) (v : List Token) → w ≡ u ∷ v → has cs (class_number u.kind) ≡ true) → (w ≡ [] → ⊥) → starts cs (w ++ y) ≡ true
 starts-first cs [] y h n = absurd (n refl)
 starts-first cs (u ∷ v) y h n = h u v refl
 
@@ -69,7 +70,7 @@ reads_items : {A : Type 0} (a : Grammar A) → may_be_empty a ≡ false → apar
 reads_items a n p back [] w y h f m = ap (λ (ts : List Token). items a (ts ++ y)) h ∙ items-none a y f
 reads_items {A} a n p back (x ∷ xs) w y h f m =
     let s = h.0 in let t = h.1 in
-    let leads_t = λ (u : Token) (v : List Token) (e : t ≡ u ∷ v). repeats_lead (Sentence a) (λ z. has (first a) (class_of z.kind) ≡ true) (leads a) xs u v t e h.4 in
+    let leads_t = λ (u : Token) (v : List Token) (e : t ≡ u ∷ v). repeats_lead (Sentence a) (λ z. has (first a) (class_number z.kind) ≡ true) (leads a) xs u v t e h.4 in
     let clear = not_more (more a) (first a) t y p leads_t (λ e. m) in
     let one = back s (t ++ y) x h.3 clear in
     let others = reads_items a n p back xs t y h.4 f m in
@@ -82,7 +83,7 @@ reads_items {A} a n p back (x ∷ xs) w y h f m =
 pub reads_back : {V : Type 0} (g : Grammar V) → is_predictive g ≡ true → (w y : List Token) (v : V) → Sentence g w v → starts (more g) y ≡ false → run g (w ++ y) ≡ Ok (v, y)
 reads_back {V} (token like f) p w y v h m =
     ap (λ (ts : List Token). run (token like f) (ts ++ y)) h.1
-    ∙ (cond-true (class_of h.0.kind == class_of like) (Ok (f h.0.kind, y)) (Err (h.0 ∷ y)) (eq-eqb (class_of h.0.kind) (class_of like) h.2)
+    ∙ (cond-true (class_number h.0.kind == class_number like) (Ok (f h.0.kind, y)) (Err (h.0 ∷ y)) (eq-eqb (class_number h.0.kind) (class_number like) (same_number h.0.kind like h.2))
     ∙ ap (λ (x : V). Ok (x, y)) (sym h.3))
 reads_back {V} (nothing d) p w y v h m = ap (λ (ts : List Token). run (nothing d) (ts ++ y)) h.0 ∙ ap (λ (x : V). Ok (x, y)) (sym h.1)
 reads_back {V} (sequence {A} {B} a b f) p w y v h m =

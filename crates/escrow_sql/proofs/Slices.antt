@@ -16,7 +16,7 @@ use Rattle.escrow_sql.specs.declared.token.Kind.{Kind}
 use Rattle.escrow_sql.specs.declared.token.Kind.TheVariants as kind
 use Rattle.escrow_sql.specs.declared.token.Symbol.TheVariants as symbol
 use Rattle.escrow_sql.specs.declared.token.Token.{Token}
-use Rattle.escrow_sql.specs.Lex.{name_piece, number_piece, symbol_piece, goes_on, is_blank, begins, word_or_name, IsItsSlice, with_token}
+use Rattle.escrow_sql.specs.Lex.{plain_piece, name_piece, number_piece, symbol_piece, goes_on, is_blank, begins, word_or_name, IsItsSlice, with_token}
 use Rattle.escrow_sql.specs.Scan.{piece_of, text_piece, IsWithin, tokens_from}
 use Rattle.escrow_sql.proofs.PieceLemmas.{piece_of-within}
 use Rattle.escrow_sql.proofs.Pieces.{is_lexed}
@@ -128,11 +128,10 @@ abbrev token_piece : ℕ → List ℕ → Piece
 token_piece c next =
     if is_ascii_alphabetic c then name_piece (c ∷ next)
     else if is_ascii_digit c then number_piece (c ∷ next)
-    else if c == 39 then text_piece next
     else symbol_piece c next
 
-begins_token : (c : ℕ) (next : List ℕ) → is_blank c ≡ false → (c == 45 && begins 45 next) ≡ false → piece_of c next ≡ token_piece c next
-unfolding piece_of
+begins_token : (c : ℕ) (next : List ℕ) → is_blank c ≡ false → (c == 45 && begins 45 next) ≡ false → plain_piece c next ≡ token_piece c next
+unfolding plain_piece
 begins_token c next e f =
     cond-false (is_blank c) (piece.Blank 1) (if c == 45 && begins 45 next then piece.Blank (prefix_len (λ b. not (b == 10)) (c ∷ next)) else token_piece c next) e
     ∙ cond-false (c == 45 && begins 45 next) (piece.Blank (prefix_len (λ b. not (b == 10)) (c ∷ next))) (token_piece c next) f
@@ -147,31 +146,26 @@ token_alone c next k len one h =
     let front = one_front c len next one in
     elim (cases_Bool (is_ascii_alphabetic c)) [
       | inl e ↦
-          let n = sym (cond-true (is_ascii_alphabetic c) (name_piece (c ∷ next)) (if is_ascii_digit c then number_piece (c ∷ next) else if c == 39 then text_piece next else symbol_piece c next) e) ∙ h in
+          let n = sym (cond-true (is_ascii_alphabetic c) (name_piece (c ∷ next)) (if is_ascii_digit c then number_piece (c ∷ next) else symbol_piece c next) e) ∙ h in
           let l = name_len (c ∷ next) k len n in
-          cond-true (is_ascii_alphabetic c) (name_piece (c ∷ short)) (if is_ascii_digit c then number_piece (c ∷ short) else if c == 39 then text_piece short else symbol_piece c short) e
+          cond-true (is_ascii_alphabetic c) (name_piece (c ∷ short)) (if is_ascii_digit c then number_piece (c ∷ short) else symbol_piece c short) e
           ∙ (ap name_piece (sym front ∙ ap (λ (m : ℕ). take m (c ∷ next)) l) ∙ (name_alone (c ∷ next) ∙ n))
       | inr e ↦
-          let not_name = λ (x : List ℕ). cond-false (is_ascii_alphabetic c) (name_piece (c ∷ x)) (if is_ascii_digit c then number_piece (c ∷ x) else if c == 39 then text_piece x else symbol_piece c x) e in
+          let not_name = λ (x : List ℕ). cond-false (is_ascii_alphabetic c) (name_piece (c ∷ x)) (if is_ascii_digit c then number_piece (c ∷ x) else symbol_piece c x) e in
           elim (cases_Bool (is_ascii_digit c)) [
             | inl f ↦
-                let n = sym (not_name next ∙ cond-true (is_ascii_digit c) (number_piece (c ∷ next)) (if c == 39 then text_piece next else symbol_piece c next) f) ∙ h in
+                let n = sym (not_name next ∙ cond-true (is_ascii_digit c) (number_piece (c ∷ next)) (symbol_piece c next) f) ∙ h in
                 let l = number_len (c ∷ next) k len n in
-                not_name short ∙ (cond-true (is_ascii_digit c) (number_piece (c ∷ short)) (if c == 39 then text_piece short else symbol_piece c short) f
+                not_name short ∙ (cond-true (is_ascii_digit c) (number_piece (c ∷ short)) (symbol_piece c short) f
                 ∙ (ap number_piece (sym front ∙ ap (λ (m : ℕ). take m (c ∷ next)) l) ∙ (number_alone (c ∷ next) ∙ n)))
             | inr f ↦
-                let not_number = λ (x : List ℕ). not_name x ∙ cond-false (is_ascii_digit c) (number_piece (c ∷ x)) (if c == 39 then text_piece x else symbol_piece c x) f in
-                elim (cases_Bool (c == 39)) [
-                  | inl g ↦ not_number short ∙ (cond-true (c == 39) (text_piece short) (symbol_piece c short) g
-                      ∙ text_alone next k len (sym (not_number next ∙ cond-true (c == 39) (text_piece next) (symbol_piece c next) g) ∙ h))
-                  | inr g ↦ not_number short ∙ (cond-false (c == 39) (text_piece short) (symbol_piece c short) g
-                      ∙ symbol_alone c next k len (sym (not_number next ∙ cond-false (c == 39) (text_piece next) (symbol_piece c next) g) ∙ h))
-                ]
+                not_name short ∙ (cond-false (is_ascii_digit c) (number_piece (c ∷ short)) (symbol_piece c short) f
+                ∙ symbol_alone c next k len (sym (not_name next ∙ cond-false (is_ascii_digit c) (number_piece (c ∷ next)) (symbol_piece c next) f) ∙ h))
           ]
     ]
 
-no_blank : (c : ℕ) (next : List ℕ) (k : Kind) (len : ℕ) → piece_of c next ≡ piece.Token k len → (is_blank c ≡ false) × ((c == 45 && begins 45 next) ≡ false)
-unfolding piece_of
+no_blank : (c : ℕ) (next : List ℕ) (k : Kind) (len : ℕ) → plain_piece c next ≡ piece.Token k len → (is_blank c ≡ false) × ((c == 45 && begins 45 next) ≡ false)
+unfolding plain_piece
 no_blank c next k len h =
     let rest = if c == 45 && begins 45 next then piece.Blank (prefix_len (λ b. not (b == 10)) (c ∷ next)) else token_piece c next in
     elim (cases_Bool (is_blank c)) [
@@ -185,11 +179,19 @@ no_blank c next k len h =
           ]
     ]
 
--- the bytes of a token, alone, begin with it
-pub piece_alone : (c : ℕ) (next : List ℕ) (k : Kind) (len : ℕ) → 1 ≤ len → piece_of c next ≡ piece.Token k len → piece_of c (take (len - 1) next) ≡ piece.Token k len
-piece_alone c next k len one h =
+plain_alone : (c : ℕ) (next : List ℕ) (k : Kind) (len : ℕ) → 1 ≤ len → plain_piece c next ≡ piece.Token k len → plain_piece c (take (len - 1) next) ≡ piece.Token k len
+plain_alone c next k len one h =
     let b = no_blank c next k len h in
     begins_token c (take (len - 1) next) b.0 (no_comment c (len - 1) next b.1) ∙ token_alone c next k len one (sym (begins_token c next b.0 b.1) ∙ h)
+
+-- the bytes of a token, alone, begin with it
+piece_alone : (c : ℕ) (next : List ℕ) (k : Kind) (len : ℕ) → 1 ≤ len → piece_of c next ≡ piece.Token k len → piece_of c (take (len - 1) next) ≡ piece.Token k len
+piece_alone c next k len one h =
+    let short = take (len - 1) next in
+    elim (cases_Bool (c == 39)) [
+      | inl e ↦ cond-true (c == 39) (text_piece short) (plain_piece c short) e ∙ text_alone next k len (sym (cond-true (c == 39) (text_piece next) (plain_piece c next) e) ∙ h)
+      | inr e ↦ cond-false (c == 39) (text_piece short) (plain_piece c short) e ∙ plain_alone c next k len one (sym (cond-false (c == 39) (text_piece next) (plain_piece c next) e) ∙ h)
+    ]
 
 tokens_from-past : (skip at : ℕ) (bytes : List ℕ) → length bytes ≤ skip → tokens_from skip at bytes ≡ Ok []
 tokens_from-past zero at [] l = refl

@@ -74,7 +74,7 @@ IsTextPiece bytes p =
     ((text : List ℕ) × (rest : List ℕ) × IsQuoted bytes text rest × (p ≡ quoted_piece text (position is_forbidden (doubled text))))
     ⊎ (((text rest : List ℕ) → IsQuoted bytes text rest → ⊥) × (p ≡ piece.Fault 0))
 
--- the longest symbol that begins with c and goes on with these bytes
+-- the longest symbol that begins with c and goes on with these bytes: ( ) , ; * + - = <= < >= >
 unfoldable pub symbol_piece : ℕ → List ℕ → Piece
 symbol_piece c next =
     if c == 40 then piece.Token (kind.Symbol symbol.Open) 1

@@ -1,3 +1,4 @@
+pub mod Classes
 pub mod Copies
 pub mod Cursor
 pub mod Grammar

@@ -3,7 +3,7 @@
 use Rattle.std.specs.Prelude.{ℕ, zero, suc, ◌==◌, Bool, true, false, not, ◌&&◌, ◌||◌, if◌then◌else◌, Result, Ok, Err, List, [], ◌∷◌, ◌++◌, length}
 use Rattle.escrow_sql.specs.Grammar.{Grammar, token, nothing, sequence, either, many}
 use Rattle.escrow_sql.specs.declared.token.Token.{Token}
-use Rattle.escrow_sql.specs.Token.{class_of}
+use Rattle.escrow_sql.specs.Classes.{class_number}
 
 -- a class is among these
 abbrev pub has : List ℕ → ℕ → Bool
@@ -13,7 +13,7 @@ has (d ∷ ds) c = c == d || has ds c
 -- the tokens begin with one of these classes
 abbrev pub starts : List ℕ → List Token → Bool
 starts classes [] = false
-starts classes (t ∷ ts) = has classes (class_of t.kind)
+starts classes (t ∷ ts) = has classes (class_number t.kind)
 
 -- nothing is a sentence
 abbrev pub may_be_empty : {V : Type 0} → Grammar V → Bool
@@ -25,7 +25,7 @@ may_be_empty (many a f) = true
 
 -- the classes of tokens that a sentence can begin with
 abbrev pub first : {V : Type 0} → Grammar V → List ℕ
-first (token like f) = class_of like ∷ []
+first (token like f) = class_number like ∷ []
 first (nothing d) = []
 first (sequence a b f) = first a ++ (if may_be_empty a then first b else [])
 first (either a b) = first a ++ first b
@@ -68,7 +68,7 @@ run_many classes read (suc n) tokens =
 -- reading from the left with one token in hand: the value and the tokens behind it, or the tokens from the fault on
 abbrev pub run : {V : Type 0} → Grammar V → List Token → Result (V × List Token) (List Token)
 run (token like f) [] = Err []
-run (token like f) (t ∷ ts) = if class_of t.kind == class_of like then Ok (f t.kind, ts) else Err (t ∷ ts)
+run (token like f) (t ∷ ts) = if class_number t.kind == class_number like then Ok (f t.kind, ts) else Err (t ∷ ts)
 run (nothing d) tokens = Ok (d, tokens)
 run (sequence a b f) tokens = and_then (run a tokens) (λ x rest. and_then (run b rest) (λ y end. Ok (f x y, end)))
 run (either a b) tokens = if starts (first a) tokens then run a tokens else run b tokens

@@ -1,8 +1,6 @@
 -- Helps only: how the lexer goes through a text, from left to right. Contracts of public calls rest on Lex.
-use Rattle.std.specs.Prelude.{ℕ, zero, suc, ◌+◌, ◌-◌, ◌==◌, Bool, true, false, not, ◌&&◌, ◌<◌, ◌≤◌, if◌then◌else◌, Option, Some, None, option_map, Result, Ok, Err, List, [], ◌∷◌, take, position}
-use Rattle.std.specs.Char.{is_ascii_alphabetic, is_ascii_digit}
-use Rattle.std.specs.List.{prefix_len}
-use Rattle.escrow_sql.specs.Lex.{is_blank, is_forbidden, begins, name_piece, number_piece, symbol_piece, with_token}
+use Rattle.std.specs.Prelude.{ℕ, zero, suc, ◌+◌, ◌-◌, ◌==◌, Bool, true, false, ◌<◌, ◌≤◌, if◌then◌else◌, Option, Some, None, option_map, Result, Ok, Err, List, [], ◌∷◌, take, position}
+use Rattle.escrow_sql.specs.Lex.{is_forbidden, plain_piece, with_token}
 use Rattle.escrow_sql.specs.declared.lexer.piece.Piece.{Piece}
 use Rattle.escrow_sql.specs.declared.lexer.piece.Piece.TheVariants as piece
 use Rattle.escrow_sql.specs.declared.token.Kind.TheVariants as kind
@@ -36,15 +34,9 @@ text_from body (Some len) = closed_text body len (position is_forbidden (take (l
 unfoldable pub text_piece : List ℕ → Piece
 text_piece body = text_from body (text_rest false body)
 
--- what the bytes begin with: a blank, a comment to the line's end, or a token, by its first byte
-unfoldable pub piece_of : ℕ → List ℕ → Piece
-piece_of c next =
-    if is_blank c then piece.Blank 1
-    else if c == 45 && begins 45 next then piece.Blank (prefix_len (λ b. not (b == 10)) (c ∷ next))
-    else if is_ascii_alphabetic c then name_piece (c ∷ next)
-    else if is_ascii_digit c then number_piece (c ∷ next)
-    else if c == 39 then text_piece next
-    else symbol_piece c next
+-- what the bytes begin with
+abbrev pub piece_of : ℕ → List ℕ → Piece
+piece_of c next = if c == 39 then text_piece next else plain_piece c next
 
 -- a piece takes at least one byte and ends within so many; a fault is among them
 abbrev pub IsWithin : ℕ → Piece → Type 0

@@ -1,34 +1,17 @@
--- To be believed: which tokens are of one class, and where the tokens of a text stand.
-use Rattle.std.specs.Prelude.{ℕ, ◌+◌, ◌≤◌, ◌<◌, List, [], ◌∷◌}
-use Rattle.escrow_sql.specs.declared.token.Symbol.{Symbol}
-use Rattle.escrow_sql.specs.declared.token.Symbol.TheVariants as symbol
+-- To be believed: what a token is without what it holds, and where the tokens of a text stand.
+use Rattle.std.specs.Prelude.{ℕ, pos, ◌+◌, ◌≤◌, ◌<◌, List, [], ◌∷◌}
 use Rattle.escrow_sql.specs.declared.token.Kind.{Kind}
 use Rattle.escrow_sql.specs.declared.token.Kind.TheVariants as kind
 use Rattle.escrow_sql.specs.declared.token.Token.{Token}
-use Rattle.escrow_sql.specs.Word.{number_of}
 
--- a number for each symbol
-abbrev pub symbol_number : Symbol → ℕ
-symbol_number symbol.Open = 0
-symbol_number symbol.Close = 1
-symbol_number symbol.Comma = 2
-symbol_number symbol.Semicolon = 3
-symbol_number symbol.Star = 4
-symbol_number symbol.Plus = 5
-symbol_number symbol.Minus = 6
-symbol_number symbol.Equal = 7
-symbol_number symbol.Below = 8
-symbol_number symbol.AtMost = 9
-symbol_number symbol.Above = 10
-symbol_number symbol.AtLeast = 11
-
--- a number for what a token is, without what it holds: each reserved word and each symbol has its own
-abbrev pub class_of : Kind → ℕ
-class_of (kind.Name name) = 0
-class_of (kind.Number n) = 1
-class_of (kind.Text text) = 2
-class_of (kind.Symbol s) = 3 + symbol_number s
-class_of (kind.Word w) = 15 + number_of w
+-- what a token is, without what it holds: all names are one class, all numbers, all texts, and each
+-- symbol and each reserved word is one of its own
+abbrev pub class_of : Kind → Kind
+class_of (kind.Name name) = kind.Name []
+class_of (kind.Number n) = kind.Number (pos 0)
+class_of (kind.Text text) = kind.Text []
+class_of (kind.Symbol s) = kind.Symbol s
+class_of (kind.Word w) = kind.Word w
 
 -- tokens stand in order from a place on, up to the end of a text, and don't overlap
 abbrev pub AreInOrder : ℕ → ℕ → List Token → Type 0

@@ -1,7 +1,7 @@
 ghost use Rattle.std.specs.Prelude.{◌≡◌, [], ◌∷◌, false, Ok, MatchBool};
 ghost use Rattle.escrow_sql.specs.Predictive.{run, starts};
 ghost use Rattle.escrow_sql.specs.Cursor.{Advances};
-ghost use Rattle.escrow_sql.specs.Token.{class_of};
+ghost use Rattle.escrow_sql.specs.Classes.{class_number};
 ghost use Rattle.escrow_sql.specs.Statement.{word, symbol, name, number};
 ghost use Rattle.escrow_sql.specs.declared.token.Kind.TheVariants as kind;
 
@@ -21,7 +21,7 @@ pub(crate) struct Cursor<'a> {
 impl Cursor<'_> {
     /// Whether a reserved word comes next.
     pub(crate) fn is_at_word(&self, expected: Word) -> bool
-        ensures { result ≡ starts (class_of (kind.Word expected) ∷ []) self.now.tokens.now }
+        ensures { result ≡ starts (class_number (kind.Word expected) ∷ []) self.now.tokens.now }
     {
         match self.tokens {
             [] => false,
@@ -31,7 +31,7 @@ impl Cursor<'_> {
 
     /// Whether a symbol comes next.
     pub(crate) fn is_at_symbol(&self, expected: Symbol) -> bool
-        ensures { result ≡ starts (class_of (kind.Symbol expected) ∷ []) self.now.tokens.now }
+        ensures { result ≡ starts (class_number (kind.Symbol expected) ∷ []) self.now.tokens.now }
     {
         match self.tokens {
             [] => false,
@@ -42,7 +42,7 @@ impl Cursor<'_> {
     /// Passes over a symbol if it comes next, and says whether it did.
     pub(crate) fn takes_symbol(&mut self, expected: Symbol) -> bool
         ensures { MatchBool result (run (symbol expected) self.old.tokens.now ≡ Ok (tt, self.new.tokens.now))
-            ((starts (class_of (kind.Symbol expected) ∷ []) self.old.tokens.now ≡ false) × (self.new.tokens.now ≡ self.old.tokens.now)) }
+            ((starts (class_number (kind.Symbol expected) ∷ []) self.old.tokens.now ≡ false) × (self.new.tokens.now ≡ self.old.tokens.now)) }
     {
         match self.tokens {
             [token, rest @ ..] if token.kind.class() == Kind::Symbol(expected).class() => {

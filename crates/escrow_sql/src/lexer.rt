@@ -22,14 +22,14 @@ use std::alloc::{AllocError, Global};
 pub const MAX_TEXT: usize = 65_536;
 
 /// Whether the byte is a blank.
-fn is_space(byte: u8) -> bool
+fn is_blank(byte: u8) -> bool
     ensures { result ≡ is_blank byte }
 {
     byte == b' ' || byte == b'\t' || byte == b'\r' || byte == b'\n'
 }
 
 /// What the text begins with from a place on.
-#[tactic(auto, unfolding(crate::specs::Scan::piece_of))]
+#[tactic(auto, unfolding(crate::specs::Lex::plain_piece))]
 fn read_piece(alloc: Global, text: &str, at: usize) -> Result<Piece, AllocError>
     requires { at < length text.now }
     ensures { IfOk result (λ p. p ≡ piece_of (slice_index text.now at) (drop (at + 1) text.now)) }
@@ -38,7 +38,10 @@ fn read_piece(alloc: Global, text: &str, at: usize) -> Result<Piece, AllocError>
     let rest = &bytes[at..];
     let next = &bytes[at + 1..];
     let first = bytes[at];
-    if is_space(first) {
+    if first == b'\'' {
+        return text::read_text(alloc, &text[at + 1..]);
+    }
+    if is_blank(first) {
         return Ok(Piece::Blank(1));
     }
     if first == b'-' && symbol::starts_with(next, b'-') {
@@ -49,9 +52,6 @@ fn read_piece(alloc: Global, text: &str, at: usize) -> Result<Piece, AllocError>
     }
     if first.is_ascii_digit() {
         return Ok(number::read_number(rest));
-    }
-    if first == b'\'' {
-        return text::read_text(alloc, &text[at + 1..]);
     }
     Ok(symbol::read_symbol(first, next))
 }

@@ -48,7 +48,7 @@ pub enum Kind {
 }
 
 impl Symbol {
-    ghost use Rattle.escrow_sql.specs.Token.{symbol_number};
+    ghost use Rattle.escrow_sql.specs.Classes.{symbol_number};
 
     /// The symbol's place in the list above, from 0.
     pub(crate) fn number(self) -> u8
@@ -59,11 +59,11 @@ impl Symbol {
 }
 
 impl Kind {
-    ghost use Rattle.escrow_sql.specs.Token.{class_of};
+    ghost use Rattle.escrow_sql.specs.Classes.{class_number};
 
     /// The number of the token's class: what it is, without what it holds.
     pub(crate) fn class(&self) -> u8
-        ensures { result ≡ class_of self.now }
+        ensures { result ≡ class_number self.now }
     {
         match self {
             Kind::Name(_) => 0,

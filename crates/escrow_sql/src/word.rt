@@ -77,7 +77,8 @@ pub enum Word {
 }
 
 impl Word {
-    ghost use Rattle.escrow_sql.specs.Word.{spelling, number_of, reserved};
+    ghost use Rattle.escrow_sql.specs.Word.{spelling, reserved};
+    ghost use Rattle.escrow_sql.specs.Classes.{number_of};
 
     /// Every reserved word, in the alphabet's order.
     pub const ALL: [Word; 35] = [

@@ -25,6 +25,9 @@ fn finds_leftmost_fault(rt: HostRuntime) -> Result<(), Fail> {
         ("abcdefghijklmnopqrstuvwxyz_$#0", 0),
         (" abcdefghijklmnopqrstuvwxyz_$#01", 2),
         ("a 'b''c", 3),
+        ("'''", 1),
+        ("a '\u{1f}''", 3),
+        ("'b\t\n'", 3),
         ("a 'b\tc", 3),
         ("a 'b\tc'", 5),
         ("a '\u{7f}'", 4),
@@ -53,5 +56,40 @@ fn gives_tokens_with_their_places(rt: HostRuntime) -> Result<(), Fail> {
     assert_eq!(rt; (name.start, name.end), (4, 7));
     assert_eq!(rt; (at_most.start, at_most.end), (7, 9));
     assert_eq!(rt; (quoted.start, quoted.end), (15, 21));
+    Ok(())
+}
+
+/// What the one text among the tokens of a text says, or `None` unless there is exactly one.
+fn only_text(alloc: Global, text: &str) -> Result<Option<String>, ParseFault> {
+    let tokens = lex(alloc, text)?;
+    match tokens.as_slice() {
+        [
+            Token {
+                kind: Kind::Text(said),
+                ..
+            },
+        ] => Ok(Some(String::from_str(alloc, said.as_str())?)),
+        _ => Ok(None),
+    }
+}
+
+#[test]
+fn reads_texts_in_quotes(rt: HostRuntime) -> Result<(), Fail> {
+    for (text, said) in [
+        ("''", ""),
+        ("''''", "'"),
+        ("'a''b'", "a'b"),
+        ("'a'''", "a'"),
+        (" '''é --' -- x", "'é --"),
+    ] {
+        let read = only_text(rt.alloc(), text)?;
+        assert!(rt;
+            matches!(&read, Some(read) if read.as_str() == said),
+            "in {text}"
+        );
+    }
+    for text in ["'a' 'b'", "'a';"] {
+        assert!(rt; only_text(rt.alloc(), text)?.is_none(), "in {text}");
+    }
     Ok(())
 }

@@ -1,0 +1,92 @@
+-- The numbers of classes tell classes apart.
+use Rattle.std.proofs.Common.{◌≡◌, ℕ, pos, List, [], ◌∷◌, ◌++◌, get_or, refl, sym, ap, ◌∙◌}
+use Rattle.std.specs.Prelude.{map}
+use Rattle.escrow_sql.specs.Classes.{class_number}
+use Rattle.escrow_sql.specs.Token.{class_of}
+use Rattle.escrow_sql.specs.Word.{reserved_words}
+use Rattle.escrow_sql.specs.declared.token.Symbol.{Symbol}
+use Rattle.escrow_sql.specs.declared.token.Symbol.TheVariants as symbol
+use Rattle.escrow_sql.specs.declared.token.Kind.{Kind}
+use Rattle.escrow_sql.specs.declared.token.Kind.TheVariants as kind
+use Rattle.escrow_sql.specs.declared.word.Word.{Word}
+use Rattle.escrow_sql.specs.declared.word.Word.TheVariants as word
+
+-- the classes in the order of their numbers
+abbrev classes : List Kind
+classes =
+    (kind.Name [] ∷ kind.Number (pos 0) ∷ kind.Text [] ∷ map kind.Symbol (symbol.Open ∷ symbol.Close ∷ symbol.Comma ∷ symbol.Semicolon ∷ symbol.Star ∷ symbol.Plus ∷ symbol.Minus ∷ symbol.Equal ∷ symbol.Below ∷ symbol.AtMost ∷ symbol.Above ∷ symbol.AtLeast ∷ []))
+    ++ map kind.Word reserved_words
+
+-- each class is found by its number
+symbol_found : (s : Symbol) → get_or classes (class_number (kind.Symbol s)) (kind.Name []) ≡ kind.Symbol s
+symbol_found symbol.Open = refl
+symbol_found symbol.Close = refl
+symbol_found symbol.Comma = refl
+symbol_found symbol.Semicolon = refl
+symbol_found symbol.Star = refl
+symbol_found symbol.Plus = refl
+symbol_found symbol.Minus = refl
+symbol_found symbol.Equal = refl
+symbol_found symbol.Below = refl
+symbol_found symbol.AtMost = refl
+symbol_found symbol.Above = refl
+symbol_found symbol.AtLeast = refl
+
+word_found : (w : Word) → get_or classes (class_number (kind.Word w)) (kind.Name []) ≡ kind.Word w
+word_found word.Add = refl
+word_found word.Alter = refl
+word_found word.And = refl
+word_found word.Between = refl
+word_found word.Bounds = refl
+word_found word.Check = refl
+word_found word.Commit = refl
+word_found word.Constraint = refl
+word_found word.Create = refl
+word_found word.Delete = refl
+word_found word.Drop = refl
+word_found word.From = refl
+word_found word.Insert = refl
+word_found word.Integer = refl
+word_found word.Into = refl
+word_found word.Journal = refl
+word_found word.Key = refl
+word_found word.Not = refl
+word_found word.Null = refl
+word_found word.Number = refl
+word_found word.Primary = refl
+word_found word.Reservable = refl
+word_found word.Rollback = refl
+word_found word.Savepoint = refl
+word_found word.Select = refl
+word_found word.Set = refl
+word_found word.Show = refl
+word_found word.Statistics = refl
+word_found word.Table = refl
+word_found word.To = refl
+word_found word.Update = refl
+word_found word.Values = refl
+word_found word.Varchar2 = refl
+word_found word.Where = refl
+word_found word.Work = refl
+
+found : (k : Kind) → get_or classes (class_number k) (kind.Name []) ≡ class_of k
+found (kind.Name name) = refl
+found (kind.Number n) = refl
+found (kind.Text text) = refl
+found (kind.Symbol s) = symbol_found s
+found (kind.Word w) = word_found w
+
+-- one number, one class
+pub same_class : (k l : Kind) → class_number k ≡ class_number l → class_of k ≡ class_of l
+same_class k l e = sym (found k) ∙ (ap (λ (n : ℕ). get_or classes n (kind.Name [])) e ∙ found l)
+
+number_of_class : (k : Kind) → class_number (class_of k) ≡ class_number k
+number_of_class (kind.Name name) = refl
+number_of_class (kind.Number n) = refl
+number_of_class (kind.Text text) = refl
+number_of_class (kind.Symbol s) = refl
+number_of_class (kind.Word w) = refl
+
+-- one class, one number
+pub same_number : (k l : Kind) → class_of k ≡ class_of l → class_number k ≡ class_number l
+same_number k l e = sym (number_of_class k) ∙ (ap class_number e ∙ number_of_class l)
