@@ -2,8 +2,8 @@ pub mod ClassLemmas
 pub mod Faults
 pub mod Fronts
 pub mod Heads
-pub mod LexLemmas
 pub mod NameLemmas
+pub mod NumberLemmas
 pub mod ParseLemmas
 pub mod PieceLemmas
 pub mod Pieces
@@ -12,4 +12,5 @@ pub mod QuotedLemmas
 pub mod Reading
 pub mod Sentences
 pub mod Slices
+pub mod TextLemmas
 pub mod TokenLemmas

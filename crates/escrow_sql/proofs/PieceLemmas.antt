@@ -1,6 +1,6 @@
 -- A piece takes at least one byte, and lies within the text.
-use Rattle.std.proofs.Common.{◌≡◌, ℕ, suc, pos, ◌+◌, ◌-◌, ◌≤◌, ◌<◌, Bool, true, false, cond, Some, None, Result, Ok, Err, List, [], ◌∷◌, length, get_or, drop, take, arith, refl, sym, ap, ◌∙◌, subst, map}
-use Rattle.std.specs.Prelude.{nat_lt, nat_eq, not, ◌&&◌, position, IfOk}
+use Rattle.std.proofs.Common.{◌≡◌, ℕ, suc, pos, ◌+◌, ◌-◌, ◌≤◌, ◌<◌, Bool, true, false, cond, Result, Ok, Err, List, [], ◌∷◌, length, get_or, drop, take, arith, refl, sym, subst, map}
+use Rattle.std.specs.Prelude.{nat_lt, nat_eq, not, ◌&&◌, IfOk}
 use Rattle.std.specs.declared.alloc.AllocError.{AllocError}
 use Rattle.std.specs.Char.{is_ascii_alphabetic, is_ascii_digit, to_ascii_uppercase}
 use Rattle.std.specs.List.{prefix_len}
@@ -17,8 +17,8 @@ use Rattle.escrow_sql.specs.declared.lexer.piece.Piece.{Piece}
 use Rattle.escrow_sql.specs.declared.lexer.piece.Piece.TheVariants as piece
 use Rattle.escrow_sql.specs.declared.token.Kind.{Kind}
 use Rattle.escrow_sql.specs.declared.token.Kind.TheVariants as kind
-use Rattle.escrow_sql.specs.Lex.{plain_piece, name_piece, number_piece, symbol_piece, goes_on, is_blank, is_forbidden, begins, word_or_name}
-use Rattle.escrow_sql.specs.Scan.{IsWithin, piece_of, text_piece, text_from, closed_text, text_rest, undoubled}
+use Rattle.escrow_sql.specs.Lex.{plain_piece, name_piece, number_piece, symbol_piece, goes_on, is_blank, begins, word_or_name}
+use Rattle.escrow_sql.specs.Scan.{IsWithin, piece_of, text_piece}
 
 -- a front that begins with a byte that passes
 prefix_len-first : (p : ℕ → Bool) (c : ℕ) (next : List ℕ) → p c ≡ true → 1 ≤ prefix_len p (c ∷ next)
@@ -96,16 +96,3 @@ read_within (Err e) text at below h = tt
 read_within (Ok p) text at below h =
     let e : suc (length (drop (at + 1) text)) ≡ length text - at = omega (arith, length-drop (at + 1) text) in
     subst (λ (n : ℕ). IsWithin n p) e (subst (λ (q : Piece). IsWithin (suc (length (drop (at + 1) text))) q) (sym h) (piece_of-within (get_or text at 0) (drop (at + 1) text)))
-
-pub open_text : (body : List ℕ) → None ≡ text_rest false body → piece.Fault 0 ≡ text_piece body
-unfolding text_piece
-open_text body h = ap (text_from body) h
-
-pub forbidden_text : (body : List ℕ) (len k : ℕ) → Some len ≡ text_rest false body → Some k ≡ position is_forbidden (take (len - 1) body) → piece.Fault (1 + k) ≡ text_piece body
-unfolding text_piece
-forbidden_text body len k h e = ap (closed_text body len) e ∙ ap (text_from body) h
-
-pub whole_text : (body copy : List ℕ) (len : ℕ) → Some len ≡ text_rest false body → None ≡ position is_forbidden (take (len - 1) body)
-    → copy ≡ undoubled false (take (len - 1) body) → piece.Token (kind.Text copy) (1 + len) ≡ text_piece body
-unfolding text_piece
-whole_text body copy len h e same = ap (λ (t : List ℕ). piece.Token (kind.Text t) (1 + len)) same ∙ (ap (closed_text body len) e ∙ ap (text_from body) h)

@@ -1,16 +1,8 @@
 use super::*;
+use crate::fault::column_of;
 use crate::token::{Kind, Symbol};
 use crate::word::Word;
 use std::test::Fail;
-
-/// The column of a text's leftmost lexing fault, or 0 where it has none.
-fn fault_in(alloc: Global, text: &str) -> Result<u32, ParseFault> {
-    match lex(alloc, text) {
-        Ok(_) => Ok(0),
-        Err(ParseFault::Syntax { column }) => Ok(column),
-        Err(ParseFault::Memory) => Err(ParseFault::Memory),
-    }
-}
 
 #[test]
 fn finds_leftmost_fault(rt: HostRuntime) -> Result<(), Fail> {
@@ -35,7 +27,7 @@ fn finds_leftmost_fault(rt: HostRuntime) -> Result<(), Fail> {
         ("a -- '?\u{1}", 0),
         ("a -- '?\r?\n ?", 12),
     ] {
-        assert_eq!(rt; fault_in(rt.alloc(), text)?, column, "in {text}");
+        assert_eq!(rt; column_of(lex(rt.alloc(), text))?, column, "in {text}");
     }
     Ok(())
 }

@@ -1,15 +1,7 @@
 use super::*;
+use crate::fault::column_of;
 use crate::statement::{ColumnMark, Comparison, Item, Literal, TypeText};
 use std::test::Fail;
-
-/// The column of a text's fault, or 0 where it has none.
-fn fault_in(alloc: Global, text: &str) -> Result<u32, ParseFault> {
-    match parse(alloc, text) {
-        Ok(_) => Ok(0),
-        Err(ParseFault::Syntax { column }) => Ok(column),
-        Err(ParseFault::Memory) => Err(ParseFault::Memory),
-    }
-}
 
 #[test]
 fn finds_first_fault(rt: HostRuntime) -> Result<(), Fail> {
@@ -33,7 +25,7 @@ fn finds_first_fault(rt: HostRuntime) -> Result<(), Fail> {
         ("INSERT INTO T VALUES (1 ? 'a", 25),
         ("INSERT INTO T VALUES (1.5)", 24),
     ] {
-        assert_eq!(rt; fault_in(rt.alloc(), text)?, column, "in {text}");
+        assert_eq!(rt; column_of(parse(rt.alloc(), text))?, column, "in {text}");
     }
     Ok(())
 }
@@ -44,9 +36,9 @@ fn looks_into_65536_bytes(rt: HostRuntime) -> Result<(), Fail> {
     for _ in 0..65_530 {
         text.push(' ')?;
     }
-    assert_eq!(rt; fault_in(rt.alloc(), text.as_str())?, 0);
+    assert_eq!(rt; column_of(parse(rt.alloc(), text.as_str()))?, 0);
     text.push(' ')?;
-    assert_eq!(rt; fault_in(rt.alloc(), text.as_str())?, 65_537);
+    assert_eq!(rt; column_of(parse(rt.alloc(), text.as_str()))?, 65_537);
     Ok(())
 }
 

@@ -3,7 +3,7 @@ use Rattle.std.specs.Prelude.{unsigned_abs}
 use Rattle.std.proofs.lemmas.Int.{ints}
 use Rattle.escrow_num.specs.Amount.{number_of}
 use Rattle.escrow_num.specs.declared.amount.TheConstants.Amount.{MAX}
-use Rattle.escrow_sql.proofs.LexLemmas.{past_limit}
+use Rattle.escrow_sql.proofs.NumberLemmas.{past_limit}
 use Rattle.escrow_sql.proofs.lexer.number.value_of.Goals as goal
 
 pub returns-then-value : goal.returns-then-value

@@ -1,5 +1,5 @@
 use Rattle.std.proofs.Common.{◌≡◌, true, false, refl}
-use Rattle.escrow_sql.proofs.LexLemmas.{copied}
+use Rattle.escrow_sql.proofs.TextLemmas.{copied}
 use Rattle.escrow_sql.proofs.lexer.text.copy_undoubled.Goals as goal
 use Rattle.escrow_sql.proofs.lexer.text.copy_undoubled.Goals.{else-behind-via-then-behind+else-c-eq39, else-behind-via-else-behind}
 

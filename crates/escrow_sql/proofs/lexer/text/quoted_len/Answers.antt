@@ -1,5 +1,5 @@
 use Rattle.std.proofs.Common.{◌≡◌, ◌+◌, ◌-◌, get_or, true, false, arith, inl, inr, ap, ◌∙◌}
-use Rattle.escrow_sql.proofs.LexLemmas.{text_rest-more}
+use Rattle.escrow_sql.proofs.TextLemmas.{text_rest-more}
 use Rattle.escrow_sql.proofs.lexer.text.quoted_len.Goals as goal
 use Rattle.escrow_sql.proofs.lexer.text.quoted_len.Goals.{then-byte-eq39, else-byte-eq39+else-closing}
 

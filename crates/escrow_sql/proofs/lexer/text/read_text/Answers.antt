@@ -1,5 +1,5 @@
 use Rattle.std.proofs.Common.{rules}
-use Rattle.escrow_sql.proofs.PieceLemmas.{open_text, forbidden_text, whole_text}
+use Rattle.escrow_sql.proofs.TextLemmas.{open_text, forbidden_text, whole_text}
 use Rattle.escrow_sql.proofs.lexer.text.read_text.Goals as goal
 
 pub returns-in_default : goal.returns-in_default

@@ -1,24 +1,15 @@
--- What the definitions of tokens say of one byte more.
-use Rattle.std.proofs.Common.{◌≡◌, ℕ, suc, ◌+◌, ◌*◌, ◌-◌, ◌≤◌, ◌<◌, Bool, true, false, Option, Some, None, List, [], ◌∷◌, ◌++◌, length, get_or, drop, arith, refl, sym, ap, ◌∙◌, append_assoc, append-nil, ◌⊎◌, inl, inr}
-use Rattle.std.specs.Prelude.{nat_eq, option_map, not}
+-- Reading a text in quotes byte by byte.
+use Rattle.std.proofs.Common.{◌≡◌, ℕ, suc, ◌+◌, ◌-◌, ◌<◌, Bool, true, false, Option, Some, None, List, [], ◌∷◌, ◌++◌, length, take, get_or, drop, arith, refl, sym, ap, ◌∙◌, append_assoc, append-nil, ◌⊎◌, inl, inr}
+use Rattle.std.specs.Prelude.{nat_eq, option_map, not, position}
 use Rattle.std.proofs.lemmas.List.{at_drop_more}
 use Rattle.std.proofs.lemmas.Bool.Decides.{nat_tests}
 use Rattle.std.proofs.lemmas.Bool.{cases_lt}
 use Rattle.std.proofs.lemmas.Str.{encode_ascii, inside_one, length-encode, len_utf8_bounds}
 use lib.Utf8.{encode}
-use Rattle.escrow_num.specs.Amount.{number_after, number_of}
-use Rattle.escrow_sql.specs.Scan.{text_rest, undoubled}
-
--- digits only make a number greater
-pub number_after-least : (n : ℕ) (digits : List ℕ) → n ≤ number_after n digits
-number_after-least n [] = omega arith
-number_after-least n (c ∷ cs) = omega (arith, number_after-least (10 * n + (c - 48)) cs)
-
--- digits that are past a limit already stay past it
-pub past_limit : (limit v i : ℕ) (digits : List ℕ) → i < length digits → limit < 10 * v + (get_or digits i 0 - 48)
-    → number_after v (drop i digits) ≡ number_of digits → limit < number_of digits
-past_limit limit v i digits below past same =
-    omega (arith, at_drop_more (number_after v) digits i 0 below, number_after-least (10 * v + (get_or digits i 0 - 48)) (drop (i + 1) digits))
+use Rattle.escrow_sql.specs.Scan.{text_rest, undoubled, text_piece, text_from, closed_text}
+use Rattle.escrow_sql.specs.Lex.{is_forbidden}
+use Rattle.escrow_sql.specs.declared.lexer.piece.Piece.TheVariants as piece
+use Rattle.escrow_sql.specs.declared.token.Kind.TheVariants as kind
 
 shift-one : (i : ℕ) (o : Option ℕ) → option_map (λ n. i + n) (option_map (λ n. n + 1) o) ≡ option_map (λ n. i + 1 + n) o
 shift-one i None = refl
@@ -86,3 +77,16 @@ copied behind next c copy new rest after raw single e same read grown =
     let t = undoubled-char behind c after single in
     let u : copy ++ undoubled behind rest ≡ copy ++ (encode c ++ undoubled (nat_eq c 39) after) = ap (λ (x : List ℕ). copy ++ undoubled behind x) read ∙ ap (λ (x : List ℕ). copy ++ x) t in
     rw (e, grown, append_assoc) (sym u ∙ same)
+
+pub open_text : (body : List ℕ) → None ≡ text_rest false body → piece.Fault 0 ≡ text_piece body
+unfolding text_piece
+open_text body h = ap (text_from body) h
+
+pub forbidden_text : (body : List ℕ) (len k : ℕ) → Some len ≡ text_rest false body → Some k ≡ position is_forbidden (take (len - 1) body) → piece.Fault (1 + k) ≡ text_piece body
+unfolding text_piece
+forbidden_text body len k h e = ap (closed_text body len) e ∙ ap (text_from body) h
+
+pub whole_text : (body copy : List ℕ) (len : ℕ) → Some len ≡ text_rest false body → None ≡ position is_forbidden (take (len - 1) body)
+    → copy ≡ undoubled false (take (len - 1) body) → piece.Token (kind.Text copy) (1 + len) ≡ text_piece body
+unfolding text_piece
+whole_text body copy len h e same = ap (λ (t : List ℕ). piece.Token (kind.Text t) (1 + len)) same ∙ (ap (closed_text body len) e ∙ ap (text_from body) h)
