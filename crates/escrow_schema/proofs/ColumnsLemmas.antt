@@ -7,11 +7,13 @@ use Rattle.escrow_sql.specs.declared.statement.TypeText.{TypeText}
 use Rattle.escrow_sql.specs.declared.statement.TypeText.TheVariants as text
 use Rattle.escrow_sql.specs.declared.statement.Item.{Item}
 use Rattle.escrow_sql.specs.declared.statement.Item.TheVariants as item
+use Rattle.escrow_checks.specs.WrittenName.{is_written_name}
 use Rattle.escrow_schema.specs.declared.column.Column.{Column}
 use Rattle.escrow_schema.specs.declared.column.ColumnType.{ColumnType}
 use Rattle.escrow_schema.specs.declared.column.ColumnType.TheVariants.{Number}
-use Rattle.escrow_schema.specs.Column.{IsType, type_of, reservables, names_of}
+use Rattle.escrow_schema.specs.Column.{type_of, reservables, names_of}
 use Rattle.escrow_schema.specs.Definition.{are_distinct, column_of, columns_of, is_reservable_mark}
+use Rattle.escrow_schema.specs.Typed.{IsType}
 use Rattle.escrow_schema.proofs.ListLemmas.{mapped_some}
 
 written_digits : (p : ℤ) → (int_le (pos 1) p && int_le p (pos 15)) ≡ true → IsType (Number (unsigned_abs p))
@@ -74,13 +76,13 @@ reservables_distinct (column ∷ columns) h =
       | inr e ↦ rw e rest
     ]
 
--- short names of columns are short ones of the RESERVABLE ones
-pub reservables_short : (columns : List Column) → list_all (λ name. nat_le (length name) 30) (names_of columns) ≡ true → list_all (λ name. nat_le (length name) 30) (names_of (reservables columns)) ≡ true
-reservables_short [] h = refl
-reservables_short (column ∷ columns) h =
-    let parts = and_parts (nat_le (length column.name) 30) (list_all (λ name. nat_le (length name) 30) (names_of columns)) h in
-    let rest = reservables_short columns parts.1 in
+-- where a statement can write the names of columns it can write those of the RESERVABLE ones
+pub reservables_written : (columns : List Column) → list_all is_written_name (names_of columns) ≡ true → list_all is_written_name (names_of (reservables columns)) ≡ true
+reservables_written [] h = refl
+reservables_written (column ∷ columns) h =
+    let parts = and_parts (is_written_name column.name) (list_all is_written_name (names_of columns)) h in
+    let rest = reservables_written columns parts.1 in
     elim (cases_Bool column.reservable) [
-      | inl e ↦ rw e (and_from (nat_le (length column.name) 30) (list_all (λ name. nat_le (length name) 30) (names_of (reservables columns))) parts.0 rest)
+      | inl e ↦ rw e (and_from (is_written_name column.name) (list_all is_written_name (names_of (reservables columns))) parts.0 rest)
       | inr e ↦ rw e rest
     ]

@@ -1,51 +1,107 @@
--- The row that values make.
-use Rattle.std.proofs.Common.{◌≡◌, Bool, true, false, cond, Option, Some, None, option_map, List, [], ◌∷◌, length, sym, refl, arith, inl, inr}
-use Rattle.std.specs.Prelude.{IfSome, slice_get}
-use Rattle.std.proofs.lemmas.Bool.{cases_Bool, and_parts, false≢true, false_from_ne_true}
+-- The row that literals make.
+use Rattle.std.proofs.Common.{◌≡◌, ℕ, zero, suc, ◌+◌, ◌==◌, ◌||◌, Bool, true, false, cond, Option, Some, None, option_map, option_and_then, List, [], ◌∷◌, ◌++◌, append_assoc, length, drop, get_or, ◌<◌, pos, sym, ap, subst, refl, arith, inl, inr}
+use Rattle.std.specs.Prelude.{is_some, slice_get, option_to_list}
+use Rattle.std.proofs.lemmas.Bool.{cases_Bool, false≢true, false_from_ne_true}
+use Rattle.std.proofs.lemmas.Option.{none-some, same_Some, option_and_then_some, slice_get-get_or}
 use Rattle.escrow_num.specs.declared.value.Value.{Value}
+use Rattle.escrow_num.specs.declared.value.Value.TheVariants as value
 use Rattle.escrow_num.specs.declared.row.Row.{Row}
+use Rattle.escrow_sql.specs.declared.statement.Literal.{Literal}
 use Rattle.escrow_schema.specs.declared.column.Column.{Column}
 use Rattle.escrow_schema.specs.declared.table.TableDef.{TableDef}
-use Rattle.escrow_schema.specs.Column.{fits, reservables}
-use Rattle.escrow_schema.specs.Fit.{all_fit, amounts_of, plain_of}
-use Rattle.escrow_schema.specs.Laws.{RowsOfTable}
+use Rattle.escrow_schema.specs.Column.{reservables, value_in}
+use Rattle.escrow_schema.specs.Fit.{values_in, amounts_of, plain_of, row_with, fitted}
+use Rattle.escrow_schema.proofs.ListLemmas.{after, drop_item, mapped_some}
 
--- where values fit columns there is an amount for each RESERVABLE one
-pub as_many_amounts : (columns : List Column) (values : List Value) → all_fit columns values ≡ true → length (amounts_of columns values) ≡ length (reservables columns)
+-- what the literals of one more column are
+pub values_split : {P : Type 0} (column : Column) (columns : List Column) (literal : Literal) (literals : List Literal) (values : List Value)
+    → values_in (column ∷ columns) (literal ∷ literals) ≡ Some values
+    → ((v : Value) (rest : List Value) → value_in column.kind literal ≡ Some v → values_in columns literals ≡ Some rest → v ∷ rest ≡ values → P) → P
+values_split column columns literal literals values e k =
+    option_and_then_some (λ v. option_map (λ rest. v ∷ rest) (values_in columns literals)) (value_in column.kind literal) values e
+    (λ v here more. mapped_some (λ rest. v ∷ rest) (values_in columns literals) values more (λ rest others whole. k v rest here others whole))
+
+-- there are as many values as columns, and as literals
+pub as_many_values : (columns : List Column) (literals : List Literal) (values : List Value) → values_in columns literals ≡ Some values
+    → (length columns ≡ length values) × (length columns ≡ length literals)
+as_many_values [] [] values e = (ap length (same_Some [] values e), refl)
+as_many_values [] (literal ∷ literals) values e = absurd (none-some values e)
+as_many_values (column ∷ columns) [] values e = absurd (none-some values e)
+as_many_values (column ∷ columns) (literal ∷ literals) values e =
+    values_split column columns literal literals values e
+    (λ v rest here others whole.
+    let h = as_many_values columns literals rest others in
+    let same : suc (length rest) ≡ length values = ap length whole in
+    (omega arith, omega arith))
+
+-- what is there is there mapped
+some_mapped : {A B : Type 0} (o : Option A) (f : A → B) → is_some o ≡ true → is_some (option_map f o) ≡ true
+some_mapped None f h = absurd (false≢true h)
+some_mapped (Some x) f h = refl
+
+-- an option that is there is some value
+some_from : {A : Type 0} (o : Option A) → is_some o ≡ true → (x : A) × (o ≡ Some x)
+some_from None h = absurd (false≢true h)
+some_from (Some x) h = (x, refl)
+
+-- literals that are not as many as the columns don't fit them
+pub unequal_lengths : (columns : List Column) (literals : List Literal) → (length columns ≡ length literals → ⊥) → false ≡ is_some (values_in columns literals)
+unequal_lengths columns literals apart =
+    sym (false_from_ne_true (is_some (values_in columns literals)) (λ h. let v = some_from (values_in columns literals) h in apart (as_many_values columns literals v.0 v.1).1))
+
+-- one more literal, where all fit
+pushed : (o : Option Value) (rest whole : Option (List Value)) (done : List Value)
+    → after done (option_and_then (λ v. option_map (λ values. v ∷ values) rest) o) ≡ whole → is_some whole ≡ true
+    → after (done ++ option_to_list o) rest ≡ whole
+pushed None rest whole done e some = absurd (false≢true (subst (λ (w : Option (List Value)). is_some w ≡ true) (sym e) some))
+pushed (Some v) None whole done e some = e
+pushed (Some v) (Some values) whole done e some = rw append_assoc e
+
+-- and at a place among the literals
+pub pushed_at : (columns : List Column) (literals : List Literal) (i : ℕ) (column : Column) (literal : Literal) (done values : List Value)
+    → i < length columns → length columns ≡ length literals → column ≡ get_or columns i column → literal ≡ get_or literals i literal
+    → after done (values_in (drop i columns) (drop i literals)) ≡ values_in columns literals → is_some (values_in columns literals) ≡ true
+    → values ≡ done ++ option_to_list (value_in column.kind literal)
+    → after values (values_in (drop (i + 1) columns) (drop (i + 1) literals)) ≡ values_in columns literals
+pushed_at columns literals i column literal done values within same column_at literal_at before some more =
+    let c = drop_item columns i column within column_at in
+    let l = drop_item literals i literal (omega arith) literal_at in
+    let split : after done (values_in (column ∷ drop (i + 1) columns) (literal ∷ drop (i + 1) literals)) ≡ values_in columns literals =
+    subst (λ (cs : List Column). after done (values_in cs (literal ∷ drop (i + 1) literals)) ≡ values_in columns literals) c
+    (subst (λ (ls : List Literal). after done (values_in (drop i columns) ls) ≡ values_in columns literals) l before) in
+    subst (λ (vs : List Value). after vs (values_in (drop (i + 1) columns) (drop (i + 1) literals)) ≡ values_in columns literals) (sym more)
+    (pushed (value_in column.kind literal) (values_in (drop (i + 1) columns) (drop (i + 1) literals)) (values_in columns literals) done split some)
+
+-- where all literals fit there are as many as columns
+pub as_many_literals : (columns : List Column) (literals : List Literal) → is_some (values_in columns literals) ≡ true → length columns ≡ length literals
+as_many_literals columns literals some = let v = some_from (values_in columns literals) some in (as_many_values columns literals v.0 v.1).1
+
+-- and a row, where the key is among the columns
+pub fitted_some : (table : TableDef) (literals : List Literal) → table.key < length table.columns → is_some (values_in table.columns literals) ≡ true
+    → is_some (fitted table literals) ≡ true
+fitted_some table literals key some =
+    let v = some_from (values_in table.columns literals) some in
+    let long = (as_many_values table.columns literals v.0 v.1).0 in
+    let found : is_some (slice_get v.0 table.key) ≡ true = subst (λ (o : Option Value). is_some o ≡ true) (sym (slice_get-get_or v.0 table.key (value.Number (pos 0)) (omega arith))) refl in
+    subst (λ (o : Option (List Value)). is_some (option_and_then (row_with table) o) ≡ true) (sym v.1)
+    (some_mapped (slice_get v.0 table.key) (λ k. record { name = record { table = table.name; key = k }; amounts = amounts_of table.columns v.0; plain = plain_of table.columns v.0 0 table.key }) found)
+
+-- where there is a value for each column there is an amount for each RESERVABLE one
+pub as_many_amounts : (columns : List Column) (values : List Value) → length columns ≡ length values → length (amounts_of columns values) ≡ length (reservables columns)
 as_many_amounts [] values e = refl
-as_many_amounts (column ∷ columns) [] e = absurd (false≢true e)
+as_many_amounts (column ∷ columns) [] e = absurd (omega arith)
 as_many_amounts (column ∷ columns) (v ∷ values) e =
-    let rest = as_many_amounts columns values (and_parts (fits column.kind v) (all_fit columns values) e).1 in
+    let rest = as_many_amounts columns values (omega arith) in
     elim (cases_Bool column.reservable) [
       | inl r ↦ rw r (omega arith)
       | inr r ↦ rw r rest
     ]
 
--- a row is of its table
-abbrev pub IsRowOf : TableDef → Row → Type 0
-IsRowOf table row = (row.table ≡ table.name) × (length row.amounts ≡ length (reservables table.columns))
-
-with_key : (table : TableDef) (values : List Value) (key : Option Value) → all_fit table.columns values ≡ true
-    → IfSome (option_map (λ k. record { table = table.name; key = k; amounts = amounts_of table.columns values; plain = plain_of table.columns values 0 table.key }) key) (IsRowOf table)
-with_key table values None e = tt
-with_key table values (Some k) e = (refl, as_many_amounts table.columns values e)
-
-where_fit : (table : TableDef) (values : List Value) (fit : Bool) → all_fit table.columns values ≡ fit
-    → IfSome (cond fit (option_map (λ k. record { table = table.name; key = k; amounts = amounts_of table.columns values; plain = plain_of table.columns values 0 table.key }) (slice_get values table.key)) None) (IsRowOf table)
-where_fit table values true e = with_key table values (slice_get values table.key) e
-where_fit table values false e = tt
-
--- the row that values make is of its table, and whole
-pub rows_of_table : RowsOfTable
-rows_of_table table values = where_fit table values (all_fit table.columns values) refl
-
--- where values fit columns they are as many
-pub as_many_values : (columns : List Column) (values : List Value) → all_fit columns values ≡ true → length columns ≡ length values
-as_many_values [] [] e = refl
-as_many_values [] (v ∷ values) e = absurd (false≢true e)
-as_many_values (column ∷ columns) [] e = absurd (false≢true e)
-as_many_values (column ∷ columns) (v ∷ values) e = let rest = as_many_values columns values (and_parts (fits column.kind v) (all_fit columns values) e).1 in omega arith
-
--- values that are not as many as the columns don't fit them
-pub unequal_lengths : (columns : List Column) (values : List Value) → (length columns ≡ length values → ⊥) → false ≡ all_fit columns values
-unequal_lengths columns values apart = sym (false_from_ne_true (all_fit columns values) (λ e. apart (as_many_values columns values e)))
+-- the values and the key that a row is made of
+pub fitted_parts : {P : Type 0} (table : TableDef) (literals : List Literal) (row : Row) → fitted table literals ≡ Some row
+    → ((values : List Value) (key : Value) → values_in table.columns literals ≡ Some values → slice_get values table.key ≡ Some key
+    → record { name = record { table = table.name; key = key }; amounts = amounts_of table.columns values; plain = plain_of table.columns values 0 table.key } ≡ row → P) → P
+fitted_parts table literals row e k =
+    option_and_then_some (row_with table) (values_in table.columns literals) row e
+    (λ values at made. mapped_some (λ key. record { name = record { table = table.name; key = key }; amounts = amounts_of table.columns values; plain = plain_of table.columns values 0 table.key }) (slice_get values table.key) row made
+    (λ key found whole. k values key at found whole))

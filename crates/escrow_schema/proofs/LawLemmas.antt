@@ -1,126 +1,113 @@
--- What holds of every table that a text defines.
-use Rattle.std.proofs.Common.{◌≡◌, ℕ, ◌≤◌, ◌<◌, ◌==◌, zero, suc, true, Some, nat_le, List, [], ◌∷◌, ◌++◌, get_or, length, ap, sym, subst, arith, length-append}
-use Rattle.std.specs.List.{AllByRecursion, list_all}
+-- The laws.
+use Rattle.std.proofs.Common.{◌≡◌, ◌⊎◌, ℕ, ◌≤◌, ℤ, Bool, inl, inr, true, false, cond, not, Option, Some, None, Ok, Err, List, [], ◌∷◌, ◌++◌, length, option_map, ap, sym, ◌∙◌, subst, refl, arith, length-append}
+use Rattle.std.specs.List.{AllByRecursion}
+use Rattle.std.specs.Option.{ok_or}
 use Rattle.std.proofs.lemmas.List.{length-map}
-use Rattle.std.proofs.lemmas.List.Elements.{All-from_recursion, All-filter}
-use Rattle.std.proofs.lemmas.Bool.{and_parts, leb-true, false≢true}
-use Rattle.escrow_sql.specs.declared.statement.Item.{Item}
+use Rattle.std.proofs.lemmas.List.Elements.{recursion_from_All}
+use Rattle.escrow_num.specs.declared.refusal.Refusal.{Refusal}
+use Rattle.escrow_num.specs.declared.refusal.Refusal.TheVariants as refusal
+use Rattle.escrow_num.specs.declared.value.Value.{Value}
+use Rattle.escrow_sql.specs.declared.statement.UpdateText.{UpdateText}
 use Rattle.escrow_checks.specs.declared.check.Check.{Check}
 use Rattle.escrow_checks.specs.Grant.{Meets}
+use Rattle.escrow_checks.proofs.ConditionLemmas.{checks_whole}
 use Rattle.escrow_schema.specs.declared.column.Column.{Column}
+use Rattle.escrow_schema.specs.declared.plan.Plan.{Plan}
+use Rattle.escrow_schema.specs.declared.plan.Plan.TheVariants.{Reserve}
 use Rattle.escrow_schema.specs.declared.table.TableDef.{TableDef}
-use Rattle.escrow_schema.specs.Column.{IsType, TypedColumns, reservables, names_of}
-use Rattle.escrow_schema.specs.Definition.{CanRange, IsTable, columns_of, are_columns, are_distinct, key_marks, is_plain_at, range_check, range_checks, checks_in}
-use Rattle.escrow_schema.specs.Laws.{ChecksOfWholeRow, ChecksKeepAmounts, FewChecks}
-use Rattle.escrow_schema.proofs.ColumnsLemmas.{HasType, written_columns, reservable_types, reservables_distinct, reservables_short}
-use Rattle.escrow_schema.proofs.DeclaredLemmas.{IsWhole, declared_checks, whole_ranges}
+use Rattle.escrow_schema.specs.Column.{reservables, names_of}
+use Rattle.escrow_schema.specs.Definition.{range_check, range_checks, checks_in}
+use Rattle.escrow_schema.specs.Laws.{NameOfTable, FewReservable, ChecksOfWholeRow, ChecksKeepAmounts, FewChecks, RowsOfTable, PlansOfWholeRow, RefusalsOfPlans, ValuesOfRow}
+use Rattle.escrow_schema.specs.Plan.{planned, can_assign, is_key, key_in, changes_of}
+use Rattle.escrow_schema.proofs.CheckLemmas.{IsWhole, whole_ranges}
+use Rattle.escrow_schema.proofs.ColumnsLemmas.{reservable_types, reservables_distinct}
+use Rattle.escrow_schema.proofs.FitLemmas.{fitted_parts, as_many_values, as_many_amounts}
 use Rattle.escrow_schema.proofs.ListLemmas.{second_part, both_parts}
 use Rattle.escrow_schema.proofs.RangeLemmas.{amounts_in_range}
+use Rattle.escrow_schema.proofs.RowLemmas.{woven_values}
+use Rattle.escrow_schema.proofs.RuleLemmas.{rules_of, column_types}
 use Rattle.escrow_schema.proofs.TableLemmas.{parts}
 
--- the rules on columns, one by one
-pub record Rules (items : List Item) (columns : List Column) (key : ℕ) : Type 0 where
-  pub least : 2 ≤ length columns
-  pub most : length columns ≤ 30
-  pub distinct : are_distinct (names_of columns) ≡ true
-  pub short : list_all (λ name. nat_le (length name) 30) (names_of columns) ≡ true
-  pub one_key : (key_marks items == 1) ≡ true
-  pub plain_key : is_plain_at columns key ≡ true
-  pub some_reservable : 1 ≤ length (reservables columns)
-  pub few_reservable : length (reservables columns) ≤ 10
+pub name_of_table : NameOfTable
+name_of_table text table e = (parts text table e).name
 
-pub rules_on : (items : List Item) (columns : List Column) (key : ℕ) → are_columns items columns key ≡ true → Rules items columns key
-rules_on items columns key e =
-    let h = and_parts _ _ e in
-    let g = and_parts _ _ h.0 in
-    let f = and_parts _ _ g.0 in
-    let d = and_parts _ _ f.0 in
-    let s = and_parts _ _ d.0 in
-    let n = and_parts _ _ s.0 in
-    let m = and_parts _ _ n.0 in
-    record {
-      least = leb-true _ _ m.0;
-      most = leb-true _ _ m.1;
-      distinct = n.1;
-      short = s.1;
-      one_key = d.1;
-      plain_key = f.1;
-      some_reservable = leb-true _ _ g.1;
-      few_reservable = leb-true _ _ h.1;
-    }
+pub few_reservable : FewReservable
+few_reservable table is_table = let rules = rules_of table is_table in (rules.some_reservable, rules.few_reservable)
 
--- each column of a table has a type
-pub column_types : (table : TableDef) → IsTable table → AllByRecursion HasType table.columns
-column_types table is_table = let p = parts is_table.0 table is_table.1 in written_columns is_table.0.items table.columns p.columns
-
--- each check has a coefficient for each RESERVABLE column
 pub checks_of_whole_row : ChecksOfWholeRow
 checks_of_whole_row table is_table =
     let p = parts is_table.0 table is_table.1 in
     let names = names_of (reservables table.columns) in
-    let stated = declared_checks names (checks_in is_table.0.items) p.written p.from_texts in
+    let written = checks_whole names (checks_in is_table.0.items) p.written p.from_texts in
     let whole : AllByRecursion (IsWhole names) table.checks =
-    subst (AllByRecursion (IsWhole names)) (sym p.checks) (both_parts (IsWhole names) p.written (range_checks table.columns) stated.0.whole (whole_ranges names (reservables table.columns))) in
+    subst (AllByRecursion (IsWhole names)) (sym p.checks) (both_parts (IsWhole names) p.written (range_checks table.columns) (recursion_from_All (IsWhole names) p.written written.2) (whole_ranges names (reservables table.columns))) in
     let as_many : length names ≡ length (reservables table.columns) = length-map (reservables table.columns) (λ column. column.name) in
     subst (λ (n : ℕ). AllByRecursion (λ check. length check.coeffs ≡ n) table.checks) as_many whole
 
--- numbers that meet every check are amounts
 pub checks_keep_amounts : ChecksKeepAmounts
 checks_keep_amounts table numbers is_table same meets =
     let p = parts is_table.0 table is_table.1 in
-    let rules = rules_on is_table.0.items table.columns table.key p.follow in
     let Met : Check → Type 0 = λ check. Meets check numbers in
     let all : AllByRecursion Met (p.written ++ range_checks table.columns) = subst (AllByRecursion Met) p.checks meets in
     amounts_in_range (reservables table.columns) numbers
-    (reservables_distinct table.columns rules.distinct) same
+    (reservables_distinct table.columns (rules_of table is_table).distinct) same
     (reservable_types table.columns (column_types table is_table))
     (second_part Met p.written (range_checks table.columns) all)
 
--- at most 42 checks
 pub few_checks : FewChecks
 few_checks table is_table =
     let p = parts is_table.0 table is_table.1 in
-    let rules = rules_on is_table.0.items table.columns table.key p.follow in
-    let stated = declared_checks (names_of (reservables table.columns)) (checks_in is_table.0.items) p.written p.from_texts in
-    let short : length (checks_in is_table.0.items) ≤ 32 = leb-true _ _ stated.1 in
-    let many = stated.0.as_many in
-    let few = rules.few_reservable in
-    let ranges : length (range_checks table.columns) ≡ length (reservables table.columns) = length-map (reservables table.columns) (range_check (names_of (reservables table.columns))) in
+    let names = names_of (reservables table.columns) in
+    let written = checks_whole names (checks_in is_table.0.items) p.written p.from_texts in
+    let most = written.1 in
+    let few = (rules_of table is_table).few_reservable in
+    let ranges : length (range_checks table.columns) ≡ length (reservables table.columns) = length-map (reservables table.columns) (range_check names) in
     let all : length table.checks ≡ length (p.written ++ range_checks table.columns) = ap length p.checks in
     omega (arith, length-append p.written (range_checks table.columns))
 
--- a column at which a test holds stands there
-stands : (columns : List Column) (key : ℕ) → is_plain_at columns key ≡ true → key < length columns
-stands [] key e = absurd (false≢true e)
-stands (column ∷ columns) zero e = omega arith
-stands (column ∷ columns) (suc key) e = let rest = stands columns key e in omega arith
+pub rows_of_table : RowsOfTable
+rows_of_table table literals row e =
+    fitted_parts table literals row e
+    (λ values key at found made.
+    let long = (as_many_values table.columns literals values at).0 in
+    subst (λ r. (r.name.table ≡ table.name) × (length r.amounts ≡ length (reservables table.columns))) made (refl, as_many_amounts table.columns values long))
 
--- the key of a table stands among its columns
-pub key_stands : (table : TableDef) → IsTable table → table.key < length table.columns
-key_stands table is_table =
-    let p = parts is_table.0 table is_table.1 in
-    stands table.columns table.key (rules_on is_table.0.items table.columns table.key p.follow).plain_key
+pub values_of_row : ValuesOfRow
+values_of_row table literals row e =
+    fitted_parts table literals row e
+    (λ values key at found made. at ∙ ap Some (woven_values table literals values key row at found made))
 
--- each column of a table, by its place, has a type
-pub typed_columns : (table : TableDef) → IsTable table → (columns : List Column) → columns ≡ table.columns → TypedColumns columns
-typed_columns table is_table columns same = All-from_recursion HasType columns (subst (AllByRecursion HasType) (sym same) (column_types table is_table))
+-- what is planned, by what the WHERE's literal is
+key_planned : (o : Option Value) (columns : List (Option ℤ)) (key : Value) (changes : List (Option ℤ))
+    → ok_or (option_map (λ k. Reserve k columns) o) refusal.BadValue ≡ Ok (Reserve key changes) → columns ≡ changes
+key_planned None columns key changes e = absurd (cc)
+key_planned (Some k) columns key changes e = cc
 
--- and has the key among its columns
-pub key_among : (table : TableDef) → IsTable table → (columns : List Column) → columns ≡ table.columns → table.key < length columns
-key_among table is_table columns same = subst (λ (xs : List Column). table.key < length xs) (sym same) (key_stands table is_table)
+key_refused : (o : Option Value) (columns : List (Option ℤ)) (r : Refusal)
+    → ok_or (option_map (λ k. Reserve k columns) o) refusal.BadValue ≡ Err r → refusal.BadValue ≡ r
+key_refused None columns r e = cc
+key_refused (Some k) columns r e = absurd (cc)
 
--- which has a type
-pub key_type : (table : TableDef) → IsTable table → (columns : List Column) (column : Column) → columns ≡ table.columns → column ≡ get_or columns table.key column → IsType column.kind
-key_type table is_table columns column same at =
-    subst HasType (sym at) (typed_columns table is_table columns same table.key column (key_among table is_table columns same))
+plan_made : (a b : Bool) (o : Option Value) (columns : List (Option ℤ)) (key : Value) (changes : List (Option ℤ))
+    → cond (not a) (Err refusal.BadAssignment) (cond (not b) (Err refusal.NotTheKey) (ok_or (option_map (λ k. Reserve k columns) o) refusal.BadValue)) ≡ Ok (Reserve key changes)
+    → columns ≡ changes
+plan_made false b o columns key changes e = absurd (cc)
+plan_made true false o columns key changes e = absurd (cc)
+plan_made true true o columns key changes e = key_planned o columns key changes e
 
--- RESERVABLE columns of a table can have the checks of their ranges
-pub can_range : (items : List Item) (columns reserved : List Column) (key : ℕ) → are_columns items columns key ≡ true → TypedColumns columns → reserved ≡ reservables columns → CanRange reserved
-can_range items columns reserved key follow types same =
-    let rules = rules_on items columns key follow in
-    subst CanRange (sym same)
-    (rules.few_reservable, reservables_distinct columns rules.distinct, reservables_short columns rules.short, All-filter (λ column. column.reservable) HasType columns types)
+plan_refused : (a b : Bool) (o : Option Value) (columns : List (Option ℤ)) (r : Refusal)
+    → cond (not a) (Err refusal.BadAssignment) (cond (not b) (Err refusal.NotTheKey) (ok_or (option_map (λ k. Reserve k columns) o) refusal.BadValue)) ≡ Err r
+    → (r ≡ refusal.BadAssignment) ⊎ ((r ≡ refusal.NotTheKey) ⊎ (r ≡ refusal.BadValue))
+plan_refused false b o columns r e = inl (cc)
+plan_refused true false o columns r e = inr (inl (cc))
+plan_refused true true o columns r e = inr (inr (sym (key_refused o columns r e)))
 
--- columns that items write are typed
-pub written_typed : (items : List Item) (columns : List Column) → columns_of items ≡ Some columns → TypedColumns columns
-written_typed items columns e = All-from_recursion HasType columns (written_columns items columns e)
+pub plans_of_whole_row : PlansOfWholeRow
+plans_of_whole_row table text key changes e =
+    let planned_ones = changes_of table.columns text.assign in
+    let same = plan_made (can_assign table.columns text.assign) (is_key table text.row.column) (key_in table text.row.literal) planned_ones key changes e in
+    ap length (sym same) ∙ length-map (reservables table.columns) _
+
+pub refusals_of_plans : RefusalsOfPlans
+refusals_of_plans table text r e =
+    plan_refused (can_assign table.columns text.assign) (is_key table text.row.column) (key_in table text.row.literal) (changes_of table.columns text.assign) r e

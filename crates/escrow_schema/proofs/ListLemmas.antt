@@ -1,5 +1,7 @@
 -- Facts on lists and options that several proofs need.
-use Rattle.std.proofs.Common.{◌≡◌, Bool, true, false, cond, Option, Some, None, option_map, List, [], ◌∷◌, ◌++◌, refl}
+use Rattle.std.proofs.Common.{◌≡◌, ℕ, suc, ◌+◌, ◌<◌, Bool, true, false, cond, Option, Some, None, option_map, List, [], ◌∷◌, ◌++◌, length, drop, get_or, sym, subst, refl}
+use Rattle.std.proofs.Math.Numerals.{add-one}
+use Rattle.std.proofs.Math.Seq.{drop-cons}
 use Rattle.std.specs.List.{AllByRecursion}
 use Rattle.std.proofs.lemmas.Option.{none-some, same_Some}
 
@@ -26,3 +28,12 @@ mapped_some f (Some x) y e k = k x refl (same_Some (f x) y e)
 -- a list, and what may come after it
 abbrev pub after : {A : Type 0} → List A → Option (List A) → Option (List A)
 after done rest = option_map (λ more. done ++ more) rest
+
+-- nothing before a list
+pub after_nothing : {A : Type 0} (o : Option (List A)) → after [] o ≡ o
+after_nothing None = refl
+after_nothing (Some xs) = refl
+
+-- the item at a place is the first of what is left from there
+pub drop_item : {A : Type 0} (xs : List A) (i : ℕ) (x : A) → i < length xs → x ≡ get_or xs i x → drop i xs ≡ x ∷ drop (i + 1) xs
+drop_item xs i x within at = rw add-one (subst (λ y. drop i xs ≡ y ∷ drop (suc i) xs) (sym at) (drop-cons xs i x within))

@@ -8,13 +8,14 @@ use Rattle.std.proofs.lemmas.Slice.Eq.{bytes_eq-Decides}
 use Rattle.std.proofs.lemmas.Int.{ints}
 use Rattle.escrow_num.specs.Amount.{IsAmount}
 use Rattle.escrow_checks.specs.Form.{form}
-use Rattle.escrow_checks.specs.Condition.{unit_of}
+use Rattle.escrow_checks.specs.Checks.{unit_of}
 use Rattle.escrow_checks.specs.Grant.{Meets}
 use Rattle.escrow_schema.specs.declared.column.Column.{Column}
 use Rattle.escrow_schema.specs.declared.column.ColumnType.{ColumnType}
 use Rattle.escrow_schema.specs.declared.column.ColumnType.TheVariants.{Number}
-use Rattle.escrow_schema.specs.Column.{IsType, top_of, names_of}
+use Rattle.escrow_schema.specs.Column.{top_of, names_of}
 use Rattle.escrow_schema.specs.Definition.{are_distinct, range_check}
+use Rattle.escrow_schema.specs.Typed.{IsType}
 use Rattle.escrow_schema.proofs.ColumnLemmas.{power_within, power_positive}
 
 pub same_name : (name : List ℕ) → bytes_eq name name ≡ true

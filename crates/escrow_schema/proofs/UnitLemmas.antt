@@ -1,15 +1,19 @@
 -- The coefficients of one column among columns of distinct names.
 use Rattle.std.proofs.Common.{◌≡◌, ℕ, zero, suc, ℤ, pos, ◌<◌, ◌≤◌, true, false, not, nat_le, bytes_eq, List, [], ◌∷◌, length, set, get_or, replicate, sym, ap, ◌∙◌, subst, refl, arith}
-use Rattle.std.specs.Prelude.{codes, neg_ℤ, ◌++◌, Some}
+use Rattle.std.specs.Prelude.{codes, neg_ℤ, ◌++◌, Some, is_none}
+use Rattle.escrow_num.specs.declared.name.TheConstants.Name.{MAX_WRITTEN}
+use Rattle.escrow_sql.specs.Word.{reserved}
 use Rattle.std.proofs.lemmas.List.{get_or_read}
 use Rattle.escrow_num.specs.declared.span.Span.{Span}
 use Rattle.escrow_checks.specs.declared.check.Check.{Check}
 use Rattle.std.specs.List.{list_any, list_all}
 use Rattle.std.proofs.lemmas.Bool.{or_parts, and_parts, not-true, leb-true}
-use Rattle.escrow_checks.specs.Condition.{unit_of}
+use Rattle.escrow_checks.specs.Checks.{unit_of}
+use Rattle.escrow_checks.specs.WrittenName.{is_written_name}
 use Rattle.escrow_schema.specs.declared.column.Column.{Column}
 use Rattle.escrow_schema.specs.Column.{names_of, top_of}
-use Rattle.escrow_schema.specs.Definition.{are_distinct, range_check, CanRange}
+use Rattle.escrow_schema.specs.Definition.{are_distinct, range_check}
+use Rattle.escrow_schema.specs.Typed.{CanRange}
 use Rattle.escrow_schema.proofs.RangeLemmas.{same_name, either_order}
 
 -- a column that isn't among the names has no coefficient there
@@ -41,12 +45,17 @@ unit_at (column ∷ columns) (suc place) d apart within =
     let other = at_apart columns column.name place d none (omega arith) in
     rw other (ap (λ rest. pos 0 ∷ rest) (unit_at columns place d parts.1 (omega arith)))
 
--- each of short names is short
-pub short_at : (columns : List Column) (place : ℕ) (d : Column) → list_all (λ name. nat_le (length name) 30) (names_of columns) ≡ true → place < length columns → length (get_or columns place d).name ≤ 30
-short_at [] place d short within = absurd (omega arith)
-short_at (column ∷ columns) zero d short within = leb-true (length column.name) 30 (and_parts (nat_le (length column.name) 30) (list_all (λ name. nat_le (length name) 30) (names_of columns)) short).0
-short_at (column ∷ columns) (suc place) d short within =
-    short_at columns place d (and_parts (nat_le (length column.name) 30) (list_all (λ name. nat_le (length name) 30) (names_of columns)) short).1 (omega arith)
+-- a name that a statement can write is short
+short_from : (name : List ℕ) → is_written_name name ≡ true → length name ≤ MAX_WRITTEN
+unfolding is_written_name
+short_from name h = leb-true (length name) MAX_WRITTEN (and_parts (nat_le (length name) MAX_WRITTEN) (is_none (reserved name)) h).0
+
+-- so is each of such names
+pub short_at : (columns : List Column) (place : ℕ) (d : Column) → list_all is_written_name (names_of columns) ≡ true → place < length columns → length (get_or columns place d).name ≤ MAX_WRITTEN
+short_at [] place d writable within = absurd (omega arith)
+short_at (column ∷ columns) zero d writable within = short_from column.name (and_parts (is_written_name column.name) (list_all is_written_name (names_of columns)) writable).0
+short_at (column ∷ columns) (suc place) d writable within =
+    short_at columns place d (and_parts (is_written_name column.name) (list_all is_written_name (names_of columns)) writable).1 (omega arith)
 
 -- the limits of a column
 abbrev pub limits_of : Column → Span
@@ -69,5 +78,5 @@ ranged columns place column d name coeffs span can within at named one limits =
     subst (λ (c : Column). check ≡ range_check (names_of columns) c) same made
 
 -- the name at a place is short
-pub short_name : (columns : List Column) (place : ℕ) (column : Column) → CanRange columns → place < length columns → column ≡ get_or columns place column → length column.name ≤ 30
-short_name columns place column can within at = subst (λ (c : Column). length c.name ≤ 30) (sym at) (short_at columns place column can.2 within)
+pub short_name : (columns : List Column) (place : ℕ) (column : Column) → CanRange columns → place < length columns → column ≡ get_or columns place column → length column.name ≤ MAX_WRITTEN
+short_name columns place column can within at = subst (λ (c : Column). length c.name ≤ MAX_WRITTEN) (sym at) (short_at columns place column can.2 within)

@@ -1,4 +1,4 @@
-use Rattle.std.specs.Prelude.{◌≡◌, ℕ, neg_ℤ, ◌≤◌, ◌==◌, Bool, true, false, ◌&&◌, not, nat_le, if◌then◌else◌, Option, Some, None, option_map, option_and_then, unwrap_or, List, [], ◌∷◌, ◌++◌, length, map, count_by, position, slice_get, codes, bytes_eq, sum_by}
+use Rattle.std.specs.Prelude.{◌≡◌, ℕ, neg_ℤ, Bool, true, false, ◌&&◌, not, nat_le, if◌then◌else◌, Option, Some, None, option_map, option_and_then, unwrap_or, List, [], ◌∷◌, ◌++◌, length, map, filter, position, slice_get, codes, bytes_eq}
 use Rattle.std.specs.List.{list_any, list_all, flat_map}
 use Rattle.escrow_sql.specs.declared.statement.CreateText.{CreateText}
 use Rattle.escrow_sql.specs.declared.statement.Item.{Item}
@@ -7,10 +7,13 @@ use Rattle.escrow_sql.specs.declared.statement.CheckText.{CheckText}
 use Rattle.escrow_sql.specs.declared.statement.ColumnMark.{ColumnMark}
 use Rattle.escrow_sql.specs.declared.statement.ColumnMark.TheVariants as mark
 use Rattle.escrow_checks.specs.declared.check.Check.{Check}
-use Rattle.escrow_checks.specs.Condition.{declared, unit_of}
+use Rattle.escrow_checks.specs.declared.coefficients.TheConstants.Coefficients.{MAX_LEN}
+use Rattle.escrow_checks.specs.Checks.{checks_of, unit_of}
+use Rattle.escrow_checks.specs.WrittenName.{is_written_name}
 use Rattle.escrow_schema.specs.declared.column.Column.{Column}
 use Rattle.escrow_schema.specs.declared.table.TableDef.{TableDef}
-use Rattle.escrow_schema.specs.Column.{TypedColumns, type_of, top_of, reservables, names_of}
+use Rattle.escrow_schema.specs.declared.table.TheConstants.TableDef.{MIN_COLUMNS, MAX_COLUMNS}
+use Rattle.escrow_schema.specs.Column.{type_of, top_of, reservables, names_of}
 
 -- a mark is PRIMARY KEY
 abbrev pub is_key_mark : ColumnMark → Bool
@@ -37,17 +40,35 @@ check_of_mark (mark.Check text) = text ∷ []
 abbrev pub marks_of : Item → List ColumnMark
 marks_of (item.Column text) = text.marks
 
+-- the name of the column that an item writes
+abbrev pub name_of : Item → List ℕ
+name_of (item.Column text) = text.name
+
 -- the CHECKs of a text, in order, wherever they stand
 abbrev pub checks_in : List Item → List CheckText
 checks_in items = flat_map (λ i. flat_map check_of_mark (marks_of i)) items
 
--- how many times PRIMARY KEY is written
-abbrev pub key_marks : List Item → ℕ
-key_marks items = sum_by (λ i. count_by is_key_mark (marks_of i)) items
+-- the names that an item writes as key: its column's, as often as it is marked PRIMARY KEY
+abbrev pub keys_of : Item → List (List ℕ)
+keys_of i = map (λ mark. name_of i) (filter is_key_mark (marks_of i))
 
--- the place of the first item that has PRIMARY KEY
-abbrev pub key_place : List Item → ℕ
-key_place items = unwrap_or (position (λ i. list_any is_key_mark (marks_of i)) items) 0
+-- the names that are written as key
+abbrev pub key_names : List Item → List (List ℕ)
+key_names items = flat_map keys_of items
+
+-- the item of a list of one
+abbrev pub only_one : {A : Type 0} → List A → Option A
+only_one [] = None
+only_one (x ∷ []) = Some x
+only_one (x ∷ y ∷ xs) = None
+
+-- the place of the column of a name
+abbrev pub place_of : List Column → List ℕ → Option ℕ
+place_of columns name = position (λ column. bytes_eq column.name name) columns
+
+-- the place of the key: exactly one name is written as key, and a column has it
+abbrev pub key_place : List Item → List Column → Option ℕ
+key_place items columns = option_and_then (place_of columns) (only_one (key_names items))
 
 -- the column that an item writes, where its type is one
 abbrev pub column_of : Item → Option Column
@@ -63,13 +84,6 @@ columns_of (i ∷ items) = option_and_then (λ column. option_map (λ columns. c
 abbrev pub are_distinct : List (List ℕ) → Bool
 are_distinct [] = true
 are_distinct (name ∷ names) = not (list_any (λ other. bytes_eq name other) names) && are_distinct names
-
--- columns of which each can have the check of its range: at most 10, of distinct names of at most 30
--- bytes, each of a type
-abbrev pub CanRange : List Column → Type 0
-CanRange columns =
-    (length columns ≤ 10) × (are_distinct (names_of columns) ≡ true)
-    × (list_all (λ name. nat_le (length name) 30) (names_of columns) ≡ true) × TypedColumns columns
 
 -- the check of a RESERVABLE column's range: from its type's least to its type's greatest
 abbrev pub range_check : List (List ℕ) → Column → Check
@@ -87,37 +101,38 @@ range_checks columns = map (range_check (names_of (reservables columns))) (reser
 abbrev pub is_plain_at : List Column → ℕ → Bool
 is_plain_at columns place = unwrap_or (option_map (λ column. not column.reservable) (slice_get columns place)) false
 
--- the rules on columns: 2 to 30 of them, of distinct names of at most 30 bytes; one PRIMARY KEY, on a
--- column that isn't RESERVABLE; 1 to 10 RESERVABLE ones
-abbrev pub are_columns : List Item → List Column → ℕ → Bool
-are_columns items columns key =
-    nat_le 2 (length columns) && nat_le (length columns) 30
-    && are_distinct (names_of columns) && list_all (λ name. nat_le (length name) 30) (names_of columns)
-    && (key_marks items == 1) && is_plain_at columns key
-    && nat_le 1 (length (reservables columns)) && nat_le (length (reservables columns)) 10
+-- the rules on columns: 2 to 30 of them, of distinct names that a statement can write; a key that
+-- isn't RESERVABLE; 1 to 10 RESERVABLE ones
+abbrev pub are_columns : List Column → ℕ → Bool
+are_columns columns key =
+    nat_le MIN_COLUMNS (length columns) && nat_le (length columns) MAX_COLUMNS
+    && are_distinct (names_of columns) && list_all is_written_name (names_of columns)
+    && is_plain_at columns key
+    && nat_le 1 (length (reservables columns)) && nat_le (length (reservables columns)) MAX_LEN
 
 -- the names of a list of checks
 abbrev pub check_names : List Check → List (List ℕ)
 check_names checks = map (λ check. check.name) checks
 
--- a table of these columns, key and checks, where the checks' names are distinct
+-- the table of these columns, of this key and with these declared checks, before those of the ranges,
+-- where no two checks have one name
 abbrev pub table_with : List ℕ → List Column → ℕ → List Check → Option TableDef
-table_with name columns key checks =
+table_with name columns key written =
+    let checks = written ++ range_checks columns in
     if are_distinct (check_names checks) then Some (record { name = name; columns = columns; key = key; checks = checks }) else None
 
--- the table of these columns, where they follow the rules and so do the CHECKs; the key is the
--- column that has PRIMARY KEY
-abbrev pub table_of : CreateText → List Column → Option TableDef
-table_of text columns =
-    let key = key_place text.items in
-    if are_columns text.items columns key
-    then option_and_then (λ checks. table_with text.table columns key (checks ++ range_checks columns)) (declared (names_of (reservables columns)) (checks_in text.items))
+-- the table of these columns and this key, where its name, they and the CHECKs follow the rules
+abbrev pub table_of : CreateText → List Column → ℕ → Option TableDef
+table_of text columns key =
+    if is_written_name text.table && are_columns columns key
+    then option_and_then (table_with text.table columns key) (checks_of (names_of (reservables columns)) (checks_in text.items))
     else None
 
 -- the table that a CREATE TABLE defines, or nothing where it breaks a rule
-abbrev pub defined : CreateText → Option TableDef
-defined text = option_and_then (table_of text) (columns_of text.items)
+abbrev pub definition_of : CreateText → Option TableDef
+definition_of text =
+    option_and_then (λ columns. option_and_then (table_of text columns) (key_place text.items columns)) (columns_of text.items)
 
 -- a table is one that some text defines
 abbrev pub IsTable : TableDef → Type 0
-IsTable table = (text : CreateText) × (defined text ≡ Some table)
+IsTable table = (text : CreateText) × (definition_of text ≡ Some table)

@@ -1,17 +1,19 @@
-use Rattle.std.specs.Prelude.{ℕ, ℤ, pos, ◌+◌, ◌==◌, Bool, true, false, ◌&&◌, ◌||◌, if◌then◌else◌, Option, None, option_map, List, [], ◌∷◌, slice_get}
+use Rattle.std.specs.Prelude.{ℕ, ℤ, pos, ◌+◌, ◌==◌, ◌||◌, if◌then◌else◌, Option, Some, None, option_map, option_and_then, List, [], ◌∷◌, ◌++◌, map, take, drop, slice_get}
 use Rattle.escrow_num.specs.declared.value.Value.{Value}
 use Rattle.escrow_num.specs.declared.value.Value.TheVariants as value
 use Rattle.escrow_num.specs.declared.row.Row.{Row}
+use Rattle.escrow_sql.specs.declared.statement.Literal.{Literal}
 use Rattle.escrow_schema.specs.declared.column.Column.{Column}
 use Rattle.escrow_schema.specs.declared.table.TableDef.{TableDef}
-use Rattle.escrow_schema.specs.Column.{fits}
+use Rattle.escrow_schema.specs.Column.{value_in}
 
--- there is a value for each column, and each fits its column's type
-abbrev pub all_fit : List Column → List Value → Bool
-all_fit [] [] = true
-all_fit [] (v ∷ values) = false
-all_fit (column ∷ columns) [] = false
-all_fit (column ∷ columns) (v ∷ values) = fits column.kind v && all_fit columns values
+-- the values that literals are, one for each column, where each fits its column's type
+abbrev pub values_in : List Column → List Literal → Option (List Value)
+values_in [] [] = Some []
+values_in [] (literal ∷ literals) = None
+values_in (column ∷ columns) [] = None
+values_in (column ∷ columns) (literal ∷ literals) =
+    option_and_then (λ v. option_map (λ values. v ∷ values) (values_in columns literals)) (value_in column.kind literal)
 
 -- the number that a value is
 abbrev pub number_in : Value → ℤ
@@ -24,16 +26,34 @@ amounts_of [] values = []
 amounts_of (column ∷ columns) [] = []
 amounts_of (column ∷ columns) (v ∷ values) = if column.reservable then number_in v ∷ amounts_of columns values else amounts_of columns values
 
--- the values of the other columns but the key, which stands this many places further on
+-- the values of the other columns but the key, where the first of the columns stands at a place
 abbrev pub plain_of : List Column → List Value → ℕ → ℕ → List Value
 plain_of [] values place key = []
 plain_of (column ∷ columns) [] place key = []
 plain_of (column ∷ columns) (v ∷ values) place key =
     if column.reservable || place == key then plain_of columns values (place + 1) key else v ∷ plain_of columns values (place + 1) key
 
--- the row that values make, where they fit the table
-abbrev pub fitted : TableDef → List Value → Option Row
-fitted table values =
-    if all_fit table.columns values
-    then option_map (λ key. record { table = table.name; key = key; amounts = amounts_of table.columns values; plain = plain_of table.columns values 0 table.key }) (slice_get values table.key)
-    else None
+-- the row of these values
+abbrev pub row_with : TableDef → List Value → Option Row
+row_with table values = option_map (λ key. record {
+  name = record { table = table.name; key = key };
+  amounts = amounts_of table.columns values;
+  plain = plain_of table.columns values 0 table.key;
+}) (slice_get values table.key)
+
+-- the row that literals make, where they fit the table
+abbrev pub fitted : TableDef → List Literal → Option Row
+fitted table literals = option_and_then (row_with table) (values_in table.columns literals)
+
+-- the values of columns, in their order: the next amount for each RESERVABLE one, the key at its
+-- place, the next plain value for each other; the first of the columns stands at a place
+abbrev pub woven : List Column → ℕ → ℕ → Value → List ℤ → List Value → List Value
+woven [] place at key amounts plain = []
+woven (column ∷ columns) place at key amounts plain =
+    if column.reservable then map value.Number (take 1 amounts) ++ woven columns (place + 1) at key (drop 1 amounts) plain
+    else (if place == at then key ∷ woven columns (place + 1) at key amounts plain
+    else take 1 plain ++ woven columns (place + 1) at key amounts (drop 1 plain))
+
+-- the values of a row, in column order
+abbrev pub values_of : TableDef → Row → List Value
+values_of table row = woven table.columns 0 table.key row.name.key row.amounts row.plain

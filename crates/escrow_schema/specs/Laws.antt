@@ -1,14 +1,24 @@
-use Rattle.std.specs.Prelude.{◌≡◌, ℤ, ◌≤◌, List, length, IfSome}
-use Rattle.std.specs.List.{AllByRecursion}
+use Rattle.std.specs.Prelude.{◌≡◌, ◌⊎◌, ℤ, ◌≤◌, Option, Some, Ok, Err, IsTrue, List, length}
+use Rattle.std.specs.List.{AllByRecursion, AllZip}
 use Rattle.escrow_num.specs.Amount.{IsAmount}
+use Rattle.escrow_num.specs.declared.refusal.Refusal.{Refusal}
+use Rattle.escrow_num.specs.declared.refusal.Refusal.TheVariants as refusal
+use Rattle.escrow_num.specs.declared.row.Row.{Row}
 use Rattle.escrow_num.specs.declared.value.Value.{Value}
-use Rattle.escrow_sql.specs.declared.statement.Assign.{Assign}
+use Rattle.escrow_sql.specs.declared.statement.CreateText.{CreateText}
+use Rattle.escrow_sql.specs.declared.statement.Literal.{Literal}
+use Rattle.escrow_sql.specs.declared.statement.UpdateText.{UpdateText}
 use Rattle.escrow_checks.specs.Grant.{Meets}
+use Rattle.escrow_schema.specs.declared.plan.Plan.TheVariants.{Reserve}
 use Rattle.escrow_schema.specs.declared.table.TableDef.{TableDef}
 use Rattle.escrow_schema.specs.Column.{reservables}
-use Rattle.escrow_schema.specs.Definition.{IsTable}
-use Rattle.escrow_schema.specs.Fit.{fitted}
-use Rattle.escrow_schema.specs.Plan.{planned_changes}
+use Rattle.escrow_schema.specs.Definition.{IsTable, definition_of}
+use Rattle.escrow_schema.specs.Fit.{fitted, values_in, values_of}
+use Rattle.escrow_schema.specs.Plan.{planned}
+
+-- a table has the name that its text writes
+abbrev pub NameOfTable : Type 0
+NameOfTable = (text : CreateText) (table : TableDef) → definition_of text ≡ Some table → table.name ≡ text.table
 
 -- a table has 1 to 10 RESERVABLE columns
 abbrev pub FewReservable : Type 0
@@ -28,12 +38,26 @@ ChecksKeepAmounts =
 abbrev pub FewChecks : Type 0
 FewChecks = (table : TableDef) → IsTable table → length table.checks ≤ 42
 
--- the row that values make is of its table, and has an amount for each RESERVABLE column
+-- the row that literals make is of its table, and has an amount for each RESERVABLE column
 abbrev pub RowsOfTable : Type 0
 RowsOfTable =
-    (table : TableDef) (values : List Value)
-    → IfSome (fitted table values) (λ row. (row.table ≡ table.name) × (length row.amounts ≡ length (reservables table.columns)))
+    (table : TableDef) (literals : List Literal) (row : Row) → fitted table literals ≡ Some row
+    → (row.name.table ≡ table.name) × (length row.amounts ≡ length (reservables table.columns))
 
--- an UPDATE has a change for each RESERVABLE column
+-- a plan has a change, or none, for each RESERVABLE column
 abbrev pub PlansOfWholeRow : Type 0
-PlansOfWholeRow = (table : TableDef) (assign : Assign) → length (planned_changes table.columns assign) ≡ length (reservables table.columns)
+PlansOfWholeRow =
+    (table : TableDef) (text : UpdateText) (key : Value) (changes : List (Option ℤ)) → planned table text ≡ Ok (Reserve key changes)
+    → length changes ≡ length (reservables table.columns)
+
+-- an UPDATE that can't be planned is refused for its assignment, for its WHERE's column or for its literal
+abbrev pub RefusalsOfPlans : Type 0
+RefusalsOfPlans =
+    (table : TableDef) (text : UpdateText) (r : Refusal) → planned table text ≡ Err r
+    → (r ≡ refusal.BadAssignment) ⊎ ((r ≡ refusal.NotTheKey) ⊎ (r ≡ refusal.BadValue))
+
+-- the values of the row that literals make are the values that the literals are
+abbrev pub ValuesOfRow : Type 0
+ValuesOfRow =
+    (table : TableDef) (literals : List Literal) (row : Row) → fitted table literals ≡ Some row
+    → values_in table.columns literals ≡ Some (values_of table row)

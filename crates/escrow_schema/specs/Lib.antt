@@ -3,3 +3,4 @@ pub mod Definition
 pub mod Fit
 pub mod Laws
 pub mod Plan
+pub mod Typed

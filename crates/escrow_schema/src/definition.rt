@@ -1,27 +1,28 @@
-ghost use Rattle.std.specs.Prelude.{◌≡◌, ◌++◌, ◌⊎◌, ◌↔◌, true, None, Some, IfOk, IfErr, IsErr, IsErrOf, IsTrue, IfSome, option_map, map};
-ghost use Rattle.escrow_checks.specs.Condition.{declared};
-ghost use Rattle.escrow_schema.specs.Column.{TypedColumns, reservables, names_of};
-ghost use Rattle.escrow_schema.specs.Definition.{CanRange, checks_in, defined, range_check, table_of, table_with};
+ghost use Rattle.std.specs.Prelude.{◌≡◌, ◌++◌, ◌⊎◌, None, Some, IfOk, IfErr, IsErr, IsErrOf, map};
+ghost use Rattle.escrow_checks.specs.Checks.{checks_of};
+ghost use Rattle.escrow_schema.specs.Column.{reservables, names_of};
+ghost use Rattle.escrow_schema.specs.Definition.{checks_in, definition_of, key_place, range_check, table_of, table_with};
+ghost use Rattle.escrow_schema.specs.Typed.{CanRange, TypedColumns};
 
 use crate::column::Column;
-use crate::items::{checks_in, columns_of, key_place};
+use crate::items::{checks_in, columns_of, key_name};
 use crate::ranges::push_ranges;
-use crate::rules::{are_columns, are_distinct, check_names, names_of, reservables};
+use crate::rules::{are_columns, are_distinct, check_names, names_of, place_of, reservables};
 use crate::table::TableDef;
-use escrow_checks::{Check, CheckFault, normalise};
+use escrow_checks::{Check, CheckFault, is_written_name, normalise};
 use escrow_num::{Name, Refusal, Seq};
 use escrow_sql::{CreateText, Item};
 use std::alloc::{AllocError, Global};
 
-/// The table that a text defines. Refused as a bad definition exactly where a rule of definitions
-/// is broken, or for memory.
+/// The table that a text defines. Refused as a bad definition only where a rule of definitions is
+/// broken, and no such text gives a table; reading a text takes memory.
 pub fn define(alloc: Global, text: &CreateText) -> Result<TableDef, Refusal>
-    ensures ok { IfOk result (λ table. defined text.now ≡ Some table) }
-    ensures bad { IsErrOf result Refusal.BadDefinition → defined text.now ≡ None }
-    ensures broken { defined text.now ≡ None → IsErr result }
+    ensures ok { IfOk result (λ table. definition_of text.now ≡ Some table) }
+    ensures bad { IsErrOf result Refusal.BadDefinition → definition_of text.now ≡ None }
+    ensures broken { definition_of text.now ≡ None → IsErr result }
     ensures only { IfErr result (λ e. (e ≡ Refusal.BadDefinition) ⊎ (e ≡ Refusal.Memory)) }
 {
-    match defined(alloc, text) {
+    match definition_of(alloc, text) {
         Ok(Some(table)) => Ok(table),
         Ok(None) => Err(Refusal::BadDefinition),
         Err(_) => Err(Refusal::Memory),
@@ -29,46 +30,90 @@ pub fn define(alloc: Global, text: &CreateText) -> Result<TableDef, Refusal>
 }
 
 /// The table that a text defines, or `None` where it breaks a rule.
-fn defined(alloc: Global, text: &CreateText) -> Result<Option<TableDef>, AllocError>
-    ensures { IfOk result (λ table. table ≡ defined text.now) }
+fn definition_of(alloc: Global, text: &CreateText) -> Result<Option<TableDef>, AllocError>
+    ensures { IfOk result (λ table. table ≡ definition_of text.now) }
 {
-    match columns_of(alloc, text.items.as_slice())? {
-        Some(columns) => table_of(alloc, text, columns),
+    let items = text.items.as_slice();
+    let Some(columns) = columns_of(alloc, items)? else {
+        return Ok(None);
+    };
+    match key_place(items, columns.as_slice()) {
+        Some(key) => table_of(alloc, text, columns, key),
         None => Ok(None),
     }
 }
 
-/// The table of these columns, or `None` where they or the CHECKs break a rule.
+/// The place of the column that is written as key, once.
+fn key_place(items: &[Item], columns: &[Column]) -> Option<usize>
+    ensures { result ≡ key_place items.now columns.now }
+{
+    place_of(columns, &key_name(items)?)
+}
+
+/// The table of these columns and this key, or `None` where its name, they or the CHECKs break a
+/// rule.
 fn table_of(
     alloc: Global,
     text: &CreateText,
     columns: Seq<Column>,
+    key: usize,
 ) -> Result<Option<TableDef>, AllocError>
     requires { TypedColumns columns }
-    ensures { IfOk result (λ table. table ≡ table_of text.now columns) }
+    ensures { IfOk result (λ table. table ≡ table_of text.now columns key) }
 {
-    let items = text.items.as_slice();
-    let key = key_place(items);
-    let reservable = reservables(alloc, columns.as_slice())?;
-    if !are_columns(alloc, items, columns.as_slice(), reservable.as_slice(), key)? {
+    if !is_written_name(&text.table) {
         return Ok(None);
     }
-    match all_checks(alloc, items, reservable.as_slice())? {
-        Some(checks) => table_with(alloc, text.table, columns, key, checks),
+    let reservable = reservables(alloc, columns.as_slice())?;
+    if !are_columns(alloc, columns.as_slice(), reservable.as_slice(), key)? {
+        return Ok(None);
+    }
+    match declared_checks(alloc, text.items.as_slice(), reservable.as_slice())? {
+        Some(written) => table_with(
+            alloc,
+            text.table,
+            columns,
+            reservable.as_slice(),
+            key,
+            written,
+        ),
         None => Ok(None),
     }
 }
 
-/// The table of these columns, key and checks, or `None` where two checks have one name.
+/// The checks that items declare, or `None` where one breaks a rule.
+fn declared_checks(
+    alloc: Global,
+    items: &[Item],
+    columns: &[Column],
+) -> Result<Option<Seq<Check>>, AllocError>
+    requires { CanRange columns.now }
+    ensures { IfOk result (λ checks. checks ≡ checks_of (names_of columns.now) (checks_in items.now)) }
+{
+    let texts = checks_in(alloc, items)?;
+    let names = names_of(alloc, columns)?;
+    match normalise(alloc, texts.as_slice(), names.as_slice()) {
+        Ok(checks) => Ok(Some(checks)),
+        Err(CheckFault::Definition) => Ok(None),
+        Err(CheckFault::Memory) => Err(AllocError),
+    }
+}
+
+/// The table of these columns, of this key and with these declared checks, or `None` where two of
+/// all its checks have one name.
 fn table_with(
     alloc: Global,
     name: Name,
     columns: Seq<Column>,
+    reservable: &[Column],
     key: usize,
-    checks: Seq<Check>,
+    written: Seq<Check>,
 ) -> Result<Option<TableDef>, AllocError>
-    ensures { IfOk result (λ table. table ≡ table_with name columns key checks) }
+    requires range { CanRange reservable.now }
+    requires reservable { reservable.now ≡ reservables columns }
+    ensures { IfOk result (λ table. table ≡ table_with name columns key written) }
 {
+    let checks = with_ranges(alloc, written, reservable)?;
     let names = check_names(alloc, checks.as_slice())?;
     if !are_distinct(names.as_slice()) {
         return Ok(None);
@@ -81,24 +126,16 @@ fn table_with(
     }))
 }
 
-/// The checks that items declare and the range of each RESERVABLE column, or `None` where a
-/// declared one breaks a rule.
-fn all_checks(
+/// The declared checks, and behind them the range of each RESERVABLE column.
+fn with_ranges(
     alloc: Global,
-    items: &[Item],
+    written: Seq<Check>,
     columns: &[Column],
-) -> Result<Option<Seq<Check>>, AllocError>
+) -> Result<Seq<Check>, AllocError>
     requires { CanRange columns.now }
-    ensures { IfOk result (λ checks. checks ≡ option_map (λ written. written ++ map (range_check (names_of columns.now)) columns.now) (declared (names_of columns.now) (checks_in items.now))) }
+    ensures { IfOk result (λ checks. checks ≡ written ++ map (range_check (names_of columns.now)) columns.now) }
 {
-    let texts = checks_in(alloc, items)?;
-    let names = names_of(alloc, columns)?;
-    let checks = match normalise(alloc, texts.as_slice(), names.as_slice()) {
-        Ok(checks) => checks,
-        Err(CheckFault::Definition) => return Ok(None),
-        Err(CheckFault::Memory) => return Err(AllocError),
-    };
-    let mut checks = checks.into_vec();
+    let mut checks = written.into_vec();
     push_ranges(alloc, &mut checks, columns)?;
-    Ok(Some(Seq::from_vec(checks)))
+    Ok(Seq::from_vec(checks))
 }

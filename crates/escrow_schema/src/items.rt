@@ -1,10 +1,9 @@
 //! What the items of a CREATE TABLE write.
-ghost use Rattle.std.specs.Prelude.{◌≡◌, ◌++◌, ◌==◌, IfOk, OnOk, count_by, position, option_to_list};
+ghost use Rattle.std.specs.Prelude.{◌≡◌, ◌++◌, IfOk, OnOk, count_by, map};
 ghost use Rattle.std.specs.List.{list_any, flat_map};
-ghost use Rattle.escrow_schema.specs.Definition.{column_of, columns_of, is_key_mark, is_reservable_mark, key_marks, key_place, checks_in, check_of_mark, marks_of};
+ghost use Rattle.escrow_schema.specs.Definition.{column_of, columns_of, is_key_mark, is_reservable_mark, key_names, only_one, checks_in, check_of_mark, marks_of, name_of};
 
 use crate::column::{Column, ColumnType};
-use crate::lists::add_some;
 use escrow_num::{Name, Seq};
 use escrow_sql::{CheckText, ColumnMark, Item};
 use std::alloc::{AllocError, Global};
@@ -52,19 +51,26 @@ fn is_key_mark(mark: &ColumnMark) -> bool
     matches!(mark, ColumnMark::PrimaryKey)
 }
 
-/// Whether PRIMARY KEY is written exactly once.
-pub(crate) fn has_one_key(items: &[Item]) -> bool
-    ensures { result ≡ (key_marks items.now == 1) }
+/// The name that is written as key, or `None` where none is or more are.
+pub(crate) fn key_name(items: &[Item]) -> Option<Name>
+    ensures { result ≡ only_one (key_names items.now) }
 {
-    let mut keys: usize = 0;
+    let mut key = None;
     for item in items {
-        keys = keys.saturating_add(count_key_marks(item));
+        let keys = count_keys(item);
+        if keys == 0 {
+            continue;
+        }
+        if 1 < keys || key.is_some() {
+            return None;
+        }
+        key = Some(name_of(item));
     }
-    keys == 1
+    key
 }
 
-/// How many times an item has PRIMARY KEY.
-fn count_key_marks(item: &Item) -> usize
+/// How many names an item writes as key.
+fn count_keys(item: &Item) -> usize
     ensures { result ≡ count_by is_key_mark (marks_of item.now) }
 {
     let Item::Column(text) = item;
@@ -75,31 +81,20 @@ fn count_key_marks(item: &Item) -> usize
         .count()
 }
 
-/// The place of the first item that has PRIMARY KEY, or 0 where none has.
-pub(crate) fn key_place(items: &[Item]) -> usize
-    ensures { result ≡ key_place items.now }
-{
-    first_key(items).unwrap_or(0)
-}
-
-/// The place of the first item that has PRIMARY KEY.
-fn first_key(items: &[Item]) -> Option<usize>
-    ensures { result ≡ position (λ i. list_any is_key_mark (marks_of i)) items.now }
-{
-    items.iter().position(has_key_mark)
-}
-
-/// Whether an item has PRIMARY KEY.
-fn has_key_mark(item: &Item) -> bool
-    ensures { result ≡ list_any is_key_mark (marks_of item.now) }
+/// The name of the column that an item writes.
+fn name_of(item: &Item) -> Name
+    ensures { result ≡ name_of item.now }
 {
     let Item::Column(text) = item;
-    text.marks.as_slice().iter().any(is_key_mark)
+    text.name
 }
 
 /// The CHECKs of items, in order.
-pub(crate) fn checks_in(alloc: Global, items: &[Item]) -> Result<Vec<CheckText>, AllocError>
-    ensures { IfOk result (λ texts. texts.items ≡ checks_in items.now) }
+pub(crate) fn checks_in<'a>(
+    alloc: Global,
+    items: &'a [Item],
+) -> Result<Vec<&'a CheckText>, AllocError>
+    ensures { IfOk result (λ texts. map (λ text. text.now) texts.items ≡ checks_in items.now) }
 {
     let mut texts = Vec::new(alloc);
     for item in items {
@@ -109,22 +104,14 @@ pub(crate) fn checks_in(alloc: Global, items: &[Item]) -> Result<Vec<CheckText>,
 }
 
 /// Adds the CHECKs of an item.
-fn push_checks(texts: &mut Vec<CheckText>, item: &Item) -> Result<(), AllocError>
-    ensures { OnOk result (texts.new.items ≡ texts.old.items ++ flat_map check_of_mark (marks_of item.now)) }
+fn push_checks<'a>(texts: &mut Vec<&'a CheckText>, item: &'a Item) -> Result<(), AllocError>
+    ensures { OnOk result (map (λ text. text.now) texts.new.items ≡ map (λ text. text.now) texts.old.items ++ flat_map check_of_mark (marks_of item.now)) }
 {
     let Item::Column(text) = item;
     for mark in text.marks.as_slice() {
-        add_some(texts, check_of_mark(mark))?;
+        if let ColumnMark::Check(text) = mark {
+            texts.push(text)?;
+        }
     }
     Ok(())
-}
-
-/// The CHECK that a mark is, if it is one.
-fn check_of_mark(mark: &ColumnMark) -> Option<CheckText>
-    ensures { option_to_list result ≡ check_of_mark mark.now }
-{
-    match mark {
-        ColumnMark::Check(text) => Some(*text),
-        _ => None,
-    }
 }

@@ -1,6 +1,11 @@
 //! What holds of every table that a text defines, and of the rows and plans of it: each law is the
 //! contract of a function that does nothing.
-ghost use Rattle.escrow_schema.specs.Laws.{FewReservable, ChecksOfWholeRow, ChecksKeepAmounts, FewChecks, RowsOfTable, PlansOfWholeRow};
+ghost use Rattle.escrow_schema.specs.Laws.{NameOfTable, FewReservable, ChecksOfWholeRow, ChecksKeepAmounts, FewChecks, RowsOfTable, PlansOfWholeRow, RefusalsOfPlans, ValuesOfRow};
+
+/// A table has the name that its text writes.
+pub fn name_of_table()
+    ensures { NameOfTable }
+{}
 
 /// A table has 1 to 10 RESERVABLE columns.
 pub fn few_reservable()
@@ -23,12 +28,23 @@ pub fn few_checks()
     ensures { FewChecks }
 {}
 
-/// The row that values make is of its table, and has an amount for each RESERVABLE column.
+/// The row that literals make is of its table, and has an amount for each RESERVABLE column.
 pub fn rows_of_table()
     ensures { RowsOfTable }
 {}
 
-/// An UPDATE has a change for each RESERVABLE column.
+/// A plan has a change, or none, for each RESERVABLE column.
 pub fn plans_of_whole_row()
     ensures { PlansOfWholeRow }
+{}
+
+/// An UPDATE that can't be planned is refused for its assignment, for its WHERE's column or for its
+/// literal.
+pub fn refusals_of_plans()
+    ensures { RefusalsOfPlans }
+{}
+
+/// The values of the row that literals make are the values that the literals are, in order.
+pub fn values_of_row()
+    ensures { ValuesOfRow }
 {}

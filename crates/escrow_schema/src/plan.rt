@@ -1,7 +1,7 @@
-ghost use Rattle.std.specs.Prelude.{◌≡◌, ◌⊎◌, None, Some, IfOk, IfErr, OnOk, bytes_eq, pos, ◌&&◌, if◌then◌else◌};
+ghost use Rattle.std.specs.Prelude.{◌≡◌, ◌⊎◌, None, Some, Ok, Err, IfOk, IfErr, IsErrOf, IsOk, bytes_eq, ◌&&◌, if◌then◌else◌};
 ghost use Rattle.std.specs.List.{list_any};
 ghost use Rattle.escrow_schema.specs.Definition.{IsTable};
-ghost use Rattle.escrow_schema.specs.Plan.{can_assign, plan_refusal, planned_changes, planned_columns};
+ghost use Rattle.escrow_schema.specs.Plan.{can_assign, changes_of, planned};
 
 use crate::column::Column;
 use crate::table::TableDef;
@@ -11,59 +11,43 @@ use std::alloc::{AllocError, Global};
 
 /// What an UPDATE asks of a row.
 #[derive(Debug, Drop)]
-pub struct Plan {
-    /// The row's key.
-    pub key: Value,
-    /// The change of each RESERVABLE column, in column order: zero where it isn't assigned.
-    pub changes: Seq<Amount>,
-    /// Whether each RESERVABLE column is assigned.
-    pub assigned: Seq<bool>,
+pub enum Plan {
+    /// To reserve changes of its RESERVABLE columns.
+    Reserve {
+        /// The row's key.
+        key: Value,
+        /// The change of each RESERVABLE column, in column order: `None` where it isn't assigned.
+        changes: Seq<Option<Amount>>,
+    },
 }
 
 /// What an UPDATE asks, or why it can't be planned: a bad assignment, a WHERE of another column
-/// than the key, or a literal that the key's type doesn't hold, the first of these that applies; or
-/// want of memory.
+/// than the key, or a literal that the key's type doesn't hold, the first of these that applies.
+/// Memory is only taken for a plan.
 pub fn plan_update(alloc: Global, table: &TableDef, text: &UpdateText) -> Result<Plan, Refusal>
     requires { IsTable table.now }
-    ensures key { IfOk result (λ plan. plan.key ≡ text.now.row.value) }
-    ensures changes { IfOk result (λ plan. plan.changes ≡ planned_changes table.now.columns text.now.assign) }
-    ensures assigned { IfOk result (λ plan. plan.assigned ≡ planned_columns table.now.columns text.now.assign) }
-    ensures ok { IfOk result (λ _. plan_refusal table.now text.now ≡ None) }
-    ensures refused { IfErr result (λ e. (e ≡ Refusal.Memory) ⊎ (plan_refusal table.now text.now ≡ Some e)) }
+    ensures plan { IfOk result (λ plan. planned table.now text.now ≡ Ok plan) }
+    ensures refused { IfErr (planned table.now text.now) (λ e. result ≡ Err e) }
+    ensures only { IfErr result (λ e. (planned table.now text.now ≡ Err e) ⊎ (e ≡ Refusal.Memory)) }
+    ensures memory { IsErrOf result Refusal.Memory → IsOk (planned table.now text.now) }
 {
-    let columns = table.columns.as_slice();
-    check_update(table, text)?;
-    make_plan(alloc, columns, text).map_err(|_| Refusal::Memory)
-}
-
-/// The plan of an UPDATE that can be planned.
-fn make_plan(alloc: Global, columns: &[Column], text: &UpdateText) -> Result<Plan, AllocError>
-    ensures key { IfOk result (λ plan. plan.key ≡ text.now.row.value) }
-    ensures changes { IfOk result (λ plan. plan.changes ≡ planned_changes columns.now text.now.assign) }
-    ensures assigned { IfOk result (λ plan. plan.assigned ≡ planned_columns columns.now text.now.assign) }
-{
-    Ok(Plan {
-        key: text.row.value.copy(alloc)?,
-        changes: Seq::from_vec(changes_of(alloc, columns, &text.assign)?),
-        assigned: Seq::from_vec(assigned_of(alloc, columns, &text.assign)?),
-    })
-}
-
-/// Why an UPDATE can't be planned, if it can't.
-fn check_update(table: &TableDef, text: &UpdateText) -> Result<(), Refusal>
-    requires { IsTable table.now }
-    ensures ok { OnOk result (plan_refusal table.now text.now ≡ None) }
-    ensures refused { IfErr result (λ e. plan_refusal table.now text.now ≡ Some e) }
-{
-    let key = table.key_column();
-    if !can_assign(table.columns.as_slice(), &text.assign) {
-        Err(Refusal::BadAssignment)
-    } else if key.name != text.row.column {
-        Err(Refusal::NotTheKey)
-    } else if !key.kind.fits(&text.row.value) {
-        Err(Refusal::BadValue)
-    } else {
-        Ok(())
+    let columns = table.typed_columns();
+    if !can_assign(columns, &text.assign) {
+        return Err(Refusal::BadAssignment);
+    }
+    let column = &columns[table.key];
+    if column.name != text.row.column {
+        return Err(Refusal::NotTheKey);
+    }
+    let Some(key) = column.kind.value_in(&text.row.literal) else {
+        return Err(Refusal::BadValue);
+    };
+    match changes_of(alloc, columns, &text.assign) {
+        Ok(changes) => Ok(Plan::Reserve {
+            key,
+            changes: Seq::from_vec(changes),
+        }),
+        Err(_) => Err(Refusal::Memory),
     }
 }
 
@@ -84,8 +68,12 @@ fn has_reservable(columns: &[Column], name: &Name) -> bool
 }
 
 /// The change of each RESERVABLE column.
-fn changes_of(alloc: Global, columns: &[Column], assign: &Assign) -> Result<Vec<Amount>, AllocError>
-    ensures { IfOk result (λ changes. changes.items ≡ planned_changes columns.now assign.now) }
+fn changes_of(
+    alloc: Global,
+    columns: &[Column],
+    assign: &Assign,
+) -> Result<Vec<Option<Amount>>, AllocError>
+    ensures { IfOk result (λ changes. changes.items ≡ changes_of columns.now assign.now) }
 {
     columns
         .iter()
@@ -94,24 +82,13 @@ fn changes_of(alloc: Global, columns: &[Column], assign: &Assign) -> Result<Vec<
         .collect(alloc)
 }
 
-/// The change that an assignment asks of a column: zero where it isn't the one that is assigned.
-fn change_of(column: &Column, assign: &Assign) -> Amount
-    ensures { result ≡ (if bytes_eq column.now.name assign.now.column then assign.now.change else pos 0) }
+/// The change that an assignment asks of a column, if that is the one that is assigned.
+fn change_of(column: &Column, assign: &Assign) -> Option<Amount>
+    ensures { result ≡ (if bytes_eq column.now.name assign.now.column then Some assign.now.change else None) }
 {
     if column.name == assign.column {
-        assign.change
+        Some(assign.change)
     } else {
-        Amount::new(0).unwrap()
+        None
     }
-}
-
-/// Whether each RESERVABLE column is assigned.
-fn assigned_of(alloc: Global, columns: &[Column], assign: &Assign) -> Result<Vec<bool>, AllocError>
-    ensures { IfOk result (λ assigned. assigned.items ≡ planned_columns columns.now assign.now) }
-{
-    columns
-        .iter()
-        .filter(|column| column.reservable)
-        .map(|column| column.name == assign.column)
-        .collect(alloc)
 }

@@ -1,7 +1,9 @@
 //! The checks of the ranges of RESERVABLE columns: each keeps a column within its type.
 ghost use Rattle.std.specs.Prelude.{◌≡◌, ◌++◌, ◌≤◌, ◌<◌, IfOk, OnOk, Some, neg_ℤ, length, map, codes, slice_index_or};
-ghost use Rattle.escrow_schema.specs.Column.{IsType, top_of, names_of};
-ghost use Rattle.escrow_schema.specs.Definition.{CanRange, range_check};
+ghost use Rattle.escrow_num.specs.declared.name.TheConstants.Name.{MAX_WRITTEN};
+ghost use Rattle.escrow_schema.specs.Column.{top_of, names_of};
+ghost use Rattle.escrow_schema.specs.Definition.{range_check};
+ghost use Rattle.escrow_schema.specs.Typed.{CanRange, IsType};
 
 use crate::column::{Column, ColumnType};
 use crate::lists::add;
@@ -53,7 +55,7 @@ fn range_span(kind: &ColumnType) -> Span
 
 /// The name of the range check of a column: `RANGE_` and the column.
 fn range_name(alloc: Global, column: &Name) -> Result<Name, AllocError>
-    requires { length column.now ≤ 30 }
+    requires { length column.now ≤ MAX_WRITTEN }
     ensures { IfOk result (λ name. name ≡ codes "RANGE_" ++ column.now) }
 {
     let mut text = Vec::new(alloc);

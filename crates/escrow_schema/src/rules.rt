@@ -1,48 +1,50 @@
 //! The rules that a table's columns and names have to follow.
-ghost use Rattle.std.specs.Prelude.{◌≡◌, ◌&&◌, IfOk, bytes_eq, length, nat_le};
+ghost use Rattle.std.specs.Prelude.{◌≡◌, ◌&&◌, IfOk, bytes_eq, position};
 ghost use Rattle.std.specs.List.{list_any, list_all};
+ghost use Rattle.escrow_checks.specs.WrittenName.{is_written_name};
 ghost use Rattle.escrow_schema.specs.Column.{reservables, names_of};
-ghost use Rattle.escrow_schema.specs.Definition.{are_columns, are_distinct, check_names, is_plain_at};
+ghost use Rattle.escrow_schema.specs.Definition.{are_columns, are_distinct, check_names, is_plain_at, place_of};
 
 use crate::column::Column;
-use crate::items::has_one_key;
-use escrow_checks::Check;
+use crate::table::TableDef;
+use escrow_checks::{Check, Coefficients, is_written_name};
 use escrow_num::Name;
-use escrow_sql::Item;
 use std::alloc::{AllocError, Global};
 
-/// The most bytes of a name that a statement writes.
-const MOST_BYTES: usize = 30;
-
-/// Whether columns follow the rules: 2 to 30 of them, of distinct names of at most 30 bytes; one
-/// PRIMARY KEY, on a column that isn't RESERVABLE; 1 to 10 RESERVABLE ones.
+/// Whether columns follow the rules: 2 to 30 of them, of distinct names that a statement can write;
+/// a key that isn't RESERVABLE; 1 to 10 RESERVABLE ones.
 pub(crate) fn are_columns(
     alloc: Global,
-    items: &[Item],
     columns: &[Column],
     reservable: &[Column],
     key: usize,
 ) -> Result<bool, AllocError>
     requires { reservable.now ≡ reservables columns.now }
-    ensures { IfOk result (λ follow. follow ≡ are_columns items.now columns.now key) }
+    ensures { IfOk result (λ follow. follow ≡ are_columns columns.now key) }
 {
     let names = names_of(alloc, columns)?;
     Ok(
-        2 <= columns.len()
-            && columns.len() <= 30
+        TableDef::MIN_COLUMNS <= columns.len()
+            && columns.len() <= TableDef::MAX_COLUMNS
             && are_names(names.as_slice())
-            && has_one_key(items)
             && is_plain_at(columns, key)
             && 1 <= reservable.len()
-            && reservable.len() <= 10,
+            && reservable.len() <= Coefficients::MAX_LEN,
     )
 }
 
-/// Whether names are distinct, and each has at most 30 bytes.
+/// Whether names are distinct, and a statement can write each.
 fn are_names(names: &[Name]) -> bool
-    ensures { result ≡ (are_distinct names.now && list_all (λ name. nat_le (length name) 30) names.now) }
+    ensures { result ≡ (are_distinct names.now && list_all is_written_name names.now) }
 {
-    are_distinct(names) && are_short(names)
+    are_distinct(names) && are_written(names)
+}
+
+/// Whether a statement can write each name.
+fn are_written(names: &[Name]) -> bool
+    ensures { result ≡ list_all is_written_name names.now }
+{
+    names.iter().all(|name| is_written_name(name))
 }
 
 /// Whether no two names are the same.
@@ -64,11 +66,11 @@ fn is_among(name: &Name, others: &[Name]) -> bool
     others.iter().any(|other| *name == *other)
 }
 
-/// Whether each name has at most 30 bytes.
-fn are_short(names: &[Name]) -> bool
-    ensures { result ≡ list_all (λ name. nat_le (length name) 30) names.now }
+/// The place of the column of a name.
+pub(crate) fn place_of(columns: &[Column], name: &Name) -> Option<usize>
+    ensures { result ≡ place_of columns.now name.now }
 {
-    names.iter().all(|name| name.as_bytes().len() <= MOST_BYTES)
+    columns.iter().position(|column| column.name == *name)
 }
 
 /// Whether the column at a place isn't RESERVABLE.

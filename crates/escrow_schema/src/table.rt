@@ -18,9 +18,15 @@ pub struct TableDef {
 }
 
 impl TableDef {
-    ghost use Rattle.escrow_schema.specs.Column.{IsType, TypedColumns};
     ghost use Rattle.escrow_schema.specs.Definition.{IsTable};
     ghost use Rattle.escrow_schema.specs.Plan.{key_column};
+    ghost use Rattle.escrow_schema.specs.Typed.{TypedColumns};
+
+    /// The fewest columns of a table: its key, and a RESERVABLE one.
+    pub const MIN_COLUMNS: usize = 2;
+
+    /// The most columns of a table.
+    pub const MAX_COLUMNS: usize = 30;
 
     /// The columns, in order, each of which has a type and the key among them.
     pub(crate) fn typed_columns(&self) -> &[Column]
@@ -35,9 +41,8 @@ impl TableDef {
     /// The key column.
     pub fn key_column(&self) -> &Column
         requires { IsTable self.now }
-        ensures value { key_column self.now ≡ Some result.now }
-        ensures typed { IsType result.now.kind }
+        ensures { key_column self.now ≡ Some result.now }
     {
-        &self.columns.as_slice()[self.key]
+        &self.typed_columns()[self.key]
     }
 }

@@ -1,11 +1,11 @@
 ghost use Rattle.std.specs.Prelude.{IfOk};
 ghost use Rattle.escrow_schema.specs.Definition.{IsTable};
 
-use crate::{TableDef, define, fit_row, plan_update};
+use crate::{Plan, TableDef, define, fit_row, plan_update};
 use escrow_num::{Amount, Name, Seq, Value};
 use escrow_sql::{
-    Assign, CheckText, ColumnMark, ColumnText, Comparison, Condition, CreateText, Item, TypeText,
-    UpdateText, WhereText,
+    CheckText, ColumnMark, ColumnText, Comparison, Condition, CreateText, InsertText, Item,
+    Request, Statement, TypeText, UpdateText, parse,
 };
 use std::alloc::Global;
 use std::process::Abort;
@@ -19,59 +19,33 @@ fn amount(rt: &impl Abort, value: i64) -> Amount {
     Amount::new(value).expect(rt, "an amount")
 }
 
-fn check_of(rt: &impl Abort, check: Option<&str>, column: &str) -> ColumnMark {
-    ColumnMark::Check(CheckText {
-        name: check.map(|text| name(rt, text)),
-        condition: Condition {
-            column: name(rt, column),
-            comparison: Comparison::AtLeast,
-            limit: amount(rt, 0),
-        },
-    })
+fn statement(alloc: Global, text: &str) -> Result<Statement, Fail> {
+    let Request::Statement(statement) = parse(alloc, text)?;
+    Ok(statement)
 }
 
-fn column(alloc: Global, name: Name, kind: TypeText, marks: &[ColumnMark]) -> Result<Item, Fail> {
-    Ok(Item::Column(ColumnText {
-        name,
-        kind,
-        marks: Seq::from_vec(Vec::from_slice(alloc, marks)?),
-    }))
+fn create_text(rt: &impl Abort, alloc: Global, text: &str) -> Result<CreateText, Fail> {
+    let create = match statement(alloc, text)? {
+        Statement::Create(create) => Some(create),
+        _ => None,
+    };
+    Ok(create.expect(rt, "a CREATE TABLE"))
 }
 
-/// A text of a key, so many RESERVABLE columns, of which the first has so many CHECKs, and plain
-/// columns up to the number of columns.
-fn wide_text(
-    rt: &impl Abort,
-    alloc: Global,
-    columns: usize,
-    reservable: usize,
-    checks: usize,
-) -> Result<CreateText, Fail> {
-    let mut items = Vec::new(alloc);
-    items.push(column(
-        alloc,
-        name(rt, "K"),
-        TypeText::Integer,
-        &[ColumnMark::PrimaryKey],
-    )?)?;
-    for place in 1..columns {
-        let text = format!(in alloc; "C{place}")?;
-        let mut marks = Vec::new(alloc);
-        if place <= reservable {
-            marks.push(ColumnMark::Reservable)?;
-        }
-        if place == 1 {
-            for _ in 0..checks {
-                marks.push(check_of(rt, None, "C1"))?;
-            }
-        }
-        let name = name(rt, text.as_str());
-        items.push(column(alloc, name, TypeText::Number(None), marks.as_slice())?)?;
-    }
-    Ok(CreateText {
-        table: name(rt, "T"),
-        items: Seq::from_vec(items),
-    })
+fn insert_text(rt: &impl Abort, alloc: Global, text: &str) -> Result<InsertText, Fail> {
+    let insert = match statement(alloc, text)? {
+        Statement::Insert(insert) => Some(insert),
+        _ => None,
+    };
+    Ok(insert.expect(rt, "an INSERT"))
+}
+
+fn update_text(rt: &impl Abort, alloc: Global, text: &str) -> Result<UpdateText, Fail> {
+    let update = match statement(alloc, text)? {
+        Statement::Update(update) => Some(update),
+        _ => None,
+    };
+    Ok(update.expect(rt, "an UPDATE"))
 }
 
 /// 0 for a table, or the number of the refusal.
@@ -82,9 +56,85 @@ fn verdict(alloc: Global, text: &CreateText) -> u8 {
 }
 
 #[test]
+fn keeps_to_the_rules(rt: HostRuntime) -> Result<(), Fail> {
+    let alloc = rt.alloc();
+    for (items, want) in [
+        ("ID NUMBER PRIMARY KEY, A NUMBER RESERVABLE", 0),
+        (
+            "ID NUMBER(1) PRIMARY KEY, A NUMBER(15) RESERVABLE NOT NULL RESERVABLE",
+            0,
+        ),
+        ("A NUMBER RESERVABLE, ID INTEGER PRIMARY KEY", 0),
+        ("ID NUMBER(0) PRIMARY KEY, A NUMBER RESERVABLE", 22),
+        ("ID NUMBER PRIMARY KEY, A NUMBER(16) RESERVABLE", 22),
+        ("ID NUMBER PRIMARY KEY, ID NUMBER RESERVABLE", 22),
+        ("ID NUMBER PRIMARY KEY PRIMARY KEY, A NUMBER RESERVABLE", 22),
+        (
+            "ID NUMBER PRIMARY KEY, B NUMBER PRIMARY KEY, A NUMBER RESERVABLE",
+            22,
+        ),
+        ("ID NUMBER, A NUMBER RESERVABLE", 22),
+        ("ID NUMBER, A NUMBER PRIMARY KEY RESERVABLE", 22),
+        ("ID NUMBER PRIMARY KEY, A NUMBER", 22),
+        ("ID NUMBER PRIMARY KEY RESERVABLE", 22),
+    ] {
+        let text = format!(in alloc; "CREATE TABLE T ({items})")?;
+        let text = create_text(&rt, alloc, text.as_str())?;
+        assert_eq!(rt; verdict(alloc, &text), want, "{items}");
+    }
+    Ok(())
+}
+
+#[test]
+fn keeps_to_names_of_checks(rt: HostRuntime) -> Result<(), Fail> {
+    let alloc = rt.alloc();
+    for (checks, want) in [
+        ("CHECK (A >= 0) CONSTRAINT X CHECK (A < 9)", 0),
+        ("CHECK (A >= 0) CONSTRAINT CHECK_3 CHECK (A < 9)", 0),
+        ("CHECK (A >= 0) CHECK (ID < 9)", 22),
+        ("CHECK (A >= 0) CHECK (B < 9)", 22),
+        ("CONSTRAINT X CHECK (A >= 0) CONSTRAINT X CHECK (A < 9)", 22),
+        ("CHECK (A >= 0) CONSTRAINT CHECK_1 CHECK (A < 9)", 22),
+        ("CHECK (A >= 0) CONSTRAINT RANGE_A CHECK (A < 9)", 22),
+    ] {
+        let text = format!(in alloc;
+            "CREATE TABLE T (ID NUMBER PRIMARY KEY, A NUMBER RESERVABLE {checks})"
+        )?;
+        let text = create_text(&rt, alloc, text.as_str())?;
+        assert_eq!(rt; verdict(alloc, &text), want, "{checks}");
+    }
+    Ok(())
+}
+
+/// A text of a key, so many RESERVABLE columns, of which the first has so many CHECKs, and plain
+/// columns up to the number of columns.
+fn wide_text(
+    alloc: Global,
+    columns: usize,
+    reservable: usize,
+    checks: usize,
+) -> Result<String, Fail> {
+    let mut text = String::from_str(alloc, "CREATE TABLE T (K NUMBER PRIMARY KEY")?;
+    for place in 1..columns {
+        let column = format!(in alloc; ", C{place} NUMBER")?;
+        text.push_str(column.as_str())?;
+        if place <= reservable {
+            text.push_str(" RESERVABLE")?;
+        }
+        if place == 1 {
+            for _ in 0..checks {
+                text.push_str(" CHECK (C1 >= 0)")?;
+            }
+        }
+    }
+    text.push_str(")")?;
+    Ok(text)
+}
+
+#[test]
 fn keeps_to_the_limits(rt: HostRuntime) -> Result<(), Fail> {
     let alloc = rt.alloc();
-    let cases = [
+    for (columns, reservable, checks, want) in [
         (30, 10, 32, 0),
         (31, 10, 32, 22),
         (30, 11, 32, 22),
@@ -92,9 +142,9 @@ fn keeps_to_the_limits(rt: HostRuntime) -> Result<(), Fail> {
         (2, 1, 0, 0),
         (1, 0, 0, 22),
         (2, 0, 0, 22),
-    ];
-    for (columns, reservable, checks, want) in cases {
-        let text = wide_text(&rt, alloc, columns, reservable, checks)?;
+    ] {
+        let text = wide_text(alloc, columns, reservable, checks)?;
+        let text = create_text(&rt, alloc, text.as_str())?;
         assert_eq!(rt;
             verdict(alloc, &text),
             want,
@@ -104,128 +154,76 @@ fn keeps_to_the_limits(rt: HostRuntime) -> Result<(), Fail> {
     Ok(())
 }
 
-/// The verdict on a table of two columns, each with its name, type and marks.
-fn verdict_on(
+/// A text of two columns, whose names no parser has read: the table's, a column's and a check's.
+fn named_text(
     rt: &impl Abort,
     alloc: Global,
-    first: (&str, Option<i64>, &[ColumnMark]),
-    second: (&str, Option<i64>, &[ColumnMark]),
-) -> Result<u8, Fail> {
+    table: &str,
+    column: &str,
+    check: &str,
+) -> Result<CreateText, Fail> {
+    let column = name(rt, column);
+    let mut key = Vec::new(alloc);
+    key.push(ColumnMark::PrimaryKey)?;
+    let mut marks = Vec::new(alloc);
+    marks.push(ColumnMark::Reservable)?;
+    marks.push(ColumnMark::Check(CheckText {
+        name: Some(name(rt, check)),
+        condition: Condition {
+            column,
+            comparison: Comparison::AtLeast,
+            limit: amount(rt, 0),
+        },
+    }))?;
     let mut items = Vec::new(alloc);
-    for (text, digits, marks) in [first, second] {
-        let kind = TypeText::Number(digits.map(|digits| amount(rt, digits)));
-        items.push(column(alloc, name(rt, text), kind, marks)?)?;
-    }
-    let text = CreateText {
-        table: name(rt, "T"),
+    items.push(Item::Column(ColumnText {
+        name: name(rt, "K"),
+        kind: TypeText::Integer,
+        marks: Seq::from_vec(key),
+    }))?;
+    items.push(Item::Column(ColumnText {
+        name: column,
+        kind: TypeText::Integer,
+        marks: Seq::from_vec(marks),
+    }))?;
+    Ok(CreateText {
+        table: name(rt, table),
         items: Seq::from_vec(items),
-    };
-    Ok(verdict(alloc, &text))
+    })
 }
 
 #[test]
-fn keeps_to_types_and_keys(rt: HostRuntime) -> Result<(), Fail> {
+fn keeps_to_names_that_can_be_written(rt: HostRuntime) -> Result<(), Fail> {
     let alloc = rt.alloc();
-    let key = [ColumnMark::PrimaryKey];
-    let kept = [ColumnMark::Reservable];
-    let same = [
-        ColumnMark::Reservable,
-        ColumnMark::NotNull,
-        ColumnMark::Reservable,
-    ];
-    let twice = [ColumnMark::PrimaryKey, ColumnMark::PrimaryKey];
-    let held = [ColumnMark::PrimaryKey, ColumnMark::Reservable];
-    let (key, kept, same) = (key.as_slice(), kept.as_slice(), same.as_slice());
-    let (twice, held) = (twice.as_slice(), held.as_slice());
-    assert_eq!(rt;
-        verdict_on(&rt, alloc, ("ID", None, key), ("A", None, kept))?,
-        0
-    );
-    assert_eq!(rt;
-        verdict_on(&rt, alloc, ("ID", Some(1), key), ("A", Some(15), same))?,
-        0
-    );
-    assert_eq!(rt;
-        verdict_on(&rt, alloc, ("ID", Some(0), key), ("A", None, kept))?,
-        22
-    );
-    assert_eq!(rt;
-        verdict_on(&rt, alloc, ("ID", None, key), ("A", Some(16), kept))?,
-        22
-    );
-    assert_eq!(rt;
-        verdict_on(&rt, alloc, ("ID", None, key), ("ID", None, kept))?,
-        22
-    );
-    assert_eq!(rt;
-        verdict_on(&rt, alloc, ("ID", None, twice), ("A", None, kept))?,
-        22
-    );
-    assert_eq!(rt;
-        verdict_on(&rt, alloc, ("ID", None, key), ("A", None, held))?,
-        22
-    );
-    assert_eq!(rt;
-        verdict_on(&rt, alloc, ("ID", None, held), ("A", None, kept))?,
-        22
-    );
-    assert_eq!(rt;
-        verdict_on(&rt, alloc, ("ID", None, kept), ("A", None, kept))?,
-        22
-    );
-    Ok(())
-}
-
-#[test]
-fn keeps_to_names_of_checks(rt: HostRuntime) -> Result<(), Fail> {
-    let alloc = rt.alloc();
-    let key = [ColumnMark::PrimaryKey];
-    let cases = [
-        (None, Some("X"), "A", 0),
-        (None, Some("CHECK_3"), "A", 0),
-        (None, None, "ID", 22),
-        (None, None, "B", 22),
-        (Some("X"), Some("X"), "A", 22),
-        (None, Some("CHECK_1"), "A", 22),
-        (None, Some("RANGE_A"), "A", 22),
-    ];
-    for (first, second, column, want) in cases {
-        let marks = [
-            ColumnMark::Reservable,
-            check_of(&rt, first, "A"),
-            check_of(&rt, second, column),
-        ];
-        let last = ("A", None, marks.as_slice());
-        assert_eq!(rt;
-            verdict_on(&rt, alloc, ("ID", None, key.as_slice()), last)?,
-            want
-        );
+    let longest = "A23456789_123456789_123456789_";
+    let too_long = "A23456789_123456789_123456789_1";
+    for (table, column, check, want) in [
+        ("T", "A", "C", 0),
+        (longest, longest, longest, 0),
+        (too_long, "A", "C", 22),
+        ("T", too_long, "C", 22),
+        ("T", "A", too_long, 22),
+        ("SELECT", "A", "C", 22),
+        ("T", "WORK", "C", 22),
+        ("T", "A", "RESERVABLE", 22),
+    ] {
+        let text = named_text(&rt, alloc, table, column, check)?;
+        assert_eq!(rt; verdict(alloc, &text), want, "{table} {column} {check}");
     }
     Ok(())
 }
 
-/// ACCOUNTS: the key ID, the RESERVABLE column BALANCE that isn't below zero, and the plain column
-/// BRANCH of two digits.
+/// ACCOUNTS: the plain column BRANCH of two digits, the RESERVABLE columns BALANCE, which isn't
+/// below zero, and POINTS, and the key ID of three digits.
 fn accounts(rt: &impl Abort, alloc: Global) -> Result<TableDef, Fail>
     ensures { IfOk result IsTable }
 {
-    let two = TypeText::Number(Some(amount(rt, 2)));
-    let key = [ColumnMark::PrimaryKey];
-    let balance = [ColumnMark::Reservable, check_of(rt, None, "BALANCE")];
-    let plain = [ColumnMark::NotNull];
-    let mut items = Vec::new(alloc);
-    items.push(column(alloc, name(rt, "ID"), TypeText::Integer, key.as_slice())?)?;
-    items.push(column(
+    let text = create_text(
+        rt,
         alloc,
-        name(rt, "BALANCE"),
-        TypeText::Integer,
-        balance.as_slice(),
-    )?)?;
-    items.push(column(alloc, name(rt, "BRANCH"), two, plain.as_slice())?)?;
-    let text = CreateText {
-        table: name(rt, "ACCOUNTS"),
-        items: Seq::from_vec(items),
-    };
+        "CREATE TABLE ACCOUNTS (BRANCH NUMBER(2), BALANCE INTEGER RESERVABLE CHECK (BALANCE >= 0), \
+         ID NUMBER(3) PRIMARY KEY, POINTS NUMBER(4) RESERVABLE)",
+    )?;
     Ok(define(alloc, &text)?)
 }
 
@@ -233,18 +231,18 @@ fn accounts(rt: &impl Abort, alloc: Global) -> Result<TableDef, Fail>
 fn defines_a_table(rt: HostRuntime) -> Result<(), Fail> {
     let table = accounts(&rt, rt.alloc())?;
     assert_eq!(rt; table.name, name(&rt, "ACCOUNTS"));
-    assert_eq!(rt; table.key, 0);
-    assert_eq!(rt; table.columns.len(), 3);
+    assert_eq!(rt; table.columns.len(), 4);
+    assert_eq!(rt; table.key, 2);
     assert_eq!(rt; table.key_column().name, name(&rt, "ID"));
+    assert_eq!(rt; table.checks.len(), 3);
     for (check, want) in table
         .checks
         .as_slice()
         .iter()
-        .zip(["CHECK_1", "RANGE_BALANCE"])
+        .zip(["CHECK_1", "RANGE_BALANCE", "RANGE_POINTS"])
     {
         assert_eq!(rt; check.name, name(&rt, want));
     }
-    assert_eq!(rt; table.checks.len(), 2);
     Ok(())
 }
 
@@ -252,26 +250,27 @@ fn defines_a_table(rt: HostRuntime) -> Result<(), Fail> {
 fn fits_rows(rt: HostRuntime) -> Result<(), Fail> {
     let alloc = rt.alloc();
     let table = accounts(&rt, alloc)?;
-    let cases = [
-        ([7, 500, 99].as_slice(), 0),
-        ([7, 500, 100].as_slice(), 23),
-        ([7, 500, -100].as_slice(), 23),
-        ([7, 500].as_slice(), 23),
-        ([7, 500, 9, 9].as_slice(), 23),
-    ];
-    for (numbers, want) in cases {
-        let mut values = Vec::new(alloc);
-        for number in numbers {
-            values.push(Value::Number(amount(&rt, *number)))?;
-        }
-        match fit_row(alloc, &table, values.as_slice()) {
+    for (values, want) in [
+        ("99, 500, 7, 9999", 0),
+        ("100, 500, 7, 9999", 23),
+        ("-100, 500, 7, 9999", 23),
+        ("99, 500, 1000, 9999", 23),
+        ("99, 500, 7, -10000", 23),
+        ("99, 500, 7", 23),
+        ("99, 500, 7, 9999, 1", 23),
+    ] {
+        let text = format!(in alloc; "INSERT INTO ACCOUNTS VALUES ({values})")?;
+        let text = insert_text(&rt, alloc, text.as_str())?;
+        match fit_row(alloc, &table, text.values.as_slice()) {
             Ok(row) => {
-                assert_eq!(rt; want, 0);
-                assert_eq!(rt; row.amounts.as_slice(), [amount(&rt, 500)].as_slice());
-                assert!(rt; row.key.is_same(&Value::Number(amount(&rt, 7))));
+                assert_eq!(rt; want, 0, "{values}");
+                assert_eq!(rt; row.name.table, name(&rt, "ACCOUNTS"));
+                assert!(rt; row.name.key.is_same(&Value::Number(amount(&rt, 7))));
+                let amounts = [amount(&rt, 500), amount(&rt, 9999)];
+                assert_eq!(rt; row.amounts.as_slice(), amounts.as_slice());
                 assert_eq!(rt; row.plain.len(), 1);
             }
-            Err(refusal) => assert_eq!(rt; refusal.number(), want),
+            Err(refusal) => assert_eq!(rt; refusal.number(), want, "{values}"),
         }
     }
     Ok(())
@@ -281,35 +280,25 @@ fn fits_rows(rt: HostRuntime) -> Result<(), Fail> {
 fn plans_updates(rt: HostRuntime) -> Result<(), Fail> {
     let alloc = rt.alloc();
     let table = accounts(&rt, alloc)?;
-    let cases = [
-        ("BALANCE", "BALANCE", "ID", 0),
-        ("BALANCE", "BRANCH", "ID", 24),
-        ("BRANCH", "BRANCH", "ID", 24),
-        ("ID", "ID", "ID", 24),
-        ("OTHER", "OTHER", "BRANCH", 24),
-        ("BALANCE", "BALANCE", "BRANCH", 25),
-        ("BALANCE", "BALANCE", "OTHER", 25),
-    ];
-    for (assigned, source, key, want) in cases {
-        let text = UpdateText {
-            table: name(&rt, "ACCOUNTS"),
-            assign: Assign {
-                column: name(&rt, assigned),
-                source: name(&rt, source),
-                change: amount(&rt, -5),
-            },
-            row: WhereText {
-                column: name(&rt, key),
-                value: Value::Number(amount(&rt, 7)),
-            },
-        };
+    for (asked, want) in [
+        ("BALANCE = BALANCE - 5 WHERE ID = 7", 0),
+        ("BALANCE = BRANCH - 5 WHERE ID = 7", 24),
+        ("BRANCH = BRANCH - 5 WHERE ID = 7", 24),
+        ("OTHER = OTHER - 5 WHERE BRANCH = 7000", 24),
+        ("BALANCE = BALANCE - 5 WHERE BRANCH = 7000", 25),
+        ("BALANCE = BALANCE - 5 WHERE OTHER = 7", 25),
+        ("BALANCE = BALANCE - 5 WHERE ID = 1000", 23),
+    ] {
+        let text = format!(in alloc; "UPDATE ACCOUNTS SET {asked}")?;
+        let text = update_text(&rt, alloc, text.as_str())?;
         match plan_update(alloc, &table, &text) {
-            Ok(plan) => {
-                assert_eq!(rt; want, 0);
-                assert_eq!(rt; plan.changes.as_slice(), [amount(&rt, -5)].as_slice());
-                assert_eq!(rt; plan.assigned.as_slice(), [true].as_slice());
+            Ok(Plan::Reserve { key, changes }) => {
+                assert_eq!(rt; want, 0, "{asked}");
+                assert!(rt; key.is_same(&Value::Number(amount(&rt, 7))));
+                let expected = [Some(amount(&rt, -5)), None];
+                assert_eq!(rt; changes.as_slice(), expected.as_slice());
             }
-            Err(refusal) => assert_eq!(rt; refusal.number(), want),
+            Err(refusal) => assert_eq!(rt; refusal.number(), want, "{asked}"),
         }
     }
     Ok(())

@@ -1,4 +1,4 @@
-use Rattle.escrow_schema.proofs.FitLemmas.{rows_of_table}
+use Rattle.escrow_schema.proofs.LawLemmas.{rows_of_table}
 use Rattle.escrow_schema.proofs.laws.rows_of_table.Goals as goal
 
 pub returns : goal.returns

@@ -1,4 +1,4 @@
-use Rattle.escrow_schema.proofs.LawLemmas.{typed_columns, key_among}
+use Rattle.escrow_schema.proofs.RuleLemmas.{typed_columns, key_among}
 use Rattle.escrow_schema.proofs.table.TableDef.typed_columns.Goals as goal
 
 pub returns-clause-typed : goal.returns-clause-typed
