@@ -150,7 +150,7 @@ fn one_byte_at_a_time(rt: HostRuntime) -> std::result::Result<(), Fail> {
     };
     let mut out = Vec::new(alloc);
     serve(alloc, 1, &mut reader, &mut out)?;
-    assert_eq!(rt; out.as_slice(), replies.as_bytes());
+    assert_eq!(rt; str::from_utf8(out.as_slice())?, replies.as_str());
     Ok(())
 }
 
