@@ -1,5 +1,5 @@
 -- What the columns of a text are.
-use Rattle.std.proofs.Common.{◌≡◌, ℕ, ℤ, pos, negsuc, true, false, ◌&&◌, not, nat_le, int_le, unsigned_abs, Some, None, option_map, List, [], ◌∷◌, length, subst, refl, bytes_eq, lit≤, inl, inr}
+use Rattle.std.proofs.Common.{◌≡◌, ℕ, ℤ, pos, negsuc, true, false, ◌&&◌, not, nat_le, int_le, unsigned_abs, Some, None, option_map, List, [], ◌∷◌, subst, refl, bytes_eq, lit≤, inl, inr}
 use Rattle.std.specs.List.{AllByRecursion, list_any, list_all}
 use Rattle.std.proofs.lemmas.Option.{option_and_then_some, cond_some, same_Some}
 use Rattle.std.proofs.lemmas.Bool.{or_parts, and_parts, or_from, not-true, not_from_false, and_from, cases_Bool, leb-true}

@@ -1,5 +1,5 @@
 -- The row that literals make.
-use Rattle.std.proofs.Common.{◌≡◌, ℕ, zero, suc, ◌+◌, ◌==◌, ◌||◌, Bool, true, false, cond, Option, Some, None, option_map, option_and_then, List, [], ◌∷◌, ◌++◌, append_assoc, length, drop, get_or, ◌<◌, pos, sym, ap, subst, refl, arith, inl, inr}
+use Rattle.std.proofs.Common.{◌≡◌, ℕ, suc, ◌+◌, true, false, Option, Some, None, option_map, option_and_then, List, [], ◌∷◌, ◌++◌, append_assoc, length, drop, get_or, ◌<◌, pos, sym, ap, subst, refl, arith, inl, inr}
 use Rattle.std.specs.Prelude.{is_some, slice_get, option_to_list}
 use Rattle.std.proofs.lemmas.Bool.{cases_Bool, false≢true, false_from_ne_true}
 use Rattle.std.proofs.lemmas.Option.{none-some, same_Some, option_and_then_some, slice_get-get_or}

@@ -10,6 +10,11 @@ pub second_part : {A : Type 0} (P : A → Type 0) (xs ys : List A) → AllByRecu
 second_part P [] ys h = h
 second_part P (x ∷ xs) ys h = second_part P xs ys h.1
 
+-- so it does of the first
+pub first_part : {A : Type 0} (P : A → Type 0) (xs ys : List A) → AllByRecursion P (xs ++ ys) → AllByRecursion P xs
+first_part P [] ys h = tt
+first_part P (x ∷ xs) ys h = (h.0, first_part P xs ys h.1)
+
 -- and what holds of each item of both holds of each item of the whole
 pub both_parts : {A : Type 0} (P : A → Type 0) (xs ys : List A) → AllByRecursion P xs → AllByRecursion P ys → AllByRecursion P (xs ++ ys)
 both_parts P [] ys h k = k

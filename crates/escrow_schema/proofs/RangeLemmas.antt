@@ -1,20 +1,23 @@
--- Numbers that meet the range check of each RESERVABLE column are amounts.
-use Rattle.std.proofs.Common.{◌≡◌, ℕ, ℤ, pos, negsuc, neg_ℤ, ◌*ℤ◌, ◌≤ℤ◌, true, false, not, bytes_eq, List, [], ◌∷◌, length, map, sym, ◌∙◌, subst, refl, arith}
+-- Numbers that meet the range check of each RESERVABLE column fit its type.
+use Rattle.std.proofs.Common.{◌≡◌, ℕ, ℤ, pos, negsuc, neg_ℤ, ◌*ℤ◌, ◌≤ℤ◌, true, false, not, bytes_eq, List, [], ◌∷◌, length, map, sym, ◌∙◌, subst, refl, arith, inl, inr}
+use Rattle.std.specs.Prelude.{int_le}
 use Rattle.std.specs.List.{list_any, AllByRecursion}
 use Rattle.std.proofs.Math.IntN.{zero-*ℤ, +ℤ_idl}
-use Rattle.std.proofs.lemmas.Bool.{or_parts, and_parts, not-true}
-use Rattle.std.proofs.lemmas.Bool.Decides.{same_from_decides}
+use Rattle.std.proofs.lemmas.Bool.{or_parts, and_parts, and_from, not-true, leb-true, false≢true}
+use Rattle.std.proofs.lemmas.Bool.Decides.{leb_tells, same_from_decides}
 use Rattle.std.proofs.lemmas.Slice.Eq.{bytes_eq-Decides}
 use Rattle.std.proofs.lemmas.Int.{ints}
 use Rattle.escrow_num.specs.Amount.{IsAmount}
+use Rattle.escrow_num.specs.declared.value.Value.TheVariants as value
 use Rattle.escrow_checks.specs.Form.{form}
 use Rattle.escrow_checks.specs.Checks.{unit_of}
 use Rattle.escrow_checks.specs.Grant.{Meets}
 use Rattle.escrow_schema.specs.declared.column.Column.{Column}
 use Rattle.escrow_schema.specs.declared.column.ColumnType.{ColumnType}
 use Rattle.escrow_schema.specs.declared.column.ColumnType.TheVariants.{Number}
-use Rattle.escrow_schema.specs.Column.{top_of, names_of}
+use Rattle.escrow_schema.specs.Column.{top_of, fits, names_of}
 use Rattle.escrow_schema.specs.Definition.{are_distinct, range_check}
+use Rattle.escrow_schema.specs.Fit.{FitColumns}
 use Rattle.escrow_schema.specs.Typed.{IsType}
 use Rattle.escrow_schema.proofs.ColumnLemmas.{power_within, power_positive}
 
@@ -57,6 +60,28 @@ amount_between (Number digits) z small h =
     let positive = power_positive digits in
     (omega (arith, ints), omega (arith, ints))
 
+-- a test of two numbers, and what it tells
+int_le_true : (a b : ℤ) → int_le a b ≡ true → a ≤ℤ b
+int_le_true (pos a) (pos b) e = let h = leb-true a b e in omega (arith, ints)
+int_le_true (pos a) (negsuc b) e = absurd (false≢true e)
+int_le_true (negsuc a) (pos b) e = omega (arith, ints)
+int_le_true (negsuc a) (negsuc b) e = let h = leb-true b a e in omega (arith, ints)
+
+int_le_from : (a b : ℤ) → a ≤ℤ b → int_le a b ≡ true
+int_le_from (pos a) (pos b) h = elim (leb_tells a b) [ inl t ↦ t.0 | inr f ↦ (let less = f.1 in absurd (omega (arith, ints))) ]
+int_le_from (pos a) (negsuc b) h = absurd (omega (arith, ints))
+int_le_from (negsuc a) (pos b) h = refl
+int_le_from (negsuc a) (negsuc b) h = elim (leb_tells b a) [ inl t ↦ t.0 | inr f ↦ (let less = f.1 in absurd (omega (arith, ints))) ]
+
+-- what fits a type is between its limits, and what is between them fits
+between : (kind : ColumnType) (z : ℤ) → fits kind (value.Number z) ≡ true → Between kind z
+between kind z e =
+    let parts = and_parts (int_le (neg_ℤ (top_of kind)) z) (int_le z (top_of kind)) e in
+    (int_le_true (neg_ℤ (top_of kind)) z parts.0, int_le_true z (top_of kind) parts.1)
+
+fits_between : (kind : ColumnType) (z : ℤ) → Between kind z → fits kind (value.Number z) ≡ true
+fits_between kind z h = and_from (int_le (neg_ℤ (top_of kind)) z) (int_le z (top_of kind)) (int_le_from (neg_ℤ (top_of kind)) z h.0) (int_le_from z (top_of kind) h.1)
+
 -- the checks of the other columns, at the numbers behind the first
 rest_meets : (first : List ℕ) (names : List (List ℕ)) (a : ℤ) (rest : List ℤ) (columns : List Column)
     → list_any (λ other. bytes_eq first other) (names_of columns) ≡ false
@@ -66,21 +91,57 @@ rest_meets first names a rest [] none h = tt
 rest_meets first names a rest (column ∷ columns) none h =
     let parts = or_parts (bytes_eq first column.name) (list_any (λ other. bytes_eq first other) (names_of columns)) none in
     let same = form-unit_rest first names column.name a rest parts.0 in
-    let P : ℤ → Type 0 = λ z. (neg_ℤ (top_of column.kind) ≤ℤ z) × (z ≤ℤ top_of column.kind) in
-    (subst P same h.0, rest_meets first names a rest columns parts.1 h.1)
+    (subst (Between column.kind) same h.0, rest_meets first names a rest columns parts.1 h.1)
 
--- numbers that meet the range checks of columns are amounts
-pub amounts_in_range : (columns : List Column) (numbers : List ℤ)
+-- and the other way round
+meets_rest : (first : List ℕ) (names : List (List ℕ)) (a : ℤ) (rest : List ℤ) (columns : List Column)
+    → list_any (λ other. bytes_eq first other) (names_of columns) ≡ false
+    → AllByRecursion (λ check. Meets check rest) (map (range_check names) columns)
+    → AllByRecursion (λ check. Meets check (a ∷ rest)) (map (range_check (first ∷ names)) columns)
+meets_rest first names a rest [] none h = tt
+meets_rest first names a rest (column ∷ columns) none h =
+    let parts = or_parts (bytes_eq first column.name) (list_any (λ other. bytes_eq first other) (names_of columns)) none in
+    let same = form-unit_rest first names column.name a rest parts.0 in
+    (subst (Between column.kind) (sym same) h.0, meets_rest first names a rest columns parts.1 h.1)
+
+-- no other column has the first one's name
+first_apart : (name : List ℕ) (names : List (List ℕ)) → are_distinct (name ∷ names) ≡ true → (list_any (λ other. bytes_eq name other) names ≡ false) × (are_distinct names ≡ true)
+first_apart name names apart =
+    let parts = and_parts (not (list_any (λ other. bytes_eq name other) names)) (are_distinct names) apart in
+    (not-true (list_any (λ other. bytes_eq name other) names) parts.0, parts.1)
+
+-- numbers that meet the range checks of columns fit their types
+pub fit_in_range : (columns : List Column) (numbers : List ℤ)
     → are_distinct (names_of columns) ≡ true → length numbers ≡ length columns
-    → AllByRecursion (λ column. IsType column.kind) columns
     → AllByRecursion (λ check. Meets check numbers) (map (range_check (names_of columns)) columns)
-    → AllByRecursion IsAmount numbers
-amounts_in_range columns [] apart same types h = tt
-amounts_in_range [] (a ∷ rest) apart same types h = absurd (omega arith)
-amounts_in_range (column ∷ columns) (a ∷ rest) apart same types h =
-    let parts = and_parts (not (list_any (λ other. bytes_eq column.name other) (names_of columns))) (are_distinct (names_of columns)) apart in
-    let none = not-true (list_any (λ other. bytes_eq column.name other) (names_of columns)) parts.0 in
-    let P : ℤ → Type 0 = λ z. (neg_ℤ (top_of column.kind) ≤ℤ z) × (z ≤ℤ top_of column.kind) in
-    let here : P a = subst P (form-unit_first (names_of columns) column.name a rest none) h.0 in
+    → FitColumns columns (map value.Number numbers)
+fit_in_range [] [] apart same h = tt
+fit_in_range [] (a ∷ rest) apart same h = absurd (omega arith)
+fit_in_range (column ∷ columns) [] apart same h = absurd (omega arith)
+fit_in_range (column ∷ columns) (a ∷ rest) apart same h =
+    let parts = first_apart column.name (names_of columns) apart in
+    let here : Between column.kind a = subst (Between column.kind) (form-unit_first (names_of columns) column.name a rest parts.0) h.0 in
     let shorter : length rest ≡ length columns = omega arith in
-    (amount_between column.kind a types.0 here, amounts_in_range columns rest parts.1 shorter types.1 (rest_meets column.name (names_of columns) a rest columns none h.1))
+    (fits_between column.kind a here, fit_in_range columns rest parts.1 shorter (rest_meets column.name (names_of columns) a rest columns parts.0 h.1))
+
+-- and numbers that fit them meet those checks
+pub range_met : (columns : List Column) (numbers : List ℤ)
+    → are_distinct (names_of columns) ≡ true
+    → FitColumns columns (map value.Number numbers)
+    → AllByRecursion (λ check. Meets check numbers) (map (range_check (names_of columns)) columns)
+range_met [] numbers apart h = tt
+range_met (column ∷ columns) [] apart h = absurd h
+range_met (column ∷ columns) (a ∷ rest) apart h =
+    let parts = first_apart column.name (names_of columns) apart in
+    let here : Between column.kind a = between column.kind a h.0 in (
+      subst (Between column.kind) (sym (form-unit_first (names_of columns) column.name a rest parts.0)) here,
+      meets_rest column.name (names_of columns) a rest columns parts.0 (range_met columns rest parts.1 h.1),
+    )
+
+-- numbers that fit types are amounts
+pub fitting_amounts : (columns : List Column) (numbers : List ℤ) → AllByRecursion (λ column. IsType column.kind) columns
+    → FitColumns columns (map value.Number numbers) → AllByRecursion IsAmount numbers
+fitting_amounts columns [] types h = tt
+fitting_amounts [] (a ∷ rest) types h = absurd h
+fitting_amounts (column ∷ columns) (a ∷ rest) types h =
+    (amount_between column.kind a types.0 (between column.kind a h.0), fitting_amounts columns rest types.1 h.1)

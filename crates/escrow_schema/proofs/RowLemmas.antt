@@ -1,5 +1,5 @@
 -- The values of a row.
-use Rattle.std.proofs.Common.{◌≡◌, ℕ, zero, suc, ◌+◌, ◌==◌, ◌&&◌, Bool, true, false, cond, Option, Some, None, List, [], ◌∷◌, ◌++◌, map, sym, ap, ◌∙◌, subst, refl, arith, inl, inr}
+use Rattle.std.proofs.Common.{◌≡◌, ℕ, ℤ, suc, ◌+◌, ◌==◌, true, false, Some, List, [], ◌∷◌, ◌++◌, map, take, drop, sym, ap, ap₂, subst, refl, arith, inl, inr}
 use Rattle.std.specs.Prelude.{slice_get}
 use Rattle.std.proofs.lemmas.Bool.{cases_Bool, eqb-true}
 use Rattle.std.proofs.lemmas.Option.{none-some, same_Some, cond_some}
@@ -11,8 +11,8 @@ use Rattle.escrow_sql.specs.declared.statement.Literal.TheVariants as literal
 use Rattle.escrow_schema.specs.declared.column.Column.{Column}
 use Rattle.escrow_schema.specs.declared.column.ColumnType.{ColumnType}
 use Rattle.escrow_schema.specs.declared.table.TableDef.{TableDef}
-use Rattle.escrow_schema.specs.Column.{fits, value_in}
-use Rattle.escrow_schema.specs.Fit.{values_in, number_in, amounts_of, plain_of, woven, values_of}
+use Rattle.escrow_schema.specs.Column.{fits, reservables, value_in}
+use Rattle.escrow_schema.specs.Fit.{FitColumns, values_in, number_in, amounts_of, plain_of, woven, values_of}
 use Rattle.escrow_schema.proofs.FitLemmas.{values_split}
 
 -- a value that a literal is fits the type
@@ -39,6 +39,10 @@ key_after v values place at key h i e = h (suc i) (omega arith)
 key_here : (v : Value) (values : List Value) (place at : ℕ) (key : Value) → HasKey (v ∷ values) place at key → (place == at) ≡ true → v ≡ key
 key_here v values place at key h e = same_Some v key (h 0 (let same = eqb-true place at e in omega arith))
 
+-- the key of values from the first on
+pub key_at : (values : List Value) (at : ℕ) (key : Value) → slice_get values at ≡ Some key → HasKey values 0 at key
+key_at values at key found i e = let same : at ≡ i = omega arith in subst (λ n. slice_get values n ≡ Some key) same found
+
 -- the amounts, the key and the plain values of values, woven, are the values
 woven_back : (columns : List Column) (literals : List Literal) (values : List Value) (place at : ℕ) (key : Value)
     → values_in columns literals ≡ Some values → HasKey values place at key
@@ -53,12 +57,52 @@ woven_back (column ∷ columns) (l ∷ literals) values place at key e h =
     (let k : HasKey (v ∷ rest) place at key = subst (λ vs. HasKey vs place at key) (sym whole) h in
     let back = woven_back columns literals rest (place + 1) at key others (key_after v rest place at key k) in
     elim (cases_Bool column.reservable) [
-      | inl r ↦ rw r (ap (λ vs. v ∷ vs) back ∙ ap (λ x. x ∷ woven columns (place + 1) at key (amounts_of columns rest) (plain_of columns rest (place + 1) at)) (sym (number_value column.kind l v one)))
+      | inl r ↦ rw r (ap₂ (λ (x : Value) (vs : List Value). x ∷ vs) (sym (number_value column.kind l v one)) back)
       | inr r ↦ elim (cases_Bool (place == at)) [
-        | inl here ↦ rw (r, here) (ap (λ vs. v ∷ vs) back ∙ ap (λ x. x ∷ woven columns (place + 1) at key (amounts_of columns rest) (plain_of columns rest (place + 1) at)) (key_here v rest place at key k here))
+        | inl here ↦ rw (r, here) (ap₂ (λ (x : Value) (vs : List Value). x ∷ vs) (key_here v rest place at key k here) back)
         | inr there ↦ rw (r, there) (ap (λ vs. v ∷ vs) back)
       ]
     ]))
+
+-- the RESERVABLE ones of one more column
+reservable_more : (column : Column) (columns : List Column) → column.reservable ≡ true → reservables (column ∷ columns) ≡ column ∷ reservables columns
+reservable_more column columns r = rw r refl
+
+reservable_same : (column : Column) (columns : List Column) → column.reservable ≡ false → reservables (column ∷ columns) ≡ reservables columns
+reservable_same column columns r = rw r refl
+
+-- numbers that fit the RESERVABLE columns, the key and the plain values of values that fit, woven, fit
+pub woven_fits : (columns : List Column) (literals : List Literal) (values : List Value) (place at : ℕ) (key : Value) (numbers : List ℤ)
+    → values_in columns literals ≡ Some values → HasKey values place at key
+    → FitColumns (reservables columns) (map value.Number numbers)
+    → FitColumns columns (woven columns place at key numbers (plain_of columns values place at))
+woven_fits [] literals values place at key numbers e h fit = tt
+woven_fits (column ∷ columns) [] values place at key numbers e h fit = absurd (none-some values e)
+woven_fits (column ∷ columns) (l ∷ literals) values place at key numbers e h fit =
+    values_split column columns l literals values e
+    (λ v rest one others whole.
+    subst (λ vs. FitColumns (column ∷ columns) (woven (column ∷ columns) place at key numbers (plain_of (column ∷ columns) vs place at))) whole
+    (let k : HasKey (v ∷ rest) place at key = subst (λ vs. HasKey vs place at key) (sym whole) h in
+    let later : HasKey rest (place + 1) at key = key_after v rest place at key k in
+    let good : fits column.kind v ≡ true = fits_value column.kind l v one in
+    elim (cases_Bool column.reservable) [
+      | inl r ↦ rw r (amount_fits column columns (plain_of columns rest (place + 1) at) place at key numbers
+          (subst (λ cs. FitColumns cs (map value.Number numbers)) (reservable_more column columns r) fit)
+          (λ more all. woven_fits columns literals rest (place + 1) at key more others later all))
+      | inr r ↦ (let all = woven_fits columns literals rest (place + 1) at key numbers others later
+          (subst (λ cs. FitColumns cs (map value.Number numbers)) (reservable_same column columns r) fit) in
+          elim (cases_Bool (place == at)) [
+            | inl here ↦ rw (r, here) (subst (λ x. fits column.kind x ≡ true) (key_here v rest place at key k here) good, all)
+            | inr there ↦ rw (r, there) (good, all)
+          ])
+    ]))
+  where
+    amount_fits : (column : Column) (columns : List Column) (plain : List Value) (place at : ℕ) (key : Value) (numbers : List ℤ)
+        → FitColumns (column ∷ reservables columns) (map value.Number numbers)
+        → ((more : List ℤ) → FitColumns (reservables columns) (map value.Number more) → FitColumns columns (woven columns (place + 1) at key more plain))
+        → FitColumns (column ∷ columns) (map value.Number (take 1 numbers) ++ woven columns (place + 1) at key (drop 1 numbers) plain)
+    amount_fits column columns plain place at key [] fit all = absurd fit
+    amount_fits column columns plain place at key (a ∷ more) fit all = (fit.0, all more fit.1)
 
 -- the values that a row is made of are its values
 pub woven_values : (table : TableDef) (literals : List Literal) (values : List Value) (key : Value) (row : Row)
@@ -67,4 +111,4 @@ pub woven_values : (table : TableDef) (literals : List Literal) (values : List V
     → values ≡ values_of table row
 woven_values table literals values key row at found made =
     subst (λ r. values ≡ values_of table r) made
-    (woven_back table.columns literals values 0 table.key key at (λ i e. let same : table.key ≡ i = omega arith in subst (λ n. slice_get values n ≡ Some key) same found))
+    (woven_back table.columns literals values 0 table.key key at (key_at values table.key key found))

@@ -1,20 +1,26 @@
 -- The rules that the columns of a table follow, one by one.
-use Rattle.std.proofs.Common.{◌≡◌, ℕ, ◌≤◌, ◌<◌, zero, suc, true, List, [], ◌∷◌, get_or, length, sym, subst, arith}
-use Rattle.std.specs.List.{AllByRecursion, list_all}
-use Rattle.std.proofs.lemmas.List.Elements.{All-from_recursion, All-filter}
-use Rattle.std.proofs.lemmas.Bool.{and_parts, leb-true, false≢true}
+use Rattle.std.proofs.Common.{◌≡◌, ℕ, ◌≤◌, ◌<◌, zero, suc, true, false, not, Option, Some, None, option_map, bytes_eq, List, [], ◌∷◌, length, ap, sym, ◌∙◌, subst, refl, arith}
+use Rattle.std.specs.Prelude.{IsTrue, slice_get, unwrap_or}
+use Rattle.std.specs.List.{AllByRecursion, IsDistinct, list_all, list_any}
+use Rattle.std.proofs.lemmas.List.Elements.{All-from_recursion, All-filter, recursion_from_All}
+use Rattle.std.proofs.lemmas.List.Quantifiers.{position-Some}
+use Rattle.std.proofs.lemmas.List.Sums.{AllPass-from_list_all}
+use Rattle.std.proofs.lemmas.Bool.{and_parts, or_parts, not-true, leb-true, false≢true}
+use Rattle.std.proofs.lemmas.Option.{none-some, same_Some, option_and_then_some, get_or_from_slice_get}
+use Rattle.std.proofs.lemmas.Slice.Eq.{bytes_eq-Decides}
+use Rattle.escrow_sql.specs.declared.statement.Item.{Item}
+use Rattle.escrow_checks.proofs.ConditionLemmas.{checks_whole}
 use Rattle.escrow_checks.specs.declared.coefficients.TheConstants.Coefficients.{MAX_LEN}
 use Rattle.escrow_checks.specs.WrittenName.{is_written_name}
 use Rattle.escrow_schema.specs.declared.column.Column.{Column}
 use Rattle.escrow_schema.specs.declared.table.TableDef.{TableDef}
 use Rattle.escrow_schema.specs.declared.table.TheConstants.TableDef.{MIN_COLUMNS, MAX_COLUMNS}
 use Rattle.escrow_schema.specs.Column.{reservables, names_of}
-use Rattle.escrow_schema.specs.Definition.{IsTable, columns_of, are_columns, are_distinct, is_plain_at}
-use Rattle.escrow_schema.specs.Typed.{CanRange, IsType, TypedColumns}
-use Rattle.escrow_sql.specs.declared.statement.Item.{Item}
+use Rattle.escrow_schema.specs.Definition.{IsTable, check_names, checks_in, columns_of, are_columns, are_distinct, is_plain_at, key_names, key_place, only_one, place_of}
+use Rattle.escrow_schema.specs.Laws.{TablesFollowRules}
+use Rattle.escrow_schema.specs.Typed.{CanRange, TypedColumns}
 use Rattle.escrow_schema.proofs.ColumnsLemmas.{HasType, written_columns, reservables_distinct, reservables_written}
 use Rattle.escrow_schema.proofs.TableLemmas.{parts}
-use Rattle.std.specs.Prelude.{Some}
 
 pub record Rules (columns : List Column) (key : ℕ) : Type 0 where
   pub least : MIN_COLUMNS ≤ length columns
@@ -79,3 +85,67 @@ can_range columns reserved key follow types same =
 -- columns that items write are typed
 pub written_typed : (items : List Item) (columns : List Column) → columns_of items ≡ Some columns → TypedColumns columns
 written_typed items columns e = All-from_recursion HasType columns (written_columns items columns e)
+
+-- the item of a list of one
+only_from : (names : List (List ℕ)) (name : List ℕ) → only_one names ≡ Some name → names ≡ name ∷ []
+only_from [] name e = absurd (none-some name e)
+only_from (x ∷ []) name e = ap (λ n. n ∷ []) (same_Some x name e)
+only_from (x ∷ y ∷ names) name e = absurd (none-some name e)
+
+-- the column at a place where a column isn't RESERVABLE
+plain_column : (o : Option Column) → unwrap_or (option_map (λ column. not column.reservable) o) false ≡ true → (column : Column) × (o ≡ Some column) × (column.reservable ≡ false)
+plain_column None e = absurd (false≢true e)
+plain_column (Some column) e = (column, refl, not-true column.reservable e)
+
+-- the key column has the one name that is written as key
+pub key_written : (items : List Item) (columns : List Column) (key : ℕ) (column : Column) → key_place items columns ≡ Some key → slice_get columns key ≡ Some column
+    → key_names items ≡ column.name ∷ []
+key_written items columns key column e found =
+    option_and_then_some (place_of columns) (only_one (key_names items)) key e
+    (λ name one at.
+    let there = (position-Some (λ (c : Column). bytes_eq c.name name) columns key column at).1 in
+    let same : bytes_eq column.name name ≡ true = subst (λ (c : Column). bytes_eq c.name name ≡ true) (get_or_from_slice_get columns key column column found) there in
+    only_from (key_names items) name one ∙ ap (λ n. n ∷ []) (sym ((bytes_eq-Decides column.name name).0 same)))
+
+-- names that a test tells apart are distinct
+apart_from : (name : List ℕ) (names : List (List ℕ)) → list_any (λ other. bytes_eq name other) names ≡ false → AllByRecursion (λ other. bytes_eq name other ≡ false) names
+apart_from name [] e = tt
+apart_from name (other ∷ names) e = let parts = or_parts (bytes_eq name other) (list_any (λ other. bytes_eq name other) names) e in (parts.0, apart_from name names parts.1)
+
+pub distinct_from : (names : List (List ℕ)) → are_distinct names ≡ true → IsDistinct bytes_eq names
+unfolding IsDistinct
+distinct_from [] e = tt
+distinct_from (name ∷ names) e =
+    let parts = and_parts (not (list_any (λ other. bytes_eq name other) names)) (are_distinct names) e in
+    (apart_from name names (not-true (list_any (λ other. bytes_eq name other) names) parts.0), distinct_from names parts.1)
+
+-- what passes a test name by name
+passes : (names : List (List ℕ)) → list_all is_written_name names ≡ true → AllByRecursion (λ name. IsTrue (is_written_name name)) names
+passes names e = recursion_from_All (λ name. IsTrue (is_written_name name)) names (AllPass-from_list_all is_written_name names e)
+
+-- a table follows the rules
+pub tables_follow_rules : TablesFollowRules
+tables_follow_rules text table e =
+    let p = parts text table e in
+    let rules = rules_on table.columns table.key p.follow in
+    let key = plain_column (slice_get table.columns table.key) rules.plain_key in
+    let written = checks_whole (names_of (reservables table.columns)) (checks_in text.items) p.written p.from_texts in
+    record {
+      name = p.name;
+      columns = p.columns;
+      enough_columns = rules.least;
+      few_columns = rules.most;
+      written_names = (subst (λ name. is_written_name name ≡ true) (sym p.name) p.written_name, passes (names_of table.columns) rules.written_names);
+      distinct_columns = distinct_from (names_of table.columns) rules.distinct;
+      key = key.0;
+      key_there = key.1;
+      one_key = key_written text.items table.columns table.key key.0 p.key key.1;
+      plain_key = key.2;
+      some_reservable = rules.some_reservable;
+      few_reservable = rules.few_reservable;
+      declared = p.written;
+      of_text = p.from_texts;
+      few_declared = written.1;
+      checks = p.checks;
+      distinct_checks = distinct_from (check_names table.checks) p.distinct;
+    }

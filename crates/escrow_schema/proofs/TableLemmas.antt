@@ -1,5 +1,5 @@
 -- What a table is made of that a text defines.
-use Rattle.std.proofs.Common.{◌≡◌, ℕ, true, cond, ◌&&◌, Some, None, option_and_then, List, ◌++◌, subst, sym, refl}
+use Rattle.std.proofs.Common.{◌≡◌, ℕ, true, ◌&&◌, Some, option_and_then, List, ◌++◌, subst, refl}
 use Rattle.std.proofs.lemmas.Bool.{and_parts}
 use Rattle.std.proofs.lemmas.Option.{option_and_then_some, cond_some}
 use Rattle.escrow_sql.specs.declared.statement.CreateText.{CreateText}

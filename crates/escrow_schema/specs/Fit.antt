@@ -1,11 +1,12 @@
-use Rattle.std.specs.Prelude.{ℕ, ℤ, pos, ◌+◌, ◌==◌, ◌||◌, if◌then◌else◌, Option, Some, None, option_map, option_and_then, List, [], ◌∷◌, ◌++◌, map, take, drop, slice_get}
+use Rattle.std.specs.Prelude.{ℕ, ℤ, pos, ◌+◌, ◌==◌, ◌||◌, if◌then◌else◌, Option, Some, None, option_map, option_and_then, List, [], ◌∷◌, ◌++◌, map, take, drop, slice_get, IsTrue}
+use Rattle.std.specs.List.{AllZip}
 use Rattle.escrow_num.specs.declared.value.Value.{Value}
 use Rattle.escrow_num.specs.declared.value.Value.TheVariants as value
 use Rattle.escrow_num.specs.declared.row.Row.{Row}
 use Rattle.escrow_sql.specs.declared.statement.Literal.{Literal}
 use Rattle.escrow_schema.specs.declared.column.Column.{Column}
 use Rattle.escrow_schema.specs.declared.table.TableDef.{TableDef}
-use Rattle.escrow_schema.specs.Column.{value_in}
+use Rattle.escrow_schema.specs.Column.{fits, value_in}
 
 -- the values that literals are, one for each column, where each fits its column's type
 abbrev pub values_in : List Column → List Literal → Option (List Value)
@@ -14,6 +15,10 @@ values_in [] (literal ∷ literals) = None
 values_in (column ∷ columns) [] = None
 values_in (column ∷ columns) (literal ∷ literals) =
     option_and_then (λ v. option_map (λ values. v ∷ values) (values_in columns literals)) (value_in column.kind literal)
+
+-- there is a value for each column, and each fits its column's type
+abbrev pub FitColumns : List Column → List Value → Type 0
+FitColumns columns values = AllZip (λ column v. IsTrue (fits column.kind v)) columns values
 
 -- the number that a value is
 abbrev pub number_in : Value → ℤ

@@ -1,20 +1,25 @@
-use Rattle.std.specs.Prelude.{◌≡◌, ◌⊎◌, ℤ, ◌≤◌, Option, Some, Ok, Err, IsTrue, List, length}
-use Rattle.std.specs.List.{AllByRecursion, AllZip}
+use Rattle.std.specs.Prelude.{◌≡◌, ◌⊎◌, ◌↔◌, ℤ, ◌+◌, ◌≤◌, Option, Some, Ok, Err, List, length, map}
+use Rattle.std.specs.List.{AllByRecursion}
 use Rattle.escrow_num.specs.Amount.{IsAmount}
 use Rattle.escrow_num.specs.declared.refusal.Refusal.{Refusal}
 use Rattle.escrow_num.specs.declared.refusal.Refusal.TheVariants as refusal
 use Rattle.escrow_num.specs.declared.row.Row.{Row}
 use Rattle.escrow_num.specs.declared.value.Value.{Value}
+use Rattle.escrow_num.specs.declared.value.Value.TheVariants as value
 use Rattle.escrow_sql.specs.declared.statement.CreateText.{CreateText}
 use Rattle.escrow_sql.specs.declared.statement.Literal.{Literal}
 use Rattle.escrow_sql.specs.declared.statement.UpdateText.{UpdateText}
+use Rattle.escrow_checks.specs.declared.coefficients.TheConstants.Coefficients.{MAX_LEN}
+use Rattle.escrow_checks.specs.declared.condition.TheConstants.{MAX_CHECKS}
+use Rattle.escrow_checks.specs.Condition.{MeetsText}
 use Rattle.escrow_checks.specs.Grant.{Meets}
 use Rattle.escrow_schema.specs.declared.plan.Plan.TheVariants.{Reserve}
 use Rattle.escrow_schema.specs.declared.table.TableDef.{TableDef}
-use Rattle.escrow_schema.specs.Column.{reservables}
-use Rattle.escrow_schema.specs.Definition.{IsTable, definition_of}
-use Rattle.escrow_schema.specs.Fit.{fitted, values_in, values_of}
+use Rattle.escrow_schema.specs.Column.{reservables, names_of}
+use Rattle.escrow_schema.specs.Definition.{IsTable, checks_in, definition_of}
+use Rattle.escrow_schema.specs.Fit.{FitColumns, fitted, values_in, values_of}
 use Rattle.escrow_schema.specs.Plan.{planned}
+use Rattle.escrow_schema.specs.Rules.{FollowsRules}
 
 -- a table has the name that its text writes
 abbrev pub NameOfTable : Type 0
@@ -22,7 +27,7 @@ NameOfTable = (text : CreateText) (table : TableDef) → definition_of text ≡ 
 
 -- a table has 1 to 10 RESERVABLE columns
 abbrev pub FewReservable : Type 0
-FewReservable = (table : TableDef) → IsTable table → (1 ≤ length (reservables table.columns)) × (length (reservables table.columns) ≤ 10)
+FewReservable = (table : TableDef) → IsTable table → (1 ≤ length (reservables table.columns)) × (length (reservables table.columns) ≤ MAX_LEN)
 
 -- each check of a table has a coefficient for each of its RESERVABLE columns
 abbrev pub ChecksOfWholeRow : Type 0
@@ -36,7 +41,7 @@ ChecksKeepAmounts =
 
 -- a table has at most 42 checks: 32 declared ones, and 10 ranges
 abbrev pub FewChecks : Type 0
-FewChecks = (table : TableDef) → IsTable table → length table.checks ≤ 42
+FewChecks = (table : TableDef) → IsTable table → length table.checks ≤ MAX_CHECKS + MAX_LEN
 
 -- the row that literals make is of its table, and has an amount for each RESERVABLE column
 abbrev pub RowsOfTable : Type 0
@@ -61,3 +66,24 @@ abbrev pub ValuesOfRow : Type 0
 ValuesOfRow =
     (table : TableDef) (literals : List Literal) (row : Row) → fitted table literals ≡ Some row
     → values_in table.columns literals ≡ Some (values_of table row)
+
+-- whatever amounts the row that literals make has by now, where they meet every check of its table,
+-- its values fit their columns' types
+abbrev pub ValuesFit : Type 0
+ValuesFit =
+    (table : TableDef) (literals : List Literal) (made row : Row) → IsTable table → fitted table literals ≡ Some made
+    → row.name ≡ made.name → row.plain ≡ made.plain → length row.amounts ≡ length made.amounts
+    → AllByRecursion (λ check. Meets check row.amounts) table.checks → FitColumns table.columns (values_of table row)
+
+-- numbers, one for each RESERVABLE column, meet every check of a table exactly where they meet every
+-- CHECK as it is written and each fits its column's type
+abbrev pub ChecksMeanConditions : Type 0
+ChecksMeanConditions =
+    (text : CreateText) (table : TableDef) (numbers : List ℤ) → definition_of text ≡ Some table → length numbers ≡ length (reservables table.columns)
+    → (AllByRecursion (λ check. Meets check numbers) table.checks
+    ↔ (AllByRecursion (MeetsText (names_of (reservables table.columns)) numbers) (checks_in text.items)
+    × FitColumns (reservables table.columns) (map value.Number numbers)))
+
+-- a table that a text defines follows the rules of definitions
+abbrev pub TablesFollowRules : Type 0
+TablesFollowRules = (text : CreateText) (table : TableDef) → definition_of text ≡ Some table → FollowsRules text table

@@ -3,4 +3,5 @@ pub mod Definition
 pub mod Fit
 pub mod Laws
 pub mod Plan
+pub mod Rules
 pub mod Typed

@@ -1,6 +1,17 @@
 //! What holds of every table that a text defines, and of the rows and plans of it: each law is the
 //! contract of a function that does nothing.
-ghost use Rattle.escrow_schema.specs.Laws.{NameOfTable, FewReservable, ChecksOfWholeRow, ChecksKeepAmounts, FewChecks, RowsOfTable, PlansOfWholeRow, RefusalsOfPlans, ValuesOfRow};
+ghost use Rattle.escrow_schema.specs.Laws.{NameOfTable, FewReservable, ChecksOfWholeRow, ChecksKeepAmounts, FewChecks, RowsOfTable, PlansOfWholeRow, RefusalsOfPlans, ValuesOfRow, ValuesFit, ChecksMeanConditions, TablesFollowRules};
+
+/// A table that a text defines follows the rules of definitions, one by one.
+pub fn tables_follow_rules()
+    ensures { TablesFollowRules }
+{}
+
+/// Numbers meet every check of a table exactly where they meet every CHECK as it is written and each
+/// fits its column's type.
+pub fn checks_mean_conditions()
+    ensures { ChecksMeanConditions }
+{}
 
 /// A table has the name that its text writes.
 pub fn name_of_table()
@@ -47,4 +58,10 @@ pub fn refusals_of_plans()
 /// The values of the row that literals make are the values that the literals are, in order.
 pub fn values_of_row()
     ensures { ValuesOfRow }
+{}
+
+/// Whatever amounts the row that literals make has by now, where they meet every check of its table,
+/// its values fit their columns' types.
+pub fn values_fit()
+    ensures { ValuesFit }
 {}

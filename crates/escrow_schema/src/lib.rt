@@ -5,16 +5,16 @@
 //! rule of definitions is broken.
 #![tactic(auto)]
 
-pub mod column;
-pub mod definition;
-pub mod fit;
+mod column;
+mod definition;
+mod fit;
 mod items;
 pub mod laws;
 mod lists;
-pub mod plan;
+mod plan;
 mod ranges;
 mod rules;
-pub mod table;
+mod table;
 
 pub use column::{Column, ColumnType};
 pub use definition::define;

@@ -1,7 +1,6 @@
 use Rattle.std.proofs.Common.{◌≡◌, ◌∙◌, true, sym, ap, subst}
 use Rattle.escrow_schema.specs.Column.{reservables}
 use Rattle.escrow_schema.specs.Definition.{are_columns}
-use Rattle.escrow_schema.specs.Typed.{TypedColumns}
 use Rattle.escrow_schema.proofs.RuleLemmas.{can_range}
 use Rattle.escrow_schema.proofs.definition.table_of.Goals as goal
 

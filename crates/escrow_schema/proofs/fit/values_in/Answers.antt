@@ -1,4 +1,4 @@
-use Rattle.std.proofs.Common.{arith, subst, sym, ap, ◌∙◌}
+use Rattle.std.proofs.Common.{arith, ap, ◌∙◌}
 use Rattle.escrow_schema.specs.Fit.{values_in}
 use Rattle.escrow_schema.proofs.FitLemmas.{as_many_literals, pushed_at}
 use Rattle.escrow_schema.proofs.ListLemmas.{after, after_nothing}

@@ -1,0 +1,40 @@
+-- The rules of definitions, one by one, for a reader.
+use Rattle.std.specs.Prelude.{◌≡◌, ◌≤◌, false, Some, List, ◌∷◌, [], ◌++◌, length, slice_get, bytes_eq, IsTrue}
+use Rattle.std.specs.List.{AllByRecursion, IsDistinct}
+use Rattle.escrow_sql.specs.declared.statement.CreateText.{CreateText}
+use Rattle.escrow_checks.specs.declared.check.Check.{Check}
+use Rattle.escrow_checks.specs.declared.coefficients.TheConstants.Coefficients.{MAX_LEN}
+use Rattle.escrow_checks.specs.declared.condition.TheConstants.{MAX_CHECKS}
+use Rattle.escrow_checks.specs.Checks.{checks_of}
+use Rattle.escrow_checks.specs.WrittenName.{is_written_name}
+use Rattle.escrow_schema.specs.declared.column.Column.{Column}
+use Rattle.escrow_schema.specs.declared.table.TableDef.{TableDef}
+use Rattle.escrow_schema.specs.declared.table.TheConstants.TableDef.{MIN_COLUMNS, MAX_COLUMNS}
+use Rattle.escrow_schema.specs.Column.{reservables, names_of}
+use Rattle.escrow_schema.specs.Definition.{check_names, checks_in, columns_of, key_names, range_checks}
+
+-- a table follows the rules that its text has to keep
+pub record FollowsRules (text : CreateText) (table : TableDef) : Type 0 where
+  -- its name and its columns are those of the text, in order, 2 to 30 of them
+  pub name : table.name ≡ text.table
+  pub columns : columns_of text.items ≡ Some table.columns
+  pub enough_columns : MIN_COLUMNS ≤ length table.columns
+  pub few_columns : length table.columns ≤ MAX_COLUMNS
+  -- a statement can write the names, and no two columns have one
+  pub written_names : AllByRecursion (λ name. IsTrue (is_written_name name)) (table.name ∷ names_of table.columns)
+  pub distinct_columns : IsDistinct bytes_eq (names_of table.columns)
+  -- one name is written as key, once, and it is that of the key column, which isn't RESERVABLE
+  pub key : Column
+  pub key_there : slice_get table.columns table.key ≡ Some key
+  pub one_key : key_names text.items ≡ key.name ∷ []
+  pub plain_key : key.reservable ≡ false
+  -- 1 to 10 columns are RESERVABLE
+  pub some_reservable : 1 ≤ length (reservables table.columns)
+  pub few_reservable : length (reservables table.columns) ≤ MAX_LEN
+  -- its checks are at most 32 declared ones, in order, and behind them the range of each RESERVABLE
+  -- column; no two have one name
+  pub declared : List Check
+  pub of_text : checks_of (names_of (reservables table.columns)) (checks_in text.items) ≡ Some declared
+  pub few_declared : length declared ≤ MAX_CHECKS
+  pub checks : table.checks ≡ declared ++ range_checks table.columns
+  pub distinct_checks : IsDistinct bytes_eq (check_names table.checks)
