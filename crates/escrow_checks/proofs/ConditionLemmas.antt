@@ -1,9 +1,10 @@
+-- The checks that CHECKs declare: how they are found one by one, and that they mean what is written.
 use Rattle.std.proofs.Common.{◌≡◌, ℕ, ◌+◌, ◌≤◌, ◌↔◌, Bool, true, false, ◌&&◌, ◌||◌, cond, ℤ, pos, ◌+ℤ◌, ◌*ℤ◌, List, [], ◌∷◌, ◌++◌, length, Option, Some, None, refl, ap, ◌∙◌, sym, subst, arith}
 use Rattle.std.specs.Prelude.{All, IfSome, nat_le, bytes_eq, option_map, option_and_then}
 use Rattle.std.specs.List.{list_any, IsDistinct, AllByRecursion}
 use Rattle.std.specs.Cmp.Lexicographic.{bytes_decides}
 use Rattle.std.proofs.lemmas.Int.{ints}
-use Rattle.std.proofs.lemmas.Bool.{false≢true}
+use Rattle.std.proofs.lemmas.Bool.{and_parts, false≢true}
 use Rattle.std.proofs.lemmas.Bool.Decides.{nat_tests}
 use Rattle.std.proofs.lemmas.Option.{cond_some}
 use Rattle.std.proofs.lemmas.List.{append-nil}
@@ -21,6 +22,7 @@ use Rattle.escrow_checks.specs.Checks.{span_of, is_limit, unit_of, check_name, c
 use Rattle.escrow_checks.specs.declared.condition.TheConstants.{MAX_CHECKS}
 use Rattle.escrow_checks.specs.WrittenName.{is_written_name}
 use Rattle.escrow_checks.specs.Meaning.{MeanTheSame}
+use Rattle.escrow_checks.proofs.CoefficientsLemmas.{length-unit_of}
 use Rattle.escrow_checks.proofs.Products.{*ℤ-up}
 
 -- ---- a walk over the conditions, front to back
@@ -94,10 +96,6 @@ holds_as_compared AtLeast n a = (λ h. h.0, λ h. (h, tt))
 found_at : (o : Option ℤ) (a : ℤ) (P : ℤ → Type 0) → o ≡ Some a → IfSome o P ↔ P a
 found_at o a P e = rw e (λ h. h, λ h. h)
 
-and_first : (a b : Bool) → (a && b) ≡ true → a ≡ true
-and_first true b e = refl
-and_first false b e = absurd (false≢true e)
-
 -- one check and its condition
 check_means : (columns : List (List ℕ)) (amounts : List ℤ) (text : CheckText) (place : ℕ) (check : Check) → IsDistinct bytes_eq columns → length amounts ≡ length columns
     → check_of columns text place ≡ Some check → Meets check amounts ↔ MeetsText columns amounts text
@@ -105,7 +103,7 @@ check_means columns amounts text place check distinct same gives =
     let name = text.condition.column in
     let span = span_of text.condition.comparison text.condition.limit in
     let known = cond_some (list_any (λ column. bytes_eq column name) columns && (is_limit span.lo && is_limit span.hi) && is_written_name (check_name text place)) (record { name = check_name text place; coeffs = unit_of columns name; span = span }) check gives in
-    let any = and_first (list_any (λ column. bytes_eq column name) columns) _ (and_first (list_any (λ column. bytes_eq column name) columns && (is_limit span.lo && is_limit span.hi)) _ known.0) in
+    let any = (and_parts (list_any (λ column. bytes_eq column name) columns) _ (and_parts (list_any (λ column. bytes_eq column name) columns && (is_limit span.lo && is_limit span.hi)) _ known.0).0).0 in
     let value = form (unit_of columns name) amounts in
     let at = found_at (amount_of columns amounts name) value (λ a. Compares text.condition.comparison a text.condition.limit) (form-column columns amounts name distinct same any) in
     let holds = holds_as_compared text.condition.comparison text.condition.limit value in
@@ -137,10 +135,6 @@ checks_mean columns amounts distinct same (text ∷ texts) place checks gives =
     )
 
 -- ---- the checks are as many as the CHECKs, each with a coefficient for each column
-
-length-unit_of : (columns : List (List ℕ)) (name : List ℕ) → length (unit_of columns name) ≡ length columns
-length-unit_of [] name = refl
-length-unit_of (column ∷ columns) name = omega (arith, length-unit_of columns name)
 
 whole_from : (columns : List (List ℕ)) (texts : List CheckText) (place : ℕ) (checks : List Check) → checks_from columns texts place ≡ Some checks
     → (length checks ≡ length texts) × All (λ check. length check.coeffs ≡ length columns) checks

@@ -1,8 +1,12 @@
 pub mod CoefficientsLemmas
 pub mod ConditionLemmas
+pub mod EndsLemmas
 pub mod ExtremesLemmas
 pub mod FormLemmas
+pub mod GrantLemmas
+pub mod InsideLemmas
 pub mod LawsLemmas
 pub mod Products
+pub mod ReachedLemmas
 pub mod SlowLemmas
 pub mod SpreadLemmas

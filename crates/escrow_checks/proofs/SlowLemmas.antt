@@ -1,3 +1,4 @@
+-- The slow program of the tests: lists by their first item.
 use Rattle.std.proofs.Common.{◌≡◌, ◌-◌, ◌≤◌, ℤ, ◌+ℤ◌, List, [], ◌∷◌, ◌++◌, length, take, drop, get_or, ap₂, ◌∙◌, sym, arith}
 use Rattle.std.specs.Prelude.{All}
 use Rattle.std.proofs.lemmas.List.{take_all}

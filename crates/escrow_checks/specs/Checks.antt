@@ -1,5 +1,5 @@
--- Believed: which checks the CHECKs of a table are, by name, coefficients and limits.
-use Rattle.std.specs.Prelude.{ℕ, ℤ, pos, ◌+◌, ◌+ℤ◌, ◌-ℤ◌, Bool, true, ◌&&◌, nat_le, if◌then◌else◌, Option, Some, None, unwrap_or, option_and_then, option_map, List, [], ◌∷◌, ◌++◌, length, codes, bytes_eq}
+-- Believed: which checks the CHECKs of a table declare, by name, coefficients and limits.
+use Rattle.std.specs.Prelude.{ℕ, ℤ, pos, ◌+◌, ◌+ℤ◌, ◌-ℤ◌, Bool, true, ◌&&◌, nat_le, if◌then◌else◌, Option, Some, None, unwrap_or, option_and_then, option_map, List, [], ◌∷◌, ◌++◌, length, map, codes, bytes_eq}
 use Rattle.std.specs.List.{list_any}
 use Rattle.std.specs.Fmt.{decimal}
 use Rattle.escrow_num.specs.Amount.{is_amount}
@@ -25,8 +25,7 @@ is_limit (Some z) = is_amount z
 
 -- the coefficients of one column: 1 at its place, 0 at the others
 abbrev pub unit_of : List (List ℕ) → List ℕ → List ℤ
-unit_of [] name = []
-unit_of (column ∷ columns) name = (if bytes_eq column name then pos 1 else pos 0) ∷ unit_of columns name
+unit_of columns name = map (λ column. if bytes_eq column name then pos 1 else pos 0) columns
 
 -- a check is called as it is written, or CHECK_ and its place among the declared checks
 abbrev pub check_name : CheckText → ℕ → List ℕ

@@ -1,4 +1,4 @@
--- What the type of a check's coefficients keeps.
+-- Believed: what the coefficients of a check may be.
 use Rattle.std.specs.Prelude.{ℤ, neg_ℤ, ◌≤◌, ◌≤ℤ◌, List, length, All}
 use Rattle.escrow_checks.specs.declared.coefficients.TheConstants.Coefficients.{MAX, MAX_LEN}
 

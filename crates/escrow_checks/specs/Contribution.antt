@@ -1,4 +1,4 @@
--- How large the sums of a check can grow. These bounds keep every sum within 128 bits; what is granted
+-- Helps: how great the sums of a check can grow. These bounds keep each sum wide; what is granted
 -- doesn't rest on them.
 use Rattle.std.specs.Prelude.{ℕ, ℤ, pos, neg_ℤ, ◌*◌, ◌^◌, ◌≤ℤ◌}
 

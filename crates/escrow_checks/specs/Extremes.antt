@@ -1,3 +1,4 @@
+-- Believed: the least and the greatest value of a form over every choice of the open reservations.
 use Rattle.std.specs.Prelude.{ℤ, pos, List, [], ◌∷◌, map}
 use Rattle.std.specs.Int.{int_min, int_max}
 use Rattle.escrow_checks.specs.Form.{form, all_changed}

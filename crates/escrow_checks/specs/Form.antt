@@ -1,3 +1,4 @@
+-- Believed: the form of a check, and amounts with changes added.
 use Rattle.std.specs.Prelude.{ℤ, pos, ◌+ℤ◌, ◌*ℤ◌, ◌≤◌, List, [], ◌∷◌, length}
 
 -- the sum of coefficient times amount, column by column

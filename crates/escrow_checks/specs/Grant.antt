@@ -1,3 +1,4 @@
+-- Believed: when a row meets a check, and the grant rule.
 use Rattle.std.specs.Prelude.{ℤ, List, [], ◌∷◌, All, Option, None, option_map}
 use Rattle.escrow_num.specs.Span.{Holds, first_broken_of, first_of_two}
 use Rattle.escrow_num.specs.declared.refusal.Breach.{Breach}

@@ -8,15 +8,13 @@ use Rattle.escrow_num.specs.declared.refusal.Breach.{Breach}
 use Rattle.escrow_sql.specs.declared.statement.CheckText.{CheckText}
 use Rattle.escrow_checks.specs.declared.check.Check.{Check}
 use Rattle.escrow_checks.specs.declared.condition.TheConstants.{MAX_CHECKS}
-use Rattle.escrow_checks.specs.declared.spread.Spread.{Spread}
 use Rattle.escrow_checks.specs.Checks.{checks_of, unit_of}
 use Rattle.escrow_checks.specs.Condition.{amount_of}
 use Rattle.escrow_checks.specs.Meaning.{MeanTheSame}
 use Rattle.escrow_checks.specs.Form.{form, IsCovered, changed, all_changed}
 use Rattle.escrow_checks.specs.Sublists.{sublists}
 use Rattle.escrow_checks.specs.Extremes.{least, greatest}
-use Rattle.escrow_checks.specs.Spread.{IsSpread}
-use Rattle.escrow_checks.specs.Grant.{AlwaysMeets, broken_by}
+use Rattle.escrow_checks.specs.Grant.{AlwaysMeets, broken_by, broken}
 
 -- ---- of the checks that CHECKs declare
 
@@ -53,6 +51,11 @@ ExtremesAreReached = (coeffs amounts : List ℤ) (reservations : List (List ℤ)
 abbrev pub GrantedWhereAlwaysMet : Type 0
 GrantedWhereAlwaysMet = (check : Check) (amounts changes : List ℤ) (reservations : List (List ℤ))
     → (broken_by check amounts changes reservations ≡ None) ↔ AlwaysMeets check (changed amounts changes) reservations
+
+-- a new reservation is granted exactly where that is so of every check
+abbrev pub GrantedWhereAllAlwaysMet : Type 0
+GrantedWhereAllAlwaysMet = (checks : List Check) (amounts changes : List ℤ) (reservations : List (List ℤ))
+    → (broken checks amounts changes reservations ≡ None) ↔ All (λ check. AlwaysMeets check (changed amounts changes) reservations) checks
 
 -- what is granted leaves a row that always meets a check a row that always meets it
 abbrev pub GrantedStaysSafe : Type 0
@@ -110,8 +113,3 @@ NewRowIsSafe = (check : Check) (amounts : List ℤ) (reservations : List (List �
     → broken_by check amounts [] [] ≡ None
     → All (λ changes. changes ≡ []) reservations
     → AlwaysMeets check amounts reservations
-
--- a reservation of another row, wherever it stands, leaves a row's spread
-abbrev pub OtherRowsAddNothing : Type 0
-OtherRowsAddNothing = (coeffs : List ℤ) (before after : List (List ℤ)) (spread : Spread)
-    → IsSpread coeffs (before ++ after) spread → IsSpread coeffs (before ++ [] ∷ after) spread

@@ -1,4 +1,4 @@
--- How coefficients lie in memory. Nothing that is promised of checks rests on it.
+-- Helps: how coefficients lie in their place. Nothing that callers see rests on it.
 use Rattle.std.specs.Prelude.{◌≡◌, ℕ, ℤ, pos, ◌-◌, ◌≤◌, List, ◌++◌, length, take, replicate}
 use Rattle.std.proofs.Common.{arith, ap, ◌∙◌, length-append}
 use Rattle.std.proofs.lemmas.List.{length-replicate, length-take}

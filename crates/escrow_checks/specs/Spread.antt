@@ -1,6 +1,6 @@
--- How the extremes are computed without forming a choice: what reservations add, by its sign. The
--- grant rule is defined without these sums; the calls that take a spread are tied to it by them.
-use Rattle.std.specs.Prelude.{◌≡◌, ℤ, pos, ◌+ℤ◌, List, [], ◌∷◌}
+-- Helps: what open reservations add, by its sign, from which the extremes are computed with no choice
+-- formed. The grant rule is defined without it.
+use Rattle.std.specs.Prelude.{◌≡◌, ℤ, pos, ◌+ℤ◌, List, [], ◌∷◌, ◌++◌}
 use Rattle.std.specs.Int.{int_min, int_max}
 use Rattle.std.specs.List.{AllByRecursion}
 use Rattle.escrow_checks.specs.Contribution.{IsContribution}
@@ -25,3 +25,8 @@ AreContributions coeffs reservations = AllByRecursion (λ changes. IsContributio
 abbrev pub IsSpread : List ℤ → List (List ℤ) → Spread → Type 0
 IsSpread coeffs reservations spread =
     (spread.falls ≡ falls coeffs reservations) × (spread.rises ≡ rises coeffs reservations) × AreContributions coeffs reservations
+
+-- a reservation of another row, wherever it stands, leaves a row's spread
+abbrev pub OtherRowsAddNothing : Type 0
+OtherRowsAddNothing = (coeffs : List ℤ) (before after : List (List ℤ)) (spread : Spread)
+    → IsSpread coeffs (before ++ after) spread → IsSpread coeffs (before ++ [] ∷ after) spread

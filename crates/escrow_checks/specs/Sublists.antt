@@ -1,3 +1,4 @@
+-- Believed: every choice of a list's items.
 use Rattle.std.specs.Prelude.{List, [], ◌∷◌, ◌++◌, map}
 
 -- every choice of a list's items, in their order: those without the first item, and those with it

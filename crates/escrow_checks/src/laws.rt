@@ -1,7 +1,8 @@
 //! Laws of checks and of the grant rule: facts about their definitions, each the contract of a
 //! function that does nothing. What keeps a database's state valid stands on them.
 
-ghost use Rattle.escrow_checks.specs.Laws.{ChecksMeanTheirTexts, ChecksAreWhole, UnitGivesTheAmount, ExtremesAreReached, GrantedWhereAlwaysMet, GrantedStaysSafe, RefusedNamesAChoice, AnyChoiceCanCommit, AnyChoiceCanRollBack, ChangesKeepTheNumber, OtherRowsStaySafe, NewRowIsSafe, OtherRowsAddNothing};
+ghost use Rattle.escrow_checks.specs.Laws.{ChecksMeanTheirTexts, ChecksAreWhole, UnitGivesTheAmount, ExtremesAreReached, GrantedWhereAlwaysMet, GrantedWhereAllAlwaysMet, GrantedStaysSafe, RefusedNamesAChoice, AnyChoiceCanCommit, AnyChoiceCanRollBack, ChangesKeepTheNumber, OtherRowsStaySafe, NewRowIsSafe};
+ghost use Rattle.escrow_checks.specs.Spread.{OtherRowsAddNothing};
 
 /// A row meets all the checks that CHECKs declare exactly where it meets all the CHECKs as they are
 /// written.
@@ -25,10 +26,16 @@ pub fn extremes_are_reached()
     ensures { ExtremesAreReached }
 {}
 
-/// The grant rule grants exactly where every choice of the open reservations with the new one meets
-/// the check.
+/// A new reservation breaks nothing of a check exactly where every choice of the open reservations
+/// with the new one meets the check.
 pub fn granted_where_always_met()
     ensures { GrantedWhereAlwaysMet }
+{}
+
+/// The grant rule grants exactly where every choice of the open reservations with the new one meets
+/// every check.
+pub fn granted_where_all_always_met()
+    ensures { GrantedWhereAllAlwaysMet }
 {}
 
 /// A row that meets a check whichever of the open reservations are applied still does with one more

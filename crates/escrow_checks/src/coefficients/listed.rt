@@ -11,7 +11,7 @@ pub(crate) fn listed(coeffs: &[Amount]) -> Coefficients
     requires { AreCoefficients coeffs.now }
     ensures { result ≡ coeffs.now }
 {
-    let mut values = [Amount::new(0).unwrap(); 10];
+    let mut values = [Amount::new(0).unwrap(); Coefficients::MAX_LEN];
     values[..coeffs.len()].copy_from_slice(coeffs);
     Coefficients {
         values,

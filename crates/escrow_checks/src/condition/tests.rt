@@ -39,6 +39,28 @@ fn conditions_give_checks(rt: HostRuntime) -> Result<(), Fail> {
 }
 
 #[test]
+fn thirty_two_checks(rt: HostRuntime) -> Result<(), Fail> {
+    let columns = [name(&rt, b"A")];
+    let text = text(&rt, b"A", Comparison::AtLeast, 0);
+    let checks = normalise(rt.alloc(), &[&text; MAX_CHECKS], &columns)?;
+    assert_eq!(rt; checks.len(), 32);
+    assert_eq!(rt;
+        checks.as_slice()[31].name.as_bytes(),
+        b"CHECK_32".as_slice()
+    );
+    let refused = normalise(rt.alloc(), &[&text; MAX_CHECKS + 1], &columns);
+    assert!(rt; matches!(refused, Err(CheckFault::Definition)));
+    Ok(())
+}
+
+#[test]
+fn names_that_no_statement_writes(rt: HostRuntime) {
+    assert!(rt; is_written_name(&name(&rt, b"A_NAME_OF_THIRTY_BYTES________")));
+    assert!(rt; !is_written_name(&name(&rt, b"A_NAME_OF_THIRTY_ONE_BYTES_____")));
+    assert!(rt; !is_written_name(&name(&rt, b"SELECT")));
+}
+
+#[test]
 fn limits_past_15_digits(rt: HostRuntime) {
     let columns = [name(&rt, b"A")];
     for past in [

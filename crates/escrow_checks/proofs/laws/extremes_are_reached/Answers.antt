@@ -1,4 +1,4 @@
-use Rattle.escrow_checks.proofs.LawsLemmas.{extremes_are_reached}
+use Rattle.escrow_checks.proofs.ReachedLemmas.{extremes_are_reached}
 use Rattle.escrow_checks.proofs.laws.extremes_are_reached.Goals as goal
 
 pub returns : goal.returns

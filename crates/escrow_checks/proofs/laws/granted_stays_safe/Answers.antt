@@ -1,4 +1,4 @@
-use Rattle.escrow_checks.proofs.LawsLemmas.{granted_stays_safe}
+use Rattle.escrow_checks.proofs.GrantLemmas.{granted_stays_safe}
 use Rattle.escrow_checks.proofs.laws.granted_stays_safe.Goals as goal
 
 pub returns : goal.returns

@@ -3,7 +3,7 @@ use Rattle.std.proofs.lemmas.Int.{ints}
 use Rattle.std.proofs.lemmas.Slice.Zip.{zip_turn, zip_end}
 use Rattle.std.proofs.lemmas.List.Elements.{All-get_or}
 use Rattle.escrow_checks.specs.Coefficients.{IsCoefficient}
-use Rattle.escrow_checks.proofs.CoefficientsLemmas.{walk_more, form-past}
+use Rattle.escrow_checks.proofs.FormLemmas.{walk_more, form-past}
 use Rattle.escrow_checks.proofs.check.Check.form.Goals as goal
 
 pub product-requires : goal.product-requires

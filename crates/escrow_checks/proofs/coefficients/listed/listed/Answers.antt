@@ -5,4 +5,5 @@ use Rattle.escrow_checks.proofs.coefficients.listed.listed.Goals as goal
 
 pub invariant_of-result : goal.invariant_of-result
 invariant_of-result c =
-    listed_kept c.args.coeffs.now c.copy_from_slice.new.self c.unwrap-values.result (grind (arith, ints)) c.copy_from_slice.ensures.after c.requires
+    let known = listed_kept c.args.coeffs.now c.copy_from_slice.new.self c.unwrap-values.result (grind (arith, ints)) c.copy_from_slice.ensures.after c.requires in
+    (known.are, known.few, known.whole)
