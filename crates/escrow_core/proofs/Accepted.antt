@@ -1,141 +1,201 @@
--- What an accepted statement leaves valid: where no refusal applies, each test of a refusal failed.
-use Rattle.std.specs.Prelude.{◌≡◌, ℕ, ◌<◌, ◌≤◌, Bool, true, false, cond, ℤ, nat_le, nat_lt, is_some, is_none, option_map, option_and_then, Option, Some, None, List, [], ◌∷◌, length, map}
-use Rattle.std.specs.List.{AllByRecursion}
-use Rattle.std.proofs.Common.{refl, sym, subst, arith}
-use Rattle.std.proofs.lemmas.Bool.Decides.{nat_tests}
+-- What holds where a statement is accepted, by the name of what was tested.
+use Rattle.std.specs.Prelude.{◌≡◌, ℕ, ℤ, ◌<◌, ◌≤◌, Bool, false, is_some, is_none, nat_le, nat_lt, option_map, option_and_then, Option, Some, None, List, [], ◌∷◌, length, map, bytes_eq, Result, Ok, Err}
+use Rattle.std.specs.Result.{result_ok}
+use Rattle.std.proofs.Common.{refl, sym, ap, subst, ◌∙◌, arith}
+use Rattle.std.proofs.lemmas.Option.{option_and_then_some}
 use Rattle.escrow_num.specs.declared.refusal.Refusal.{Refusal}
 use Rattle.escrow_num.specs.declared.refusal.Refusal.TheVariants as refusal
+use Rattle.escrow_num.specs.declared.reservation.Reservation.{Reservation}
 use Rattle.escrow_num.specs.declared.row.Row.{Row}
-use Rattle.escrow_num.specs.Refusal.{refuse_if, first_refusal}
-use Rattle.escrow_num.specs.Session.{IsSession}
+use Rattle.escrow_num.specs.declared.value.Value.{Value}
+use Rattle.escrow_num.specs.Refusal.{refuse_if}
+use Rattle.escrow_num.specs.Reservation.{counted}
 use Rattle.escrow_sql.specs.declared.statement.CreateText.{CreateText}
 use Rattle.escrow_sql.specs.declared.statement.InsertText.{InsertText}
 use Rattle.escrow_sql.specs.declared.statement.UpdateText.{UpdateText}
+use Rattle.escrow_sql.specs.declared.statement.Statement.TheVariants as statement
 use Rattle.escrow_checks.specs.Grant.{broken}
+use Rattle.escrow_schema.specs.declared.plan.Plan.{Plan}
+use Rattle.escrow_schema.specs.declared.plan.Plan.TheVariants as plan
 use Rattle.escrow_schema.specs.declared.table.TableDef.{TableDef}
-use Rattle.escrow_schema.specs.Definition.{defined}
+use Rattle.escrow_schema.specs.Column.{reservables}
+use Rattle.escrow_schema.specs.Definition.{definition_of, IsTable}
 use Rattle.escrow_schema.specs.Fit.{fitted}
-use Rattle.escrow_schema.specs.Plan.{plan_refusal, planned_changes}
-use Rattle.escrow_core.specs.State.{State, table_named, row_named, rows_of, own, changes_to, with_table, with_row}
-use Rattle.escrow_core.specs.Step.{create_refusals, insert_refusals, update_refusals, row_of, insert_breach, update_breach, updated_row, columns_named, reservation_of, after_update}
-use Rattle.escrow_core.specs.Valid.{IsValid}
-use Rattle.std.specs.Prelude.{bytes_eq}
-use Rattle.std.proofs.lemmas.Option.{option_and_then_some}
-use Rattle.escrow_core.proofs.Covered.{length_planned}
-use Rattle.escrow_core.proofs.Items.{find_has}
-use Rattle.escrow_core.proofs.Orders.{name_same}
-use Rattle.escrow_core.proofs.ValidCreate.{create_valid}
-use Rattle.escrow_core.proofs.ValidInsert.{insert_valid}
-use Rattle.escrow_core.proofs.ValidUpdate.{update_valid}
+use Rattle.escrow_schema.specs.Plan.{planned}
+use Rattle.escrow_num.specs.declared.reservation.TheConstants.Reservation.{MAX_ID}
+use Rattle.escrow_core.specs.declared.database.TheConstants.Database.{MAX_TABLES, MAX_ROWS, MAX_RESERVATIONS}
+use Rattle.escrow_core.specs.Reservations.{own}
+use Rattle.escrow_core.specs.Serving.{IsAccepted, IsShort}
+use Rattle.escrow_core.specs.State.{State, table_named, row_named, rows_of, is_open, changes_to}
+use Rattle.escrow_core.specs.Turn.{turn_of, row_of, insert_breach, reservation_from, reservation_of, plan_refusal_of, updated_row, breach_of}
+use Rattle.escrow_core.proofs.Refusals.{passed, failed, unbroken, none_there, some_there, below, not_above}
+use Rattle.escrow_schema.proofs.LawLemmas.{few_reservable, plans_of_whole_row}
 
--- either of two lists has what both have
-pub either_list : {A : Type 0} (P : List A → Type 0) (b : Bool) (xs ys : List A) → P xs → P ys → P (cond b xs ys)
-either_list P true xs ys p q = p
-either_list P false xs ys p q = q
+-- a table that is created
+pub record CreateStands (s : State) (session : ℕ) (text : CreateText) : Type 0 where
+  pub table : TableDef
+  pub defines : definition_of text ≡ Some table
+  pub new : table_named s.catalog text.table ≡ None
+  pub room : length s.catalog < MAX_TABLES
 
--- where none is the first refusal that applies, none applies
-pub none_applies : (refusals : List (Option Refusal)) → first_refusal refusals ≡ None → AllByRecursion (λ o. o ≡ None) refusals
-none_applies [] e = tt
-none_applies (Some r ∷ rest) e = absurd (cc)
-none_applies (None ∷ rest) e = (refl, none_applies rest e)
+pub create_stands : (s : State) (session : ℕ) (text : CreateText) → IsAccepted s session (statement.Create text) → CreateStands s session text
+unfolding turn_of
+create_stands s session text accepted =
+    let is_open = refuse_if (is_open session s) refusal.TransactionOpen in
+    let exists = refuse_if (is_some (table_named s.catalog text.table)) refusal.TableExists in
+    let bad = refuse_if (is_none (definition_of text)) refusal.BadDefinition in
+    let full = refuse_if (nat_le MAX_TABLES (length s.catalog)) refusal.TooManyTables in
+    let closed = passed is_open (exists ∷ bad ∷ full ∷ []) accepted in
+    let new = passed exists (bad ∷ full ∷ []) closed.others in
+    let good = passed bad (full ∷ []) new.others in
+    let room = passed full [] good.others in
+    let table = some_there (definition_of text) (failed (is_none (definition_of text)) refusal.BadDefinition good.first) in
+    record {
+      table = table.0;
+      defines = table.1;
+      new = none_there (table_named s.catalog text.table) (failed (is_some (table_named s.catalog text.table)) refusal.TableExists new.first);
+      room = below MAX_TABLES (length s.catalog) (failed (nat_le MAX_TABLES (length s.catalog)) refusal.TooManyTables room.first);
+    }
 
-pub failed : (b : Bool) (r : Refusal) → refuse_if b r ≡ None → b ≡ false
-failed true r e = absurd (cc)
-failed false r e = refl
+-- a row that is inserted
+pub record InsertStands (s : State) (session : ℕ) (text : InsertText) : Type 0 where
+  pub table : TableDef
+  pub named : table_named s.catalog text.table ≡ Some table
+  pub row : Row
+  pub made : row_of s text ≡ Some row
+  pub fits : fitted table text.values ≡ Some row
+  pub new : row_named s.rows row.name ≡ None
+  pub room : length (rows_of s.rows text.table) < MAX_ROWS
+  pub safe : broken table.checks row.amounts [] [] ≡ None
 
-unbroken : {A : Type 0} (f : A → Refusal) (o : Option A) → option_map f o ≡ None → o ≡ None
-unbroken f (Some x) e = absurd (cc)
-unbroken f None e = refl
+-- the row is made in its table, and judged by its checks
+fits_in : (s : State) (text : InsertText) (table : TableDef) (row : Row) → table_named s.catalog text.table ≡ Some table → row_of s text ≡ Some row
+    → fitted table text.values ≡ Some row
+fits_in s text table row named made = rw named at made
 
-none_there : {A : Type 0} (o : Option A) → is_some o ≡ false → o ≡ None
-none_there (Some x) e = absurd (cc)
-none_there None e = refl
+safe_in : (s : State) (text : InsertText) (table : TableDef) (row : Row) → table_named s.catalog text.table ≡ Some table → fitted table text.values ≡ Some row
+    → insert_breach s text ≡ None → broken table.checks row.amounts [] [] ≡ None
+safe_in s text table row named fits unbroken_all = rw (named, fits) at unbroken_all
 
-pub some_there : {A : Type 0} (o : Option A) → is_none o ≡ false → (x : A) × (o ≡ Some x)
-some_there (Some x) e = (x, refl)
-some_there None e = absurd (cc)
+pub insert_stands : (s : State) (session : ℕ) (text : InsertText) → IsAccepted s session (statement.Insert text) → InsertStands s session text
+unfolding turn_of
+insert_stands s session text accepted =
+    let stands : Row → Option Row = λ r. row_named s.rows r.name in
+    let is_open = refuse_if (is_open session s) refusal.TransactionOpen in
+    let unknown = refuse_if (is_none (table_named s.catalog text.table)) refusal.NoSuchTable in
+    let bad = refuse_if (is_none (row_of s text)) refusal.BadValue in
+    let exists = refuse_if (is_some (option_and_then stands (row_of s text))) refusal.RowExists in
+    let full = refuse_if (nat_le MAX_ROWS (length (rows_of s.rows text.table))) refusal.TableFull in
+    let breach = option_map refusal.Check (insert_breach s text) in
+    let closed = passed is_open (unknown ∷ bad ∷ exists ∷ full ∷ breach ∷ []) accepted in
+    let known = passed unknown (bad ∷ exists ∷ full ∷ breach ∷ []) closed.others in
+    let good = passed bad (exists ∷ full ∷ breach ∷ []) known.others in
+    let new = passed exists (full ∷ breach ∷ []) good.others in
+    let room = passed full (breach ∷ []) new.others in
+    let kept = passed breach [] room.others in
+    let table = some_there (table_named s.catalog text.table) (failed (is_none (table_named s.catalog text.table)) refusal.NoSuchTable known.first) in
+    let row = some_there (row_of s text) (failed (is_none (row_of s text)) refusal.BadValue good.first) in
+    let none_stands : option_and_then stands (row_of s text) ≡ None =
+    none_there (option_and_then stands (row_of s text)) (failed (is_some (option_and_then stands (row_of s text))) refusal.RowExists new.first) in
+    let unbroken_all : insert_breach s text ≡ None = unbroken (insert_breach s text) kept.first in
+    let fits = fits_in s text table.0 row.0 table.1 row.1 in
+    record {
+      table = table.0;
+      named = table.1;
+      row = row.0;
+      made = row.1;
+      fits = fits;
+      new = subst (λ (o : Option Row). option_and_then stands o ≡ None) row.1 none_stands;
+      room = below MAX_ROWS (length (rows_of s.rows text.table)) (failed (nat_le MAX_ROWS (length (rows_of s.rows text.table))) refusal.TableFull room.first);
+      safe = safe_in s text table.0 row.0 table.1 fits unbroken_all;
+    }
 
-below : (limit n : ℕ) → nat_le limit n ≡ false → n < limit
-below limit n e = grind (arith, nat_tests)
+-- a reservation that an UPDATE asks
+pub record Asks (s : State) (session : ℕ) (text : UpdateText) (table : TableDef) (r : Reservation) : Type 0 where
+  pub id : r.id ≡ s.next_id
+  pub of_session : r.session ≡ session
+  pub of_table : r.row.table ≡ text.table
+  pub whole : length r.changes ≡ length (reservables table.columns)
 
--- a created table
-pub create_accepted : (s : State) (session : ℕ) (text : CreateText) (table : TableDef) → IsValid s
-    → first_refusal (create_refusals s session text) ≡ None → defined text ≡ Some table
-    → IsValid (record s { catalog = with_table table s.catalog })
-create_accepted s session text table valid none made =
-    let each = none_applies (create_refusals s session text) none in
-    create_valid s text table valid made
-    (none_there (table_named s.catalog text.table) (failed (is_some (table_named s.catalog text.table)) refusal.TableExists each.1.0))
-    (below 32 (length s.catalog) (failed (nat_le 32 (length s.catalog)) refusal.TooManyTables each.1.1.1.0))
+asks_by : (s : State) (session : ℕ) (text : UpdateText) (table : TableDef) (r : Reservation) (asked : Result Plan Refusal) → planned table text ≡ asked
+    → option_map (reservation_from s session text.table) (result_ok asked) ≡ Some r → Asks s session text table r
+asks_by s session text table r (Ok (plan.Reserve key changes)) is e =
+    let same : reservation_from s session text.table (plan.Reserve key changes) ≡ r = cc in
+    subst (Asks s session text table) same (record { id = refl; of_session = refl; of_table = refl; whole = plans_of_whole_row table text key changes is })
+asks_by s session text table r (Err refused) is e = absurd (cc)
 
--- a table that is found has the name that was looked for
-name_found : (catalog : List TableDef) (name : List ℕ) (table : TableDef) → table_named catalog name ≡ Some table → table.name ≡ name
-name_found catalog name table named = name_same table.name name (find_has (λ (t : TableDef). bytes_eq t.name name) catalog table named).1
+pub asks : (s : State) (session : ℕ) (text : UpdateText) (table : TableDef) (r : Reservation) → table_named s.catalog text.table ≡ Some table
+    → reservation_of s session text ≡ Some r → Asks s session text table r
+asks s session text table r named asked =
+    let at_table : option_map (reservation_from s session text.table) (result_ok (planned table text)) ≡ Some r = rw named at asked in
+    asks_by s session text table r (planned table text) refl at_table
 
--- an inserted row
-inserted : (s : State) (session : ℕ) (text : InsertText) (table : TableDef) (row : Row) → IsValid s
-    → first_refusal (insert_refusals s session text) ≡ None → table_named s.catalog text.table ≡ Some table → fitted table text.values ≡ Some row
-    → IsValid (record s { rows = with_row row s.rows })
-inserted s session text table row valid none named made =
-    let each = none_applies (insert_refusals s session text) none in
-    let made_row : row_of s text ≡ Some row = rw named made in
-    let stands : Row → Option Row = λ r. row_named s.rows r.table r.key in
-    let new : row_named s.rows row.table row.key ≡ None =
-    let e : option_and_then stands (row_of s text) ≡ None =
-    none_there (option_and_then stands (row_of s text)) (failed (is_some (option_and_then stands (row_of s text))) refusal.RowExists each.1.1.1.0) in
-    rw made_row at e in
-    let safe : broken table.checks row.amounts [] [] ≡ None =
-    let e : insert_breach s text ≡ None = unbroken refusal.Check (insert_breach s text) each.1.1.1.1.1.0 in
-    rw (named, made) at e in
-    let name : table.name ≡ text.table = name_found s.catalog text.table table named in
-    let room : length (rows_of s.rows text.table) < 65536 =
-    below 65536 (length (rows_of s.rows text.table)) (failed (nat_le 65536 (length (rows_of s.rows text.table))) refusal.TableFull each.1.1.1.1.0) in
-    let at_name : table_named s.catalog table.name ≡ Some table = subst (λ (n : List ℕ). table_named s.catalog n ≡ Some table) (sym name) named in
-    let at_room : length (rows_of s.rows table.name) < 65536 = subst (λ (n : List ℕ). length (rows_of s.rows n) < 65536) (sym name) room in
-    insert_valid s table text.values row valid at_name made new at_room safe
+-- it has a change for at most as many columns as a table has RESERVABLE ones
+pub short_asked : (s : State) (session : ℕ) (text : UpdateText) (table : TableDef) (asked : Plan) → IsTable table → table_named s.catalog text.table ≡ Some table
+    → planned table text ≡ Ok asked → IsShort (reservation_from s session text.table asked)
+short_asked s session text table asked is_table named is =
+    let r : Reservation = reservation_from s session text.table asked in
+    let is_asked : reservation_of s session text ≡ Some r = rw (named, is) refl in
+    let whole = (asks s session text table r named is_asked).whole in
+    let few = (few_reservable table is_table).1 in
+    omega arith
 
-pub insert_accepted : (s : State) (session : ℕ) (text : InsertText) (row : Row) → IsValid s
-    → first_refusal (insert_refusals s session text) ≡ None → row_of s text ≡ Some row
-    → IsValid (record s { rows = with_row row s.rows })
-insert_accepted s session text row valid none made =
-    option_and_then_some (λ (table : TableDef). fitted table text.values) (table_named s.catalog text.table) row made
-    (λ table named fit. inserted s session text table row valid none named fit)
+-- an UPDATE's reservation is of its table
+table_by : (s : State) (session : ℕ) (text : UpdateText) (o : Option Plan) (r : Reservation)
+    → option_map (reservation_from s session text.table) o ≡ Some r → r.row.table ≡ text.table
+table_by s session text None r e = absurd (cc)
+table_by s session text (Some (plan.Reserve key changes)) r e =
+    let same : reservation_from s session text.table (plan.Reserve key changes) ≡ r = cc in
+    ap (λ (x : Reservation). x.row.table) (sym same)
 
--- past the refusals of the table and of the plan, an UPDATE has those of the grant
-pub past_plan : (s : State) (session : ℕ) (text : UpdateText) (table : TableDef) (changes : List ℤ) (o : Option Refusal)
-    → table_named s.catalog text.table ≡ Some table → plan_refusal table text ≡ None → changes ≡ planned_changes table.columns text.assign
-    → o ≡ first_refusal (
-    refuse_if (is_none (updated_row s text)) refusal.NoSuchRow
-    ∷ refuse_if (nat_le 256 (length (own session s.held))) refusal.TooManyReservations
-    ∷ refuse_if (nat_lt 999999999999999 s.next_id) refusal.NoMoreIds
-    ∷ option_map refusal.Check (option_and_then (λ (row : Row). broken table.checks row.amounts changes (map (changes_to row) s.held)) (updated_row s text))
-    ∷ [])
-    → first_refusal (update_refusals s session text) ≡ o
-past_plan s session text table changes o named planned asked e = rw (named, planned, ← asked) (sym e)
+pub asked_table : (s : State) (session : ℕ) (text : UpdateText) (r : Reservation) → reservation_of s session text ≡ Some r → r.row.table ≡ text.table
+asked_table s session text r asked =
+    table_by s session text (option_and_then (λ (table : TableDef). result_ok (planned table text)) (table_named s.catalog text.table)) r asked
 
--- a granted reservation
-granted : (s : State) (session : ℕ) (text : UpdateText) (table : TableDef) (row : Row) → IsValid s → IsSession session
-    → first_refusal (update_refusals s session text) ≡ None → table_named s.catalog text.table ≡ Some table → updated_row s text ≡ Some row
-    → IsValid (after_update s session text)
-granted s session text table row valid of_session none named found =
-    let each = none_applies (update_refusals s session text) none in
-    let columns : columns_named s text.table ≡ table.columns = rw named refl in
-    let more_ids : s.next_id ≤ 999999999999999 = not_past (failed (nat_lt 999999999999999 s.next_id) refusal.NoMoreIds each.1.1.1.1.0) in
-    let room : length (own session s.held) < 256 = below 256 (length (own session s.held)) (failed (nat_le 256 (length (own session s.held))) refusal.TooManyReservations each.1.1.1.0) in
-    let long : length (planned_changes (columns_named s text.table) text.assign) ≡ length row.amounts =
-    rw columns (length_planned s valid text.table text.row.value table row text.assign named found) in
-    let safe : broken table.checks row.amounts (planned_changes (columns_named s text.table) text.assign) (map (changes_to row) s.held) ≡ None =
-    let e : update_breach s text ≡ None = unbroken refusal.Check (update_breach s text) each.1.1.1.1.1.0 in
-    rw columns (rw (named, found) at e) in
-    update_valid s table row (reservation_of s session text) valid named found of_session refl more_ids long room safe
-  where
-    not_past : nat_lt 999999999999999 s.next_id ≡ false → s.next_id ≤ 999999999999999
-    not_past e = grind (arith, nat_tests)
+-- a reservation that is granted
+pub record UpdateStands (s : State) (session : ℕ) (text : UpdateText) : Type 0 where
+  pub table : TableDef
+  pub named : table_named s.catalog text.table ≡ Some table
+  pub asked : Reservation
+  pub is_asked : reservation_of s session text ≡ Some asked
+  pub asks : Asks s session text table asked
+  pub row : Row
+  pub found : row_named s.rows asked.row ≡ Some row
+  pub room : length (own session s.reservations) < MAX_RESERVATIONS
+  pub more_ids : s.next_id ≤ MAX_ID
+  pub safe : broken table.checks row.amounts (counted asked.changes) (map (changes_to row) s.reservations) ≡ None
 
-pub update_accepted : (s : State) (session : ℕ) (text : UpdateText) → IsValid s → IsSession session
-    → first_refusal (update_refusals s session text) ≡ None → IsValid (after_update s session text)
-update_accepted s session text valid of_session none =
-    let each = none_applies (update_refusals s session text) none in
-    let table = some_there (table_named s.catalog text.table) (failed (is_none (table_named s.catalog text.table)) refusal.NoSuchTable each.0) in
-    let row = some_there (updated_row s text) (failed (is_none (updated_row s text)) refusal.NoSuchRow each.1.1.0) in
-    granted s session text table.0 row.0 valid of_session none table.1 row.1
+pub update_stands : (s : State) (session : ℕ) (text : UpdateText) → IsAccepted s session (statement.Update text) → UpdateStands s session text
+unfolding turn_of
+update_stands s session text accepted =
+    let unknown = refuse_if (is_none (table_named s.catalog text.table)) refusal.NoSuchTable in
+    let unplanned = plan_refusal_of s text in
+    let no_row = refuse_if (is_none (updated_row s session text)) refusal.NoSuchRow in
+    let many = refuse_if (nat_le MAX_RESERVATIONS (length (own session s.reservations))) refusal.TooManyReservations in
+    let no_ids = refuse_if (nat_lt MAX_ID s.next_id) refusal.NoMoreIds in
+    let breach = option_map refusal.Check (option_and_then (breach_of s) (reservation_of s session text)) in
+    let known = passed unknown (unplanned ∷ no_row ∷ many ∷ no_ids ∷ breach ∷ []) accepted in
+    let good = passed unplanned (no_row ∷ many ∷ no_ids ∷ breach ∷ []) known.others in
+    let stands = passed no_row (many ∷ no_ids ∷ breach ∷ []) good.others in
+    let room = passed many (no_ids ∷ breach ∷ []) stands.others in
+    let ids = passed no_ids (breach ∷ []) room.others in
+    let kept = passed breach [] ids.others in
+    let table = some_there (table_named s.catalog text.table) (failed (is_none (table_named s.catalog text.table)) refusal.NoSuchTable known.first) in
+    let row = some_there (updated_row s session text) (failed (is_none (updated_row s session text)) refusal.NoSuchRow stands.first) in
+    let unbroken_all : option_and_then (breach_of s) (reservation_of s session text) ≡ None = unbroken (option_and_then (breach_of s) (reservation_of s session text)) kept.first in
+    option_and_then_some (λ (r : Reservation). row_named s.rows r.row) (reservation_of s session text) row.0 row.1 (λ r is_asked found.
+    let asked = asks s session text table.0 r table.1 is_asked in
+    let at_table : table_named s.catalog r.row.table ≡ Some table.0 = ap (table_named s.catalog) asked.of_table ∙ table.1 in
+    let unbroken_asked : breach_of s r ≡ None = rw is_asked at unbroken_all in
+    record {
+      table = table.0;
+      named = table.1;
+      asked = r;
+      is_asked = is_asked;
+      asks = asked;
+      row = row.0;
+      found = found;
+      room = below MAX_RESERVATIONS (length (own session s.reservations)) (failed (nat_le MAX_RESERVATIONS (length (own session s.reservations))) refusal.TooManyReservations room.first);
+      more_ids = not_above MAX_ID s.next_id (failed (nat_lt MAX_ID s.next_id) refusal.NoMoreIds ids.first);
+      safe = rw (at_table, found) at unbroken_asked;
+    })

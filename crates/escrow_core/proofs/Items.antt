@@ -1,7 +1,7 @@
 -- Items of a list: what holds of all of them, and of each.
 use Rattle.std.specs.Prelude.{◌≡◌, ◌⊎◌, Bool, true, false, List, [], ◌∷◌, ◌++◌, map, filter, find, Some, None}
 use Rattle.std.specs.List.{AllByRecursion}
-use Rattle.std.proofs.Common.{inl, inr, sym, ap, ◌∙◌, subst, refl}
+use Rattle.std.proofs.Common.{inl, inr, sym, ap, ◌∙◌, subst, refl, ℕ, zero, suc, ◌<◌, length, get_or, arith}
 use Rattle.std.proofs.lemmas.Bool.{cond_both}
 
 -- x is one of the items
@@ -75,3 +75,13 @@ has_find {A} p (z ∷ zs) x (inl same) t =
 has_find {A} p (z ∷ zs) x (inr h) t =
     let found = has_find p zs x h t in
     cond_both (p z) (Some z) (find p zs) (λ o. (y : A) × (o ≡ Some y)) (λ _. (z, refl)) (λ _. found)
+
+-- what holds of all items holds of those that pass
+pub all_filter : {A : Type 0} (P : A → Type 0) (p : A → Bool) (xs : List A) → AllByRecursion P xs → AllByRecursion P (filter p xs)
+all_filter P p xs all = has_all P (filter p xs) (λ x h. all_has P xs all x (has_filter p xs x h).0)
+
+-- what holds of each item holds of the one at a place
+pub all_at : {X : Type 0} (P : X → Type 0) (xs : List X) (i : ℕ) (x : X) → i < length xs → x ≡ get_or xs i x → AllByRecursion P xs → P x
+all_at P [] i x below at all = absurd (omega arith)
+all_at P (y ∷ ys) zero x below at all = subst P (sym at) all.0
+all_at P (y ∷ ys) (suc i) x below at all = all_at P ys i x (omega arith) at all.1

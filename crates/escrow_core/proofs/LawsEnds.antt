@@ -3,26 +3,27 @@ use Rattle.std.specs.Prelude.{◌≡◌, ℕ, ℤ, ◌==◌, Bool, true, false, 
 use Rattle.std.specs.List.{AllByRecursion}
 use Rattle.std.proofs.Common.{refl, sym, ap, ap₂, ◌∙◌, subst}
 use Rattle.std.proofs.lemmas.Bool.{cond_both, cond-false, false_from_ne_true, eqb-true}
-use Rattle.escrow_num.specs.declared.reservation.Mark.{Mark}
+use Rattle.escrow_num.specs.declared.reservation.Savepoint.{Savepoint}
 use Rattle.escrow_num.specs.declared.reservation.Reservation.{Reservation}
 use Rattle.escrow_num.specs.declared.row.Row.{Row}
 use Rattle.escrow_num.specs.declared.session.End.{End}
 use Rattle.escrow_num.specs.declared.session.End.TheVariants as end
-use Rattle.escrow_num.specs.Session.{IsSession}
-use Rattle.escrow_sql.specs.declared.statement.Statement.{Statement}
 use Rattle.escrow_checks.specs.Form.{changed, all_changed}
 use Rattle.escrow_core.specs.declared.reply.Reply.{Reply}
-use Rattle.escrow_core.specs.Laws.{after_end, after_ends, empty}
-use Rattle.escrow_core.specs.State.{State, own, others, changes_to, applied}
+use Rattle.escrow_core.specs.Laws.{after_end, after_ends}
+use Rattle.escrow_core.specs.declared.event.Event.{Event}
+use Rattle.escrow_core.specs.Event.{HasSession}
+use Rattle.escrow_core.specs.Reservations.{own, others}
+use Rattle.escrow_core.specs.State.{State, empty, changes_to, applied}
 use Rattle.escrow_core.specs.Step.{step, IsRun}
+use Rattle.escrow_core.specs.Turn.{turn_of}
 use Rattle.escrow_core.specs.Valid.{IsValid, MeetsChecks}
 use Rattle.escrow_core.proofs.Applying.{applied_none}
 use Rattle.escrow_core.proofs.Changes.{all_changed_later}
 use Rattle.escrow_core.proofs.Choices.{all_choices, choice_none}
 use Rattle.escrow_core.proofs.LawsSteps.{run_keeps_valid}
-use Rattle.escrow_core.proofs.ValidCommit.{commit_valid}
 use Rattle.escrow_core.proofs.ValidEmpty.{empty_valid}
-use Rattle.escrow_core.proofs.ValidRollback.{rollback_valid}
+use Rattle.escrow_core.proofs.ValidEnds.{commit_valid, rollback_valid}
 
 -- two tests keep the same items in either order
 filter_kept : {A : Type 0} (p : A → Bool) (b : Bool) (x : A) (xs : List A)
@@ -54,9 +55,9 @@ filter_within {A} p q (x ∷ xs) within =
     (λ f. rest ∙ sym (cond-false (p x) (x ∷ filter p xs) (filter p xs) (false_from_ne_true (p x) (λ t. let yes = within x t in absurd (cc)))))
 
 -- a session's own stay when another's go
-own_stay : (a b : ℕ) (held : List Reservation) → ¬ (a ≡ b) → own b (others a held) ≡ own b held
-own_stay a b held differ =
-    filter_within (λ (r : Reservation). r.session == b) (λ (r : Reservation). not (r.session == a)) held
+own_stay : (a b : ℕ) (reservations : List Reservation) → ¬ (a ≡ b) → own b (others a reservations) ≡ own b reservations
+own_stay a b reservations differ =
+    filter_within (λ (r : Reservation). r.session == b) (λ (r : Reservation). not (r.session == a)) reservations
     (λ r t. ap not (false_from_ne_true (r.session == a) (λ u. differ (sym (eqb-true r.session a u) ∙ eqb-true r.session b t))))
 
 -- increments commute
@@ -73,41 +74,42 @@ applied_comm (row ∷ rows) xs ys =
     (applied_comm rows xs ys)
 
 -- states of equal parts
-same_state : (s : State) (rows later : List Row) (held still : List Reservation) (marks left : List Mark) → rows ≡ later → held ≡ still → marks ≡ left
-    → (record s { rows = rows; held = held; marks = marks }) ≡ (record s { rows = later; held = still; marks = left })
-same_state s rows later held still marks left e f g = rw (e, f, g) refl
+same_state : (s : State) (rows later : List Row) (reservations still : List Reservation) (savepoints left : List Savepoint)
+    → rows ≡ later → reservations ≡ still → savepoints ≡ left
+    → (record s { rows = rows; reservations = reservations; savepoints = savepoints }) ≡ (record s { rows = later; reservations = still; savepoints = left })
+same_state s rows later reservations still savepoints left e f g = rw (e, f, g) refl
 
 -- the rows after two commits
-both_commit : (rows : List Row) (a b : ℕ) (held : List Reservation) → ¬ (a ≡ b)
-    → applied (applied rows (own a held)) (own b (others a held)) ≡ applied (applied rows (own b held)) (own a (others b held))
-both_commit rows a b held differ =
-    ap (applied (applied rows (own a held))) (own_stay a b held differ)
-    ∙ applied_comm rows (own a held) (own b held)
-    ∙ sym (ap (applied (applied rows (own b held))) (own_stay b a held (λ e. differ (sym e))))
+both_commit : (rows : List Row) (a b : ℕ) (reservations : List Reservation) → ¬ (a ≡ b)
+    → applied (applied rows (own a reservations)) (own b (others a reservations)) ≡ applied (applied rows (own b reservations)) (own a (others b reservations))
+both_commit rows a b reservations differ =
+    ap (applied (applied rows (own a reservations))) (own_stay a b reservations differ)
+    ∙ applied_comm rows (own a reservations) (own b reservations)
+    ∙ sym (ap (applied (applied rows (own b reservations))) (own_stay b a reservations (λ e. differ (sym e))))
 
 -- the ends of two sessions lead to one state in either order
 pub transactions_commute : (s : State) (a b : ℕ) (x y : End) → ¬ (a ≡ b) → after_end (after_end s a x) b y ≡ after_end (after_end s b y) a x
-unfolding step
+unfolding turn_of
 transactions_commute s a b end.Commit end.Commit differ =
-    same_state s _ _ _ _ _ _ (both_commit s.rows a b s.held differ)
-    (filters_commute (λ (r : Reservation). not (r.session == b)) (λ (r : Reservation). not (r.session == a)) s.held)
-    (filters_commute (λ (m : Mark). not (m.session == b)) (λ (m : Mark). not (m.session == a)) s.marks)
+    same_state s _ _ _ _ _ _ (both_commit s.rows a b s.reservations differ)
+    (filters_commute (λ (r : Reservation). not (r.session == b)) (λ (r : Reservation). not (r.session == a)) s.reservations)
+    (filters_commute (λ (p : Savepoint). not (p.session == b)) (λ (p : Savepoint). not (p.session == a)) s.savepoints)
 transactions_commute s a b end.Commit end.Rollback differ =
-    same_state s _ _ _ _ _ _ (sym (ap (applied s.rows) (own_stay b a s.held (λ e. differ (sym e)))))
-    (filters_commute (λ (r : Reservation). not (r.session == b)) (λ (r : Reservation). not (r.session == a)) s.held)
-    (filters_commute (λ (m : Mark). not (m.session == b)) (λ (m : Mark). not (m.session == a)) s.marks)
+    same_state s _ _ _ _ _ _ (sym (ap (applied s.rows) (own_stay b a s.reservations (λ e. differ (sym e)))))
+    (filters_commute (λ (r : Reservation). not (r.session == b)) (λ (r : Reservation). not (r.session == a)) s.reservations)
+    (filters_commute (λ (p : Savepoint). not (p.session == b)) (λ (p : Savepoint). not (p.session == a)) s.savepoints)
 transactions_commute s a b end.Rollback end.Commit differ =
-    same_state s _ _ _ _ _ _ (ap (applied s.rows) (own_stay a b s.held differ))
-    (filters_commute (λ (r : Reservation). not (r.session == b)) (λ (r : Reservation). not (r.session == a)) s.held)
-    (filters_commute (λ (m : Mark). not (m.session == b)) (λ (m : Mark). not (m.session == a)) s.marks)
+    same_state s _ _ _ _ _ _ (ap (applied s.rows) (own_stay a b s.reservations differ))
+    (filters_commute (λ (r : Reservation). not (r.session == b)) (λ (r : Reservation). not (r.session == a)) s.reservations)
+    (filters_commute (λ (p : Savepoint). not (p.session == b)) (λ (p : Savepoint). not (p.session == a)) s.savepoints)
 transactions_commute s a b end.Rollback end.Rollback differ =
     same_state s _ _ _ _ _ _ refl
-    (filters_commute (λ (r : Reservation). not (r.session == b)) (λ (r : Reservation). not (r.session == a)) s.held)
-    (filters_commute (λ (m : Mark). not (m.session == b)) (λ (m : Mark). not (m.session == a)) s.marks)
+    (filters_commute (λ (r : Reservation). not (r.session == b)) (λ (r : Reservation). not (r.session == a)) s.reservations)
+    (filters_commute (λ (p : Savepoint). not (p.session == b)) (λ (p : Savepoint). not (p.session == a)) s.savepoints)
 
 -- an end keeps a valid state valid
 end_valid : (s : State) (session : ℕ) (x : End) → IsValid s → IsValid (after_end s session x)
-unfolding step
+unfolding turn_of
 end_valid s session end.Commit valid = commit_valid s session valid
 end_valid s session end.Rollback valid = rollback_valid s session valid
 
@@ -118,15 +120,3 @@ ends_valid s (ending ∷ ends) valid = ends_valid (after_end s ending.0 ending.1
 -- and so do any ends in any order
 pub any_order_of_ends : (s : State) (ends : List (ℕ × End)) (n : ℕ) → IsValid s → IsValid (after_ends s (take n ends))
 any_order_of_ends s ends n valid = ends_valid s (take n ends) valid
-
--- the committed rows are those after the empty choice
-pub committed_rows_meet_checks : (s : State) → IsValid s → AllByRecursion (MeetsChecks s.catalog) s.rows
-committed_rows_meet_checks s valid =
-    subst (AllByRecursion (MeetsChecks s.catalog)) (applied_none s.rows)
-    (all_choices (λ (c : List Reservation). AllByRecursion (MeetsChecks s.catalog) (applied s.rows c)) s.held valid.safe [] (choice_none s.held))
-
--- so they do after any run from the beginning
-pub every_run_is_safe : (events : List (ℕ × Statement)) (answers : List Reply) (new : State)
-    → AllByRecursion (λ event. IsSession event.0) events → IsRun empty events answers new → AllByRecursion (MeetsChecks new.catalog) new.rows
-every_run_is_safe events answers new of_sessions h =
-    committed_rows_meet_checks new (run_keeps_valid empty events answers new empty_valid of_sessions h)

@@ -1,207 +1,167 @@
--- What one step of the machine keeps and answers, statement by statement.
-use Rattle.std.specs.Prelude.{◌≡◌, ℕ, ◌+◌, ◌≤◌, nat_le, nat_lt, is_some, is_none, option_map, option_and_then, unwrap_or, MatchOption, IfSome, Option, Some, None, List, [], ◌∷◌, length}
+-- What one step of the machine keeps and answers, for all statements at once.
+use Rattle.std.specs.Prelude.{◌≡◌, ℕ, ◌+◌, ◌≤◌, Bool, true, false, ◌&&◌, is_none, option_map, unwrap_or, MatchOption, IsTrue, Option, Some, None, List, [], ◌∷◌, length}
 use Rattle.std.specs.List.{AllByRecursion}
-use Rattle.std.proofs.Common.{inl, inr, refl, sym, ap, subst, arith, le_refl}
+use Rattle.std.proofs.Common.{refl, sym, ap, subst, le_refl, ◌∙◌}
+use Rattle.std.proofs.lemmas.Bool.{and_parts}
 use Rattle.escrow_num.specs.declared.refusal.Refusal.{Refusal}
-use Rattle.escrow_num.specs.declared.refusal.Refusal.TheVariants as refusal
-use Rattle.escrow_num.specs.declared.row.Row.{Row}
 use Rattle.escrow_num.specs.Refusal.{first_refusal}
 use Rattle.escrow_num.specs.Session.{IsSession}
 use Rattle.escrow_sql.specs.declared.statement.Statement.{Statement}
 use Rattle.escrow_sql.specs.declared.statement.Statement.TheVariants as statement
-use Rattle.escrow_sql.specs.declared.statement.CreateText.{CreateText}
-use Rattle.escrow_sql.specs.declared.statement.InsertText.{InsertText}
-use Rattle.escrow_sql.specs.declared.statement.UpdateText.{UpdateText}
-use Rattle.escrow_schema.specs.Definition.{defined}
+use Rattle.escrow_core.specs.declared.event.Event.{Event}
+use Rattle.escrow_core.specs.declared.event.Event.TheVariants as event
 use Rattle.escrow_core.specs.declared.reply.Reply.{Reply}
 use Rattle.escrow_core.specs.declared.reply.Reply.TheVariants as reply
 use Rattle.escrow_core.specs.declared.reply.Failure.{Failure}
-use Rattle.escrow_core.specs.Reply.{failure_of, failure_of_refusal}
-use Rattle.escrow_core.specs.State.{State, table_named, row_named, rows_of, own, with_row, is_open}
-use Rattle.escrow_core.specs.Step.{step, IsStep, IsRun, create_refusals, insert_refusals, update_refusals, after_create, after_insert, after_update, row_of, insert_breach, update_breach, updated_row}
+use Rattle.escrow_core.specs.declared.reply.Failure.TheVariants as failure
+use Rattle.escrow_core.specs.Event.{HasSession}
+use Rattle.escrow_core.specs.Reply.{failure_of}
 use Rattle.escrow_core.specs.Laws.{IsSeen}
+use Rattle.escrow_core.specs.Reservations.{own}
+use Rattle.escrow_core.specs.State.{State}
+use Rattle.escrow_core.specs.Step.{refusals, unless_refused, step, may_fail, IsStep, StepOrRefusal, IsRun}
+use Rattle.escrow_core.specs.Turn.{Turn, turn_of, for_nothing}
 use Rattle.escrow_core.specs.Valid.{IsValid}
-use Rattle.escrow_core.proofs.Accepted.{create_accepted, insert_accepted, update_accepted}
-use Rattle.escrow_core.proofs.LawsRefusals.{unless, create_defines, insert_makes, first_among, if_among, check_among, plan_among, some_among}
-use Rattle.escrow_core.proofs.ValidCommit.{commit_valid}
-use Rattle.escrow_core.proofs.ValidRollback.{rollback_valid}
+use Rattle.escrow_core.proofs.Refusals.{first_among, first_in_front}
+use Rattle.escrow_core.proofs.Turns.{IsTurn, IsJudged, is_turn}
 
-created : (s : State) (session : ℕ) (text : CreateText) → IsValid s → first_refusal (create_refusals s session text) ≡ None → IsValid (after_create s text)
-created s session text valid none =
-    let made = create_defines s session text none in
-    rw made.1 (create_accepted s session text made.0 valid none made.1)
+-- what holds of a refusal with an equal state, and of the reply with the new state where nothing is
+-- refused, holds of reply and state
+unless_at : (P : Reply × State → Type 0) (s : State) (o : Option Refusal) (done : Reply) (new : State)
+    → ((r : Refusal) → o ≡ Some r → P (reply.Refused r, s)) → (o ≡ None → P (done, new))
+    → P (unwrap_or (option_map (λ (r : Refusal). (reply.Refused r, s)) o) (done, new))
+unless_at P s None done new refused accepted = accepted refl
+unless_at P s (Some r) done new refused accepted = refused r refl
 
-inserted : (s : State) (session : ℕ) (text : InsertText) → IsValid s → first_refusal (insert_refusals s session text) ≡ None → IsValid (after_insert s text)
-inserted s session text valid none =
-    let made = insert_makes s session text none in
-    rw made.1 (insert_accepted s session text made.0 valid none made.1)
+pub step_has : (P : Reply × State → Type 0) (s : State) (session : ℕ) (asked : Statement)
+    → ((r : Refusal) → first_refusal (refusals (turn_of s session asked)) ≡ Some r → P (reply.Refused r, s))
+    → (first_refusal (refusals (turn_of s session asked)) ≡ None → P ((turn_of s session asked).reply, (turn_of s session asked).next))
+    → P (step s session asked)
+step_has P s session asked refused accepted =
+    let turn = turn_of s session asked in
+    unless_at P s (first_refusal (refusals turn)) turn.reply turn.next refused accepted
 
 -- a step keeps a valid state valid
 pub step_keeps_valid : (s : State) (session : ℕ) (asked : Statement) → IsValid s → IsSession session → IsValid (step s session asked).1
-unfolding step
-step_keeps_valid s session (statement.Create text) valid of_session =
-    unless (λ (p : Reply × State). IsValid p.1) s (create_refusals s session text) (reply.Created text.table) (after_create s text) (λ r e. valid) (created s session text valid)
-step_keeps_valid s session (statement.Insert text) valid of_session =
-    unless (λ (p : Reply × State). IsValid p.1) s (insert_refusals s session text) reply.Inserted (after_insert s text) (λ r e. valid) (inserted s session text valid)
-step_keeps_valid s session (statement.Update text) valid of_session =
-    unless (λ (p : Reply × State). IsValid p.1) s (update_refusals s session text) (reply.Reserved s.next_id) (after_update s session text) (λ r e. valid)
-    (update_accepted s session text valid of_session)
-step_keeps_valid s session statement.Commit valid of_session = commit_valid s session valid
-step_keeps_valid s session statement.Rollback valid of_session = rollback_valid s session valid
+step_keeps_valid s session asked valid of_session =
+    step_has (λ (p : Reply × State). IsValid p.1) s session asked (λ _ _. valid) (λ accepted. (is_turn s session asked).valid accepted valid of_session)
 
--- and so does an event, a step or its refusal
-event_keeps_valid : (s : State) (session : ℕ) (asked : Statement) (answer : Reply) (new : State) (failure : Option Failure) → IsValid s → IsSession session
-    → MatchOption failure (IsStep s session asked answer new) (λ _. new ≡ s) → IsValid new
+-- and so does a step or a failure
+event_keeps_valid : (s : State) (session : ℕ) (asked : Statement) (answer : Reply) (new : State) (o : Option Failure) → IsValid s → IsSession session
+    → MatchOption o (IsStep s session asked answer new) (λ f. IsTrue (may_fail s session asked f) × (new ≡ s)) → IsValid new
 event_keeps_valid s session asked answer new None valid of_session h =
     subst IsValid (sym (ap (λ (p : Reply × State). p.1) h.is_step)) (step_keeps_valid s session asked valid of_session)
-event_keeps_valid s session asked answer new (Some f) valid of_session h = subst IsValid (sym h) valid
+event_keeps_valid s session asked answer new (Some f) valid of_session h = subst IsValid (sym h.1) valid
 
 -- and a run of events
-pub run_keeps_valid : (s : State) (events : List (ℕ × Statement)) (answers : List Reply) (new : State)
-    → IsValid s → AllByRecursion (λ event. IsSession event.0) events → IsRun s events answers new → IsValid new
-run_keeps_valid s [] [] new valid of_sessions h = subst IsValid (sym h) valid
-run_keeps_valid s [] (answer ∷ answers) new valid of_sessions h = absurd h
-run_keeps_valid s (event ∷ events) [] new valid of_sessions h = absurd h
-run_keeps_valid s (event ∷ events) (answer ∷ answers) new valid of_sessions h =
-    run_keeps_valid h.0 events answers new
-    (event_keeps_valid s event.0 event.1 answer h.0 (failure_of answer) valid of_sessions.0 h.1)
-    of_sessions.1 h.2
+pub run_keeps_valid : (s : State) (events : List Event) (answers : List Reply) (new : State)
+    → IsValid s → AllByRecursion HasSession events → IsRun s events answers new → IsValid new
+run_keeps_valid s [] [] new valid of_sessions run = subst IsValid (sym run) valid
+run_keeps_valid s [] (answer ∷ answers) new valid of_sessions run = absurd run
+run_keeps_valid s (happened ∷ events) [] new valid of_sessions run = absurd run
+run_keeps_valid s (event.Statement session asked ∷ events) (answer ∷ answers) new valid of_sessions run =
+    run_keeps_valid run.0 events answers new
+    (event_keeps_valid s session asked answer run.0 (failure_of answer) valid of_sessions.0 run.1)
+    of_sessions.1 run.2
 
 -- a refusal leaves the state equal
 pub refused_changes_nothing : (s : State) (session : ℕ) (asked : Statement) (r : Refusal)
     → (step s session asked).0 ≡ reply.Refused r → (step s session asked).1 ≡ s
-unfolding step
-refused_changes_nothing s session (statement.Create text) r =
-    unless (λ (p : Reply × State). p.0 ≡ reply.Refused r → p.1 ≡ s) s (create_refusals s session text) (reply.Created text.table) (after_create s text) (λ _ _ _. refl) (λ _ e. absurd (cc))
-refused_changes_nothing s session (statement.Insert text) r =
-    unless (λ (p : Reply × State). p.0 ≡ reply.Refused r → p.1 ≡ s) s (insert_refusals s session text) reply.Inserted (after_insert s text) (λ _ _ _. refl) (λ _ e. absurd (cc))
-refused_changes_nothing s session (statement.Update text) r =
-    unless (λ (p : Reply × State). p.0 ≡ reply.Refused r → p.1 ≡ s) s (update_refusals s session text) (reply.Reserved s.next_id) (after_update s session text) (λ _ _ _. refl) (λ _ e. absurd (cc))
-refused_changes_nothing s session statement.Commit r = λ e. absurd (cc)
-refused_changes_nothing s session statement.Rollback r = λ e. absurd (cc)
-
--- no refusal of a statement is one of memory or the store
-abbrev IsJudged : Refusal → Type 0
-IsJudged r = failure_of_refusal r ≡ None
-
-judged_create : (s : State) (session : ℕ) (text : CreateText) → IfSome (first_refusal (create_refusals s session text)) IsJudged
-judged_create s session text = first_among IsJudged (create_refusals s session text) (
-  if_among IsJudged (is_open session s) refusal.TransactionOpen refl,
-  (
-    if_among IsJudged (is_some (table_named s.catalog text.table)) refusal.TableExists refl,
-    (
-      if_among IsJudged (is_none (defined text)) refusal.BadDefinition refl,
-      (if_among IsJudged (nat_le 32 (length s.catalog)) refusal.TooManyTables refl, tt),
-    ),
-  ),
-)
-
-judged_insert : (s : State) (session : ℕ) (text : InsertText) → IfSome (first_refusal (insert_refusals s session text)) IsJudged
-judged_insert s session text = first_among IsJudged (insert_refusals s session text) (
-  if_among IsJudged (is_open session s) refusal.TransactionOpen refl,
-  (
-    if_among IsJudged (is_none (table_named s.catalog text.table)) refusal.NoSuchTable refl,
-    (
-      if_among IsJudged (is_none (row_of s text)) refusal.BadValue refl,
-      (
-        if_among IsJudged (is_some (option_and_then (λ (row : Row). row_named s.rows row.table row.key) (row_of s text))) refusal.RowExists refl,
-        (
-          if_among IsJudged (nat_le 65536 (length (rows_of s.rows text.table))) refusal.TableFull refl,
-          (check_among IsJudged (insert_breach s text) (λ _. refl), tt),
-        ),
-      ),
-    ),
-  ),
-)
-
-judged_update : (s : State) (session : ℕ) (text : UpdateText) → IfSome (first_refusal (update_refusals s session text)) IsJudged
-judged_update s session text = first_among IsJudged (update_refusals s session text) (
-  if_among IsJudged (is_none (table_named s.catalog text.table)) refusal.NoSuchTable refl,
-  (
-    plan_among IsJudged text (table_named s.catalog text.table) refl refl refl,
-    (
-      if_among IsJudged (is_none (updated_row s text)) refusal.NoSuchRow refl,
-      (
-        if_among IsJudged (nat_le 256 (length (own session s.held))) refusal.TooManyReservations refl,
-        (
-          if_among IsJudged (nat_lt 999999999999999 s.next_id) refusal.NoMoreIds refl,
-          (check_among IsJudged (update_breach s text) (λ _. refl), tt),
-        ),
-      ),
-    ),
-  ),
-)
+refused_changes_nothing s session asked r =
+    step_has (λ (p : Reply × State). p.0 ≡ reply.Refused r → p.1 ≡ s) s session asked (λ _ _ _. refl)
+    (λ _ e. absurd ((is_turn s session asked).answers r e))
 
 -- the machine never fails
 pub machine_never_fails : (s : State) (session : ℕ) (asked : Statement) → failure_of (step s session asked).0 ≡ None
-unfolding step
-machine_never_fails s session (statement.Create text) =
-    unless (λ (p : Reply × State). failure_of p.0 ≡ None) s (create_refusals s session text) (reply.Created text.table) (after_create s text)
-    (λ r e. some_among IsJudged (first_refusal (create_refusals s session text)) r (judged_create s session text) e) (λ _. refl)
-machine_never_fails s session (statement.Insert text) =
-    unless (λ (p : Reply × State). failure_of p.0 ≡ None) s (insert_refusals s session text) reply.Inserted (after_insert s text)
-    (λ r e. some_among IsJudged (first_refusal (insert_refusals s session text)) r (judged_insert s session text) e) (λ _. refl)
-machine_never_fails s session (statement.Update text) =
-    unless (λ (p : Reply × State). failure_of p.0 ≡ None) s (update_refusals s session text) (reply.Reserved s.next_id) (after_update s session text)
-    (λ r e. some_among IsJudged (first_refusal (update_refusals s session text)) r (judged_update s session text) e) (λ _. refl)
-machine_never_fails s session statement.Commit = refl
-machine_never_fails s session statement.Rollback = refl
+machine_never_fails s session asked =
+    let turn = is_turn s session asked in
+    step_has (λ (p : Reply × State). failure_of p.0 ≡ None) s session asked
+    (first_among IsJudged (refusals (turn_of s session asked)) turn.judged) (λ _. turn.succeeds)
+
+-- what fails
+failed_with : (s : State) (session : ℕ) (asked : Statement) (answer : Reply) (new : State) (f : Failure)
+    → StepOrRefusal s session asked answer new → failure_of answer ≡ Some f → IsTrue (may_fail s session asked f) × (new ≡ s)
+failed_with s session asked answer new f event failed =
+    subst (λ (o : Option Failure). MatchOption o (IsStep s session asked answer new) (λ g. IsTrue (may_fail s session asked g) × (new ≡ s))) failed event
+
+fails : (s : State) (session : ℕ) (asked : Statement) (f : Failure) → may_fail s session asked f ≡ true → (turn_of s session asked).fails_for f ≡ true
+fails s session asked f e =
+    let turn = turn_of s session asked in
+    (and_parts (is_none (first_refusal turn.early)) (turn.fails_for f) e).1
+
+commit_fails_for : (s : State) (session : ℕ) (f : Failure) → ¬ ((turn_of s session statement.Commit).fails_for f ≡ true)
+unfolding turn_of
+commit_fails_for s session f = λ e. absurd (cc)
+
+rollback_fails_for : (s : State) (session : ℕ) (f : Failure) → ¬ ((turn_of s session statement.Rollback).fails_for f ≡ true)
+unfolding turn_of
+rollback_fails_for s session f = λ e. absurd (cc)
+
+pub fails_for_memory_alone : (s : State) (session : ℕ) (asked : Statement) (answer : Reply) (new : State) (f : Failure)
+    → StepOrRefusal s session asked answer new → failure_of answer ≡ Some f
+    → (f ≡ failure.Memory) × (¬ (asked ≡ statement.Commit)) × (¬ (asked ≡ statement.Rollback))
+fails_for_memory_alone s session asked answer new f event failed =
+    let for_it = fails s session asked f (failed_with s session asked answer new f event failed).0 in (
+      (is_turn s session asked).memory f for_it,
+      λ is. commit_fails_for s session f (subst (λ (a : Statement). (turn_of s session a).fails_for f ≡ true) is for_it),
+      λ is. rollback_fails_for s session f (subst (λ (a : Statement). (turn_of s session a).fails_for f ≡ true) is for_it),
+    )
+
+-- where an early refusal applies nothing fails, and it is the answer
+early_at : (s : State) (session : ℕ) (asked : Statement) (answer : Reply) (new : State) (r : Refusal) (o : Option Failure)
+    → MatchOption o (IsStep s session asked answer new) (λ f. IsTrue (may_fail s session asked f) × (new ≡ s))
+    → first_refusal (turn_of s session asked).early ≡ Some r → (answer ≡ reply.Refused r) × (new ≡ s)
+early_at s session asked answer new r None event first =
+    let turn = turn_of s session asked in
+    let refused : first_refusal (refusals turn) ≡ Some r = first_in_front turn.early turn.late r first in
+    let is : (answer, new) ≡ (reply.Refused r, s) =
+    event.is_step ∙ ap (λ (o : Option Refusal). unwrap_or (option_map (λ (q : Refusal). (reply.Refused q, s)) o) (turn.reply, turn.next)) refused in
+    (ap (λ (p : Reply × State). p.0) is, ap (λ (p : Reply × State). p.1) is)
+early_at s session asked answer new r (Some f) event first =
+    let turn = turn_of s session asked in
+    let may : is_none (first_refusal turn.early) ≡ true = (and_parts (is_none (first_refusal turn.early)) (turn.fails_for f) event.0).0 in
+    absurd (cc (ap (λ (o : Option Refusal). is_none o) first))
+
+pub early_refusals_stand : (s : State) (session : ℕ) (asked : Statement) (answer : Reply) (new : State) (r : Refusal)
+    → StepOrRefusal s session asked answer new → first_refusal (turn_of s session asked).early ≡ Some r
+    → (answer ≡ reply.Refused r) × (new ≡ s)
+early_refusals_stand s session asked answer new r event first = early_at s session asked answer new r (failure_of answer) event first
 
 -- what COMMIT and ROLLBACK are answered
-pub commit_answers : (s : State) (session : ℕ) → (step s session statement.Commit).0 ≡ reply.Committed (length (own session s.held))
-unfolding step
+pub commit_answers : (s : State) (session : ℕ) → (step s session statement.Commit).0 ≡ reply.Committed (length (own session s.reservations))
+unfolding turn_of
 commit_answers s session = refl
 
-pub rollback_answers : (s : State) (session : ℕ) → (step s session statement.Rollback).0 ≡ reply.RolledBack (length (own session s.held))
-unfolding step
+pub rollback_answers : (s : State) (session : ℕ) → (step s session statement.Rollback).0 ≡ reply.RolledBack (length (own session s.reservations))
+unfolding turn_of
 rollback_answers s session = refl
 
--- what a statement does to the committed rows
-inserted_rows : (s : State) (session : ℕ) (text : InsertText) → first_refusal (insert_refusals s session text) ≡ None
-    → IsSeen s session (statement.Insert text) reply.Inserted (after_insert s text).rows
-inserted_rows s session text none =
-    let made = insert_makes s session text none in
-    inr (refl, (made.0, made.1, ap (λ (o : Option Row). unwrap_or (option_map (λ (row : Row). with_row row s.rows) o) s.rows) made.1))
+-- what a statement does to the committed rows: a refusal leaves them
+none_for_commit : (s : State) (session : ℕ) (r : Refusal) → ¬ (first_refusal (refusals (turn_of s session statement.Commit)) ≡ Some r)
+unfolding turn_of
+none_for_commit s session r = λ e. absurd (cc)
+
+refused_unseen : (s : State) (session : ℕ) (asked : Statement) (r : Refusal) → first_refusal (refusals (turn_of s session asked)) ≡ Some r
+    → IsSeen s session asked (reply.Refused r) s.rows
+refused_unseen s session asked r first = record {
+  inserted = λ text is answered. absurd (cc);
+  committed = λ is. absurd (none_for_commit s session r (subst (λ (a : Statement). first_refusal (refusals (turn_of s session a)) ≡ Some r) is first));
+  otherwise = λ _ _. refl;
+}
 
 pub queries_see_commits_alone : (s : State) (session : ℕ) (asked : Statement) → IsSeen s session asked (step s session asked).0 (step s session asked).1.rows
-unfolding step
-queries_see_commits_alone s session (statement.Create text) =
-    unless (λ (p : Reply × State). p.1.rows ≡ s.rows) s (create_refusals s session text) (reply.Created text.table) (after_create s text) (λ _ _. refl) (λ _. refl)
-queries_see_commits_alone s session (statement.Insert text) =
-    unless (λ (p : Reply × State). IsSeen s session (statement.Insert text) p.0 p.1.rows) s (insert_refusals s session text) reply.Inserted (after_insert s text)
-    (λ _ _. inl ((λ e. absurd (cc)), refl)) (inserted_rows s session text)
-queries_see_commits_alone s session (statement.Update text) =
-    unless (λ (p : Reply × State). p.1.rows ≡ s.rows) s (update_refusals s session text) (reply.Reserved s.next_id) (after_update s session text) (λ _ _. refl) (λ _. refl)
-queries_see_commits_alone s session statement.Commit = refl
-queries_see_commits_alone s session statement.Rollback = refl
+queries_see_commits_alone s session asked =
+    step_has (λ (p : Reply × State). IsSeen s session asked p.0 p.1.rows) s session asked
+    (refused_unseen s session asked) (is_turn s session asked).seen
 
 -- the id of a reservation
 pub reserved_takes_the_next_id : (s : State) (session : ℕ) (asked : Statement) (id : ℕ)
     → (step s session asked).0 ≡ reply.Reserved id → (id ≡ s.next_id) × ((step s session asked).1.next_id ≡ s.next_id + 1)
-unfolding step
-reserved_takes_the_next_id s session (statement.Create text) id =
-    unless (λ (p : Reply × State). p.0 ≡ reply.Reserved id → (id ≡ s.next_id) × (p.1.next_id ≡ s.next_id + 1)) s
-    (create_refusals s session text) (reply.Created text.table) (after_create s text) (λ _ _ e. absurd (cc)) (λ _ e. absurd (cc))
-reserved_takes_the_next_id s session (statement.Insert text) id =
-    unless (λ (p : Reply × State). p.0 ≡ reply.Reserved id → (id ≡ s.next_id) × (p.1.next_id ≡ s.next_id + 1)) s
-    (insert_refusals s session text) reply.Inserted (after_insert s text) (λ _ _ e. absurd (cc)) (λ _ e. absurd (cc))
-reserved_takes_the_next_id s session (statement.Update text) id =
-    unless (λ (p : Reply × State). p.0 ≡ reply.Reserved id → (id ≡ s.next_id) × (p.1.next_id ≡ s.next_id + 1)) s
-    (update_refusals s session text) (reply.Reserved s.next_id) (after_update s session text) (λ _ _ e. absurd (cc)) (λ _ e. (cc, refl))
-reserved_takes_the_next_id s session statement.Commit id = λ e. absurd (cc)
-reserved_takes_the_next_id s session statement.Rollback id = λ e. absurd (cc)
+reserved_takes_the_next_id s session asked id =
+    step_has (λ (p : Reply × State). p.0 ≡ reply.Reserved id → (id ≡ s.next_id) × (p.1.next_id ≡ s.next_id + 1)) s session asked
+    (λ _ _ e. absurd (cc)) (λ accepted e. (is_turn s session asked).next accepted id e)
 
 -- no step lowers the next id
 pub ids_never_fall : (s : State) (session : ℕ) (asked : Statement) → s.next_id ≤ (step s session asked).1.next_id
-unfolding step
-ids_never_fall s session (statement.Create text) =
-    unless (λ (p : Reply × State). s.next_id ≤ p.1.next_id) s (create_refusals s session text) (reply.Created text.table) (after_create s text) (λ _ _. le_refl _) (λ _. le_refl _)
-ids_never_fall s session (statement.Insert text) =
-    unless (λ (p : Reply × State). s.next_id ≤ p.1.next_id) s (insert_refusals s session text) reply.Inserted (after_insert s text) (λ _ _. le_refl _) (λ _. le_refl _)
-ids_never_fall s session (statement.Update text) =
-    unless (λ (p : Reply × State). s.next_id ≤ p.1.next_id) s (update_refusals s session text) (reply.Reserved s.next_id) (after_update s session text) (λ _ _. le_refl _) (λ _. more)
-  where
-    more : s.next_id ≤ s.next_id + 1
-    more = omega arith
-ids_never_fall s session statement.Commit = le_refl _
-ids_never_fall s session statement.Rollback = le_refl _
+ids_never_fall s session asked =
+    step_has (λ (p : Reply × State). s.next_id ≤ p.1.next_id) s session asked (λ _ _. le_refl _) (is_turn s session asked).ids

@@ -12,6 +12,7 @@ use Rattle.std.proofs.lemmas.Cmp.{nat_list_cmp_total, int_cmp_total, then_total,
 use Rattle.std.proofs.lemmas.Slice.Eq.{bytes_eq-Decides}
 use Rattle.escrow_num.specs.declared.value.Value.{Value}
 use Rattle.escrow_num.specs.declared.value.Value.TheVariants.{Number, Text}
+use Rattle.escrow_num.specs.declared.value.RowName.{RowName}
 use Rattle.escrow_num.specs.declared.row.Row.{Row}
 use Rattle.escrow_num.specs.Order.{value_eq, value_cmp, same_row, row_cmp}
 use Rattle.escrow_schema.specs.declared.table.TableDef.{TableDef}
@@ -45,13 +46,13 @@ value_total = record { antisymm = value_antisymm; trans = value_trans; congr = v
 
 -- the order of rows, and that of tables
 abbrev pub by_row : Row → Row → Ordering
-by_row a b = row_cmp a.table a.key b.table b.key
+by_row a b = row_cmp a.name b.name
 
 abbrev pub by_name : TableDef → TableDef → Ordering
 by_name a b = slice_cmp nat_cmp a.name b.name
 
 pub row_total : IsTotalOrder by_row
-row_total = then_total (on_total (λ (r : Row). r.table) nat_list_cmp_total) (on_total (λ (r : Row). r.key) value_total)
+row_total = on_total (λ (r : Row). r.name) (then_total (on_total (λ (n : RowName). n.table) nat_list_cmp_total) (on_total (λ (n : RowName). n.key) value_total))
 
 pub table_total : IsTotalOrder by_name
 table_total = on_total (λ (t : TableDef). t.name) nat_list_cmp_total
@@ -100,11 +101,15 @@ value_tied (Number a) (Text b) e = absurd (cc)
 value_tied (Text a) (Number b) e = absurd (cc)
 value_tied (Text a) (Text b) e = ap Text (list_tied a b e)
 
+-- rows' names of equal parts are the same
+same_parts : (a b : RowName) → a.table ≡ b.table → a.key ≡ b.key → a ≡ b
+same_parts a b tables keys = ap₂ (λ (t : List ℕ) (k : Value). record { table = t; key = k }) tables keys
+
 -- rows that compare as equal have one name, and so have tables
-pub row_tied : (x y : Row) → by_row x y ≡ Equal → (x.table ≡ y.table) × (x.key ≡ y.key)
+pub row_tied : (x y : Row) → by_row x y ≡ Equal → x.name ≡ y.name
 row_tied x y e =
-    let parts = both_equal (slice_cmp nat_cmp x.table y.table) (value_cmp x.key y.key) e in
-    (list_tied x.table y.table parts.0, value_tied x.key y.key parts.1)
+    let parts = both_equal (slice_cmp nat_cmp x.name.table y.name.table) (value_cmp x.name.key y.name.key) e in
+    same_parts x.name y.name (list_tied x.name.table y.name.table parts.0) (value_tied x.name.key y.name.key parts.1)
 
 pub table_tied : (x y : TableDef) → by_name x y ≡ Equal → x.name ≡ y.name
 table_tied x y e = list_tied x.name y.name e
@@ -128,10 +133,10 @@ pub same_name : (xs : List ℕ) → bytes_eq xs xs ≡ true
 same_name xs = (bytes_eq-Decides xs xs).1 refl
 
 -- rows' names that pass the test are the same, and a row's name passes with itself
-pub row_same : (table : List ℕ) (key : Value) (other : List ℕ) (other_key : Value) → same_row table key other other_key ≡ true → (table ≡ other) × (key ≡ other_key)
-row_same table key other other_key e =
-    let parts = and_parts (bytes_eq table other) (value_eq key other_key) e in
-    (name_same table other parts.0, value_same key other_key parts.1)
+pub row_same : (a b : RowName) → same_row a b ≡ true → a ≡ b
+row_same a b e =
+    let parts = and_parts (bytes_eq a.table b.table) (value_eq a.key b.key) e in
+    same_parts a b (name_same a.table b.table parts.0) (value_same a.key b.key parts.1)
 
-pub same_row_itself : (table : List ℕ) (key : Value) → same_row table key table key ≡ true
-same_row_itself table key = and_from (bytes_eq table table) (value_eq key key) (same_name table) (same_value key)
+pub same_row_itself : (a : RowName) → same_row a a ≡ true
+same_row_itself a = and_from (bytes_eq a.table a.table) (value_eq a.key a.key) (same_name a.table) (same_value a.key)

@@ -2,8 +2,8 @@
 use Rattle.std.specs.Prelude.{◌≡◌, ℕ, true, false, List, Option, Some, None, IsSomeAnd, IsTrue}
 use Rattle.std.specs.List.{AllByRecursion}
 use Rattle.std.specs.Ordering.{is_lt}
-use Rattle.std.proofs.Common.{inl, inr, sym, ap₂, ◌∙◌, subst}
-use Rattle.escrow_num.specs.declared.value.Value.{Value}
+use Rattle.std.proofs.Common.{inl, inr, sym, ap, ◌∙◌, subst}
+use Rattle.escrow_num.specs.declared.value.RowName.{RowName}
 use Rattle.escrow_num.specs.declared.row.Row.{Row}
 use Rattle.escrow_num.specs.declared.reservation.Reservation.{Reservation}
 use Rattle.escrow_num.specs.Order.{same_row, row_cmp}
@@ -27,10 +27,10 @@ some_weaker P Q None each h = h
 some_weaker P Q (Some x) each h = each x h
 
 -- a valid state's rows meet their checks after each choice
-pub safe_row : (s : State) → IsValid s → (chosen : List Reservation) → IsChoice s.held chosen → (row : Row) → Has s.rows row
+pub safe_row : (s : State) → IsValid s → (chosen : List Reservation) → IsChoice s.reservations chosen → (row : Row) → Has s.rows row
     → MeetsChecks s.catalog (row_after chosen row)
 safe_row s valid chosen choice row h =
-    let all = all_choices (λ c. AllByRecursion (MeetsChecks s.catalog) (applied s.rows c)) s.held valid.safe chosen choice in
+    let all = all_choices (λ c. AllByRecursion (MeetsChecks s.catalog) (applied s.rows c)) s.reservations valid.safe_rows.safe chosen choice in
     all_has (λ r. MeetsChecks s.catalog (row_after chosen r)) s.rows (all_map (MeetsChecks s.catalog) (row_after chosen) s.rows all) row h
 
 -- and rows that do so are safe
@@ -40,23 +40,20 @@ safe_rows catalog rows chosen each =
     map_all (MeetsChecks catalog) (row_after chosen) rows (has_all (λ r. MeetsChecks catalog (row_after chosen r)) rows each)
 
 -- no row is before one of its own name
-not_before_same : (a b : Row) → a.table ≡ b.table → a.key ≡ b.key → IsTrue (row_before a b) → ⊥
-not_before_same a b tables keys before =
-    let at : row_before a a ≡ row_before a b = ap₂ (λ (t : List ℕ) (k : Value). is_lt (row_cmp a.table a.key t k)) tables keys in
+not_before_same : (a b : Row) → a.name ≡ b.name → IsTrue (row_before a b) → ⊥
+not_before_same a b names before =
+    let at : row_before a a ≡ row_before a b = ap (λ (n : RowName). is_lt (row_cmp a.name n)) names in
     let itself : row_before a a ≡ false = before_itself by_row row_total a in
     absurd (cc)
 
 -- a row of a name is the one that is found
-pub row_unique : (rows : List Row) (table : List ℕ) (key : Value) (row other : Row) → IsAscending row_before rows → row_named rows table key ≡ Some row
-    → Has rows other → same_row other.table other.key table key ≡ true → row ≡ other
-row_unique rows table key row other order found h same =
-    let of_row = find_has (λ r. same_row r.table r.key table key) rows row found in
-    let row_is = row_same row.table row.key table key of_row.1 in
-    let other_is = row_same other.table other.key table key same in
-    let tables : row.table ≡ other.table = row_is.0 ∙ sym other_is.0 in
-    let keys : row.key ≡ other.key = row_is.1 ∙ sym other_is.1 in
+pub row_unique : (rows : List Row) (name : RowName) (row other : Row) → IsAscending row_before rows → row_named rows name ≡ Some row
+    → Has rows other → same_row other.name name ≡ true → row ≡ other
+row_unique rows name row other order found h same =
+    let of_row = find_has (λ r. same_row r.name name) rows row found in
+    let names : row.name ≡ other.name = row_same row.name name of_row.1 ∙ sym (row_same other.name name same) in
     elim (ascending_one row_before rows order row other of_row.0 h) [
       | inl e ↦ e
-      | inr (inl before) ↦ absurd (not_before_same row other tables keys before)
-      | inr (inr before) ↦ absurd (not_before_same other row (sym tables) (sym keys) before)
+      | inr (inl before) ↦ absurd (not_before_same row other names before)
+      | inr (inr before) ↦ absurd (not_before_same other row (sym names) before)
     ]

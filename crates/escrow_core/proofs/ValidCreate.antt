@@ -1,47 +1,25 @@
 -- CREATE TABLE: the tables that stand are found as before.
-use Rattle.std.specs.Prelude.{◌≡◌, ◌<◌, ℕ, true, false, cond, List, ◌++◌, Option, Some, None, option_and_then, length, bytes_eq, IsSomeAnd}
+use Rattle.std.specs.Prelude.{◌≡◌, ◌<◌, ℕ, true, false, List, Option, Some, None, length, bytes_eq, IsSomeAnd}
 use Rattle.std.specs.List.{AllByRecursion}
 use Rattle.std.specs.declared.cmp.Ordering.TheVariants.{Equal}
 use Rattle.std.proofs.Common.{inl, inr, sym, ap, ◌∙◌, subst, arith}
 use Rattle.std.proofs.lemmas.Bool.{cases_Bool}
-use Rattle.std.proofs.lemmas.Option.{cond_some, option_and_then_some}
 use Rattle.escrow_num.specs.declared.row.Row.{Row}
 use Rattle.escrow_num.specs.declared.reservation.Reservation.{Reservation}
 use Rattle.escrow_sql.specs.declared.statement.CreateText.{CreateText}
-use Rattle.escrow_checks.specs.declared.check.Check.{Check}
 use Rattle.escrow_checks.specs.Grant.{Meets}
-use Rattle.escrow_checks.specs.Condition.{declared}
-use Rattle.escrow_schema.specs.declared.column.Column.{Column}
 use Rattle.escrow_schema.specs.declared.table.TableDef.{TableDef}
-use Rattle.escrow_schema.specs.Column.{reservables, names_of}
-use Rattle.escrow_schema.specs.Definition.{defined, table_of, table_with, columns_of, are_columns, are_distinct, check_names, checks_in, range_checks, IsTable}
-use Rattle.escrow_schema.proofs.ListLemmas.{some_under}
+use Rattle.escrow_schema.specs.Column.{reservables}
+use Rattle.escrow_schema.specs.Definition.{definition_of, IsTable}
+use Rattle.escrow_core.specs.declared.database.TheConstants.Database.{MAX_TABLES}
 use Rattle.escrow_core.specs.State.{State, table_named, row_after, applied, with_table}
-use Rattle.escrow_core.specs.Valid.{IsValid, IsAscending, IsRowOf, HasTable, MeetsChecks, table_before}
+use Rattle.escrow_core.specs.Valid.{IsValid, IsAscending, IsReservationIn, IsRowOf, HasTable, MeetsChecks, table_before}
 use Rattle.escrow_core.proofs.Items.{Has, all_has, has_all, find_none}
 use Rattle.escrow_core.proofs.Choices.{IsChoice, choices_all}
 use Rattle.escrow_core.proofs.Orders.{by_name, table_total, table_tied, before_trans, not_before, name_same, same_name}
 use Rattle.escrow_core.proofs.Put.{with_table_put, has_put, length-put, find_put, put_ascending}
 use Rattle.escrow_core.proofs.Safe.{safe_row, safe_rows}
-
--- a table that a text defines has the text's name
-name_with : (name : List ℕ) (columns : List Column) (key : ℕ) (checks : List Check) (table : TableDef)
-    → table_with name columns key checks ≡ Some table → name ≡ table.name
-name_with name columns key checks table e =
-    ap (λ (t : TableDef). t.name) (cond_some (are_distinct (check_names checks)) (record { name = name; columns = columns; key = key; checks = checks }) table e).1
-
-name_of_columns : (text : CreateText) (table : TableDef) (columns : List Column) (key : ℕ)
-    → cond (are_columns text.items columns key)
-    (option_and_then (λ checks. table_with text.table columns key (checks ++ range_checks columns)) (declared (names_of (reservables columns)) (checks_in text.items))) None ≡ Some table
-    → text.table ≡ table.name
-name_of_columns text table columns key e =
-    let whole : List Check → Option TableDef = λ checks. table_with text.table columns key (checks ++ range_checks columns) in
-    let checks : Option (List Check) = declared (names_of (reservables columns)) (checks_in text.items) in
-    option_and_then_some whole checks table (some_under (are_columns text.items columns key) (option_and_then whole checks) table e).1
-    (λ found _ made. name_with text.table columns key (found ++ range_checks columns) table made)
-
-name_defined : (text : CreateText) (table : TableDef) → defined text ≡ Some table → text.table ≡ table.name
-name_defined text table e = option_and_then_some (table_of text) (columns_of text.items) table e (λ columns _ made. name_of_columns text table columns _ made)
+use Rattle.escrow_schema.proofs.LawLemmas.{name_of_table}
 
 -- a table that is found is found with a new one beside it
 still_named : (catalog : List TableDef) (table : TableDef) (name : List ℕ) (P : TableDef → Type 0) → table_named catalog table.name ≡ None
@@ -66,31 +44,48 @@ in_order catalog table new ascending =
     (λ y h f. not_before by_name table_total table y f (differs y h)) ascending)
 
 -- CREATE TABLE keeps a valid state valid
-pub create_valid : (s : State) (text : CreateText) (table : TableDef) → IsValid s → defined text ≡ Some table
-    → table_named s.catalog text.table ≡ None → length s.catalog < 32
+pub create_valid : (s : State) (text : CreateText) (table : TableDef) → IsValid s → definition_of text ≡ Some table
+    → table_named s.catalog text.table ≡ None → length s.catalog < MAX_TABLES
     → IsValid (record s { catalog = with_table table s.catalog })
 create_valid s text table valid made new room =
-    let free : table_named s.catalog table.name ≡ None = subst (λ n. table_named s.catalog n ≡ None) (name_defined text table made) new in
+    let free : table_named s.catalog table.name ≡ None = subst (λ n. table_named s.catalog n ≡ None) (sym (name_of_table text table made)) new in
     let catalog : List TableDef = with_table table s.catalog in
     let Safe : List Reservation → Type 0 = λ c. AllByRecursion (MeetsChecks catalog) (applied s.rows c) in
     let is_table : (t : TableDef) → Has catalog t → IsTable t = λ t h.
     elim (has_put table_before table s.catalog t (subst (λ c. Has c t) (with_table_put table s.catalog) h)) [
       | inl e ↦ subst IsTable e (text, made)
-      | inr k ↦ all_has IsTable s.catalog valid.tables t k
+      | inr k ↦ all_has IsTable s.catalog valid.orderly.tables t k
     ] in
-    let meets : (c : List Reservation) → IsChoice s.held c → (row : Row) → Has s.rows row → MeetsChecks catalog (row_after c row) = λ c choice row h.
-    still_named s.catalog table row.table (λ t. AllByRecursion (λ check. Meets check (row_after c row).amounts) t.checks) free (safe_row s valid c choice row h) in
+    let still_in : (r : Reservation) → Has s.reservations r → IsReservationIn catalog s.next_id r = λ r h.
+    let was = all_has (IsReservationIn s.catalog s.next_id) s.reservations valid.orderly.reservations_in r h in
     record {
-      tables = has_all IsTable catalog is_table;
-      catalog_order = in_order s.catalog table free valid.catalog_order;
-      rows = has_all (HasTable catalog) s.rows (λ row h. still_named s.catalog table row.table (λ t. IsRowOf t row) free (all_has (HasTable s.catalog) s.rows valid.rows row h));
-      row_order = valid.row_order;
-      held = valid.held;
-      held_order = valid.held_order;
-      safe = choices_all Safe s.held (λ c h. safe_rows catalog s.rows c (meets c h));
-      few_tables = omega (arith, ap (λ (c : List TableDef). length c) (with_table_put table s.catalog), length-put table_before table s.catalog);
-      few_rows = valid.few_rows;
-      few_held = valid.few_held;
-      few_marks = valid.few_marks;
-      ids = valid.ids;
+      session = was.session;
+      first = was.first;
+      below = was.below;
+      changes = still_named s.catalog table r.row.table (λ t. length r.changes ≡ length (reservables t.columns)) free was.changes;
+    } in
+    let meets : (c : List Reservation) → IsChoice s.reservations c → (row : Row) → Has s.rows row → MeetsChecks catalog (row_after c row) = λ c choice row h.
+    still_named s.catalog table row.name.table (λ t. AllByRecursion (λ check. Meets check (row_after c row).amounts) t.checks) free (safe_row s valid c choice row h) in
+    record {
+      orderly = record {
+        tables = has_all IsTable catalog is_table;
+        catalog_order = in_order s.catalog table free valid.orderly.catalog_order;
+        few_tables = omega (arith, ap (λ (c : List TableDef). length c) (with_table_put table s.catalog), length-put table_before table s.catalog);
+        reservations_in = has_all (IsReservationIn catalog s.next_id) s.reservations still_in;
+        reservation_order = valid.orderly.reservation_order;
+        few_reservations = valid.orderly.few_reservations;
+        savepoints_in = valid.orderly.savepoints_in;
+        savepoint_order = valid.orderly.savepoint_order;
+        few_savepoints = valid.orderly.few_savepoints;
+        first_id = valid.orderly.first_id;
+        last_id = valid.orderly.last_id;
+      };
+      safe_rows = record {
+        tables = has_all (HasTable catalog) s.rows (λ row h.
+            still_named s.catalog table row.name.table (λ t. IsRowOf t row) free (all_has (HasTable s.catalog) s.rows valid.safe_rows.tables row h));
+        row_order = valid.safe_rows.row_order;
+        few_rows = valid.safe_rows.few_rows;
+        reserved_rows = valid.safe_rows.reserved_rows;
+        safe = choices_all Safe s.reservations (λ c h. safe_rows catalog s.rows c (meets c h));
+      };
     }

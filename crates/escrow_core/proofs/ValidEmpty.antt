@@ -1,21 +1,23 @@
 -- The state that a database begins with.
-use Rattle.std.specs.Prelude.{[]}
 use Rattle.std.proofs.Common.{arith}
+use Rattle.escrow_core.specs.State.{empty}
 use Rattle.escrow_core.specs.Valid.{IsValid}
 
 -- the empty database is valid
-pub empty_valid : IsValid (record { catalog = []; rows = []; held = []; marks = []; next_id = 1 })
+pub empty_valid : IsValid empty
 empty_valid = record {
-  tables = tt;
-  catalog_order = tt;
-  rows = tt;
-  row_order = tt;
-  held = tt;
-  held_order = tt;
-  safe = (tt, tt);
-  few_tables = omega arith;
-  few_rows = λ table. omega arith;
-  few_held = λ session. omega arith;
-  few_marks = λ session. omega arith;
-  ids = (omega arith, omega arith);
+  orderly = record {
+    tables = tt;
+    catalog_order = tt;
+    few_tables = omega arith;
+    reservations_in = tt;
+    reservation_order = tt;
+    few_reservations = λ session. omega arith;
+    savepoints_in = tt;
+    savepoint_order = tt;
+    few_savepoints = λ session. omega arith;
+    first_id = omega arith;
+    last_id = omega arith;
+  };
+  safe_rows = record { tables = tt; row_order = tt; few_rows = λ table. omega arith; reserved_rows = tt; safe = (tt, tt) };
 }

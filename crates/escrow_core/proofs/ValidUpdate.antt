@@ -1,19 +1,27 @@
 -- A reservation: a choice of the open ones and the new one is a choice of the old ones, or one with the new one at its end.
-use Rattle.std.specs.Prelude.{◌≡◌, ◌<◌, ◌≤◌, ℕ, ℤ, ◌+◌, ◌==◌, Bool, true, false, List, [], ◌∷◌, ◌++◌, Some, None, length, map, filter, IsTrue}
+use Rattle.std.specs.Prelude.{◌≡◌, ◌<◌, ◌≤◌, ℕ, ℤ, ◌+◌, ◌==◌, Bool, true, false, List, [], ◌∷◌, ◌++◌, Option, Some, None, length, map, filter, IsTrue, IsSome}
 use Rattle.std.specs.List.{AllByRecursion}
-use Rattle.std.proofs.Common.{inl, inr, sym, ap, ◌∙◌, subst, arith, length-append}
+use Rattle.std.proofs.Common.{inl, inr, sym, ap, ◌∙◌, subst, refl, arith, length-append}
 use Rattle.std.proofs.lemmas.Bool.{cond_both, cond-true, cond-false, lt-ltb, eqb-true, cases_Bool}
 use Rattle.std.proofs.lemmas.List.{map_push}
 use Rattle.std.proofs.lemmas.List.Elements.{filter-append}
 use Rattle.escrow_num.specs.declared.row.Row.{Row}
 use Rattle.escrow_num.specs.declared.reservation.Reservation.{Reservation}
+use Rattle.escrow_num.specs.declared.reservation.Savepoint.{Savepoint}
+use Rattle.escrow_num.specs.declared.value.RowName.{RowName}
 use Rattle.escrow_num.specs.Order.{same_row}
+use Rattle.escrow_num.specs.Reservation.{counted}
 use Rattle.escrow_num.specs.Session.{IsSession}
 use Rattle.escrow_checks.specs.Form.{changed, all_changed}
 use Rattle.escrow_checks.specs.Grant.{Meets, broken}
 use Rattle.escrow_schema.specs.declared.table.TableDef.{TableDef}
-use Rattle.escrow_core.specs.State.{State, table_named, row_named, own, changes_to, row_after, applied}
-use Rattle.escrow_core.specs.Valid.{IsValid, IsHeldIn, MeetsChecks, reservation_before}
+use Rattle.escrow_schema.specs.Column.{reservables}
+use Rattle.escrow_num.specs.declared.reservation.TheConstants.Reservation.{MAX_ID}
+use Rattle.escrow_core.specs.declared.database.TheConstants.Database.{MAX_RESERVATIONS}
+use Rattle.escrow_core.specs.Reservations.{own, reservation_before}
+use Rattle.escrow_core.specs.State.{State, table_named, row_named, changes_to, row_after, applied}
+use Rattle.escrow_core.specs.Turn.{granted}
+use Rattle.escrow_core.specs.Valid.{IsValid, IsOrderly, IsReservationIn, IsSavepointIn, HasRow, MeetsChecks}
 use Rattle.escrow_core.proofs.Items.{Has, all_has, has_all, has_push, find_has}
 use Rattle.escrow_core.proofs.Choices.{IsChoice, all_choices, choices_all, choice_push, choice_map}
 use Rattle.escrow_core.proofs.Changes.{changed_nil, all_changed_push}
@@ -33,101 +41,128 @@ amounts_push row front r =
     ap (all_changed row.amounts) (map_push (changes_to row) front r) ∙ all_changed_push row.amounts (changes_to row r) (map (changes_to row) front)
 
 -- which are none to another row
-amounts_other : (row : Row) (front : List Reservation) (r : Reservation) → same_row row.table row.key r.table r.key ≡ false
+amounts_other : (row : Row) (front : List Reservation) (r : Reservation) → same_row row.name r.row ≡ false
     → amounts_after row front ≡ amounts_after row (front ++ r ∷ [])
 amounts_other row front r other =
-    let none : changes_to row r ≡ [] = cond-false (same_row row.table row.key r.table r.key) r.changes [] other in
+    let none : changes_to row r ≡ [] = cond-false (same_row row.name r.row) (counted r.changes) [] other in
     sym (amounts_push row front r ∙ ap (λ zs. all_changed zs (map (changes_to row) front)) (ap (changed row.amounts) none ∙ changed_nil row.amounts))
 
 -- and its own to its row
-amounts_own : (row : Row) (front : List Reservation) (r : Reservation) → same_row row.table row.key r.table r.key ≡ true
-    → all_changed (changed row.amounts r.changes) (map (changes_to row) front) ≡ amounts_after row (front ++ r ∷ [])
+amounts_own : (row : Row) (front : List Reservation) (r : Reservation) → same_row row.name r.row ≡ true
+    → all_changed (changed row.amounts (counted r.changes)) (map (changes_to row) front) ≡ amounts_after row (front ++ r ∷ [])
 amounts_own row front r same =
-    let own : changes_to row r ≡ r.changes = cond-true (same_row row.table row.key r.table r.key) r.changes [] same in
+    let own : changes_to row r ≡ counted r.changes = cond-true (same_row row.name r.row) (counted r.changes) [] same in
     sym (amounts_push row front r ∙ ap (λ zs. all_changed (changed row.amounts zs) (map (changes_to row) front)) own)
 
 -- the reservation's row meets its checks after the reservation and any choice of the others
 meets_own : (s : State) (table : TableDef) (row : Row) (r : Reservation)
-    → table_named s.catalog r.table ≡ Some table → same_row row.table row.key r.table r.key ≡ true
-    → broken table.checks row.amounts r.changes (map (changes_to row) s.held) ≡ None
-    → (front : List Reservation) → IsChoice s.held front → MeetsChecks s.catalog (row_after (front ++ r ∷ []) row)
-meets_own s table row r named same granted front choice =
-    let of_table : table_named s.catalog row.table ≡ Some table = ap (table_named s.catalog) (row_same row.table row.key r.table r.key same).0 ∙ named in
-    let met = granted_meets table.checks row.amounts r.changes (map (changes_to row) s.held) (map (changes_to row) front) granted
-    (choice_map (changes_to row) s.held front choice) in
-    some_from (λ (t : TableDef). AllByRecursion (λ check. Meets check (amounts_after row (front ++ r ∷ []))) t.checks) (table_named s.catalog row.table) table of_table
+    → table_named s.catalog r.row.table ≡ Some table → same_row row.name r.row ≡ true
+    → broken table.checks row.amounts (counted r.changes) (map (changes_to row) s.reservations) ≡ None
+    → (front : List Reservation) → IsChoice s.reservations front → MeetsChecks s.catalog (row_after (front ++ r ∷ []) row)
+meets_own s table row r named same safe front choice =
+    let of_table : table_named s.catalog row.name.table ≡ Some table = ap (λ (n : RowName). table_named s.catalog n.table) (row_same row.name r.row same) ∙ named in
+    let met = granted_meets table.checks row.amounts (counted r.changes) (map (changes_to row) s.reservations) (map (changes_to row) front) safe
+    (choice_map (changes_to row) s.reservations front choice) in
+    some_from (λ (t : TableDef). AllByRecursion (λ check. Meets check (amounts_after row (front ++ r ∷ []))) t.checks) (table_named s.catalog row.name.table) table of_table
     (subst (λ zs. AllByRecursion (λ check. Meets check zs) table.checks) (amounts_own row front r same) met)
 
 -- and so does each row
 meets_push : (s : State) (table : TableDef) (row : Row) (r : Reservation) → IsValid s
-    → table_named s.catalog r.table ≡ Some table → row_named s.rows r.table r.key ≡ Some row
-    → broken table.checks row.amounts r.changes (map (changes_to row) s.held) ≡ None
-    → (front : List Reservation) → IsChoice s.held front → (other : Row) → Has s.rows other → MeetsChecks s.catalog (row_after (front ++ r ∷ []) other)
-meets_push s table row r valid named found granted front choice other h =
-    let of_row = find_has (λ x. same_row x.table x.key r.table r.key) s.rows row found in
-    elim (cases_Bool (same_row other.table other.key r.table r.key)) [
-      | inl same ↦ subst (λ x. MeetsChecks s.catalog (row_after (front ++ r ∷ []) x)) (row_unique s.rows r.table r.key row other valid.row_order found h same)
-          (meets_own s table row r named of_row.1 granted front choice)
+    → table_named s.catalog r.row.table ≡ Some table → row_named s.rows r.row ≡ Some row
+    → broken table.checks row.amounts (counted r.changes) (map (changes_to row) s.reservations) ≡ None
+    → (front : List Reservation) → IsChoice s.reservations front → (other : Row) → Has s.rows other → MeetsChecks s.catalog (row_after (front ++ r ∷ []) other)
+meets_push s table row r valid named found safe front choice other h =
+    let of_row = find_has (λ (x : Row). same_row x.name r.row) s.rows row found in
+    elim (cases_Bool (same_row other.name r.row)) [
+      | inl same ↦ subst (λ x. MeetsChecks s.catalog (row_after (front ++ r ∷ []) x)) (row_unique s.rows r.row row other valid.safe_rows.row_order found h same)
+          (meets_own s table row r named of_row.1 safe front choice)
       | inr differs ↦ subst (λ zs. MeetsChecks s.catalog (record other { amounts = zs })) (amounts_other other front r differs)
           (safe_row s valid front choice other h)
     ]
 
 -- few open reservations of a session, with one more
-few_own : (held : List Reservation) (r : Reservation) (session : ℕ) → length (own session held) ≤ 256 → length (own r.session held) < 256
-    → length (own session (held ++ r ∷ [])) ≤ 256
-few_own held r session few room =
+few_own : (reservations : List Reservation) (r : Reservation) (session : ℕ) → length (own session reservations) ≤ MAX_RESERVATIONS → length (own r.session reservations) < MAX_RESERVATIONS
+    → length (own session (reservations ++ r ∷ [])) ≤ MAX_RESERVATIONS
+few_own reservations r session few room =
     let p : Reservation → Bool = λ x. x.session == session in
-    let parts : length (filter p (held ++ r ∷ [])) ≡ length (filter p held) + length (filter p (r ∷ [])) =
-    ap length (filter-append p held (r ∷ [])) ∙ length-append (filter p held) (filter p (r ∷ [])) in
-    cond_both (p r) (r ∷ []) [] (λ zs. length (filter p (held ++ r ∷ [])) ≡ length (filter p held) + length zs → length (filter p (held ++ r ∷ [])) ≤ 256)
+    let parts : length (filter p (reservations ++ r ∷ [])) ≡ length (filter p reservations) + length (filter p (r ∷ [])) =
+    ap length (filter-append p reservations (r ∷ [])) ∙ length-append (filter p reservations) (filter p (r ∷ [])) in
+    cond_both (p r) (r ∷ []) [] (λ zs. length (filter p (reservations ++ r ∷ [])) ≡ length (filter p reservations) + length zs → length (filter p (reservations ++ r ∷ [])) ≤ MAX_RESERVATIONS)
     (λ t e. let same : r.session ≡ session = eqb-true r.session session t in
-    let here : length (own session held) < 256 = subst (λ k. length (own k held) < 256) same room in
+    let here : length (own session reservations) < MAX_RESERVATIONS = subst (λ k. length (own k reservations) < MAX_RESERVATIONS) same room in
     omega arith)
     (λ f e. omega arith) parts
 
+-- a reservation with the next id is the last in order, and takes the id
+granted_orderly : (s : State) (table : TableDef) (r : Reservation) → IsValid s → table_named s.catalog r.row.table ≡ Some table
+    → IsSession r.session → r.id ≡ s.next_id → s.next_id ≤ MAX_ID
+    → length r.changes ≡ length (reservables table.columns) → length (own r.session s.reservations) < MAX_RESERVATIONS
+    → IsOrderly s.catalog (s.reservations ++ r ∷ []) s.savepoints (s.next_id + 1)
+granted_orderly s table r valid named of_session next more_ids long room =
+    let old : (x : Reservation) → Has s.reservations x → IsReservationIn s.catalog s.next_id x =
+    all_has (IsReservationIn s.catalog s.next_id) s.reservations valid.orderly.reservations_in in
+    let first : 1 ≤ s.next_id = valid.orderly.first_id in
+    let is_in : IsReservationIn s.catalog (s.next_id + 1) r = record {
+      session = of_session;
+      first = omega arith;
+      below = omega arith;
+      changes = some_from (λ (t : TableDef). length r.changes ≡ length (reservables t.columns)) (table_named s.catalog r.row.table) table named long;
+    } in
+    let still_in : (x : Reservation) → Has s.reservations x → IsReservationIn s.catalog (s.next_id + 1) x = λ x h.
+    let was = old x h in
+    let below : x.id < s.next_id = was.below in
+    record { session = was.session; first = was.first; below = omega arith; changes = was.changes } in
+    let each_in : (x : Reservation) → Has (s.reservations ++ r ∷ []) x → IsReservationIn s.catalog (s.next_id + 1) x = λ x h.
+    elim (has_push s.reservations r x h) [ inl k ↦ still_in x k | inr e ↦ subst (IsReservationIn s.catalog (s.next_id + 1)) e is_in ] in
+    let in_order : (x : Reservation) → Has s.reservations x → IsTrue (reservation_before x r) = λ x h.
+    let below : x.id < s.next_id = (old x h).below in
+    lt-ltb x.id r.id (omega arith) in
+    let savepoint_in : (p : Savepoint) → Has s.savepoints p → IsSavepointIn (s.next_id + 1) p = λ p h.
+    let was = all_has (IsSavepointIn s.next_id) s.savepoints valid.orderly.savepoints_in p h in
+    let within : p.id ≤ s.next_id = was.within in
+    record { session = was.session; first = was.first; within = omega arith } in
+    record {
+      tables = valid.orderly.tables;
+      catalog_order = valid.orderly.catalog_order;
+      few_tables = valid.orderly.few_tables;
+      reservations_in = has_all (IsReservationIn s.catalog (s.next_id + 1)) (s.reservations ++ r ∷ []) each_in;
+      reservation_order = ascending_push reservation_before s.reservations r valid.orderly.reservation_order in_order;
+      few_reservations = λ session. few_own s.reservations r session (valid.orderly.few_reservations session) room;
+      savepoints_in = has_all (IsSavepointIn (s.next_id + 1)) s.savepoints savepoint_in;
+      savepoint_order = valid.orderly.savepoint_order;
+      few_savepoints = valid.orderly.few_savepoints;
+      first_id = omega arith;
+      last_id = omega arith;
+    }
+
 -- a granted reservation keeps a valid state valid
 pub update_valid : (s : State) (table : TableDef) (row : Row) (r : Reservation) → IsValid s
-    → table_named s.catalog r.table ≡ Some table → row_named s.rows r.table r.key ≡ Some row
-    → IsSession r.session → r.id ≡ s.next_id → s.next_id ≤ 999999999999999
-    → length r.changes ≡ length row.amounts → length (own r.session s.held) < 256
-    → broken table.checks row.amounts r.changes (map (changes_to row) s.held) ≡ None
-    → IsValid (record s { held = s.held ++ r ∷ []; next_id = s.next_id + 1 })
-update_valid s table row r valid named found of_session next more_ids long room granted =
-    let new : State = record s { held = s.held ++ r ∷ []; next_id = s.next_id + 1 } in
-    let old : (x : Reservation) → Has s.held x → IsHeldIn s x = all_has (IsHeldIn s) s.held valid.held in
-    let first : 1 ≤ s.next_id = valid.ids.0 in
-    let is_held : IsHeldIn new r = (
-      of_session,
-      omega arith,
-      omega arith,
-      some_from (λ (w : Row). length r.changes ≡ length w.amounts) (row_named s.rows r.table r.key) row found long,
-    ) in
-    let still_held : (x : Reservation) → Has s.held x → IsHeldIn new x = λ x h.
-    let was = old x h in
-    let below : x.id < s.next_id = was.2 in
-    (was.0, was.1, omega arith, was.3) in
-    let each_held : (x : Reservation) → Has (s.held ++ r ∷ []) x → IsHeldIn new x = λ x h.
-    elim (has_push s.held r x h) [ inl k ↦ still_held x k | inr e ↦ subst (IsHeldIn new) e is_held ] in
-    let in_order : (x : Reservation) → Has s.held x → IsTrue (reservation_before x r) = λ x h.
-    let below : x.id < s.next_id = (old x h).2 in
-    lt-ltb x.id r.id (omega arith) in
-    let safe_push : (chosen : List Reservation) → IsChoice (s.held ++ r ∷ []) chosen → AllByRecursion (MeetsChecks s.catalog) (applied s.rows chosen) = λ chosen h.
-    elim (choice_push s.held r chosen h) [
-      | inl k ↦ all_choices (λ c. AllByRecursion (MeetsChecks s.catalog) (applied s.rows c)) s.held valid.safe chosen k
-      | inr k ↦ subst (λ c. AllByRecursion (MeetsChecks s.catalog) (applied s.rows c)) k.2
-          (safe_rows s.catalog s.rows (k.0 ++ r ∷ []) (meets_push s table row r valid named found granted k.0 k.1))
+    → table_named s.catalog r.row.table ≡ Some table → row_named s.rows r.row ≡ Some row
+    → IsSession r.session → r.id ≡ s.next_id → s.next_id ≤ MAX_ID
+    → length r.changes ≡ length (reservables table.columns) → length (own r.session s.reservations) < MAX_RESERVATIONS
+    → broken table.checks row.amounts (counted r.changes) (map (changes_to row) s.reservations) ≡ None
+    → IsValid (granted s r)
+update_valid s table row r valid named found of_session next more_ids long room safe =
+    let Safe : List Reservation → Type 0 = λ c. AllByRecursion (MeetsChecks s.catalog) (applied s.rows c) in
+    let stands : HasRow s.rows r = subst (λ (o : Option Row). IsSome o) (sym found) refl in
+    let each_stands : (x : Reservation) → Has (s.reservations ++ r ∷ []) x → HasRow s.rows x = λ x h.
+    elim (has_push s.reservations r x h) [
+      | inl k ↦ all_has (HasRow s.rows) s.reservations valid.safe_rows.reserved_rows x k
+      | inr e ↦ subst (HasRow s.rows) e stands
+    ] in
+    let safe_push : (chosen : List Reservation) → IsChoice (s.reservations ++ r ∷ []) chosen → Safe chosen = λ chosen h.
+    elim (choice_push s.reservations r chosen h) [
+      | inl k ↦ all_choices Safe s.reservations valid.safe_rows.safe chosen k
+      | inr k ↦ subst Safe k.2
+          (safe_rows s.catalog s.rows (k.0 ++ r ∷ []) (meets_push s table row r valid named found safe k.0 k.1))
     ] in
     record {
-      tables = valid.tables;
-      catalog_order = valid.catalog_order;
-      rows = valid.rows;
-      row_order = valid.row_order;
-      held = has_all (IsHeldIn new) (s.held ++ r ∷ []) each_held;
-      held_order = ascending_push reservation_before s.held r valid.held_order in_order;
-      safe = choices_all (λ c. AllByRecursion (MeetsChecks s.catalog) (applied s.rows c)) (s.held ++ r ∷ []) safe_push;
-      few_tables = valid.few_tables;
-      few_rows = valid.few_rows;
-      few_held = λ session. few_own s.held r session (valid.few_held session) room;
-      few_marks = valid.few_marks;
-      ids = (omega arith, omega arith);
+      orderly = granted_orderly s table r valid named of_session next more_ids long room;
+      safe_rows = record {
+        tables = valid.safe_rows.tables;
+        row_order = valid.safe_rows.row_order;
+        few_rows = valid.safe_rows.few_rows;
+        reserved_rows = has_all (HasRow s.rows) (s.reservations ++ r ∷ []) each_stands;
+        safe = choices_all Safe (s.reservations ++ r ∷ []) safe_push;
+      };
     }

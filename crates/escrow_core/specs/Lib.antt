@@ -1,5 +1,11 @@
+pub mod Event
+pub mod Inside
 pub mod Laws
 pub mod Reply
+pub mod Reservations
+pub mod Seen
+pub mod Serving
 pub mod State
 pub mod Step
+pub mod Turn
 pub mod Valid

@@ -1,4 +1,4 @@
-use Rattle.std.specs.Prelude.{Option, Some, None, Bool, false}
+use Rattle.std.specs.Prelude.{Option, Some, None}
 use Rattle.escrow_num.specs.declared.refusal.Refusal.{Refusal}
 use Rattle.escrow_num.specs.declared.refusal.Refusal.TheVariants as refusal
 use Rattle.escrow_core.specs.declared.reply.Reply.{Reply}
@@ -16,12 +16,3 @@ failure_of_refusal _ = None
 abbrev pub failure_of : Reply → Option Failure
 failure_of (reply.Refused r) = failure_of_refusal r
 failure_of _ = None
-
--- a reply holds memory: a list or a text
-abbrev pub holds_memory : Reply → Bool
-holds_memory (reply.Refused r) = false
-holds_memory (reply.Created name) = false
-holds_memory reply.Inserted = false
-holds_memory (reply.Reserved id) = false
-holds_memory (reply.Committed count) = false
-holds_memory (reply.RolledBack count) = false

@@ -1,7 +1,10 @@
 //! Laws of the machine: facts about its definitions, each the contract of a function that does
 //! nothing. They say of its steps what O'Neil's escrow method (1986) promises of transactions.
 
-ghost use Rattle.escrow_core.specs.Laws.{StepKeepsValid, RunKeepsValid, RefusedChangesNothing, MachineNeverFails, CommitIsNeverRefused, RollbackIsNeverRefused, QueriesSeeCommitsAlone, ReservedTakesTheNextId, IdsNeverFall, TransactionsCommute, AnyOrderOfEnds, CommittedRowsMeetChecks, EveryRunIsSafe, GrantedInEveryChoice, OwnIncrementNotSpent, RefusedByAChoice};
+ghost use Rattle.escrow_core.specs.Laws.{StepKeepsValid, RunKeepsValid, CommittedRowsMeetChecks, CommittedValuesFit, EveryRunIsSafe};
+ghost use Rattle.escrow_core.specs.Laws.{RefusedChangesNothing, MachineNeverFails, FailsForMemoryAlone, EarlyRefusalsStand, CommitIsNeverRefused, RollbackIsNeverRefused};
+ghost use Rattle.escrow_core.specs.Laws.{QueriesSeeCommitsAlone, ReservedTakesTheNextId, IdsNeverFall, TransactionsCommute, AnyOrderOfEnds};
+ghost use Rattle.escrow_core.specs.Laws.{GrantedInEveryChoice, OwnIncrementNotSpent, RefusedByAChoice};
 
 /// Whatever a session asks in a valid state, the state after it is valid: whichever of the open
 /// reservations are applied, each row meets each check of its table.
@@ -9,8 +12,7 @@ pub fn step_keeps_valid()
     ensures { StepKeepsValid }
 {}
 
-/// So is the state after any list of statements of any sessions, in any order, some of them refused
-/// for memory.
+/// So is the state after any list of events of any sessions, in any order, some of which fail.
 pub fn run_keeps_valid()
     ensures { RunKeepsValid }
 {}
@@ -24,6 +26,18 @@ pub fn refused_changes_nothing()
 /// The machine itself is never refused memory, nor by a store: such a refusal is no reply of it.
 pub fn machine_never_fails()
     ensures { MachineNeverFails }
+{}
+
+/// What fails is refused memory, and is a CREATE TABLE, an INSERT or an UPDATE: a store refuses
+/// nothing, and COMMIT and ROLLBACK never fail.
+pub fn fails_for_memory_alone()
+    ensures { FailsForMemoryAlone }
+{}
+
+/// A refusal that needs no memory is answered whatever memory there is: an open transaction, a table
+/// that is there or isn't, a bad value of an INSERT, and what an UPDATE asks that it can't.
+pub fn early_refusals_stand()
+    ensures { EarlyRefusalsStand }
 {}
 
 /// COMMIT has no refusal, since each reservation was granted over every choice of the open ones. It
@@ -70,8 +84,13 @@ pub fn committed_rows_meet_checks()
     ensures { CommittedRowsMeetChecks }
 {}
 
-/// After any list of statements of any sessions, in any order, some of them refused for memory, each
-/// committed row meets each check of its table.
+/// In a valid state each value of each committed row fits the type of its column.
+pub fn committed_values_fit()
+    ensures { CommittedValuesFit }
+{}
+
+/// After any list of events of any sessions, in any order, some of which fail, each committed row
+/// meets each check of its table.
 pub fn every_run_is_safe()
     ensures { EveryRunIsSafe }
 {}

@@ -2,25 +2,22 @@
 //! its reply and the next state.
 //!
 //! Its one contract: [`Database::step`] is the machine's step, that of a machine that keeps
-//! committed rows and a list of open reservations and tries every choice of that list; or it is
-//! refused for memory, and the state is equal.
+//! committed rows and a list of open reservations and tries every choice of that list; or it fails
+//! where the statement may fail, and the state is equal.
 #![tactic(auto)]
 
 mod apply;
 mod catalog;
-mod create;
-pub mod database;
-mod finish;
+mod database;
+mod event;
 mod grant;
-mod held;
-mod insert;
 pub mod laws;
-pub mod reply;
+mod reply;
+mod reservations;
 mod rows;
-mod run;
-mod update;
 
 pub use database::Database;
+pub use event::Event;
 pub use reply::{Failure, Reply};
 
 #[cfg(test)]

@@ -3,7 +3,7 @@ ghost use Rattle.std.specs.Prelude.{◌≡◌, ◌↔◌, IsTrue};
 use escrow_num::{Name, Refusal};
 
 /// What a statement is answered.
-#[derive(Clone, Copy, Debug)]
+#[derive(Debug, Drop)]
 pub enum Reply {
     /// The statement is refused, and nothing changed.
     Refused(Refusal),
@@ -14,9 +14,9 @@ pub enum Reply {
     /// A reservation was granted, of this number.
     Reserved { id: u64 },
     /// The transaction was committed, and this many reservations applied.
-    Committed { count: u64 },
+    Committed { count: u32 },
     /// The transaction was rolled back, and this many reservations released.
-    RolledBack { count: u64 },
+    RolledBack { count: u32 },
 }
 
 /// What may come in place of a reply, with nothing changed.

@@ -1,51 +1,44 @@
 ghost use Rattle.std.specs.Prelude.{◌≡◌, ◌≤◌, length, insert, position};
 ghost use Rattle.std.specs.Ordering.{is_lt};
 ghost use Rattle.std.specs.Option.{option_copied};
-ghost use Rattle.escrow_num.specs.Order.{same_row, row_cmp};
+ghost use Rattle.escrow_num.specs.Order.{row_cmp};
 ghost use Rattle.escrow_num.specs.declared.row.Row.{Row};
 ghost use Rattle.escrow_core.specs.State.{row_named, rows_of, with_row};
 
-use escrow_num::{Name, Row, Value};
+use escrow_num::{Name, Row, RowName};
 
-/// Whether a row is the one of a table and a key.
-pub(crate) fn is_of(row: &Row, table: Name, key: &Value) -> bool
-    ensures { result ≡ same_row row.now.table row.now.key table key.now }
+/// The row of a name.
+pub(crate) fn find_row<'a>(rows: &'a [Row], name: &RowName) -> Option<&'a Row>
+    ensures { option_copied result ≡ row_named rows.now name.now }
 {
-    row.table == table && row.key.is_same(key)
-}
-
-/// The row of a table and a key.
-pub(crate) fn find_row<'a>(rows: &'a [Row], table: Name, key: &Value) -> Option<&'a Row>
-    ensures { option_copied result ≡ row_named rows.now table key.now }
-{
-    rows.iter().find(|row| is_of(row, table, key))
+    rows.iter().find(|row| row.name.is_same(name))
 }
 
 /// The number of rows of a table.
 pub(crate) fn count_rows(rows: &[Row], table: Name) -> usize
     ensures { result ≡ length (rows_of rows.now table) }
 {
-    rows.iter().filter(|row| row.table == table).count()
+    rows.iter().filter(|row| row.name.table == table).count()
 }
 
-/// Whether a table and a key stand before those of a row.
-fn is_before(table: Name, key: &Value, row: &Row) -> bool
-    ensures { result ≡ is_lt (row_cmp table key.now row.now.table row.now.key) }
+/// Whether a name stands before a row's.
+fn is_before(name: &RowName, row: &Row) -> bool
+    ensures { result ≡ is_lt (row_cmp name.now row.now.name) }
 {
-    table.cmp(&row.table).then(key.compare(&row.key)).is_lt()
+    name.compare(&row.name).is_lt()
 }
 
-/// The place of the first row whose table and key are greater than these.
-fn first_after(rows: &[Row], table: Name, key: &Value) -> Option<usize>
-    ensures { result ≡ position (λ other. is_lt (row_cmp table key.now other.table other.key)) rows.now }
+/// The place of the first row whose name is greater than this one.
+fn first_after(rows: &[Row], name: &RowName) -> Option<usize>
+    ensures { result ≡ position (λ other. is_lt (row_cmp name.now other.name)) rows.now }
 {
-    rows.iter().position(|other| is_before(table, key, other))
+    rows.iter().position(|other| is_before(name, other))
 }
 
-/// The place at which a row of this table and key stands in order.
-pub(crate) fn row_place(rows: &[Row], table: Name, key: &Value) -> usize
+/// The place at which a row of this name stands in order.
+pub(crate) fn row_place(rows: &[Row], name: &RowName) -> usize
     ensures within { result ≤ length rows.now }
-    ensures place { (row : Row) → row.table ≡ table → row.key ≡ key.now → insert rows.now result row ≡ with_row row rows.now }
+    ensures place { (row : Row) → row.name ≡ name.now → insert rows.now result row ≡ with_row row rows.now }
 {
-    first_after(rows, table, key).unwrap_or(rows.len())
+    first_after(rows, name).unwrap_or(rows.len())
 }

@@ -1,108 +1,59 @@
-use crate::{Database, Reply};
-use escrow_num::{Amount, Name, Refusal, Seq, Session, Side, Value};
-use escrow_sql::{
-    Assign, CheckText, ColumnMark, ColumnText, Comparison, Condition, CreateText, InsertText, Item,
-    Statement, TypeText, UpdateText, WhereText,
-};
+use crate::{Database, Event, Reply};
+use escrow_num::{Breach, Name, Refusal, Session, Side, Wide};
+use escrow_sql::{Request, Statement, parse};
 use std::alloc::Global;
 use std::process::Abort;
 use std::test::Fail;
 
-fn name(rt: &impl Abort, text: &str) -> Name {
-    Name::new(text.as_bytes()).expect(rt, "a name")
-}
-
-fn amount(rt: &impl Abort, value: i64) -> Amount {
-    Amount::new(value).expect(rt, "an amount")
-}
+const ACCOUNT: &str = "CREATE TABLE ACCOUNT (ID NUMBER PRIMARY KEY, BALANCE NUMBER RESERVABLE \
+    CONSTRAINT MINIMUM_BALANCE CHECK (BALANCE >= 50))";
 
 fn session(rt: &impl Abort, number: u8) -> Session {
     Session::new(number).expect(rt, "a session")
 }
 
-fn column(rt: &impl Abort, alloc: Global, text: &str, marks: &[ColumnMark]) -> Result<Item, Fail> {
-    Ok(Item::Column(ColumnText {
-        name: name(rt, text),
-        kind: TypeText::Integer,
-        marks: Seq::from_vec(Vec::from_slice(alloc, marks)?),
-    }))
+fn statement(rt: &impl Abort, alloc: Global, text: &str) -> Statement {
+    let Request::Statement(statement) = parse(alloc, text).ok().expect(rt, "a statement");
+    statement
 }
 
-/// A table of an ID and a BALANCE, which is at least 50.
-fn create(rt: &impl Abort, alloc: Global, table: &str) -> Result<Statement, Fail> {
-    let least = CheckText {
-        name: Some(name(rt, "MINIMUM_BALANCE")),
-        condition: Condition {
-            column: name(rt, "BALANCE"),
-            comparison: Comparison::AtLeast,
-            limit: amount(rt, 50),
-        },
-    };
-    let balance = [ColumnMark::Reservable, ColumnMark::Check(least)];
-    let mut items = Vec::new(alloc);
-    items.push(column(rt, alloc, "ID", &[ColumnMark::PrimaryKey])?)?;
-    items.push(column(rt, alloc, "BALANCE", balance.as_slice())?)?;
-    Ok(Statement::Create(CreateText {
-        table: name(rt, table),
-        items: Seq::from_vec(items),
-    }))
-}
-
-fn insert(rt: &impl Abort, alloc: Global, id: i64, balance: i64) -> Result<Statement, Fail> {
-    let mut values = Vec::new(alloc);
-    values.push(Value::Number(amount(rt, id)))?;
-    values.push(Value::Number(amount(rt, balance)))?;
-    Ok(Statement::Insert(InsertText {
-        table: name(rt, "ACCOUNT"),
-        values: Seq::from_vec(values),
-    }))
-}
-
-/// `UPDATE ACCOUNT SET BALANCE = BALANCE + change WHERE ID = id`
-fn update(rt: &impl Abort, id: i64, change: i64) -> Statement {
-    Statement::Update(UpdateText {
-        table: name(rt, "ACCOUNT"),
-        assign: Assign {
-            column: name(rt, "BALANCE"),
-            source: name(rt, "BALANCE"),
-            change: amount(rt, change),
-        },
-        row: WhereText {
-            column: name(rt, "ID"),
-            value: Value::Number(amount(rt, id)),
-        },
-    })
-}
-
-/// A reply in three numbers: what it is, and its id or count; or a refusal's number, and the worst
-/// value of a check below or above its limit.
-fn code(reply: Reply) -> (u8, i128) {
-    match reply {
-        Reply::Refused(Refusal::Check(breach)) => match breach.side {
-            Side::Low => (41, breach.worst.get()),
-            Side::High => (42, breach.worst.get()),
-        },
-        Reply::Refused(refusal) => (refusal.number(), 0),
-        Reply::Created(_) => (1, 0),
-        Reply::Inserted => (2, 0),
-        Reply::Reserved { id } => (3, i128::from(id)),
-        Reply::Committed { count } => (4, i128::from(count)),
-        Reply::RolledBack { count } => (5, i128::from(count)),
+fn event(rt: &impl Abort, alloc: Global, number: u8, text: &str) -> Event {
+    Event::Statement {
+        session: session(rt, number),
+        statement: statement(rt, alloc, text),
     }
+}
+
+/// The reply that names the least balance, which would come to this worst value.
+fn too_low(rt: &impl Abort, worst: i128) -> Reply {
+    Reply::Refused(Refusal::Check(Breach {
+        check: Name::new("MINIMUM_BALANCE".as_bytes()).expect(rt, "a name"),
+        side: Side::Low,
+        worst: Wide::new(worst).expect(rt, "a sum"),
+        limit: Wide::new(50).expect(rt, "a sum"),
+    }))
+}
+
+/// Serves a statement, whose reply has to be this one.
+fn serve(
+    rt: &impl Abort,
+    alloc: Global,
+    database: &mut Database,
+    number: u8,
+    text: &str,
+    want: &Reply,
+) {
+    let reply = database.step(alloc, session(rt, number), &statement(rt, alloc, text));
+    assert!(rt; reply.is_same(want), "{number}: {text}");
 }
 
 /// A database with the table ACCOUNT, and in it a row 1 with a balance of 100.
 fn account(rt: &impl Abort, alloc: Global) -> Result<Database, Fail> {
     let mut database = Database::empty(alloc)?;
-    let first = session(rt, 1);
-    assert_eq!(rt;
-        code(database.step(alloc, first, &create(rt, alloc, "ACCOUNT")?)),
-        (1, 0)
-    );
-    assert_eq!(rt;
-        code(database.step(alloc, first, &insert(rt, alloc, 1, 100)?)),
-        (2, 0)
-    );
+    let name = Name::new("ACCOUNT".as_bytes()).expect(rt, "a name");
+    serve(rt, alloc, &mut database, 1, ACCOUNT, &Reply::Created(name));
+    let row = "INSERT INTO ACCOUNT VALUES (1, 100)";
+    serve(rt, alloc, &mut database, 1, row, &Reply::Inserted);
     Ok(database)
 }
 
@@ -110,22 +61,46 @@ fn account(rt: &impl Abort, alloc: Global) -> Result<Database, Fail> {
 fn grants_over_every_choice(rt: HostRuntime) -> Result<(), Fail> {
     let alloc = rt.alloc();
     let mut database = account(&rt, alloc)?;
-    let cases = [(1, -30, (3, 1)), (2, -30, (41, 40)), (2, 7, (3, 2))];
-    for (number, change, want) in cases {
-        let reply = database.step(alloc, session(&rt, number), &update(&rt, 1, change));
-        assert_eq!(rt; code(reply), want, "{number} {change}");
-    }
+    let take_30 = "UPDATE ACCOUNT SET BALANCE = BALANCE - 30 WHERE ID = 1";
+    let add_7 = "UPDATE ACCOUNT SET BALANCE = BALANCE + 7 WHERE ID = 1";
+    serve(
+        &rt,
+        alloc,
+        &mut database,
+        1,
+        take_30,
+        &Reply::Reserved { id: 1 },
+    );
+    serve(&rt, alloc, &mut database, 2, take_30, &too_low(&rt, 40));
+    serve(
+        &rt,
+        alloc,
+        &mut database,
+        2,
+        add_7,
+        &Reply::Reserved { id: 2 },
+    );
     assert_eq!(rt; database.next_id(), 3);
     assert_eq!(rt; database.rollback(session(&rt, 1)), 1);
-    let second = session(&rt, 2);
-    assert_eq!(rt;
-        code(database.step(alloc, second, &Statement::Commit)),
-        (4, 1)
+    serve(
+        &rt,
+        alloc,
+        &mut database,
+        2,
+        "COMMIT",
+        &Reply::Committed { count: 1 },
     );
-    let too_low = update(&rt, 1, -58);
-    assert_eq!(rt; code(database.step(alloc, second, &too_low)), (41, 49));
-    let lowest = update(&rt, 1, -57);
-    assert_eq!(rt; code(database.step(alloc, second, &lowest)), (3, 3));
+    let take_58 = "UPDATE ACCOUNT SET BALANCE = BALANCE - 58 WHERE ID = 1";
+    serve(&rt, alloc, &mut database, 2, take_58, &too_low(&rt, 49));
+    let take_57 = "UPDATE ACCOUNT SET BALANCE = BALANCE - 57 WHERE ID = 1";
+    serve(
+        &rt,
+        alloc,
+        &mut database,
+        2,
+        take_57,
+        &Reply::Reserved { id: 3 },
+    );
     Ok(())
 }
 
@@ -133,20 +108,31 @@ fn grants_over_every_choice(rt: HostRuntime) -> Result<(), Fail> {
 fn refuses_in_order(rt: HostRuntime) -> Result<(), Fail> {
     let alloc = rt.alloc();
     let mut database = account(&rt, alloc)?;
-    let first = session(&rt, 1);
-    let statements = [
-        (insert(&rt, alloc, 1, 60)?, 30),
-        (insert(&rt, alloc, 2, 49)?, 41),
-        (create(&rt, alloc, "ACCOUNT")?, 20),
-        (update(&rt, 9, 1), 31),
-        (update(&rt, 1, 0), 3),
-        (insert(&rt, alloc, 2, 60)?, 26),
-        (create(&rt, alloc, "OTHER")?, 26),
+    let cases = [
+        (
+            "INSERT INTO ACCOUNT VALUES (1, 60)",
+            Reply::Refused(Refusal::RowExists),
+        ),
+        ("INSERT INTO ACCOUNT VALUES (2, 49)", too_low(&rt, 49)),
+        (ACCOUNT, Reply::Refused(Refusal::TableExists)),
+        (
+            "UPDATE ACCOUNT SET BALANCE = BALANCE + 1 WHERE ID = 9",
+            Reply::Refused(Refusal::NoSuchRow),
+        ),
+        (
+            "UPDATE ACCOUNT SET BALANCE = BALANCE + 0 WHERE ID = 1",
+            Reply::Reserved { id: 1 },
+        ),
+        (
+            "INSERT INTO ACCOUNT VALUES (2, 60)",
+            Reply::Refused(Refusal::TransactionOpen),
+        ),
+        (ACCOUNT, Reply::Refused(Refusal::TransactionOpen)),
     ];
-    for (statement, want) in &statements {
-        assert_eq!(rt; code(database.step(alloc, first, statement)).0, *want);
+    for (text, want) in &cases {
+        serve(&rt, alloc, &mut database, 1, *text, want);
     }
-    assert!(rt; database.is_open(first));
+    assert!(rt; database.is_open(session(&rt, 1)));
     Ok(())
 }
 
@@ -154,18 +140,33 @@ fn refuses_in_order(rt: HostRuntime) -> Result<(), Fail> {
 fn runs_a_list(rt: HostRuntime) -> Result<(), Fail> {
     let alloc = rt.alloc();
     let mut database = account(&rt, alloc)?;
-    let (first, second) = (session(&rt, 1), session(&rt, 2));
     let events = [
-        (first, update(&rt, 1, 100)),
-        (first, update(&rt, 1, -60)),
-        (second, Statement::Rollback),
-        (first, Statement::Commit),
+        event(
+            &rt,
+            alloc,
+            1,
+            "UPDATE ACCOUNT SET BALANCE = BALANCE + 100 WHERE ID = 1",
+        ),
+        event(
+            &rt,
+            alloc,
+            1,
+            "UPDATE ACCOUNT SET BALANCE = BALANCE - 60 WHERE ID = 1",
+        ),
+        event(&rt, alloc, 2, "ROLLBACK"),
+        event(&rt, alloc, 1, "COMMIT"),
     ];
     let replies = database.run(alloc, &events)?;
-    let wants = [(3, 1), (41, 40), (5, 0), (4, 1)];
+    let wants = [
+        Reply::Reserved { id: 1 },
+        too_low(&rt, 40),
+        Reply::RolledBack { count: 0 },
+        Reply::Committed { count: 1 },
+    ];
     assert_eq!(rt; replies.len(), wants.len());
-    for (reply, want) in replies.iter().zip(wants.iter()) {
-        assert_eq!(rt; code(*reply), *want);
+    for (reply, want) in replies.iter().zip(&wants) {
+        assert!(rt; reply.is_same(want));
     }
+    assert!(rt; replies[0].failure().is_none());
     Ok(())
 }

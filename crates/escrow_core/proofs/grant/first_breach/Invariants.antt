@@ -9,5 +9,5 @@ use Rattle.escrow_core.proofs.grant.first_breach.Given as goal
 abbrev pub invariant-loop-check : goal.invariant-loop-check
 invariant-loop-check l = record {
   covered : AllByRecursion (λ check. IsCovered check.coeffs l.row.amounts) (drop l.check-index l.checks);
-  rest : broken (drop l.check-index l.checks) l.row.amounts l.changes (map (changes_to l.row) l.held) ≡ broken l.checks l.row.amounts l.changes (map (changes_to l.row) l.held);
+  rest : broken (drop l.check-index l.checks) l.row.amounts l.changes (map (changes_to l.row) l.reservations) ≡ broken l.checks l.row.amounts l.changes (map (changes_to l.row) l.reservations);
 }

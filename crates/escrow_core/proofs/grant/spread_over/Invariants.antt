@@ -5,4 +5,4 @@ use Rattle.escrow_core.specs.State.{changes_to}
 use Rattle.escrow_core.proofs.grant.spread_over.Given as goal
 
 abbrev pub invariant-loop-r : goal.invariant-loop-r
-invariant-loop-r l = IsSpread l.check.coeffs (map (changes_to l.row) (take l.r-index l.held)) l.spread
+invariant-loop-r l = IsSpread l.check.coeffs (map (changes_to l.row) (take l.r-index l.reservations)) l.spread

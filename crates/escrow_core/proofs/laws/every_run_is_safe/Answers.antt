@@ -1,4 +1,4 @@
-use Rattle.escrow_core.proofs.LawsEnds.{every_run_is_safe}
+use Rattle.escrow_core.proofs.LawsRows.{every_run_is_safe}
 use Rattle.escrow_core.proofs.laws.every_run_is_safe.Goals as goal
 
 pub returns : goal.returns

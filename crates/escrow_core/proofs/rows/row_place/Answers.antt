@@ -6,6 +6,6 @@ use Rattle.escrow_core.proofs.Places.{put_at_place}
 use Rattle.escrow_core.proofs.rows.row_place.Goals as goal
 
 pub returns-clause-place : goal.returns-clause-place
-returns-clause-place c = λ row of_table of_key.
-    rw (c.unwrap_or.ensures, c.first_after.ensures, ← of_table, ← of_key)
-    (put_at_place (λ other. is_lt (row_cmp row.table row.key other.table other.key)) row (with_row row) refl (λ y ys. refl) c.args.rows.now)
+returns-clause-place c = λ row named.
+    rw (c.unwrap_or.ensures, c.first_after.ensures, ← named)
+    (put_at_place (λ other. is_lt (row_cmp row.name other.name)) row (with_row row) refl (λ y ys. refl) c.args.rows.now)

@@ -1,23 +1,44 @@
-use Rattle.std.proofs.Common.{◌≡◌, None, Some, List, refl, sym, subst}
+use Rattle.std.proofs.Common.{◌≡◌, Some, List, refl, sym, ap, subst}
 use Rattle.std.specs.Prelude.{insert}
-use Rattle.std.specs.Result.{is_ok}
-use Rattle.escrow_num.specs.declared.row.Row.{Row}
-use Rattle.escrow_num.specs.Refusal.{first_refusal}
+use Rattle.escrow_sql.specs.declared.statement.Statement.TheVariants as statement
+use Rattle.escrow_core.specs.Inside.{state_of}
+use Rattle.escrow_core.specs.Seen.{Seen}
+use Rattle.escrow_core.specs.Serving.{IsAccepted}
 use Rattle.escrow_core.specs.State.{State, with_row}
-use Rattle.escrow_core.specs.Step.{insert_refusals, row_of}
-use Rattle.escrow_core.specs.Valid.{IsValid}
-use Rattle.escrow_core.proofs.Accepted.{either_list, insert_accepted}
+use Rattle.escrow_core.specs.Turn.{row_of}
+use Rattle.escrow_core.proofs.Served.{insert_serves, insert_wants}
+use Rattle.escrow_core.proofs.Turns.{inserted_valid}
 use Rattle.escrow_core.proofs.database.Database.insert.Goals as goal
+use Rattle.escrow_core.proofs.database.Database.insert.Goals.{in-Ok-insert, in-Err-insert}
 
 pub invariant_of-self : goal.invariant_of-self
 invariant_of-self c =
     let d = c.self.inside in
-    let s : State = record { catalog = d.catalog.items; rows = d.rows.items; held = d.held.items; marks = d.marks.items; next_id = d.next_id } in
+    let s : State = state_of d in
+    let session = c.args.session in
+    let text = c.args.text.now in
     let row = c.in-Ok.row in
-    let none : first_refusal (insert_refusals s c.args.session c.args.text.now) ≡ None =
-    subst (λ (t : State). first_refusal (insert_refusals t c.args.session c.args.text.now) ≡ None) (sym c.self.view_is) c.in-Ok.ensures.accepted in
-    let made : row_of s c.args.text.now ≡ Some row = subst (λ (t : State). row_of t c.args.text.now ≡ Some row) (sym c.self.view_is) c.in-Ok.ensures.row in
-    let placed : insert d.rows.items c.row_place-place.result row ≡ with_row row d.rows.items = rw (← c.deref.ensures.value) (c.row_place-place.ensures.place row refl refl) in
-    rw (c.insert.ensures.items, placed)
-    (either_list (λ (rows : List Row). IsValid (record s { rows = rows })) (is_ok c.insert.result) (with_row row d.rows.items) d.rows.items
-    (insert_accepted s c.args.session c.args.text.now row c.self.invariant none made) c.self.invariant)
+    let same : s ≡ c.args.self.now.state = ap (λ (v : Seen). v.state) c.self.view_is in
+    let accepted : IsAccepted s session (statement.Insert text) = subst (λ (t : State). IsAccepted t session (statement.Insert text)) (sym same) c.in-Ok.ensures.accepted in
+    let made : row_of s text ≡ Some row = subst (λ (t : State). row_of t text ≡ Some row) (sym same) c.in-Ok.ensures.row in
+    let placed : insert d.rows.items c.row_place-place.result row ≡ with_row row d.rows.items = rw (← c.deref.ensures.value) (c.row_place-place.ensures.place row refl) in
+    elim c.match-insert.branch [
+      | in-Ok-insert w ↦ rw (c.insert.ensures.items, w.in-Ok-insert.is, placed) (inserted_valid s session text row c.self.invariant accepted made)
+      | in-Err-insert w ↦ rw (c.insert.ensures.items, w.in-Err-insert.is) c.self.invariant
+    ]
+
+pub returns : goal.returns
+returns c =
+    let d = c.self.inside in
+    let s : State = state_of d in
+    let session = c.args.session in
+    let text = c.args.text.now in
+    let row = c.in-Ok.row in
+    let same : s ≡ c.args.self.now.state = ap (λ (v : Seen). v.state) c.self.view_is in
+    let accepted : IsAccepted s session (statement.Insert text) = subst (λ (t : State). IsAccepted t session (statement.Insert text)) (sym same) c.in-Ok.ensures.accepted in
+    let made : row_of s text ≡ Some row = subst (λ (t : State). row_of t text ≡ Some row) (sym same) c.in-Ok.ensures.row in
+    let placed : insert d.rows.items c.row_place-place.result row ≡ with_row row d.rows.items = rw (← c.deref.ensures.value) (c.row_place-place.ensures.place row refl) in
+    elim c.match-insert.branch [
+      | in-Ok-insert w ↦ rw (← same, w.result-is, c.insert.ensures.items, w.in-Ok-insert.is, placed) (insert_serves s session text row accepted made)
+      | in-Err-insert w ↦ rw (← same, w.result-is, c.insert.ensures.items, w.in-Err-insert.is) (insert_wants s session text accepted)
+    ]

@@ -3,14 +3,14 @@ use Rattle.std.proofs.lemmas.List.{take_more}
 use Rattle.escrow_core.proofs.Running.{run_more}
 use Rattle.escrow_core.proofs.database.Database.run.Goals as goal
 
-pub loop-session-preserved : goal.loop-session-preserved
-loop-session-preserved c =
+pub loop-event-preserved : goal.loop-event-preserved
+loop-event-preserved c =
     let events = c.args.events.now in
-    let i = c.loop-session.session-index in
-    let event = c.loop-session-item.result in
+    let i = c.loop-event.event-index in
+    let event = c.event-item.result in
     record {
-      room = rw c.keep.ensures.capacity c.loop-session.invariant.room;
-      as_many = omega (arith, c.keep.ensures.len, c.loop-session.invariant.as_many);
-      run = rw (take_more events i event c.loop-session-test.true, ← c.loop-session-item.is, c.keep.ensures.items)
-          (run_more c.args.self.now (take i events) c.loop-session.replies.items c.loop-session.self event c.step-reply.result c.step-reply.new.self c.loop-session.invariant.run c.step-reply.ensures.event);
+      room = rw c.keep.ensures.capacity c.loop-event.invariant.room;
+      as_many = omega (arith, c.keep.ensures.len, c.loop-event.invariant.as_many);
+      run = rw (take_more events i event c.loop-event-test.true, ← c.event-item.is, c.keep.ensures.items)
+          (run_more c.args.self.now.state (take i events) c.loop-event.replies.items c.loop-event.self.state event c.serve-reply.result c.serve-reply.new.self.state c.loop-event.invariant.run c.serve-reply.ensures);
     }

@@ -1,0 +1,73 @@
+-- Lists of refusals: where none applies each test failed, and what holds of each holds of the first that applies.
+use Rattle.std.specs.Prelude.{◌≡◌, ℕ, ◌<◌, ◌≤◌, Bool, true, false, nat_le, nat_lt, is_some, is_none, option_map, IfSome, Option, Some, None, List, [], ◌∷◌, ◌++◌}
+use Rattle.std.specs.List.{AllByRecursion}
+use Rattle.std.proofs.Common.{refl, subst, arith}
+use Rattle.std.proofs.lemmas.Bool.Decides.{nat_tests}
+use Rattle.escrow_num.specs.declared.refusal.Breach.{Breach}
+use Rattle.escrow_num.specs.declared.refusal.Refusal.{Refusal}
+use Rattle.escrow_num.specs.declared.refusal.Refusal.TheVariants as refusal
+use Rattle.escrow_num.specs.Refusal.{refuse_if, first_refusal}
+
+-- where no refusal applies, neither the first does nor one of the others
+pub record IsPassed (o : Option Refusal) (rest : List (Option Refusal)) : Type 0 where
+  pub first : o ≡ None
+  pub others : first_refusal rest ≡ None
+
+pub passed : (o : Option Refusal) (rest : List (Option Refusal)) → first_refusal (o ∷ rest) ≡ None → IsPassed o rest
+passed None rest none = record { first = refl; others = none }
+passed (Some r) rest none = absurd (cc)
+
+pub none_in_front : (early late : List (Option Refusal)) → first_refusal (early ++ late) ≡ None → first_refusal early ≡ None
+none_in_front [] late none = refl
+none_in_front (None ∷ early) late none = none_in_front early late none
+none_in_front (Some r ∷ early) late none = absurd (cc)
+
+-- the first of the early ones comes before the late ones
+pub first_in_front : (early late : List (Option Refusal)) (r : Refusal) → first_refusal early ≡ Some r → first_refusal (early ++ late) ≡ Some r
+first_in_front [] late r first = absurd (cc)
+first_in_front (None ∷ early) late r first = first_in_front early late r first
+first_in_front (Some other ∷ early) late r first = first
+
+-- what a test that refuses nothing says
+pub failed : (b : Bool) (r : Refusal) → refuse_if b r ≡ None → b ≡ false
+failed true r e = absurd (cc)
+failed false r e = refl
+
+pub unbroken : (o : Option Breach) → option_map refusal.Check o ≡ None → o ≡ None
+unbroken (Some breach) e = absurd (cc)
+unbroken None e = refl
+
+pub none_there : {A : Type 0} (o : Option A) → is_some o ≡ false → o ≡ None
+none_there (Some x) e = absurd (cc)
+none_there None e = refl
+
+pub some_there : {A : Type 0} (o : Option A) → is_none o ≡ false → (x : A) × (o ≡ Some x)
+some_there (Some x) e = (x, refl)
+some_there None e = absurd (cc)
+
+pub below : (limit n : ℕ) → nat_le limit n ≡ false → n < limit
+below limit n e = grind (arith, nat_tests)
+
+pub not_above : (limit n : ℕ) → nat_lt limit n ≡ false → n ≤ limit
+not_above limit n e = grind (arith, nat_tests)
+
+-- what holds of each of several refusals holds of the first that applies
+pub first_among : (P : Refusal → Type 0) (refusals : List (Option Refusal)) → AllByRecursion (λ o. IfSome o P) refusals
+    → (r : Refusal) → first_refusal refusals ≡ Some r → P r
+first_among P [] all r first = absurd (cc)
+first_among P (None ∷ refusals) all r first = first_among P refusals all.1 r first
+first_among P (Some other ∷ refusals) all r first = let same : other ≡ r = cc in subst P same all.0
+
+pub if_among : (P : Refusal → Type 0) (b : Bool) (r : Refusal) → P r → IfSome (refuse_if b r) P
+if_among P true r h = h
+if_among P false r h = tt
+
+pub check_among : (P : Refusal → Type 0) (o : Option Breach) → ((breach : Breach) → P (refusal.Check breach)) → IfSome (option_map refusal.Check o) P
+check_among P None h = tt
+check_among P (Some breach) h = h breach
+
+-- the first that applies is one of the last, where no one before it is such
+pub passed_over : (o : Option Refusal) (refusals : List (Option Refusal)) (r : Refusal) → IfSome o (λ other. ¬ (other ≡ r))
+    → first_refusal (o ∷ refusals) ≡ Some r → first_refusal refusals ≡ Some r
+passed_over None refusals r differs first = first
+passed_over (Some other) refusals r differs first = absurd (differs (cc))

@@ -1,0 +1,119 @@
+-- COMMIT and ROLLBACK: a session's reservations, and then a choice of the others, are together a choice
+-- of the open ones; a choice of what stays open is a choice of what was open.
+use Rattle.std.specs.Prelude.{◌≡◌, ℕ, Bool, ◌==◌, not, List, ◌≤◌, length, map, bytes_eq, Option, Some, None, option_map, IsSome}
+use Rattle.std.specs.List.{AllByRecursion}
+use Rattle.std.proofs.Common.{le_trans, sym, ap, ◌∙◌, subst, refl}
+use Rattle.escrow_num.specs.declared.reservation.Savepoint.{Savepoint}
+use Rattle.escrow_num.specs.declared.reservation.Reservation.{Reservation}
+use Rattle.escrow_num.specs.declared.row.Row.{Row}
+use Rattle.escrow_num.specs.Order.{same_row}
+use Rattle.escrow_schema.specs.declared.table.TableDef.{TableDef}
+use Rattle.escrow_checks.proofs.FormLemmas.{length-all_changed}
+use Rattle.escrow_core.specs.declared.database.TheConstants.Database.{MAX_ROWS}
+use Rattle.escrow_core.specs.Reservations.{own, others, other_savepoints, reservation_before, savepoint_before}
+use Rattle.escrow_core.specs.State.{State, table_named, row_named, changes_to, row_after, applied}
+use Rattle.escrow_core.specs.Turn.{after_commit, after_rollback}
+use Rattle.escrow_core.specs.Valid.{IsValid, IsOrderly, AreSafeRows, IsReservationIn, IsSavepointIn, IsRowOf, HasTable, HasRow, MeetsChecks, row_before}
+use Rattle.escrow_core.proofs.Items.{Has, all_has, has_all, has_filter, has_map, all_filter}
+use Rattle.escrow_core.proofs.Choices.{IsChoice, all_choices, choices_all, choice_filter, map_all}
+use Rattle.escrow_core.proofs.Changes.{IsMerged, merge_choice}
+use Rattle.escrow_core.proofs.Ascending.{ascending_filter, ascending_map}
+use Rattle.escrow_core.proofs.Lengths.{length-filter_filter, length-filter_map, find_map}
+use Rattle.escrow_core.proofs.Safe.{some_weaker, safe_row, safe_rows}
+
+-- what is in order stays so where a session's transaction is over
+ended_orderly : (catalog : List TableDef) (reservations : List Reservation) (savepoints : List Savepoint) (next_id session : ℕ)
+    → IsOrderly catalog reservations savepoints next_id
+    → IsOrderly catalog (others session reservations) (other_savepoints session savepoints) next_id
+ended_orderly catalog reservations savepoints next_id session orderly =
+    let other : Reservation → Bool = λ r. not (r.session == session) in
+    let other_savepoint : Savepoint → Bool = λ p. not (p.session == session) in
+    record {
+      tables = orderly.tables;
+      catalog_order = orderly.catalog_order;
+      few_tables = orderly.few_tables;
+      reservations_in = all_filter (IsReservationIn catalog next_id) other reservations orderly.reservations_in;
+      reservation_order = ascending_filter reservation_before other reservations orderly.reservation_order;
+      few_reservations = λ k. le_trans (length-filter_filter (λ r. r.session == k) other reservations) (orderly.few_reservations k);
+      savepoints_in = all_filter (IsSavepointIn next_id) other_savepoint savepoints orderly.savepoints_in;
+      savepoint_order = ascending_filter savepoint_before other_savepoint savepoints orderly.savepoint_order;
+      few_savepoints = λ k. le_trans (length-filter_filter (λ p. p.session == k) other_savepoint savepoints) (orderly.few_savepoints k);
+      first_id = orderly.first_id;
+      last_id = orderly.last_id;
+    }
+
+-- ROLLBACK keeps a valid state valid
+pub rollback_valid : (s : State) (session : ℕ) → IsValid s → IsValid (after_rollback s session)
+rollback_valid s session valid =
+    let other : Reservation → Bool = λ r. not (r.session == session) in
+    let Safe : List Reservation → Type 0 = λ c. AllByRecursion (MeetsChecks s.catalog) (applied s.rows c) in
+    record {
+      orderly = ended_orderly s.catalog s.reservations s.savepoints s.next_id session valid.orderly;
+      safe_rows = record {
+        tables = valid.safe_rows.tables;
+        row_order = valid.safe_rows.row_order;
+        few_rows = valid.safe_rows.few_rows;
+        reserved_rows = all_filter (HasRow s.rows) other s.reservations valid.safe_rows.reserved_rows;
+        safe = choices_all Safe (others session s.reservations) (λ c h. all_choices Safe s.reservations valid.safe_rows.safe c (choice_filter other s.reservations c h));
+      };
+    }
+
+-- a row with changes added is one of the same table
+still_row_of : (table : TableDef) (row : Row) (chosen : List Reservation) → IsRowOf table row → IsRowOf table (row_after chosen row)
+still_row_of table row chosen is_row = record {
+  literals = is_row.literals;
+  made = is_row.made;
+  fits = is_row.fits;
+  name = is_row.name;
+  plain = is_row.plain;
+  amounts = length-all_changed row.amounts (map (changes_to row) chosen) ∙ is_row.amounts;
+}
+
+still_has_table : (catalog : List TableDef) (row : Row) (chosen : List Reservation) → HasTable catalog row → HasTable catalog (row_after chosen row)
+still_has_table catalog row chosen h =
+    some_weaker (λ t. IsRowOf t row) (λ t. IsRowOf t (row_after chosen row)) (table_named catalog row.name.table) (λ t. still_row_of t row chosen) h
+
+-- a reservation's row still stands
+some_image : {A : Type 0} (f : A → A) (o : Option A) → IsSome o → IsSome (option_map f o)
+some_image f None h = h
+some_image f (Some x) h = h
+
+still_stands : (rows : List Row) (chosen : List Reservation) (r : Reservation) → HasRow rows r → HasRow (applied rows chosen) r
+still_stands rows chosen r h =
+    let same_found : row_named (applied rows chosen) r.row ≡ option_map (row_after chosen) (row_named rows r.row) =
+    find_map (λ (x : Row). same_row x.name r.row) (row_after chosen) (λ _. refl) rows in
+    subst (λ (o : Option Row). IsSome o) (sym same_found) (some_image (row_after chosen) (row_named rows r.row) h)
+
+-- a committed row meets its checks after each choice of the other sessions' reservations
+meets_committed : (s : State) (session : ℕ) → IsValid s → (chosen : List Reservation) → IsChoice (others session s.reservations) chosen
+    → (row : Row) → Has s.rows row → MeetsChecks s.catalog (row_after chosen (row_after (own session s.reservations) row))
+meets_committed s session valid chosen choice row h =
+    let merged : IsMerged (changes_to row) (own session s.reservations) chosen s.reservations =
+    merge_choice (changes_to row) (λ r. r.session == session) s.reservations chosen choice in
+    subst (λ zs. MeetsChecks s.catalog (record row { amounts = zs })) (sym (merged.2 row.amounts))
+    (safe_row s valid merged.0 merged.1 row h)
+
+-- COMMIT keeps a valid state valid
+pub commit_valid : (s : State) (session : ℕ) → IsValid s → IsValid (after_commit s session)
+commit_valid s session valid =
+    let other : Reservation → Bool = λ r. not (r.session == session) in
+    let mine : List Reservation = own session s.reservations in
+    let rows : List Row = applied s.rows mine in
+    let Safe : List Reservation → Type 0 = λ c. AllByRecursion (MeetsChecks s.catalog) (applied rows c) in
+    let met : (c : List Reservation) → IsChoice (others session s.reservations) c → (row : Row) → Has rows row → MeetsChecks s.catalog (row_after c row) =
+    λ c choice row h.
+    let from = has_map (row_after mine) s.rows row h in
+    subst (λ x. MeetsChecks s.catalog (row_after c x)) from.2 (meets_committed s session valid c choice from.0 from.1) in
+    record {
+      orderly = ended_orderly s.catalog s.reservations s.savepoints s.next_id session valid.orderly;
+      safe_rows = record {
+        tables = map_all (HasTable s.catalog) (row_after mine) s.rows
+            (has_all (λ r. HasTable s.catalog (row_after mine r)) s.rows
+            (λ r h. still_has_table s.catalog r mine (all_has (HasTable s.catalog) s.rows valid.safe_rows.tables r h)));
+        row_order = ascending_map row_before (row_after mine) (λ _ _. refl) s.rows valid.safe_rows.row_order;
+        few_rows = λ table. subst (λ n. n ≤ MAX_ROWS) (sym (length-filter_map (λ r. bytes_eq r.name.table table) (row_after mine) (λ _. refl) s.rows)) (valid.safe_rows.few_rows table);
+        reserved_rows = has_all (HasRow rows) (others session s.reservations) (λ r h.
+            still_stands s.rows mine r (all_has (HasRow s.rows) s.reservations valid.safe_rows.reserved_rows r (has_filter other s.reservations r h).0));
+        safe = choices_all Safe (others session s.reservations) (λ c h. safe_rows s.catalog rows c (met c h));
+      };
+    }

@@ -1,0 +1,12 @@
+use Rattle.escrow_core.specs.declared.database.Database.TheInside.{Inside}
+use Rattle.escrow_core.specs.State.{State}
+
+-- the state that a database's fields hold
+abbrev pub state_of : Inside → State
+state_of d = record {
+  catalog = d.catalog.items;
+  rows = d.rows.items;
+  reservations = d.reservations.items;
+  savepoints = d.savepoints.items;
+  next_id = d.next_id;
+}

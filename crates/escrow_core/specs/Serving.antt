@@ -1,0 +1,35 @@
+use Rattle.std.specs.Prelude.{◌≡◌, ◌⊎◌, ℕ, ◌≤◌, Some, None, IsTrue, List, length}
+use Rattle.std.specs.List.{AllByRecursion}
+use Rattle.escrow_num.specs.Amount.{IsAmount}
+use Rattle.escrow_num.specs.declared.refusal.Refusal.{Refusal}
+use Rattle.escrow_num.specs.declared.refusal.Refusal.TheVariants as refusal
+use Rattle.escrow_num.specs.declared.row.Row.{Row}
+use Rattle.escrow_num.specs.declared.reservation.Reservation.{Reservation}
+use Rattle.escrow_num.specs.Refusal.{first_refusal}
+use Rattle.escrow_sql.specs.declared.statement.Statement.{Statement}
+use Rattle.escrow_checks.specs.declared.coefficients.TheConstants.Coefficients.{MAX_LEN}
+use Rattle.escrow_core.specs.declared.reply.Failure.TheVariants as failure
+use Rattle.escrow_core.specs.Reply.{failure_of_refusal}
+use Rattle.escrow_core.specs.State.{State}
+use Rattle.escrow_core.specs.Step.{refusals, may_fail}
+use Rattle.escrow_core.specs.Turn.{turn_of}
+
+-- Words of private contracts alone.
+
+-- no refusal of a statement applies
+abbrev pub IsAccepted : State → ℕ → Statement → Type 0
+IsAccepted s session asked = first_refusal (refusals (turn_of s session asked)) ≡ None
+
+-- a refusal is the first of a statement that applies, or want of memory, for which it may fail
+abbrev pub IsRefusal : State → ℕ → Statement → Refusal → Type 0
+IsRefusal s session asked r =
+    ((first_refusal (refusals (turn_of s session asked)) ≡ Some r) × (failure_of_refusal r ≡ None))
+    ⊎ ((r ≡ refusal.Memory) × IsTrue (may_fail s session asked failure.Memory))
+
+-- a reservation has changes for at most as many columns as a check has coefficients
+abbrev pub IsShort : Reservation → Type 0
+IsShort r = length r.changes ≤ MAX_LEN
+
+-- the amounts of all rows are amounts
+abbrev pub HaveAmounts : List Row → Type 0
+HaveAmounts rows = AllByRecursion (λ row. AllByRecursion IsAmount row.amounts) rows

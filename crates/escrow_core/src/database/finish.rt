@@ -1,0 +1,36 @@
+use crate::apply::apply_own;
+use crate::database::Database;
+use crate::reservations::{count_own, release, release_savepoints};
+use escrow_num::Session;
+
+impl Database {
+    ghost use Rattle.std.specs.Prelude.{◌≡◌, length};
+    ghost use Rattle.escrow_core.specs.Reservations.{own};
+    ghost use Rattle.escrow_core.specs.Turn.{after_commit, after_rollback};
+
+    /// COMMIT: applies the open reservations of a session to the committed rows, and ends its
+    /// transaction. Answers how many there were. Each was granted over every choice of the open
+    /// ones, so no check is tested here. Takes no memory.
+    pub(crate) fn commit(&mut self, session: Session) -> u32
+        ensures count { result ≡ length (own session self.old.state.reservations) }
+        ensures state { self.new.state ≡ after_commit self.old.state session }
+    {
+        let count = count_own(&self.reservations, session);
+        apply_own(&mut self.rows, &self.reservations, session);
+        release(&mut self.reservations, session);
+        release_savepoints(&mut self.savepoints, session);
+        count as u32
+    }
+
+    /// ROLLBACK: drops the open reservations and the savepoints of a session. Answers how many
+    /// reservations there were. Takes no memory.
+    pub fn rollback(&mut self, session: Session) -> u32
+        ensures count { result ≡ length (own session self.old.state.reservations) }
+        ensures state { self.new.state ≡ after_rollback self.old.state session }
+    {
+        let count = count_own(&self.reservations, session);
+        release(&mut self.reservations, session);
+        release_savepoints(&mut self.savepoints, session);
+        count as u32
+    }
+}

@@ -1,0 +1,12 @@
+use escrow_num::Session;
+use escrow_sql::Statement;
+
+/// What may happen to a database.
+#[derive(Debug, Drop)]
+pub enum Event {
+    /// A session asks a statement.
+    Statement {
+        session: Session,
+        statement: Statement,
+    },
+}
