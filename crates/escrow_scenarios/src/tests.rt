@@ -59,7 +59,7 @@ fn assert_replies<R: Abort + AllocGlobal>(
     requires some { 1 ≤ count }
     requires few { count ≤ 16 }
 {
-    let mut out = Vec::new(rt.alloc());
+    let mut out = Vec::with_capacity(rt.alloc(), replies.len())?;
     serve(rt.alloc(), count, &mut &script[..], &mut out)?;
     assert_eq!(rt; str::from_utf8(out.as_slice())?, replies);
     Ok(())

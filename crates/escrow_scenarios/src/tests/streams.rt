@@ -106,11 +106,10 @@ fn failing_readers(rt: HostRuntime) -> std::result::Result<(), Fail> {
         let mut out = Vec::new(alloc);
         let served = serve(alloc, 1, &mut reader, &mut out);
         assert_eq!(rt; served, Err(ServeFault::Read));
-        let replies = REPLIES.as_bytes();
-        let prefix = replies
+        let prefix = REPLIES
             .get(..written_after(bytes))
             .ok_or("past the replies")?;
-        assert_eq!(rt; out.as_slice(), prefix);
+        assert_eq!(rt; str::from_utf8(out.as_slice())?, prefix);
     }
     Ok(())
 }
@@ -121,14 +120,14 @@ fn failing_writers(rt: HostRuntime) -> std::result::Result<(), Fail> {
     let alloc = rt.alloc();
     for room in 0..REPLIES.len() {
         let mut writer = FailingWriter {
-            taken: Vec::new(alloc),
+            taken: Vec::with_capacity(alloc, room)?,
             room,
             is_silent: room % 2 == 0,
         };
         let served = serve(alloc, 1, &mut SCRIPT.as_bytes(), &mut writer);
         assert_eq!(rt; served, Err(ServeFault::Write));
-        let prefix = REPLIES.as_bytes().get(..room).ok_or("past the replies")?;
-        assert_eq!(rt; writer.taken.as_slice(), prefix);
+        let prefix = REPLIES.get(..room).ok_or("past the replies")?;
+        assert_eq!(rt; str::from_utf8(writer.taken.as_slice())?, prefix);
     }
     Ok(())
 }
@@ -148,7 +147,7 @@ fn one_byte_at_a_time(rt: HostRuntime) -> std::result::Result<(), Fail> {
         at_a_time: 1,
         fails: false,
     };
-    let mut out = Vec::new(alloc);
+    let mut out = Vec::with_capacity(alloc, replies.len())?;
     serve(alloc, 1, &mut reader, &mut out)?;
     assert_eq!(rt; str::from_utf8(out.as_slice())?, replies.as_str());
     Ok(())
@@ -160,9 +159,8 @@ fn one_byte_at_a_time(rt: HostRuntime) -> std::result::Result<(), Fail> {
 fn longest_script(rt: HostRuntime) -> std::result::Result<(), Fail> {
     let alloc = rt.alloc();
     let mut out = Vec::new(alloc);
-    let served = serve(alloc, 1, &mut LongReader { left: 16_777_216 }, &mut out);
-    assert_eq!(rt; served, Ok(()));
-    assert_eq!(rt; out.as_slice(), "bank.1> OK committed 0\n".as_bytes());
+    serve(alloc, 1, &mut LongReader { left: 16_777_216 }, &mut out)?;
+    assert_eq!(rt; str::from_utf8(out.as_slice())?, "bank.1> OK committed 0\n");
     for left in [16_777_217, usize::MAX] {
         let mut out = Vec::new(alloc);
         let served = serve(alloc, 1, &mut LongReader { left }, &mut out);
