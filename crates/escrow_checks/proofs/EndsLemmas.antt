@@ -13,7 +13,7 @@ use Rattle.escrow_checks.proofs.ReachedLemmas.{le_refl}
 use Rattle.escrow_checks.proofs.InsideLemmas.{inside_moves, always_from_sums, sums_from_always}
 use Rattle.escrow_checks.proofs.GrantLemmas.{inside_if_granted}
 
-pub commit_low : {R : Type 0} (coeffs amounts : List ℤ) (changes_of : R → List ℤ) (ends : R → Bool) (reservations : List R) → IsCovered coeffs amounts
+commit_low : {R : Type 0} (coeffs amounts : List ℤ) (changes_of : R → List ℤ) (ends : R → Bool) (reservations : List R) → IsCovered coeffs amounts
     → (form coeffs amounts +ℤ falls coeffs (map changes_of reservations)) ≤ℤ (form coeffs (all_changed amounts (map changes_of (filter ends reservations))) +ℤ falls coeffs (map changes_of (filter (λ r. not (ends r)) reservations)))
 commit_low coeffs amounts changes_of ends [] covered = le_refl _
 commit_low coeffs amounts changes_of ends (r ∷ reservations) covered =
@@ -26,7 +26,7 @@ commit_low coeffs amounts changes_of ends (r ∷ reservations) covered =
       | false ↦ omega (arith, ints, clamps, kept)
     ]
 
-pub commit_high : {R : Type 0} (coeffs amounts : List ℤ) (changes_of : R → List ℤ) (ends : R → Bool) (reservations : List R) → IsCovered coeffs amounts
+commit_high : {R : Type 0} (coeffs amounts : List ℤ) (changes_of : R → List ℤ) (ends : R → Bool) (reservations : List R) → IsCovered coeffs amounts
     → (form coeffs (all_changed amounts (map changes_of (filter ends reservations))) +ℤ rises coeffs (map changes_of (filter (λ r. not (ends r)) reservations))) ≤ℤ (form coeffs amounts +ℤ rises coeffs (map changes_of reservations))
 commit_high coeffs amounts changes_of ends [] covered = le_refl _
 commit_high coeffs amounts changes_of ends (r ∷ reservations) covered =
@@ -48,7 +48,7 @@ any_choice_can_commit check amounts changes_of ends reservations covered always 
     (inside_moves check.span _ _ _ _ (commit_low check.coeffs amounts changes_of ends reservations covered) (commit_high check.coeffs amounts changes_of ends reservations covered) (sums_from_always check amounts (map changes_of reservations) covered always))
 
 -- fewer open reservations fall and rise less
-pub falls-filter : {R : Type 0} (coeffs : List ℤ) (changes_of : R → List ℤ) (stays : R → Bool) (reservations : List R) → falls coeffs (map changes_of reservations) ≤ℤ falls coeffs (map changes_of (filter stays reservations))
+falls-filter : {R : Type 0} (coeffs : List ℤ) (changes_of : R → List ℤ) (stays : R → Bool) (reservations : List R) → falls coeffs (map changes_of reservations) ≤ℤ falls coeffs (map changes_of (filter stays reservations))
 falls-filter coeffs changes_of stays [] = le_refl _
 falls-filter coeffs changes_of stays (r ∷ reservations) =
     let rest = falls-filter coeffs changes_of stays reservations in
@@ -57,7 +57,7 @@ falls-filter coeffs changes_of stays (r ∷ reservations) =
       | false ↦ omega (arith, ints, clamps, rest)
     ]
 
-pub rises-filter : {R : Type 0} (coeffs : List ℤ) (changes_of : R → List ℤ) (stays : R → Bool) (reservations : List R) → rises coeffs (map changes_of (filter stays reservations)) ≤ℤ rises coeffs (map changes_of reservations)
+rises-filter : {R : Type 0} (coeffs : List ℤ) (changes_of : R → List ℤ) (stays : R → Bool) (reservations : List R) → rises coeffs (map changes_of (filter stays reservations)) ≤ℤ rises coeffs (map changes_of reservations)
 rises-filter coeffs changes_of stays [] = le_refl _
 rises-filter coeffs changes_of stays (r ∷ reservations) =
     let rest = rises-filter coeffs changes_of stays reservations in

@@ -40,13 +40,13 @@ int_min_assoc a b c = omega (arith, ints, clamps)
 int_max_assoc : (a b c : ℤ) → int_max a (int_max b c) ≡ int_max (int_max a b) c
 int_max_assoc a b c = omega (arith, ints, clamps)
 
-pub smallest-append : (xs ys : List ℤ) → 0 < length xs → 0 < length ys → smallest (xs ++ ys) ≡ int_min (smallest xs) (smallest ys)
+smallest-append : (xs ys : List ℤ) → 0 < length xs → 0 < length ys → smallest (xs ++ ys) ≡ int_min (smallest xs) (smallest ys)
 smallest-append [] ys h k = absurd (omega arith)
 smallest-append (x ∷ []) [] h k = absurd (omega arith)
 smallest-append (x ∷ []) (y ∷ ys) h k = refl
 smallest-append (x ∷ x' ∷ xs) ys h k = ap (int_min x) (smallest-append (x' ∷ xs) ys (omega arith) k) ∙ int_min_assoc x (smallest (x' ∷ xs)) (smallest ys)
 
-pub largest-append : (xs ys : List ℤ) → 0 < length xs → 0 < length ys → largest (xs ++ ys) ≡ int_max (largest xs) (largest ys)
+largest-append : (xs ys : List ℤ) → 0 < length xs → 0 < length ys → largest (xs ++ ys) ≡ int_max (largest xs) (largest ys)
 largest-append [] ys h k = absurd (omega arith)
 largest-append (x ∷ []) [] h k = absurd (omega arith)
 largest-append (x ∷ []) (y ∷ ys) h k = refl

@@ -32,7 +32,7 @@ form-changed (c ∷ cs) (a ∷ rest) (d ∷ changes) fits =
 -- ---- a walk over two lists of numbers, front to back
 
 -- the next product comes before the form of the rest
-pub form-next : (coeffs amounts : List ℤ) (k : ℕ) (c a : ℤ) → k < length coeffs → k < length amounts → c ≡ get_or coeffs k c → a ≡ get_or amounts k a
+form-next : (coeffs amounts : List ℤ) (k : ℕ) (c a : ℤ) → k < length coeffs → k < length amounts → c ≡ get_or coeffs k c → a ≡ get_or amounts k a
     → form (drop k coeffs) (drop k amounts) ≡ (c *ℤ a) +ℤ form (drop (k + 1) coeffs) (drop (k + 1) amounts)
 form-next coeffs amounts k c a h h' e e' =
     rw (add-one, drop-cons coeffs k c, drop-cons amounts k a) (ap (λ z. z +ℤ form (drop (suc k) coeffs) (drop (suc k) amounts)) (ap (λ x. x *ℤ get_or amounts k a) (sym e) ∙ ap (λ x. c *ℤ x) (sym e')))

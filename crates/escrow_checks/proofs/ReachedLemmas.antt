@@ -79,7 +79,7 @@ largest_given f (x ∷ y ∷ xs) h =
 
 -- ---- of a form, over the choices of the open reservations
 
-pub some_choice : (coeffs amounts : List ℤ) (reservations : List (List ℤ)) → 0 < length (sublists reservations)
+some_choice : (coeffs amounts : List ℤ) (reservations : List (List ℤ)) → 0 < length (sublists reservations)
 some_choice coeffs amounts reservations = omega (arith, some_outcome coeffs amounts reservations, length-map (sublists reservations) (λ chosen. form coeffs (all_changed amounts chosen)))
 
 pub least_below : (coeffs amounts : List ℤ) (reservations : List (List ℤ)) → All (λ chosen. least coeffs amounts reservations ≤ℤ form coeffs (all_changed amounts chosen)) (sublists reservations)

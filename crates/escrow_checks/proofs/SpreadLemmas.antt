@@ -12,11 +12,11 @@ use Rattle.escrow_checks.proofs.FormLemmas.{form-none}
 
 -- ---- the sums with one reservation put among others
 
-pub falls-put : (coeffs : List ℤ) (before after : List (List ℤ)) (changes : List ℤ) → falls coeffs (before ++ changes ∷ after) ≡ falls coeffs (before ++ after) +ℤ int_min (pos 0) (form coeffs changes)
+falls-put : (coeffs : List ℤ) (before after : List (List ℤ)) (changes : List ℤ) → falls coeffs (before ++ changes ∷ after) ≡ falls coeffs (before ++ after) +ℤ int_min (pos 0) (form coeffs changes)
 falls-put coeffs [] after changes = omega (arith, ints)
 falls-put coeffs (first ∷ before) after changes = omega (arith, ints, falls-put coeffs before after changes)
 
-pub rises-put : (coeffs : List ℤ) (before after : List (List ℤ)) (changes : List ℤ) → rises coeffs (before ++ changes ∷ after) ≡ rises coeffs (before ++ after) +ℤ int_max (pos 0) (form coeffs changes)
+rises-put : (coeffs : List ℤ) (before after : List (List ℤ)) (changes : List ℤ) → rises coeffs (before ++ changes ∷ after) ≡ rises coeffs (before ++ after) +ℤ int_max (pos 0) (form coeffs changes)
 rises-put coeffs [] after changes = omega (arith, ints)
 rises-put coeffs (first ∷ before) after changes = omega (arith, ints, rises-put coeffs before after changes)
 
@@ -28,11 +28,6 @@ contributions-left : (coeffs : List ℤ) (before after : List (List ℤ)) (chang
 contributions-left coeffs [] after changes known = known.1
 contributions-left coeffs (first ∷ before) after changes known = (known.0, contributions-left coeffs before after changes known.1)
 
--- the contribution of the one that is put there
-contribution_put : (coeffs : List ℤ) (before after : List (List ℤ)) (changes : List ℤ) → AreContributions coeffs (before ++ changes ∷ after) → IsContribution (form coeffs changes)
-contribution_put coeffs [] after changes known = known.0
-contribution_put coeffs (first ∷ before) after changes known = contribution_put coeffs before after changes known.1
-
 -- at the end
 pub falls-push : (coeffs : List ℤ) (reservations : List (List ℤ)) (changes : List ℤ) → falls coeffs (reservations ++ changes ∷ []) ≡ falls coeffs reservations +ℤ int_min (pos 0) (form coeffs changes)
 falls-push coeffs reservations changes = rw append-nil at (falls-put coeffs reservations [] changes)
@@ -42,23 +37,17 @@ rises-push coeffs reservations changes = rw append-nil at (rises-put coeffs rese
 
 -- ---- bounds of the sums
 
-pub falls_within : (coeffs : List ℤ) (reservations : List (List ℤ)) → AreContributions coeffs reservations → IsFall (length reservations) (falls coeffs reservations)
+falls_within : (coeffs : List ℤ) (reservations : List (List ℤ)) → AreContributions coeffs reservations → IsFall (length reservations) (falls coeffs reservations)
 falls_within coeffs [] known = (omega (arith, ints), omega (arith, ints))
 falls_within coeffs (changes ∷ reservations) known =
     let rest = falls_within coeffs reservations known.1 in
     (omega (arith, ints, clamps, rest, known.0), omega (arith, ints, clamps, rest))
 
-pub rises_within : (coeffs : List ℤ) (reservations : List (List ℤ)) → AreContributions coeffs reservations → IsRise (length reservations) (rises coeffs reservations)
+rises_within : (coeffs : List ℤ) (reservations : List (List ℤ)) → AreContributions coeffs reservations → IsRise (length reservations) (rises coeffs reservations)
 rises_within coeffs [] known = (omega (arith, ints), omega (arith, ints))
 rises_within coeffs (changes ∷ reservations) known =
     let rest = rises_within coeffs reservations known.1 in
     (omega (arith, ints, clamps, rest), omega (arith, ints, clamps, rest, known.0))
-
-fall_of_most : (z : ℤ) (count most : ℕ) → count ≤ most → IsFall count z → IsFall most z
-fall_of_most z count most few known = (omega (arith, ints, known), known.1)
-
-rise_of_most : (z : ℤ) (count most : ℕ) → count ≤ most → IsRise count z → IsRise most z
-rise_of_most z count most few known = (known.0, omega (arith, ints, known))
 
 -- two numbers are the sums of reservations
 abbrev pub HasSums : List ℤ → List (List ℤ) → ℤ → ℤ → Type 0
@@ -99,15 +88,6 @@ rise_more spread z room within above =
 
 -- ---- one reservation less, which contributed z
 
--- falls are never above zero, rises never below it
-falls_below : (coeffs : List ℤ) (reservations : List (List ℤ)) → falls coeffs reservations ≤ℤ pos 0
-falls_below coeffs [] = omega (arith, ints)
-falls_below coeffs (changes ∷ reservations) = omega (arith, ints, clamps, falls_below coeffs reservations)
-
-rises_above : (coeffs : List ℤ) (reservations : List (List ℤ)) → pos 0 ≤ℤ rises coeffs reservations
-rises_above coeffs [] = omega (arith, ints)
-rises_above coeffs (changes ∷ reservations) = omega (arith, ints, clamps, rises_above coeffs reservations)
-
 pub unlowered : (coeffs : List ℤ) (before after : List (List ℤ)) (changes : List ℤ) (spread : Spread) (low high z : ℤ) → z ≡ form coeffs changes → z <ℤ pos 0
     → low ≡ spread.falls -ℤ z → high ≡ spread.rises → IsSpread coeffs (before ++ changes ∷ after) spread → HasSums coeffs (before ++ after) low high
 unlowered coeffs before after changes spread low high z same below is_low is_high known = (
@@ -130,11 +110,13 @@ HasOne spread z = (coeffs : List ℤ) × (before : List (List ℤ)) × (changes 
 
 pub fall_less : (spread : Spread) (z : ℤ) → HasOne spread z → IsFall MAX_OPEN spread.falls → z <ℤ pos 0 → IsFall MAX_OPEN (spread.falls -ℤ z)
 fall_less spread z one known below =
-    (omega (arith, ints, known), omega (arith, ints, clamps, falls-put one.0 one.1 one.3 one.2, falls_below one.0 (one.1 ++ one.3), one.4.0, one.5))
+    let others = falls_within one.0 (one.1 ++ one.3) (contributions-left one.0 one.1 one.3 one.2 one.4.2) in
+    (omega (arith, ints, known), omega (arith, ints, clamps, falls-put one.0 one.1 one.3 one.2, others, one.4.0, one.5))
 
 pub rise_less : (spread : Spread) (z : ℤ) → HasOne spread z → IsRise MAX_OPEN spread.rises → pos 0 ≤ℤ z → IsRise MAX_OPEN (spread.rises -ℤ z)
 rise_less spread z one known above =
-    (omega (arith, ints, clamps, rises-put one.0 one.1 one.3 one.2, rises_above one.0 (one.1 ++ one.3), one.4.1, one.5), omega (arith, ints, known))
+    let others = rises_within one.0 (one.1 ++ one.3) (contributions-left one.0 one.1 one.3 one.2 one.4.2) in
+    (omega (arith, ints, clamps, rises-put one.0 one.1 one.3 one.2, others, one.4.1, one.5), omega (arith, ints, known))
 
 -- ---- a reservation that changes nothing adds nothing
 

@@ -26,7 +26,7 @@ impl Check {
     ghost use Rattle.escrow_checks.specs.Grant.{broken_by};
 
     /// Adds the check at the end of a list.
-    pub fn add_to(self, checks: &mut Seq<Check>) -> Result<(), AllocError>
+    pub(crate) fn add_to(self, checks: &mut Seq<Check>) -> Result<(), AllocError>
         ensures ok { OnOk result (checks.new ≡ checks.old ++ self ∷ []) }
         ensures err { OnErr result (checks.new ≡ checks.old) }
     {
