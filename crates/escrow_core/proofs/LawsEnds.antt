@@ -1,7 +1,6 @@
 -- The ends of transactions: they commute, and keep a valid state valid in any order.
 use Rattle.std.specs.Prelude.{◌≡◌, ℕ, ℤ, ◌==◌, Bool, true, false, cond, not, List, [], ◌∷◌, map, filter, take}
-use Rattle.std.specs.List.{AllByRecursion}
-use Rattle.std.proofs.Common.{refl, sym, ap, ap₂, ◌∙◌, subst}
+use Rattle.std.proofs.Common.{refl, sym, ap, ap₂, ◌∙◌}
 use Rattle.std.proofs.lemmas.Bool.{cond_both, cond-false, false_from_ne_true, eqb-true}
 use Rattle.escrow_num.specs.declared.reservation.Savepoint.{Savepoint}
 use Rattle.escrow_num.specs.declared.reservation.Reservation.{Reservation}
@@ -9,20 +8,12 @@ use Rattle.escrow_num.specs.declared.row.Row.{Row}
 use Rattle.escrow_num.specs.declared.session.End.{End}
 use Rattle.escrow_num.specs.declared.session.End.TheVariants as end
 use Rattle.escrow_checks.specs.Form.{changed, all_changed}
-use Rattle.escrow_core.specs.declared.reply.Reply.{Reply}
 use Rattle.escrow_core.specs.Laws.{after_end, after_ends}
-use Rattle.escrow_core.specs.declared.event.Event.{Event}
-use Rattle.escrow_core.specs.Event.{HasSession}
 use Rattle.escrow_core.specs.Reservations.{own, others}
-use Rattle.escrow_core.specs.State.{State, empty, changes_to, applied}
-use Rattle.escrow_core.specs.Step.{step, IsRun}
+use Rattle.escrow_core.specs.State.{State, changes_to, applied}
 use Rattle.escrow_core.specs.Turn.{turn_of}
-use Rattle.escrow_core.specs.Valid.{IsValid, MeetsChecks}
-use Rattle.escrow_core.proofs.Applying.{applied_none}
+use Rattle.escrow_core.specs.Valid.{IsValid}
 use Rattle.escrow_core.proofs.Changes.{all_changed_later}
-use Rattle.escrow_core.proofs.Choices.{all_choices, choice_none}
-use Rattle.escrow_core.proofs.LawsSteps.{run_keeps_valid}
-use Rattle.escrow_core.proofs.ValidEmpty.{empty_valid}
 use Rattle.escrow_core.proofs.ValidEnds.{commit_valid, rollback_valid}
 
 -- two tests keep the same items in either order

@@ -1,5 +1,5 @@
 -- What an UPDATE that is granted, or refused by a check, says of the choices of the open reservations.
-use Rattle.std.specs.Prelude.{◌≡◌, ℕ, ℤ, ◌==◌, true, not, nat_le, nat_lt, is_none, option_map, option_and_then, IfSome, List, [], ◌∷◌, ◌++◌, map, length, Contains, Option, Some, None}
+use Rattle.std.specs.Prelude.{◌≡◌, ℕ, ℤ, ◌==◌, true, not, nat_le, nat_lt, is_none, option_map, option_and_then, List, [], ◌∷◌, ◌++◌, map, length, Contains, Option, Some, None}
 use Rattle.std.specs.List.{AllByRecursion}
 use Rattle.std.proofs.Common.{inl, inr, refl, sym, ap, ◌∙◌, subst}
 use Rattle.std.proofs.lemmas.List.{map_push}

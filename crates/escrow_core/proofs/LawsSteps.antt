@@ -1,5 +1,5 @@
 -- What one step of the machine keeps and answers, for all statements at once.
-use Rattle.std.specs.Prelude.{◌≡◌, ℕ, ◌+◌, ◌≤◌, Bool, true, false, ◌&&◌, is_none, option_map, unwrap_or, MatchOption, IsTrue, Option, Some, None, List, [], ◌∷◌, length}
+use Rattle.std.specs.Prelude.{◌≡◌, ℕ, ◌+◌, ◌≤◌, true, is_none, option_map, unwrap_or, MatchOption, IsTrue, Option, Some, None, List, [], ◌∷◌, length}
 use Rattle.std.specs.List.{AllByRecursion}
 use Rattle.std.proofs.Common.{refl, sym, ap, subst, le_refl, ◌∙◌}
 use Rattle.std.proofs.lemmas.Bool.{and_parts}
@@ -19,11 +19,11 @@ use Rattle.escrow_core.specs.Reply.{failure_of}
 use Rattle.escrow_core.specs.Laws.{IsSeen}
 use Rattle.escrow_core.specs.Reservations.{own}
 use Rattle.escrow_core.specs.State.{State}
-use Rattle.escrow_core.specs.Step.{refusals, unless_refused, step, may_fail, IsStep, StepOrRefusal, IsRun}
-use Rattle.escrow_core.specs.Turn.{Turn, turn_of, for_nothing}
+use Rattle.escrow_core.specs.Step.{refusals, step, may_fail, IsStep, StepOrRefusal, IsRun}
+use Rattle.escrow_core.specs.Turn.{turn_of}
 use Rattle.escrow_core.specs.Valid.{IsValid}
 use Rattle.escrow_core.proofs.Refusals.{first_among, first_in_front}
-use Rattle.escrow_core.proofs.Turns.{IsTurn, IsJudged, is_turn}
+use Rattle.escrow_core.proofs.Turns.{IsJudged, is_turn}
 
 -- what holds of a refusal with an equal state, and of the reply with the new state where nothing is
 -- refused, holds of reply and state
@@ -120,7 +120,7 @@ early_at s session asked answer new r None event first =
 early_at s session asked answer new r (Some f) event first =
     let turn = turn_of s session asked in
     let may : is_none (first_refusal turn.early) ≡ true = (and_parts (is_none (first_refusal turn.early)) (turn.fails_for f) event.0).0 in
-    absurd (cc (ap (λ (o : Option Refusal). is_none o) first))
+    absurd (cc)
 
 pub early_refusals_stand : (s : State) (session : ℕ) (asked : Statement) (answer : Reply) (new : State) (r : Refusal)
     → StepOrRefusal s session asked answer new → first_refusal (turn_of s session asked).early ≡ Some r

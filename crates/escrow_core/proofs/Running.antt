@@ -1,5 +1,5 @@
 -- A run of events, one more at its end.
-use Rattle.std.specs.Prelude.{ℕ, List, [], ◌∷◌, ◌++◌}
+use Rattle.std.specs.Prelude.{List, [], ◌∷◌, ◌++◌}
 use Rattle.std.proofs.Common.{subst, refl}
 use Rattle.escrow_core.specs.declared.event.Event.{Event}
 use Rattle.escrow_core.specs.declared.reply.Reply.{Reply}

@@ -1,5 +1,5 @@
 -- What a valid state says of each row, and how rows are shown safe.
-use Rattle.std.specs.Prelude.{◌≡◌, ℕ, true, false, List, Option, Some, None, IsSomeAnd, IsTrue}
+use Rattle.std.specs.Prelude.{◌≡◌, true, false, List, Option, Some, None, IsSomeAnd, IsTrue}
 use Rattle.std.specs.List.{AllByRecursion}
 use Rattle.std.specs.Ordering.{is_lt}
 use Rattle.std.proofs.Common.{inl, inr, sym, ap, ◌∙◌, subst}

@@ -1,5 +1,5 @@
 -- How a call that served a statement meets the machine's step.
-use Rattle.std.specs.Prelude.{◌≡◌, ◌⊎◌, ℕ, Bool, true, ◌&&◌, is_none, option_map, unwrap_or, MatchOption, IsTrue, Option, Some, None, length}
+use Rattle.std.specs.Prelude.{◌≡◌, ℕ, true, is_none, option_map, unwrap_or, MatchOption, IsTrue, Option, Some, None, length}
 use Rattle.std.proofs.Common.{inl, inr, refl, sym, ap, subst}
 use Rattle.std.proofs.lemmas.Bool.{and_from}
 use Rattle.escrow_num.specs.declared.refusal.Refusal.{Refusal}
@@ -18,11 +18,11 @@ use Rattle.escrow_core.specs.declared.reply.Reply.{Reply}
 use Rattle.escrow_core.specs.declared.reply.Reply.TheVariants as reply
 use Rattle.escrow_core.specs.declared.reply.Failure.{Failure}
 use Rattle.escrow_core.specs.declared.reply.Failure.TheVariants as failure
-use Rattle.escrow_core.specs.Reply.{failure_of, failure_of_refusal}
+use Rattle.escrow_core.specs.Reply.{failure_of}
 use Rattle.escrow_core.specs.Serving.{IsAccepted, IsRefusal}
 use Rattle.escrow_core.specs.Reservations.{own}
 use Rattle.escrow_core.specs.State.{State, with_row, with_table}
-use Rattle.escrow_core.specs.Step.{refusals, step, may_fail, IsStep, StepOrRefusal}
+use Rattle.escrow_core.specs.Step.{step, may_fail, IsStep, StepOrRefusal}
 use Rattle.escrow_core.specs.Turn.{turn_of, row_of, reservation_of, granted, after_commit, after_rollback}
 use Rattle.escrow_core.proofs.Refusals.{none_in_front}
 use Rattle.escrow_core.proofs.Turns.{is_turn}

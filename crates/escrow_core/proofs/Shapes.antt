@@ -1,7 +1,7 @@
 -- What a valid state bounds, and the shapes that its tables, rows and reservations have.
 use Rattle.std.specs.Prelude.{◌≡◌, ◌≤◌, ℕ, List, Option, Some, None, length, take, map, bytes_eq, IsSomeAnd, ◌==◌}
 use Rattle.std.specs.List.{AllByRecursion}
-use Rattle.std.proofs.Common.{◌∙◌, sym, subst, refl, arith}
+use Rattle.std.proofs.Common.{◌∙◌, subst, refl, arith}
 use Rattle.escrow_num.specs.declared.row.Row.{Row}
 use Rattle.escrow_num.specs.declared.value.RowName.{RowName}
 use Rattle.escrow_sql.specs.declared.statement.Literal.{Literal}

@@ -1,12 +1,11 @@
 -- What each statement's turn is like, one lemma a statement: what the laws of steps rest on.
-use Rattle.std.specs.Prelude.{◌≡◌, ℕ, ◌+◌, ◌<◌, ◌≤◌, Bool, bytes_eq, true, false, is_some, is_none, nat_le, nat_lt, option_map, option_and_then, unwrap_or, IfSome, Option, Some, None, List, [], ◌∷◌, length, Result, Ok, Err}
+use Rattle.std.specs.Prelude.{◌≡◌, ℕ, ◌+◌, ◌<◌, ◌≤◌, bytes_eq, true, option_and_then, IfSome, Some, None, List, length}
 use Rattle.std.specs.List.{AllByRecursion}
 use Rattle.std.proofs.Common.{refl, sym, ap, subst, arith, le_refl, ◌∙◌}
 use Rattle.escrow_num.specs.declared.refusal.Refusal.{Refusal}
-use Rattle.escrow_num.specs.declared.refusal.Refusal.TheVariants as refusal
 use Rattle.escrow_num.specs.declared.reservation.Reservation.{Reservation}
 use Rattle.escrow_num.specs.declared.row.Row.{Row}
-use Rattle.escrow_num.specs.Refusal.{refuse_if, first_refusal}
+use Rattle.escrow_num.specs.Refusal.{first_refusal}
 use Rattle.escrow_num.specs.Session.{IsSession}
 use Rattle.escrow_sql.specs.declared.statement.Statement.{Statement}
 use Rattle.escrow_sql.specs.declared.statement.Statement.TheVariants as statement
@@ -23,9 +22,9 @@ use Rattle.escrow_core.specs.Laws.{IsSeen}
 use Rattle.escrow_core.specs.Reply.{failure_of, failure_of_refusal}
 use Rattle.escrow_core.specs.Serving.{IsAccepted}
 use Rattle.escrow_core.specs.Reservations.{own}
-use Rattle.escrow_core.specs.State.{State, table_named, rows_of, with_row, with_table}
+use Rattle.escrow_core.specs.State.{State, table_named, rows_of, with_row}
 use Rattle.escrow_core.specs.Step.{refusals}
-use Rattle.escrow_core.specs.Turn.{Turn, turn_of, for_memory, for_nothing, row_of, insert_breach, reservation_of, plan_refusal_of, breach_of, granted, after_create, after_insert, after_update}
+use Rattle.escrow_core.specs.Turn.{Turn, turn_of, for_memory, row_of, insert_breach, reservation_of, plan_refusal_of, breach_of, granted, after_insert}
 use Rattle.escrow_core.specs.Valid.{IsValid}
 use Rattle.escrow_core.proofs.Accepted.{create_stands, insert_stands, update_stands}
 use Rattle.escrow_core.proofs.Items.{find_has}

@@ -1,8 +1,8 @@
 -- COMMIT and ROLLBACK: a session's reservations, and then a choice of the others, are together a choice
 -- of the open ones; a choice of what stays open is a choice of what was open.
-use Rattle.std.specs.Prelude.{◌≡◌, ℕ, Bool, ◌==◌, not, List, ◌≤◌, length, map, bytes_eq, Option, Some, None, option_map, IsSome}
+use Rattle.std.specs.Prelude.{◌≡◌, ℕ, Bool, ◌==◌, not, List, ◌≤◌, map, bytes_eq, Option, Some, None, option_map, IsSome}
 use Rattle.std.specs.List.{AllByRecursion}
-use Rattle.std.proofs.Common.{le_trans, sym, ap, ◌∙◌, subst, refl}
+use Rattle.std.proofs.Common.{le_trans, sym, ◌∙◌, subst, refl}
 use Rattle.escrow_num.specs.declared.reservation.Savepoint.{Savepoint}
 use Rattle.escrow_num.specs.declared.reservation.Reservation.{Reservation}
 use Rattle.escrow_num.specs.declared.row.Row.{Row}
@@ -13,7 +13,7 @@ use Rattle.escrow_core.specs.declared.database.TheConstants.Database.{MAX_ROWS}
 use Rattle.escrow_core.specs.Reservations.{own, others, other_savepoints, reservation_before, savepoint_before}
 use Rattle.escrow_core.specs.State.{State, table_named, row_named, changes_to, row_after, applied}
 use Rattle.escrow_core.specs.Turn.{after_commit, after_rollback}
-use Rattle.escrow_core.specs.Valid.{IsValid, IsOrderly, AreSafeRows, IsReservationIn, IsSavepointIn, IsRowOf, HasTable, HasRow, MeetsChecks, row_before}
+use Rattle.escrow_core.specs.Valid.{IsValid, IsOrderly, IsReservationIn, IsSavepointIn, IsRowOf, HasTable, HasRow, MeetsChecks, row_before}
 use Rattle.escrow_core.proofs.Items.{Has, all_has, has_all, has_filter, has_map, all_filter}
 use Rattle.escrow_core.proofs.Choices.{IsChoice, all_choices, choices_all, choice_filter, map_all}
 use Rattle.escrow_core.proofs.Changes.{IsMerged, merge_choice}

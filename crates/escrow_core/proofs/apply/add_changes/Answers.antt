@@ -1,6 +1,5 @@
-use Rattle.std.proofs.Common.{◌≡◌, ◌<◌, ◌≤◌, ◌+ℤ◌, ℤ, pos, unwrap_or, Option, take, length, get_or, set, ap, sym, ◌∙◌, subst, arith}
+use Rattle.std.proofs.Common.{◌≡◌, ◌<◌, ◌≤◌, ◌+ℤ◌, pos, unwrap_or, take, length, set, ap, sym, ◌∙◌, arith}
 use Rattle.escrow_num.specs.Reservation.{counted}
-use Rattle.escrow_checks.specs.Form.{changed}
 use Rattle.escrow_checks.proofs.FormLemmas.{length-changed}
 use Rattle.escrow_core.proofs.Applying.{counted_more, counted_past, may_add}
 use Rattle.escrow_core.proofs.Changes.{changed_nil}

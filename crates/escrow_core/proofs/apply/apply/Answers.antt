@@ -1,5 +1,4 @@
-use Rattle.std.proofs.Common.{◌≡◌, ◌<◌, length, sym, ◌∙◌, arith, subst}
-use Rattle.escrow_num.specs.declared.row.Row.{Row}
+use Rattle.std.proofs.Common.{◌<◌, length, sym, ◌∙◌, arith}
 use Rattle.escrow_core.proofs.Applying.{applied_then, applied_else, may_change}
 use Rattle.escrow_core.proofs.apply.apply.Goals as goal
 use Rattle.escrow_core.proofs.apply.apply.Goals.{then-is_same, else-is_same}

@@ -1,5 +1,5 @@
-use Rattle.std.proofs.Common.{◌≡◌, ◌<◌, ℤ, pos, Option, unwrap_or, take, length, sym, ap, ◌∙◌, arith, rules, refl}
-use Rattle.std.proofs.lemmas.List.{length-set, take_more_set, take_all}
+use Rattle.std.proofs.Common.{◌<◌, pos, unwrap_or, length, ◌∙◌, arith}
+use Rattle.std.proofs.lemmas.List.{length-set, take_more_set}
 use Rattle.escrow_core.proofs.Applying.{counted_push}
 use Rattle.escrow_core.proofs.grant.counted.Goals as goal
 

@@ -1,9 +1,8 @@
-use Rattle.std.proofs.Common.{◌≡◌, ◌<◌, [], ◌++◌, append-nil, length, sym, ◌∙◌, subst, take, arith}
+use Rattle.std.proofs.Common.{[], ◌++◌, append-nil, sym, ◌∙◌, take, arith}
 use Rattle.std.specs.Prelude.{map}
 use Rattle.std.proofs.lemmas.List.{length-map, length-take}
 use Rattle.escrow_num.specs.Reservation.{counted}
 use Rattle.escrow_checks.specs.Spread.{IsSpread}
-use Rattle.escrow_checks.specs.declared.spread.TheConstants.Spread.{MAX_OPEN}
 use Rattle.escrow_checks.proofs.SpreadLemmas.{adds_nothing}
 use Rattle.escrow_core.specs.State.{changes_to}
 use Rattle.escrow_core.proofs.Applying.{changes_more, changes_own, changes_other}

@@ -1,14 +1,10 @@
-use Rattle.std.proofs.Common.{◌≡◌, List, refl, sym, ap, subst}
+use Rattle.std.proofs.Common.{◌≡◌, refl, sym, ap, subst}
 use Rattle.std.specs.Prelude.{insert}
-use Rattle.std.specs.Result.{is_ok}
 use Rattle.escrow_sql.specs.declared.statement.Statement.TheVariants as statement
-use Rattle.escrow_schema.specs.declared.table.TableDef.{TableDef}
 use Rattle.escrow_core.specs.Inside.{state_of}
 use Rattle.escrow_core.specs.Seen.{Seen}
 use Rattle.escrow_core.specs.Serving.{IsAccepted}
 use Rattle.escrow_core.specs.State.{State, with_table}
-use Rattle.escrow_core.specs.Step.{StepOrRefusal}
-use Rattle.escrow_core.specs.Valid.{IsValid}
 use Rattle.escrow_core.proofs.Accepted.{create_stands}
 use Rattle.escrow_core.proofs.Served.{create_serves, create_wants}
 use Rattle.escrow_core.proofs.ValidCreate.{create_valid}

@@ -1,4 +1,4 @@
-use Rattle.std.proofs.Common.{◌≡◌, Some, sym, ap, subst, ◌∙◌}
+use Rattle.std.proofs.Common.{◌≡◌, Some, sym, ap, subst}
 use Rattle.escrow_core.specs.Inside.{state_of}
 use Rattle.escrow_core.specs.Seen.{Seen}
 use Rattle.escrow_core.specs.State.{State, table_named, row_named}
