@@ -20,17 +20,22 @@ use Rattle.escrow_schema.specs.declared.plan.Plan.TheVariants.{Reserve}
 use Rattle.escrow_schema.specs.declared.table.TableDef.{TableDef}
 use Rattle.escrow_schema.specs.Column.{reservables, names_of}
 use Rattle.escrow_schema.specs.Definition.{are_distinct, checks_in, definition_of, range_check, range_checks}
-use Rattle.escrow_schema.specs.Fit.{FitColumns, plain_of, woven}
-use Rattle.escrow_schema.specs.Laws.{NameOfTable, FewReservable, ChecksOfWholeRow, ChecksKeepAmounts, ChecksMeanConditions, FewChecks, RowsOfTable, PlansOfWholeRow, RefusalsOfPlans, ValuesOfRow, ValuesFit}
+use Rattle.escrow_schema.specs.Fit.{FitColumns, plain_of, values_from}
+use Rattle.escrow_schema.specs.Laws.{NameOfTable, FewReservable, ChecksOfWholeRow, ChecksKeepAmounts, ChecksMeanConditions, DefinitionsFollowRules, FewChecks, RowsOfTable, PlansOfWholeRow, RefusalsOfPlans, ValuesOfRow, ValuesFit}
 use Rattle.escrow_schema.specs.Plan.{can_assign, is_key, key_in, changes_of}
 use Rattle.escrow_schema.proofs.CheckLemmas.{IsWhole, whole_ranges}
 use Rattle.escrow_schema.proofs.ColumnsLemmas.{reservable_types, reservables_distinct}
+use Rattle.escrow_schema.proofs.DefinedLemmas.{defined}
 use Rattle.escrow_schema.proofs.FitLemmas.{fitted_parts, as_many_values, as_many_amounts}
 use Rattle.escrow_schema.proofs.ListLemmas.{first_part, second_part, both_parts}
 use Rattle.escrow_schema.proofs.RangeLemmas.{fit_in_range, fitting_amounts, range_met}
-use Rattle.escrow_schema.proofs.RowLemmas.{key_at, woven_fits, woven_values}
-use Rattle.escrow_schema.proofs.RuleLemmas.{rules_of, rules_on, column_types, distinct_from}
+use Rattle.escrow_schema.proofs.RowLemmas.{key_at, values_from_fit, made_values}
+use Rattle.escrow_schema.proofs.DistinctLemmas.{distinct_from}
+use Rattle.escrow_schema.proofs.RuleLemmas.{rules_of, rules_on, column_types, follows_rules}
 use Rattle.escrow_schema.proofs.TableLemmas.{parts}
+
+pub definitions_follow_rules : DefinitionsFollowRules
+definitions_follow_rules text table = (follows_rules text table, defined text table)
 
 pub name_of_table : NameOfTable
 name_of_table text table e = (parts text table e).name
@@ -108,7 +113,7 @@ rows_of_table table literals row e =
 pub values_of_row : ValuesOfRow
 values_of_row table literals row e =
     fitted_parts table literals row e
-    (λ values key at found made. at ∙ ap Some (woven_values table literals values key row at found made))
+    (λ values key at found made. at ∙ ap Some (made_values table literals values key row at found made))
 
 pub values_fit : ValuesFit
 values_fit table literals made row is_table e same_name same_plain same_length met =
@@ -118,9 +123,9 @@ values_fit table literals made row is_table e same_name same_plain same_length m
     (λ values key at found whole.
     let key_same : key ≡ row.name.key = ap (λ (r : Row). r.name.key) whole ∙ ap (λ (n : RowName). n.key) (sym same_name) in
     let plain_same : plain_of table.columns values 0 table.key ≡ row.plain = ap (λ (r : Row). r.plain) whole ∙ sym same_plain in
-    subst (λ k. FitColumns table.columns (woven table.columns 0 table.key k row.amounts row.plain)) key_same
-    (subst (λ plain. FitColumns table.columns (woven table.columns 0 table.key key row.amounts plain)) plain_same
-    (woven_fits table.columns literals values 0 table.key key row.amounts at (key_at values table.key key found) fit)))
+    subst (λ k. FitColumns table.columns (values_from table.columns 0 table.key k row.amounts row.plain)) key_same
+    (subst (λ plain. FitColumns table.columns (values_from table.columns 0 table.key key row.amounts plain)) plain_same
+    (values_from_fit table.columns literals values 0 table.key key row.amounts at (key_at values table.key key found) fit)))
 
 -- what is planned, by what the WHERE's literal is
 key_planned : (o : Option Value) (columns : List (Option ℤ)) (key : Value) (changes : List (Option ℤ))

@@ -1,6 +1,8 @@
 pub mod CheckLemmas
 pub mod ColumnLemmas
 pub mod ColumnsLemmas
+pub mod DefinedLemmas
+pub mod DistinctLemmas
 pub mod FitLemmas
 pub mod KeyLemmas
 pub mod LawLemmas

@@ -1,11 +1,10 @@
 -- Numbers that meet the range check of each RESERVABLE column fit its type.
-use Rattle.std.proofs.Common.{◌≡◌, ℕ, ℤ, pos, negsuc, neg_ℤ, ◌*ℤ◌, ◌≤ℤ◌, true, false, not, bytes_eq, List, [], ◌∷◌, length, map, sym, ◌∙◌, subst, refl, arith, inl, inr}
+use Rattle.std.proofs.Common.{◌≡◌, ℕ, ℤ, pos, negsuc, neg_ℤ, ◌*ℤ◌, ◌≤ℤ◌, true, false, bytes_eq, List, [], ◌∷◌, length, map, sym, ◌∙◌, subst, refl, arith, inl, inr}
 use Rattle.std.specs.Prelude.{int_le}
 use Rattle.std.specs.List.{list_any, AllByRecursion}
 use Rattle.std.proofs.Math.IntN.{zero-*ℤ, +ℤ_idl}
-use Rattle.std.proofs.lemmas.Bool.{or_parts, and_parts, and_from, not-true, leb-true, false≢true}
-use Rattle.std.proofs.lemmas.Bool.Decides.{leb_tells, same_from_decides}
-use Rattle.std.proofs.lemmas.Slice.Eq.{bytes_eq-Decides}
+use Rattle.std.proofs.lemmas.Bool.{or_parts, and_parts, and_from, leb-true, false≢true}
+use Rattle.std.proofs.lemmas.Bool.Decides.{leb_tells}
 use Rattle.std.proofs.lemmas.Int.{ints}
 use Rattle.escrow_num.specs.Amount.{IsAmount}
 use Rattle.escrow_num.specs.declared.value.Value.TheVariants as value
@@ -19,14 +18,8 @@ use Rattle.escrow_schema.specs.Column.{top_of, fits, names_of}
 use Rattle.escrow_schema.specs.Definition.{are_distinct, range_check}
 use Rattle.escrow_schema.specs.Fit.{FitColumns}
 use Rattle.escrow_schema.specs.Typed.{IsType}
+use Rattle.escrow_schema.proofs.DistinctLemmas.{either_order, first_apart, same_name}
 use Rattle.escrow_schema.proofs.ColumnLemmas.{power_within, power_positive}
-
-pub same_name : (name : List ℕ) → bytes_eq name name ≡ true
-same_name name = (bytes_eq-Decides name name).1 refl
-
-pub either_order : (a b : List ℕ) → bytes_eq a b ≡ bytes_eq b a
-either_order a b =
-    same_from_decides (bytes_eq a b) (bytes_eq b a) (bytes_eq-Decides a b) (λ e. sym ((bytes_eq-Decides b a).0 e), λ e. (bytes_eq-Decides b a).1 (sym e))
 
 times_one : (a : ℤ) → pos 1 *ℤ a ≡ a
 times_one (pos n) = omega (arith, ints)
@@ -103,12 +96,6 @@ meets_rest first names a rest (column ∷ columns) none h =
     let parts = or_parts (bytes_eq first column.name) (list_any (λ other. bytes_eq first other) (names_of columns)) none in
     let same = form-unit_rest first names column.name a rest parts.0 in
     (subst (Between column.kind) (sym same) h.0, meets_rest first names a rest columns parts.1 h.1)
-
--- no other column has the first one's name
-first_apart : (name : List ℕ) (names : List (List ℕ)) → are_distinct (name ∷ names) ≡ true → (list_any (λ other. bytes_eq name other) names ≡ false) × (are_distinct names ≡ true)
-first_apart name names apart =
-    let parts = and_parts (not (list_any (λ other. bytes_eq name other) names)) (are_distinct names) apart in
-    (not-true (list_any (λ other. bytes_eq name other) names) parts.0, parts.1)
 
 -- numbers that meet the range checks of columns fit their types
 pub fit_in_range : (columns : List Column) (numbers : List ℤ)

@@ -1,13 +1,14 @@
 -- The rules that the columns of a table follow, one by one.
 use Rattle.std.proofs.Common.{◌≡◌, ℕ, ◌≤◌, ◌<◌, zero, suc, true, false, not, Option, Some, None, option_map, bytes_eq, List, [], ◌∷◌, length, ap, sym, ◌∙◌, subst, refl, arith}
 use Rattle.std.specs.Prelude.{IsTrue, slice_get, unwrap_or}
-use Rattle.std.specs.List.{AllByRecursion, IsDistinct, list_all, list_any}
+use Rattle.std.specs.List.{AllByRecursion, list_all}
 use Rattle.std.proofs.lemmas.List.Elements.{All-from_recursion, All-filter, recursion_from_All}
 use Rattle.std.proofs.lemmas.List.Quantifiers.{position-Some}
 use Rattle.std.proofs.lemmas.List.Sums.{AllPass-from_list_all}
-use Rattle.std.proofs.lemmas.Bool.{and_parts, or_parts, not-true, leb-true, false≢true}
+use Rattle.std.proofs.lemmas.Bool.{and_parts, not-true, leb-true, false≢true}
 use Rattle.std.proofs.lemmas.Option.{none-some, same_Some, option_and_then_some, get_or_from_slice_get}
 use Rattle.std.proofs.lemmas.Slice.Eq.{bytes_eq-Decides}
+use Rattle.escrow_sql.specs.declared.statement.CreateText.{CreateText}
 use Rattle.escrow_sql.specs.declared.statement.Item.{Item}
 use Rattle.escrow_checks.proofs.ConditionLemmas.{checks_whole}
 use Rattle.escrow_checks.specs.declared.coefficients.TheConstants.Coefficients.{MAX_LEN}
@@ -16,10 +17,11 @@ use Rattle.escrow_schema.specs.declared.column.Column.{Column}
 use Rattle.escrow_schema.specs.declared.table.TableDef.{TableDef}
 use Rattle.escrow_schema.specs.declared.table.TheConstants.TableDef.{MIN_COLUMNS, MAX_COLUMNS}
 use Rattle.escrow_schema.specs.Column.{reservables, names_of}
-use Rattle.escrow_schema.specs.Definition.{IsTable, check_names, checks_in, columns_of, are_columns, are_distinct, is_plain_at, key_names, key_place, only_one, place_of}
-use Rattle.escrow_schema.specs.Laws.{TablesFollowRules}
+use Rattle.escrow_schema.specs.Definition.{IsTable, check_names, checks_in, columns_of, definition_of, are_columns, are_distinct, is_plain_at, key_names, key_place, only_one, place_of}
+use Rattle.escrow_schema.specs.Rules.{FollowsRules}
 use Rattle.escrow_schema.specs.Typed.{CanRange, TypedColumns}
 use Rattle.escrow_schema.proofs.ColumnsLemmas.{HasType, written_columns, reservables_distinct, reservables_written}
+use Rattle.escrow_schema.proofs.DistinctLemmas.{distinct_from}
 use Rattle.escrow_schema.proofs.TableLemmas.{parts}
 
 pub record Rules (columns : List Column) (key : ℕ) : Type 0 where
@@ -107,25 +109,13 @@ key_written items columns key column e found =
     let same : bytes_eq column.name name ≡ true = subst (λ (c : Column). bytes_eq c.name name ≡ true) (get_or_from_slice_get columns key column column found) there in
     only_from (key_names items) name one ∙ ap (λ n. n ∷ []) (sym ((bytes_eq-Decides column.name name).0 same)))
 
--- names that a test tells apart are distinct
-apart_from : (name : List ℕ) (names : List (List ℕ)) → list_any (λ other. bytes_eq name other) names ≡ false → AllByRecursion (λ other. bytes_eq name other ≡ false) names
-apart_from name [] e = tt
-apart_from name (other ∷ names) e = let parts = or_parts (bytes_eq name other) (list_any (λ other. bytes_eq name other) names) e in (parts.0, apart_from name names parts.1)
-
-pub distinct_from : (names : List (List ℕ)) → are_distinct names ≡ true → IsDistinct bytes_eq names
-unfolding IsDistinct
-distinct_from [] e = tt
-distinct_from (name ∷ names) e =
-    let parts = and_parts (not (list_any (λ other. bytes_eq name other) names)) (are_distinct names) e in
-    (apart_from name names (not-true (list_any (λ other. bytes_eq name other) names) parts.0), distinct_from names parts.1)
-
 -- what passes a test name by name
 passes : (names : List (List ℕ)) → list_all is_written_name names ≡ true → AllByRecursion (λ name. IsTrue (is_written_name name)) names
 passes names e = recursion_from_All (λ name. IsTrue (is_written_name name)) names (AllPass-from_list_all is_written_name names e)
 
 -- a table follows the rules
-pub tables_follow_rules : TablesFollowRules
-tables_follow_rules text table e =
+pub follows_rules : (text : CreateText) (table : TableDef) → definition_of text ≡ Some table → FollowsRules text table
+follows_rules text table e =
     let p = parts text table e in
     let rules = rules_on table.columns table.key p.follow in
     let key = plain_column (slice_get table.columns table.key) rules.plain_key in

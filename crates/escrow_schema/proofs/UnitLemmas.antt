@@ -14,7 +14,7 @@ use Rattle.escrow_schema.specs.declared.column.Column.{Column}
 use Rattle.escrow_schema.specs.Column.{names_of, top_of}
 use Rattle.escrow_schema.specs.Definition.{are_distinct, range_check}
 use Rattle.escrow_schema.specs.Typed.{CanRange}
-use Rattle.escrow_schema.proofs.RangeLemmas.{same_name, either_order}
+use Rattle.escrow_schema.proofs.DistinctLemmas.{same_name, either_order}
 
 -- a column that isn't among the names has no coefficient there
 unit_other : (columns : List Column) (name : List ℕ) → list_any (λ other. bytes_eq name other) (names_of columns) ≡ false → unit_of (names_of columns) name ≡ replicate (length columns) (pos 0)
@@ -25,7 +25,7 @@ unit_other (column ∷ columns) name none =
     rw apart (ap (λ rest. pos 0 ∷ rest) (unit_other columns name parts.1))
 
 -- the name at a place is none that isn't among the names
-at_apart : (columns : List Column) (name : List ℕ) (place : ℕ) (d : Column) → list_any (λ other. bytes_eq name other) (names_of columns) ≡ false → place < length columns → bytes_eq name (get_or columns place d).name ≡ false
+pub at_apart : (columns : List Column) (name : List ℕ) (place : ℕ) (d : Column) → list_any (λ other. bytes_eq name other) (names_of columns) ≡ false → place < length columns → bytes_eq name (get_or columns place d).name ≡ false
 at_apart [] name place d none within = absurd (omega arith)
 at_apart (column ∷ columns) name zero d none within = (or_parts (bytes_eq name column.name) (list_any (λ other. bytes_eq name other) (names_of columns)) none).0
 at_apart (column ∷ columns) name (suc place) d none within =

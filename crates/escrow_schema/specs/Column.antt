@@ -1,3 +1,4 @@
+-- Believed: what a column's type is and which values it holds.
 use Rattle.std.specs.Prelude.{ℕ, ℤ, pos, neg_ℤ, ◌-◌, ◌^◌, Bool, false, ◌&&◌, int_le, unsigned_abs, if◌then◌else◌, Option, Some, None, List, map, filter}
 use Rattle.escrow_num.specs.declared.value.Value.{Value}
 use Rattle.escrow_num.specs.declared.value.Value.TheVariants as value

@@ -1,3 +1,4 @@
+-- Believed: which table a CREATE TABLE defines.
 use Rattle.std.specs.Prelude.{◌≡◌, ℕ, neg_ℤ, Bool, true, false, ◌&&◌, not, nat_le, if◌then◌else◌, Option, Some, None, option_map, option_and_then, unwrap_or, List, [], ◌∷◌, ◌++◌, length, map, filter, position, slice_get, codes, bytes_eq}
 use Rattle.std.specs.List.{list_any, list_all, flat_map}
 use Rattle.escrow_sql.specs.declared.statement.CreateText.{CreateText}

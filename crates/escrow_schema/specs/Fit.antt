@@ -1,3 +1,4 @@
+-- Believed: which row literals make, and which values a row has.
 use Rattle.std.specs.Prelude.{ℕ, ℤ, pos, ◌+◌, ◌==◌, ◌||◌, if◌then◌else◌, Option, Some, None, option_map, option_and_then, List, [], ◌∷◌, ◌++◌, map, take, drop, slice_get, IsTrue}
 use Rattle.std.specs.List.{AllZip}
 use Rattle.escrow_num.specs.declared.value.Value.{Value}
@@ -52,13 +53,13 @@ fitted table literals = option_and_then (row_with table) (values_in table.column
 
 -- the values of columns, in their order: the next amount for each RESERVABLE one, the key at its
 -- place, the next plain value for each other; the first of the columns stands at a place
-abbrev pub woven : List Column → ℕ → ℕ → Value → List ℤ → List Value → List Value
-woven [] place at key amounts plain = []
-woven (column ∷ columns) place at key amounts plain =
-    if column.reservable then map value.Number (take 1 amounts) ++ woven columns (place + 1) at key (drop 1 amounts) plain
-    else (if place == at then key ∷ woven columns (place + 1) at key amounts plain
-    else take 1 plain ++ woven columns (place + 1) at key amounts (drop 1 plain))
+abbrev pub values_from : List Column → ℕ → ℕ → Value → List ℤ → List Value → List Value
+values_from [] place at key amounts plain = []
+values_from (column ∷ columns) place at key amounts plain =
+    if column.reservable then map value.Number (take 1 amounts) ++ values_from columns (place + 1) at key (drop 1 amounts) plain
+    else (if place == at then key ∷ values_from columns (place + 1) at key amounts plain
+    else take 1 plain ++ values_from columns (place + 1) at key amounts (drop 1 plain))
 
 -- the values of a row, in column order
 abbrev pub values_of : TableDef → Row → List Value
-values_of table row = woven table.columns 0 table.key row.name.key row.amounts row.plain
+values_of table row = values_from table.columns 0 table.key row.name.key row.amounts row.plain

@@ -1,3 +1,4 @@
+-- Believed: the statements of the laws in src/laws.rt.
 use Rattle.std.specs.Prelude.{◌≡◌, ◌⊎◌, ◌↔◌, ℤ, ◌+◌, ◌≤◌, Option, Some, Ok, Err, List, length, map}
 use Rattle.std.specs.List.{AllByRecursion}
 use Rattle.escrow_num.specs.Amount.{IsAmount}
@@ -84,6 +85,6 @@ ChecksMeanConditions =
     ↔ (AllByRecursion (MeetsText (names_of (reservables table.columns)) numbers) (checks_in text.items)
     × FitColumns (reservables table.columns) (map value.Number numbers)))
 
--- a table that a text defines follows the rules of definitions
-abbrev pub TablesFollowRules : Type 0
-TablesFollowRules = (text : CreateText) (table : TableDef) → definition_of text ≡ Some table → FollowsRules text table
+-- a text defines a table exactly where the two follow the rules of definitions, one by one
+abbrev pub DefinitionsFollowRules : Type 0
+DefinitionsFollowRules = (text : CreateText) (table : TableDef) → (definition_of text ≡ Some table) ↔ FollowsRules text table

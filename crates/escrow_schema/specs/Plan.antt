@@ -1,3 +1,4 @@
+-- Believed: what an UPDATE asks of a row, or why it can't be planned.
 use Rattle.std.specs.Prelude.{ℕ, ℤ, Bool, false, ◌&&◌, not, if◌then◌else◌, Option, Some, None, option_map, option_and_then, unwrap_or, Result, Err, List, map, slice_get, bytes_eq}
 use Rattle.std.specs.Option.{ok_or}
 use Rattle.std.specs.List.{list_any}

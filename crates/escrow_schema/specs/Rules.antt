@@ -1,4 +1,4 @@
--- The rules of definitions, one by one, for a reader.
+-- Believed: the rules of definitions, one by one.
 use Rattle.std.specs.Prelude.{◌≡◌, ◌≤◌, false, Some, List, ◌∷◌, [], ◌++◌, length, slice_get, bytes_eq, IsTrue}
 use Rattle.std.specs.List.{AllByRecursion, IsDistinct}
 use Rattle.escrow_sql.specs.declared.statement.CreateText.{CreateText}
@@ -31,8 +31,9 @@ pub record FollowsRules (text : CreateText) (table : TableDef) : Type 0 where
   -- 1 to 10 columns are RESERVABLE
   pub some_reservable : 1 ≤ length (reservables table.columns)
   pub few_reservable : length (reservables table.columns) ≤ MAX_LEN
-  -- its checks are at most 32 declared ones, in order, and behind them the range of each RESERVABLE
-  -- column; no two have one name
+  -- its checks are at most 32 declared ones, in order, each over the RESERVABLE columns and of a name
+  -- that a statement can write, and behind them the range of each RESERVABLE column; no two have one
+  -- name
   pub declared : List Check
   pub of_text : checks_of (names_of (reservables table.columns)) (checks_in text.items) ≡ Some declared
   pub few_declared : length declared ≤ MAX_CHECKS

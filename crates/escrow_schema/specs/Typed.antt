@@ -1,4 +1,4 @@
--- What private contracts say of columns; no public contract rests on it.
+-- Helps: what private contracts say of columns. Nothing that callers see rests on it.
 use Rattle.std.specs.Prelude.{◌≡◌, ◌≤◌, true, List, length, All}
 use Rattle.std.specs.List.{list_all}
 use Rattle.escrow_checks.specs.declared.coefficients.TheConstants.Coefficients.{MAX_LEN}

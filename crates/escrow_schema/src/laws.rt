@@ -1,10 +1,10 @@
 //! What holds of every table that a text defines, and of the rows and plans of it: each law is the
 //! contract of a function that does nothing.
-ghost use Rattle.escrow_schema.specs.Laws.{NameOfTable, FewReservable, ChecksOfWholeRow, ChecksKeepAmounts, FewChecks, RowsOfTable, PlansOfWholeRow, RefusalsOfPlans, ValuesOfRow, ValuesFit, ChecksMeanConditions, TablesFollowRules};
+ghost use Rattle.escrow_schema.specs.Laws.{NameOfTable, FewReservable, ChecksOfWholeRow, ChecksKeepAmounts, FewChecks, RowsOfTable, PlansOfWholeRow, RefusalsOfPlans, ValuesOfRow, ValuesFit, ChecksMeanConditions, DefinitionsFollowRules};
 
-/// A table that a text defines follows the rules of definitions, one by one.
-pub fn tables_follow_rules()
-    ensures { TablesFollowRules }
+/// A text defines a table exactly where the two follow the rules of definitions, one by one.
+pub fn definitions_follow_rules()
+    ensures { DefinitionsFollowRules }
 {}
 
 /// Numbers meet every check of a table exactly where they meet every CHECK as it is written and each

@@ -1,5 +1,5 @@
 //! Additions to a list, of items that are copied.
-ghost use Rattle.std.specs.Prelude.{◌≡◌, ◌++◌, [], ◌∷◌, OnOk, option_to_list};
+ghost use Rattle.std.specs.Prelude.{◌≡◌, ◌++◌, [], ◌∷◌, OnOk};
 
 use std::alloc::AllocError;
 
@@ -8,15 +8,5 @@ pub(crate) fn add<T: Copy>(list: &mut Vec<T>, item: T) -> Result<(), AllocError>
     ensures { OnOk result (list.new.items ≡ list.old.items ++ item ∷ []) }
 {
     list.push(item)?;
-    Ok(())
-}
-
-/// Adds the item at the end, if there is one.
-pub(crate) fn add_some<T: Copy>(list: &mut Vec<T>, item: Option<T>) -> Result<(), AllocError>
-    ensures { OnOk result (list.new.items ≡ list.old.items ++ option_to_list item) }
-{
-    if let Some(item) = item {
-        list.push(item)?;
-    }
     Ok(())
 }
