@@ -52,7 +52,7 @@ accepted_serves s session asked accepted =
     stepped s session asked turn.reply turn.next (is_turn s session asked).succeeds
     (sym (ap (λ (o : Option Refusal). unwrap_or (option_map (λ (q : Refusal). (reply.Refused q, s)) o) (turn.reply, turn.next)) accepted))
 
--- want of memory where no refusal applies, of a statement that may want it
+-- out of memory where no refusal applies, of a statement that may be so
 pub memory_serves : (s : State) (session : ℕ) (asked : Statement) → IsAccepted s session asked → (turn_of s session asked).fails_for failure.Memory ≡ true
     → StepOrRefusal s session asked (reply.Refused refusal.Memory) s
 memory_serves s session asked accepted wants =

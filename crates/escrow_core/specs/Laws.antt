@@ -68,11 +68,11 @@ abbrev pub RefusedChangesNothing : Type 0
 RefusedChangesNothing = (s : State) (session : ℕ) (asked : Statement) (r : Refusal)
     → (step s session asked).0 ≡ reply.Refused r → (step s session asked).1 ≡ s
 
--- the machine wants neither memory nor a store
+-- the machine is never out of memory, nor refused by a store
 abbrev pub MachineNeverFails : Type 0
 MachineNeverFails = (s : State) (session : ℕ) (asked : Statement) → failure_of (step s session asked).0 ≡ None
 
--- a failure is want of memory, and the statement is CREATE TABLE, INSERT or UPDATE
+-- what fails is out of memory, and is no COMMIT and no ROLLBACK
 abbrev pub FailsForMemoryAlone : Type 0
 FailsForMemoryAlone = (s : State) (session : ℕ) (asked : Statement) (answer : Reply) (new : State) (f : Failure)
     → StepOrRefusal s session asked answer new → failure_of answer ≡ Some f

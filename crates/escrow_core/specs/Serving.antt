@@ -20,7 +20,7 @@ use Rattle.escrow_core.specs.Turn.{turn_of}
 abbrev pub IsAccepted : State → ℕ → Statement → Type 0
 IsAccepted s session asked = first_refusal (refusals (turn_of s session asked)) ≡ None
 
--- a refusal is the first of a statement that applies, or want of memory, for which it may fail
+-- a refusal is the first of a statement that applies, or out of memory, where it may fail so
 abbrev pub IsRefusal : State → ℕ → Statement → Refusal → Type 0
 IsRefusal s session asked r =
     ((first_refusal (refusals (turn_of s session asked)) ≡ Some r) × (failure_of_refusal r ≡ None))

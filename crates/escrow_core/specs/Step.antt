@@ -27,8 +27,8 @@ step s session asked = let turn = turn_of s session asked in unless_refused s (r
 pub record IsStep (s : State) (session : ℕ) (asked : Statement) (answer : Reply) (new : State) : Type 0 where
   pub is_step : (answer, new) ≡ step s session asked
 
--- a statement may fail for want of memory or of the store: where no early refusal applies, and only
--- for what it takes
+-- a statement may fail, out of memory or refused by the store, where no early refusal applies, and
+-- only for what it takes
 abbrev pub may_fail : State → ℕ → Statement → Failure → Bool
 may_fail s session asked failure = let turn = turn_of s session asked in is_none (first_refusal turn.early) && turn.fails_for failure
 

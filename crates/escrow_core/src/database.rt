@@ -54,8 +54,8 @@ impl Database {
     /// The most savepoints of a session.
     pub const MAX_SAVEPOINTS: usize = 64;
 
-    /// A database without tables, in which nothing is open and the next id is 1. Want of memory is
-    /// the only error.
+    /// A database without tables, in which nothing is open and the next id is 1. Out of
+    /// memory is the only error.
     pub fn empty(alloc: Global) -> Result<Self, AllocError>
         ensures { IfOk result (λ d. d.state ≡ empty) }
     {

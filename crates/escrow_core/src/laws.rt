@@ -23,13 +23,12 @@ pub fn refused_changes_nothing()
     ensures { RefusedChangesNothing }
 {}
 
-/// The machine itself is never refused memory, nor by a store: such a refusal is no reply of it.
+/// The machine itself is never out of memory, nor refused by a store: no reply of it says so.
 pub fn machine_never_fails()
     ensures { MachineNeverFails }
 {}
 
-/// What fails is refused memory, and is a CREATE TABLE, an INSERT or an UPDATE: a store refuses
-/// nothing, and COMMIT and ROLLBACK never fail.
+/// What fails is out of memory, and is neither COMMIT nor ROLLBACK, which never fail.
 pub fn fails_for_memory_alone()
     ensures { FailsForMemoryAlone }
 {}

@@ -22,7 +22,7 @@ pub enum Reply {
 /// What may come in place of a reply, with nothing changed.
 #[derive(Clone, Copy, Debug, PartialEq, Eq)]
 pub enum Failure {
-    /// Memory was refused.
+    /// Out of memory.
     Memory,
     /// The store refused a call.
     Store,
