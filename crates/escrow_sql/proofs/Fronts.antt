@@ -117,6 +117,17 @@ took_none {A} a ts rest xs s h =
     subst (λ (ys : List A). Took (items a) (Repeats (Sentence a)) ts ys rest) p.0
     ([], p.1, refl, λ other q. items-none a other (sym (starts-same (first a) rest other q) ∙ (ap (starts (first a)) (sym p.1) ∙ s)))
 
+-- reading items where one comes next, seen as reading that one and the others
+took_unrolled : {A : Type 0} (a : Grammar A) → may_be_empty a ≡ false → (ts rest : List Token) (ys : List A) → starts (first a) ts ≡ true
+    → Took (λ us. and_then (run a us) (λ x q. onto x (items a q))) (Repeats (Sentence a)) ts ys rest → Took (items a) (Repeats (Sentence a)) ts ys rest
+took_unrolled a e ts rest ys s both = (
+  both.0,
+  both.1,
+  both.2,
+  λ other q.
+      items-unrolled a e (both.0 ++ other) (sym (starts-same (first a) ts (both.0 ++ other) (head_behind ts both.0 rest other both.1 q)) ∙ s) ∙ both.3 other q,
+)
+
 -- the items of a repetition that were taken
 took_items : {A : Type 0} (a : Grammar A) → may_be_empty a ≡ false → ((ts rest : List Token) (v : A) → run a ts ≡ Ok (v, rest) → Took (run a) (Sentence a) ts v rest)
     → (n : ℕ) (ts rest : List Token) (xs : List A) → length ts ≤ n → items a ts ≡ Ok (xs, rest) → Took (items a) (Repeats (Sentence a)) ts xs rest
@@ -132,21 +143,15 @@ took_items {A} a e ta (suc n) ts rest xs l h =
       | inl s ↦
           let p = parts-Ok (λ x xs. x ∷ xs) (run a ts) (items a) xs rest (sym (items-unrolled a e ts s) ∙ h) in
           let shorter = run-shorter a e ts p.0 p.2 in
-          let one = ta ts p.0.1 p.0.0 p.2 in
           let others = took_items a e ta n p.0.1 rest p.1 (omega (arith, shorter)) p.3 in
-          let both = took_both (run a) (items a) (Sentence a) (Repeats (Sentence a)) (λ x xs. x ∷ xs) (Repeats (Sentence a)) (λ s t x y sa sb. (s, t, refl, sa, sb))
-          ts p.0.1 rest p.0.0 p.1 one others in
-          subst (λ (ys : List A). Took (items a) (Repeats (Sentence a)) ts ys rest) p.4 (
-            both.0,
-            both.1,
-            both.2,
-            λ other q.
-                items-unrolled a e (both.0 ++ other) (sym (starts-same (first a) ts (both.0 ++ other) (head_behind ts both.0 rest other both.1 q)) ∙ s) ∙ both.3 other q,
-          )
+          subst (λ (ys : List A). Took (items a) (Repeats (Sentence a)) ts ys rest) p.4
+          (took_unrolled a e ts rest _ s
+          (took_both (run a) (items a) (Sentence a) (Repeats (Sentence a)) (λ x xs. x ∷ xs) (Repeats (Sentence a)) (λ s t x y sa sb. (s, t, refl, sa, sb))
+          ts p.0.1 rest p.0.0 p.1 (ta ts p.0.1 p.0.0 p.2) others))
       | inr s ↦ took_none a ts rest xs s h
     ]
 
--- reading items where one comes next, seen as reading that one and the others
+-- the same where one of them stopped
 stuck_unrolled : {A : Type 0} (a : Grammar A) → may_be_empty a ≡ false → (ts rest : List Token) → starts (first a) ts ≡ true
     → Stuck (λ us. and_then (run a us) (λ x q. onto x (items a q))) (Repeats (Sentence a)) ts rest → Stuck (items a) (Repeats (Sentence a)) ts rest
 stuck_unrolled a e ts rest s both = (

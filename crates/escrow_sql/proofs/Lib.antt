@@ -1,3 +1,4 @@
+pub mod Answered
 pub mod ClassLemmas
 pub mod Faults
 pub mod Fronts

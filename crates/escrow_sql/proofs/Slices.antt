@@ -4,7 +4,7 @@ use Rattle.std.specs.Prelude.{nat_lt, not, ◌&&◌, ◌==◌, if◌then◌else�
 use Rattle.std.specs.Char.{is_ascii_alphabetic, is_ascii_digit, to_ascii_uppercase}
 use Rattle.std.specs.List.{prefix_len, AllByRecursion}
 use Rattle.std.proofs.lemmas.Bool.{cond_both, cond-true, cond-false, cases_Bool, and_cases, and_left, and_right, eqb-true}
-use Rattle.std.proofs.lemmas.List.{length-take-le, length-take, length-drop, drop-drop, get_or-take}
+use Rattle.std.proofs.lemmas.List.{take-take, length-take-le, length-take, length-drop, drop-drop, get_or-take}
 use Rattle.std.proofs.lemmas.List.Sums.{prefix_len_is, prefix_len-le-length, prefix_len_passes}
 use Rattle.escrow_num.specs.Amount.{is_amount, number_of}
 use Rattle.escrow_num.specs.declared.name.TheConstants.Name.{MAX_WRITTEN}
@@ -22,12 +22,6 @@ use Rattle.escrow_sql.proofs.PieceLemmas.{piece_of-within}
 use Rattle.escrow_sql.proofs.Pieces.{is_lexed}
 use Rattle.escrow_sql.proofs.QuotedLemmas.{text_alone}
 use Rattle.escrow_sql.proofs.TokenLemmas.{after, by_piece, tokens_from-piece, with_token-Ok, whole_at_end}
-
-take_front : (m n : ℕ) (xs : List ℕ) → m ≤ n → take m (take n xs) ≡ take m xs
-take_front zero n xs l = refl
-take_front (suc m) zero xs l = absurd (omega arith)
-take_front (suc m) (suc n) [] l = refl
-take_front (suc m) (suc n) (x ∷ xs) l = ap (λ (ys : List ℕ). x ∷ ys) (take_front m n xs (omega arith))
 
 -- a front that passes, alone, passes whole
 prefix_alone : (p : ℕ → Bool) (xs : List ℕ) → prefix_len p (take (prefix_len p xs) xs) ≡ prefix_len p xs
@@ -51,14 +45,14 @@ unfolding name_piece
 name_alone xs =
     let n = prefix_len goes_on xs in
     let e = prefix_alone goes_on xs in
-    ap₂ (λ (l : ℕ) (front : List ℕ). name_with l front) e (ap (λ (l : ℕ). take l (take n xs)) e ∙ take_front n n xs (omega arith))
+    ap₂ (λ (l : ℕ) (front : List ℕ). name_with l front) e (ap (λ (l : ℕ). take l (take n xs)) e ∙ take-take n n xs (omega arith))
 
 number_alone : (xs : List ℕ) → number_piece (take (prefix_len is_ascii_digit xs) xs) ≡ number_piece xs
 unfolding number_piece
 number_alone xs =
     let n = prefix_len is_ascii_digit xs in
     let e = prefix_alone is_ascii_digit xs in
-    ap₂ (λ (l : ℕ) (front : List ℕ). number_with l front) e (ap (λ (l : ℕ). take l (take n xs)) e ∙ take_front n n xs (omega arith))
+    ap₂ (λ (l : ℕ) (front : List ℕ). number_with l front) e (ap (λ (l : ℕ). take l (take n xs)) e ∙ take-take n n xs (omega arith))
 
 -- how long the token of a name or a number is
 name_len : (xs : List ℕ) (k : Kind) (len : ℕ) → name_piece xs ≡ piece.Token k len → len ≡ prefix_len goes_on xs

@@ -1,15 +1,18 @@
 -- To be believed: what laws say of texts.
-use Rattle.std.specs.Prelude.{◌≡◌, ℕ, Result, List}
+use Rattle.std.specs.Prelude.{◌≡◌, ℕ, ◌⊎◌, Result, List}
 use Rattle.escrow_sql.specs.declared.statement.Request.{Request}
 use Rattle.escrow_sql.specs.declared.token.Token.{Token}
 use Rattle.escrow_sql.specs.Lex.{IsLexed}
-use Rattle.escrow_sql.specs.Parser.{Asks}
+use Rattle.escrow_sql.specs.Parser.{Asks, IsFaultColumn}
 
 -- each text has tokens or a lexing fault, and never two answers
 pub record EachIsLexedOnce : Type 0 where
   pub lexed : (text : List ℕ) → (r : Result (List Token) ℕ) × IsLexed text r
   pub once : (text : List ℕ) (r q : Result (List Token) ℕ) → IsLexed text r → IsLexed text q → r ≡ q
 
--- no text asks two things
-abbrev pub NoneAsksTwice : Type 0
-NoneAsksTwice = (text : List ℕ) (r q : Request) → Asks text r → Asks text q → r ≡ q
+-- each text asks one thing, or has its fault at one column, and never both
+pub record EachIsAnsweredOnce : Type 0 where
+  pub answered : (text : List ℕ) → ((r : Request) × Asks text r) ⊎ ((column : ℕ) × IsFaultColumn text column)
+  pub one_request : (text : List ℕ) (r q : Request) → Asks text r → Asks text q → r ≡ q
+  pub one_column : (text : List ℕ) (c d : ℕ) → IsFaultColumn text c → IsFaultColumn text d → c ≡ d
+  pub not_both : (text : List ℕ) (r : Request) (column : ℕ) → Asks text r → IsFaultColumn text column → ⊥

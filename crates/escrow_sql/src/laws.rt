@@ -1,13 +1,14 @@
 //! Laws of the definitions: facts about them, each the contract of a function that does nothing.
 
-ghost use Rattle.escrow_sql.specs.Laws.{EachIsLexedOnce, NoneAsksTwice};
+ghost use Rattle.escrow_sql.specs.Laws.{EachIsAnsweredOnce, EachIsLexedOnce};
 
 /// What is lexed of a text stands fast: tokens, or the column of a fault, and never two answers.
 pub fn each_is_lexed_once()
     ensures { EachIsLexedOnce }
 {}
 
-/// The grammar is unambiguous: no text asks two things.
-pub fn none_asks_twice()
-    ensures { NoneAsksTwice }
+/// A text asks one thing, since the grammar is unambiguous, or it has its fault at one column, and
+/// never both.
+pub fn each_is_answered_once()
+    ensures { EachIsAnsweredOnce }
 {}
