@@ -1,5 +1,5 @@
 -- What reading took, and where it stopped: the same whatever follows, if that begins with a token of the same class.
-use Rattle.std.proofs.Common.{◌≡◌, ℕ, zero, suc, ◌≤◌, true, false, Ok, Err, List, [], ◌∷◌, ◌++◌, length, refl, sym, ap, ◌∙◌, subst, inl, inr, ◌⊎◌, append_assoc, arith}
+use Rattle.std.proofs.Common.{◌≡◌, ℕ, Bool, zero, suc, ◌≤◌, true, false, Ok, Err, List, [], ◌∷◌, ◌++◌, length, refl, sym, ap, ◌∙◌, subst, inl, inr, ◌⊎◌, append_assoc, arith}
 use Rattle.std.specs.Prelude.{◌==◌, ◌&&◌, not}
 use Rattle.std.proofs.lemmas.Bool.{and_parts, not-true, eqb-true, cond-true, cond-false, cases_Bool}
 use Rattle.escrow_sql.specs.declared.token.Kind.{Kind}
@@ -184,6 +184,32 @@ stuck_items {A} a e ta sa (suc n) ts rest l h =
       | inr s ↦ absurd (let both : ◌≡◌ {A = Read (List A)} (Ok ([], ts)) (Err rest) = sym (items-none a ts s) ∙ h in cc)
     ]
 
+-- reading either of two is reading that one with which the tokens begin
+either_left : {V : Type 0} (a b : Grammar V) (ts : List Token) → starts (first a) ts ≡ true → run (either a b) ts ≡ run a ts
+either_left a b ts e = cond-true (starts (first a) ts) (run a ts) (run b ts) e
+
+either_right : {V : Type 0} (a b : Grammar V) (ts : List Token) → starts (first a) ts ≡ false → run (either a b) ts ≡ run b ts
+either_right a b ts e = cond-false (starts (first a) ts) (run a ts) (run b ts) e
+
+begins_same : (classes : List ℕ) (ts front rest other : List Token) (b : Bool) → ts ≡ front ++ rest → SameHead rest other → starts classes ts ≡ b → starts classes (front ++ other) ≡ b
+begins_same classes ts front rest other b e s h = sym (starts-same classes ts (front ++ other) (head_behind ts front rest other e s)) ∙ h
+
+took_left : {V : Type 0} (a b : Grammar V) (ts rest : List Token) (v : V) → starts (first a) ts ≡ true → Took (run a) (Sentence a) ts v rest → Took (run (either a b)) (Sentence (either a b)) ts v rest
+took_left a b ts rest v e t =
+    (t.0, t.1, inl t.2, λ other s. either_left a b (t.0 ++ other) (begins_same (first a) ts t.0 rest other true t.1 s e) ∙ t.3 other s)
+
+took_right : {V : Type 0} (a b : Grammar V) (ts rest : List Token) (v : V) → starts (first a) ts ≡ false → Took (run b) (Sentence b) ts v rest → Took (run (either a b)) (Sentence (either a b)) ts v rest
+took_right a b ts rest v e t =
+    (t.0, t.1, inr t.2, λ other s. either_right a b (t.0 ++ other) (begins_same (first a) ts t.0 rest other false t.1 s e) ∙ t.3 other s)
+
+stuck_left : {V : Type 0} (a b : Grammar V) (ts rest : List Token) → starts (first a) ts ≡ true → Stuck (run a) (Sentence a) ts rest → Stuck (run (either a b)) (Sentence (either a b)) ts rest
+stuck_left a b ts rest e t =
+    (t.0, t.1, (t.2.0, t.2.1, inl t.2.2), λ other s. either_left a b (t.0 ++ other) (begins_same (first a) ts t.0 rest other true t.1 s e) ∙ t.3 other s)
+
+stuck_right : {V : Type 0} (a b : Grammar V) (ts rest : List Token) → starts (first a) ts ≡ false → Stuck (run b) (Sentence b) ts rest → Stuck (run (either a b)) (Sentence (either a b)) ts rest
+stuck_right a b ts rest e t =
+    (t.0, t.1, (t.2.0, t.2.1, inr t.2.2), λ other s. either_right a b (t.0 ++ other) (begins_same (first a) ts t.0 rest other false t.1 s e) ∙ t.3 other s)
+
 -- what reading took is a sentence, and is taken whatever follows
 pub took : {V : Type 0} (g : Grammar V) → is_predictive g ≡ true → (ts rest : List Token) (v : V) → run g ts ≡ Ok (v, rest) → Took (run g) (Sentence g) ts v rest
 took (token like f) p [] rest v h = absurd (cc)
@@ -211,22 +237,8 @@ took {V} (either a b) p ts rest v h =
     let pa = and_parts (is_predictive a) (is_predictive b && (not (may_be_empty a) && apart (first a) (first b))) p in
     let pb = and_parts (is_predictive b) (not (may_be_empty a) && apart (first a) (first b)) pa.1 in
     elim (cases_Bool (starts (first a) ts)) [
-      | inl e ↦
-          let t = took a pa.0 ts rest v (sym (cond-true (starts (first a) ts) (run a ts) (run b ts) e) ∙ h) in (
-            t.0,
-            t.1,
-            inl t.2,
-            λ other s.
-                cond-true (starts (first a) (t.0 ++ other)) (run a (t.0 ++ other)) (run b (t.0 ++ other)) (sym (starts-same (first a) ts (t.0 ++ other) (head_behind ts t.0 rest other t.1 s)) ∙ e) ∙ t.3 other s,
-          )
-      | inr e ↦
-          let t = took b pb.0 ts rest v (sym (cond-false (starts (first a) ts) (run a ts) (run b ts) e) ∙ h) in (
-            t.0,
-            t.1,
-            inr t.2,
-            λ other s.
-                cond-false (starts (first a) (t.0 ++ other)) (run a (t.0 ++ other)) (run b (t.0 ++ other)) (sym (starts-same (first a) ts (t.0 ++ other) (head_behind ts t.0 rest other t.1 s)) ∙ e) ∙ t.3 other s,
-          )
+      | inl e ↦ took_left a b ts rest v e (took a pa.0 ts rest v (sym (either_left a b ts e) ∙ h))
+      | inr e ↦ took_right a b ts rest v e (took b pb.0 ts rest v (sym (either_right a b ts e) ∙ h))
     ]
 took {V} (many {A} a f) p ts rest v h =
     let pa = and_parts (is_predictive a) (not (may_be_empty a) && apart (more a) (first a)) p in
@@ -272,22 +284,8 @@ stuck {V} (either a b) p ts rest h =
     let pa = and_parts (is_predictive a) (is_predictive b && (not (may_be_empty a) && apart (first a) (first b))) p in
     let pb = and_parts (is_predictive b) (not (may_be_empty a) && apart (first a) (first b)) pa.1 in
     elim (cases_Bool (starts (first a) ts)) [
-      | inl e ↦
-          let t = stuck a pa.0 ts rest (sym (cond-true (starts (first a) ts) (run a ts) (run b ts) e) ∙ h) in (
-            t.0,
-            t.1,
-            (t.2.0, t.2.1, inl t.2.2),
-            λ other s.
-                cond-true (starts (first a) (t.0 ++ other)) (run a (t.0 ++ other)) (run b (t.0 ++ other)) (sym (starts-same (first a) ts (t.0 ++ other) (head_behind ts t.0 rest other t.1 s)) ∙ e) ∙ t.3 other s,
-          )
-      | inr e ↦
-          let t = stuck b pb.0 ts rest (sym (cond-false (starts (first a) ts) (run a ts) (run b ts) e) ∙ h) in (
-            t.0,
-            t.1,
-            (t.2.0, t.2.1, inr t.2.2),
-            λ other s.
-                cond-false (starts (first a) (t.0 ++ other)) (run a (t.0 ++ other)) (run b (t.0 ++ other)) (sym (starts-same (first a) ts (t.0 ++ other) (head_behind ts t.0 rest other t.1 s)) ∙ e) ∙ t.3 other s,
-          )
+      | inl e ↦ stuck_left a b ts rest e (stuck a pa.0 ts rest (sym (either_left a b ts e) ∙ h))
+      | inr e ↦ stuck_right a b ts rest e (stuck b pb.0 ts rest (sym (either_right a b ts e) ∙ h))
     ]
 stuck {V} (many {A} a f) p ts rest h =
     let pa = and_parts (is_predictive a) (not (may_be_empty a) && apart (more a) (first a)) p in

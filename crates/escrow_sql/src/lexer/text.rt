@@ -25,7 +25,7 @@ fn quoted_len(body: &[u8]) -> Option<usize>
 }
 
 /// Whether the byte may not stand in a text.
-fn is_forbidden_byte(byte: u8) -> bool
+fn is_forbidden(byte: u8) -> bool
     ensures { result ≡ is_forbidden byte }
 {
     byte < 0x20 || byte == 0x7f
@@ -35,7 +35,7 @@ fn is_forbidden_byte(byte: u8) -> bool
 fn forbidden_place(bytes: &[u8]) -> Option<usize>
     ensures { result ≡ position is_forbidden bytes.now }
 {
-    bytes.iter().position(|byte| is_forbidden_byte(*byte))
+    bytes.iter().position(|byte| is_forbidden(*byte))
 }
 
 /// A copy of the text, each doubled quote once.
