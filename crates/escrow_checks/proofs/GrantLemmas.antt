@@ -38,7 +38,7 @@ map_none : {A B : Type 0} (f : A → B) (o : Option A) → option_map f o ≡ No
 map_none f None e = refl
 map_none f (Some a) e = absurd cc
 
-pub inside_from_unbroken : (span : Span) (low high : ℤ) → first_broken_of span low high ≡ None → Inside span low high
+inside_from_unbroken : (span : Span) (low high : ℤ) → first_broken_of span low high ≡ None → Inside span low high
 inside_from_unbroken span low high e =
     let both = both_none (low_broken span.lo low) (high_broken span.hi high) e in
     (unbroken_low span.lo low both.0, unbroken_high span.hi high both.1)

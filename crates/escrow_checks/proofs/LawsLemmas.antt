@@ -2,7 +2,6 @@
 pub use Rattle.escrow_checks.proofs.ConditionLemmas.{mean_the_same, checks_whole, form-column}
 pub use Rattle.escrow_checks.proofs.EndsLemmas.{any_choice_can_commit, any_choice_can_stay, other_rows_stay_safe, new_row_is_safe}
 pub use Rattle.escrow_checks.proofs.FormLemmas.{length-all_changed}
-pub use Rattle.escrow_checks.proofs.GrantLemmas.{inside_from_unbroken, granted_where_always_met, granted_where_all_always_met, granted_stays_safe, refused_names_a_choice}
+pub use Rattle.escrow_checks.proofs.GrantLemmas.{granted_where_always_met, granted_where_all_always_met, granted_stays_safe, refused_names_a_choice}
 pub use Rattle.escrow_checks.proofs.ReachedLemmas.{extremes_are_reached}
 pub use Rattle.escrow_checks.proofs.SpreadLemmas.{adds_nothing}
-pub use Rattle.escrow_checks.proofs.InsideLemmas.{always_from_inside}
