@@ -7,9 +7,12 @@ use Rattle.clap.specs.declared.error.kind.ErrorKind.{ErrorKind}
 use Rattle.clap.specs.declared.error.kind.ErrorKind.TheVariants as kind
 use Rattle.std.specs.Prelude.{codes, nat_le}
 use Rattle.std.proofs.lemmas.Bool.Decides.{nat_tests}
+use Rattle.escrow_server.specs.declared.args.ArgFault.{ArgFault}
+use Rattle.escrow_server.specs.declared.args.ArgFault.TheVariants as arg_fault
 use Rattle.escrow_server.specs.declared.args.Mode.{Mode}
 use Rattle.escrow_server.proofs.ArgsFaults.{IsOne}
-use Rattle.escrow_server.specs.Args.{status_at, allowed, databases_of, mode_of, status_of, values_ask}
+use Rattle.escrow_server.specs.declared.limits.TheConstants.{MAX_DATABASES}
+use Rattle.escrow_server.specs.Args.{status_at, fault_status, allowed, databases_of, mode_of, status_of, values_ask}
 
 -- without a mode, values ask nothing
 pub no_mode : (rows : List Row) → mode_of (first_of (codes "mode") rows) ≡ None → values_ask rows ≡ None
@@ -26,10 +29,10 @@ pub both_asked : (rows : List Row) (mode : Mode) (count : ℕ) → mode_of (firs
 both_asked rows mode count found counted = rw (found, counted) refl
 
 -- a number within the bounds is allowed
-pub within : (n : ℕ) → 1 ≤ n → n ≤ 16 → Some n ≡ allowed n
+pub within : (n : ℕ) → 1 ≤ n → n ≤ MAX_DATABASES → Some n ≡ allowed n
 within n least most =
     let low : nat_le 1 n ≡ true = grind (arith, nat_tests) in
-    let high : nat_le n 16 ≡ true = grind (arith, nat_tests) in
+    let high : nat_le n MAX_DATABASES ≡ true = grind (arith, nat_tests) in
     rw (low, high) refl
 
 -- and one out of them isn't
@@ -38,18 +41,19 @@ below n less =
     let low : nat_le 1 n ≡ false = grind (arith, nat_tests) in
     rw low refl
 
-pub above : (n : ℕ) → 1 ≤ n → 16 < n → None ≡ allowed n
+pub above : (n : ℕ) → 1 ≤ n → MAX_DATABASES < n → None ≡ allowed n
 above n least more =
     let low : nat_le 1 n ≡ true = grind (arith, nat_tests) in
-    let high : nat_le n 16 ≡ false = grind (arith, nat_tests) in
+    let high : nat_le n MAX_DATABASES ≡ false = grind (arith, nat_tests) in
     rw (low, high) refl
 
 -- the status of an error of the one kind, or of memory
-pub status_among : (kinds : Kinds) (k : ErrorKind) (status : ℕ) → IsOne kinds → (status ≡ 1) ⊎ (status ≡ status_of k)
-    → (k ≡ kind.OutOfMemory) ⊎ IsAmong k kinds → (status ≡ 1) ⊎ (status ≡ status_at kinds)
-status_among kinds k status one (inl memory) among = inl memory
-status_among kinds k status one (inr is) (inl memory) = inl (is ∙ ap status_of memory)
-status_among [] k status one (inr is) (inr among) = elim among [ ]
-status_among (x ∷ []) k status one (inr is) (inr (inl same)) = inr (is ∙ ap status_of same)
-status_among (x ∷ []) k status one (inr is) (inr (inr none)) = elim none [ ]
-status_among (x ∷ y ∷ kinds) k status one (inr is) (inr among) = elim one [ ]
+pub status_among : (kinds : Kinds) (k : ErrorKind) (fault : ArgFault) → IsOne kinds → (fault ≡ arg_fault.Memory) ⊎ (fault_status fault ≡ status_of k)
+    → (k ≡ kind.OutOfMemory) ⊎ IsAmong k kinds → (k ≡ kind.OutOfMemory → fault ≡ arg_fault.Memory)
+    → (fault ≡ arg_fault.Memory) ⊎ (fault_status fault ≡ status_at kinds)
+status_among kinds k fault one (inl memory) among is = inl memory
+status_among kinds k fault one (inr same) (inl memory) is = inl (is memory)
+status_among [] k fault one (inr same) (inr among) is = elim among [ ]
+status_among (x ∷ []) k fault one (inr same) (inr (inl this)) is = inr (same ∙ ap status_of this)
+status_among (x ∷ []) k fault one (inr same) (inr (inr none)) is = elim none [ ]
+status_among (x ∷ y ∷ kinds) k fault one (inr same) (inr among) is = elim one [ ]

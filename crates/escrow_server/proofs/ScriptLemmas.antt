@@ -9,7 +9,8 @@ use Rattle.std.proofs.lemmas.Bool.{ltb-true, ltb-false, eqb-true, eqb-false, not
 use Rattle.std.proofs.lemmas.List.{nil_from_length, take_all, take_min, drop-take, drop-drop, length-take, length-drop}
 use Rattle.escrow_server.specs.Line.{onto_first, lines_of}
 use Rattle.std.specs.Io.KnownBytes.{Consumes, IsAtEnd}
-use Rattle.escrow_server.specs.Script.{is_feed, left, TakesLine, Moves}
+use Rattle.escrow_server.specs.declared.limits.TheConstants.{MAX_LINE}
+use Rattle.escrow_server.specs.Script.{is_feed, left, Spends, TakesLine, Moves}
 
 -- what is kept of a line and the bytes behind it
 pub keeps : (line bytes : List ℕ) (most room : ℕ) → room + length line ≡ most → line ++ take (min room (length bytes)) bytes ≡ take most (line ++ bytes)
@@ -25,15 +26,15 @@ shorter_part bytes from to count short =
     rw (whole, drop-take, drop-drop) refl
 
 -- how long a line and what stays unread become
-pub shorter : (line bytes kept rest : List ℕ) (len : ℕ) → len ≤ length bytes → kept ≡ take 4097 (line ++ take len bytes) → rest ≡ drop (len + 1) bytes
+pub shorter : (line bytes kept rest : List ℕ) (len : ℕ) → len ≤ length bytes → kept ≡ take (MAX_LINE + 1) (line ++ take len bytes) → rest ≡ drop (len + 1) bytes
     → length kept + length rest ≤ length line + length bytes
 shorter line bytes kept rest len within is_kept is_rest =
-    omega (arith, ap length is_kept, ap length is_rest, length-take 4097 (line ++ take len bytes), length-append line (take len bytes), length-take len bytes, length-drop (len + 1) bytes)
+    omega (arith, ap length is_kept, ap length is_rest, length-take (MAX_LINE + 1) (line ++ take len bytes), length-append line (take len bytes), length-take len bytes, length-drop (len + 1) bytes)
 
-pub shorter_by_feed : (line bytes kept rest : List ℕ) (len : ℕ) → len < length bytes → kept ≡ take 4097 (line ++ take len bytes) → rest ≡ drop (len + 1) bytes
+pub shorter_by_feed : (line bytes kept rest : List ℕ) (len : ℕ) → len < length bytes → kept ≡ take (MAX_LINE + 1) (line ++ take len bytes) → rest ≡ drop (len + 1) bytes
     → length kept + length rest < length line + length bytes
 shorter_by_feed line bytes kept rest len within is_kept is_rest =
-    omega (arith, ap length is_kept, ap length is_rest, length-take 4097 (line ++ take len bytes), length-append line (take len bytes), length-take len bytes, length-drop (len + 1) bytes)
+    omega (arith, ap length is_kept, ap length is_rest, length-take (MAX_LINE + 1) (line ++ take len bytes), length-append line (take len bytes), length-take len bytes, length-drop (len + 1) bytes)
 
 -- a part without bytes
 pub no_part : (bytes : List ℕ) (count : ℕ) → count ≤ length bytes → slice_range bytes 0 count ≡ [] → count ≡ 0
@@ -119,7 +120,7 @@ continues_read seen unread (Some bytes) (Some rest) (Some more) read h = h ∙ a
 
 -- unread bytes up to a line feed end the line
 pub takes_line : (seen unread kept : List ℕ) (bytes remaining : Option (List ℕ)) → position_or_len is_feed unread < length unread
-    → kept ≡ take 4097 (seen ++ take (position_or_len is_feed unread) unread)
+    → kept ≡ take (MAX_LINE + 1) (seen ++ take (position_or_len is_feed unread) unread)
     → Continues seen bytes (left unread remaining) → TakesLine true bytes (left (drop (position_or_len is_feed unread + 1) unread) remaining) kept
 takes_line seen unread kept None remaining below is_kept h = tt
 takes_line seen unread kept (Some bytes) None below is_kept h = h
@@ -132,7 +133,7 @@ takes_line seen unread kept (Some bytes) (Some rest) below is_kept h =
     )
 
 -- a script's end ends a line of which bytes were seen
-pub takes_last : (found : Bool) (seen kept : List ℕ) (bytes remaining : Option (List ℕ)) → IsAtEnd remaining → kept ≡ take 4097 seen
+pub takes_last : (found : Bool) (seen kept : List ℕ) (bytes remaining : Option (List ℕ)) → IsAtEnd remaining → kept ≡ take (MAX_LINE + 1) seen
     → (found ≡ true → 0 < length kept) → (found ≡ false → length kept ≡ 0)
     → Continues seen bytes (left [] remaining) → TakesLine found bytes (left [] remaining) kept
 takes_last found seen kept None remaining ended is_kept some none h = tt
@@ -141,7 +142,7 @@ takes_last false [] kept (Some bytes) (Some rest) ended is_kept some none h = (h
 takes_last true [] kept (Some bytes) (Some rest) ended is_kept some none h =
     absurd (omega (arith, some refl, ap length is_kept))
 takes_last false (x ∷ xs) kept (Some bytes) (Some rest) ended is_kept some none h =
-    absurd (omega (arith, none refl, ap length is_kept, length-take 4097 (x ∷ xs)))
+    absurd (omega (arith, none refl, ap length is_kept, length-take (MAX_LINE + 1) (x ∷ xs)))
 takes_last true (x ∷ xs) kept (Some bytes) (Some rest) ended is_kept some none h =
     (x ∷ xs, h ∙ ap (λ r. onto_line (x ∷ xs) (lines_of r)) ended ∙ onto_line-none x xs ∙ ap (λ r. (x ∷ xs) ∷ lines_of r) (sym ended), is_kept)
 
@@ -151,12 +152,12 @@ kept_front zero seen bytes = refl
 kept_front (suc most) [] bytes = refl
 kept_front (suc most) (x ∷ seen) bytes = ap (λ (xs : List ℕ). x ∷ xs) (kept_front most seen bytes)
 
-kept_more : (seen line bytes kept : List ℕ) → line ≡ take 4097 seen → kept ≡ take 4097 (line ++ bytes) → kept ≡ take 4097 (seen ++ bytes)
-kept_more seen line bytes kept is_line is_kept = is_kept ∙ ap (λ (l : List ℕ). take 4097 (l ++ bytes)) is_line ∙ kept_front 4097 seen bytes
+kept_more : (seen line bytes kept : List ℕ) → line ≡ take (MAX_LINE + 1) seen → kept ≡ take (MAX_LINE + 1) (line ++ bytes) → kept ≡ take (MAX_LINE + 1) (seen ++ bytes)
+kept_more seen line bytes kept is_line is_kept = is_kept ∙ ap (λ (l : List ℕ). take (MAX_LINE + 1) (l ++ bytes)) is_line ∙ kept_front (MAX_LINE + 1) seen bytes
 
 -- a turn that finds a line feed takes the line
 pub turn_takes : (found : Bool) (seen unread rest line kept : List ℕ) (bytes remaining : Option (List ℕ)) → found ≡ true → Moves found unread rest line kept
-    → line ≡ take 4097 seen → Continues seen bytes (left unread remaining) → TakesLine true bytes (left rest remaining) kept
+    → line ≡ take (MAX_LINE + 1) seen → Continues seen bytes (left unread remaining) → TakesLine true bytes (left rest remaining) kept
 turn_takes found seen unread rest line kept bytes remaining is_true moved is_line h =
     let below = ltb-true (position_or_len is_feed unread) (length unread) (sym moved.is_found ∙ is_true) in
     let front = take (position_or_len is_feed unread) unread in
@@ -165,26 +166,26 @@ turn_takes found seen unread rest line kept bytes remaining is_true moved is_lin
 
 -- how a line stands of which these bytes were seen, with nothing unread
 pub record Stands (seen kept rest : List ℕ) (bytes remaining : Option (List ℕ)) : Type 0 where
-  pub is_kept : kept ≡ take 4097 seen
+  pub is_kept : kept ≡ take (MAX_LINE + 1) seen
   pub is_rest : rest ≡ []
   pub goes_on : Continues seen bytes (left [] remaining)
 
 -- a turn that finds none leaves nothing unread
 pub turn_goes_on : (found : Bool) (seen unread rest line kept : List ℕ) (bytes remaining : Option (List ℕ)) → found ≡ false → Moves found unread rest line kept
-    → line ≡ take 4097 seen → Continues seen bytes (left unread remaining) → Stands (seen ++ unread) kept rest bytes remaining
+    → line ≡ take (MAX_LINE + 1) seen → Continues seen bytes (left unread remaining) → Stands (seen ++ unread) kept rest bytes remaining
 turn_goes_on found seen unread rest line kept bytes remaining is_false moved is_line h =
     let place = position_or_len is_feed unread in
     let above : length unread ≤ place = ltb-false place (length unread) (sym moved.is_found ∙ is_false) in
     let front : take place unread ≡ unread = take_all place unread above in
     record {
-      is_kept = kept_more seen line unread kept is_line (moved.is_kept ∙ ap (λ (b : List ℕ). take 4097 (line ++ b)) front);
+      is_kept = kept_more seen line unread kept is_line (moved.is_kept ∙ ap (λ (b : List ℕ). take (MAX_LINE + 1) (line ++ b)) front);
       is_rest = moved.is_rest ∙ drop_of_length-le unread (omega arith);
       goes_on = continues_whole seen unread bytes remaining above h;
     }
 
 -- how a line stands of which these bytes were seen
 pub record Reads (seen line unread : List ℕ) (bytes remaining : Option (List ℕ)) : Type 0 where
-  pub is_line : line ≡ take 4097 seen
+  pub is_line : line ≡ take (MAX_LINE + 1) seen
   pub goes_on : Continues seen bytes (left unread remaining)
 
 pub turn_reads : (seen kept rest line unread : List ℕ) (bytes old new : Option (List ℕ)) → Stands seen kept rest bytes old → line ≡ kept → Consumes old new unread
@@ -212,3 +213,22 @@ some_by_test empty n len e same h =
 
 pub none_by_test : (empty : Bool) (n len : ℕ) → empty ≡ eqb n 0 → n ≡ len → not empty ≡ false → len ≡ 0
 none_by_test empty n len e same h = omega (arith, eqb-true n 0 (sym e ∙ not-false empty h))
+
+-- WHAT A SCRIPT MAY STILL HAVE
+
+-- what a reader gave in two turns
+pub spends_more : (bytes mid rest : Option (List ℕ)) (old now new : ℕ) → Spends bytes mid old now → Spends mid rest now new → Spends bytes rest old new
+spends_more None mid rest old now new a b = tt
+spends_more (Some bytes) None rest old now new a b = absurd a
+spends_more (Some bytes) (Some more) None old now new a b = absurd b
+spends_more (Some bytes) (Some more) (Some rest) old now new a b = omega (arith, a, b)
+
+pub spends_none : (bytes : Option (List ℕ)) (room : ℕ) → Spends bytes bytes room room
+spends_none None room = tt
+spends_none (Some bytes) room = refl
+
+-- what a read gave
+pub spends_read : (bytes rest : Option (List ℕ)) (given : List ℕ) (old new count : ℕ) → Consumes bytes rest given → count ≡ length given → new + count ≡ old → Spends bytes rest old new
+spends_read None rest given old new count read is_count counted = tt
+spends_read (Some bytes) None given old new count read is_count counted = absurd read
+spends_read (Some bytes) (Some rest) given old new count read is_count counted = omega (arith, ap length read, length-append given rest, is_count, counted)

@@ -6,9 +6,12 @@ use Rattle.clap.specs.Faults.{fault_of}
 use Rattle.clap.specs.declared.builder.action.ArgAction.TheVariants.{Set}
 use Rattle.clap.specs.declared.error.kind.ErrorKind.{ErrorKind}
 use Rattle.clap.specs.declared.error.kind.ErrorKind.TheVariants as kind
+use Rattle.escrow_server.specs.declared.args.ArgFault.{ArgFault}
+use Rattle.escrow_server.specs.declared.args.ArgFault.TheVariants as arg_fault
 use Rattle.escrow_server.specs.declared.args.Args.{Args}
 use Rattle.escrow_server.specs.declared.args.Mode.{Mode}
 use Rattle.escrow_server.specs.declared.args.Mode.TheVariants as mode
+use Rattle.escrow_server.specs.declared.limits.TheConstants.{MAX_DATABASES}
 
 -- THE COMMAND LINE, as clap's definitions take it
 
@@ -38,9 +41,10 @@ mode_of (Some name) = if bytes_eq name (codes "run") then Some mode.Run else Non
 
 -- a number of databases, from 1 to 16
 abbrev pub allowed : ℕ → Option ℕ
-allowed count = if nat_le 1 count && nat_le count 16 then Some count else None
+allowed count = if nat_le 1 count && nat_le count MAX_DATABASES then Some count else None
 
--- how many databases a value asks, in decimal digits, and 1 where there is no value
+-- how many databases a value asks, and 1 where there is no value; a value is read as Rust reads a `u8`, with
+-- a plus or zeros in front if they are there, so `+3` and `00000016` ask 3 and 16
 abbrev pub databases_of : Option Text → Option ℕ
 databases_of None = Some 1
 databases_of (Some value) = allowed (byte_or_zero value)
@@ -58,6 +62,12 @@ abbrev pub asked_by : List Text → Option Args
 asked_by words = if is_empty (faults_of words) then values_ask (matches_of app words) else None
 
 -- THE EXIT STATUS
+
+-- for a fault: 0 for help, 1 for want of memory, 2 for a mistake
+abbrev pub fault_status : ArgFault → ℕ
+fault_status (arg_fault.Help text) = 0
+fault_status (arg_fault.Wrong text) = 2
+fault_status arg_fault.Memory = 1
 
 -- for a kind of error: 0 for help, 1 for want of memory, 2 for a mistake
 abbrev pub status_of : ErrorKind → ℕ

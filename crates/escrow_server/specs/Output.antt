@@ -1,4 +1,4 @@
-use Rattle.std.specs.Prelude.{◌≡◌, ◌⊎◌, ℕ, Option, IsSomeAnd, List, [], ◌∷◌, ◌++◌, length, slice_get, slice_set}
+use Rattle.std.specs.Prelude.{◌≡◌, ◌⊎◌, ℕ, ◌<◌, ◌≤◌, Option, IsSomeAnd, List, [], ◌∷◌, ◌++◌, length, map, slice_get, slice_set, ⊤}
 use Rattle.std.specs.Io.KnownBytes.{Appends}
 use Rattle.escrow_num.specs.declared.refusal.Refusal.{Refusal}
 use Rattle.escrow_num.specs.declared.refusal.Refusal.TheVariants as refusal
@@ -9,10 +9,22 @@ use Rattle.escrow_sql.specs.declared.statement.Request.TheVariants as request
 use Rattle.escrow_sql.specs.Parser.{Asks, IsFaultIn}
 use Rattle.escrow_core.specs.declared.reply.Reply.{Reply}
 use Rattle.escrow_core.specs.declared.reply.Reply.TheVariants as reply
+use Rattle.escrow_core.specs.Seen.{Seen}
 use Rattle.escrow_core.specs.State.{State}
 use Rattle.escrow_core.specs.Step.{StepOrRefusal}
-use Rattle.escrow_server.specs.Line.{Reading, nothing, statement, no_line, database_name, line_of, lines_of}
+use Rattle.escrow_server.specs.declared.fault.ServeFault.{ServeFault}
+use Rattle.escrow_server.specs.declared.fault.ServeFault.TheVariants as serve_fault
+use Rattle.escrow_server.specs.declared.limits.TheConstants.{MAX_SCRIPT}
+use Rattle.escrow_server.specs.Line.{Reading, nothing, join, statement, no_line, database_name, Reads, lines_of}
 use Rattle.escrow_server.specs.Text.{rendered, no_line_text}
+
+-- the state in a database, as contracts show it
+abbrev pub state_in : Seen → State
+state_in database = database.state
+
+-- the states of databases, by place
+abbrev pub states_of : List Seen → List State
+states_of databases = map state_in databases
 
 -- the refusal of a text that isn't served: 11 with the column of its first fault, or 51
 abbrev pub refusal_of : ParseFault → Refusal
@@ -37,25 +49,43 @@ Answers s session text answer new = IsServed s session text answer new ⊎ IsRef
 -- database at its place, and the others stay
 abbrev pub ServesLine : List State → Reading → List ℕ → List State → Type 0
 ServesLine states nothing out new = (out ≡ []) × (new ≡ states)
+ServesLine states join out new = (out ≡ []) × (new ≡ states)
 ServesLine states no_line out new = (out ≡ no_line_text) × (new ≡ states)
 ServesLine states (statement place session text) out new =
     IsSomeAnd (slice_get states place) (λ s. (answer : Reply) × (after : State) × Answers s session text answer after
     × (out ≡ rendered (database_name place) session answer) × (new ≡ slice_set states place after))
 
+-- what the bytes of a line write, and the states after it
+abbrev pub ServesBytes : List State → List ℕ → List ℕ → List State → Type 0
+ServesBytes states bytes out new = (reading : Reading) × Reads (length states) bytes reading × ServesLine states reading out new
+
 -- what the lines of a script write, one after another, and the states after them
 abbrev pub ServesLines : List State → List (List ℕ) → List ℕ → List State → Type 0
 ServesLines states [] out new = (out ≡ []) × (new ≡ states)
 ServesLines states (line ∷ lines) out new =
-    (first rest : List ℕ) × (mid : List State) × ServesLine states (line_of (length states) line) first mid
+    (first rest : List ℕ) × (mid : List State) × ServesBytes states line first mid
     × ServesLines mid lines rest new × (out ≡ first ++ rest)
 
 -- THE OUTPUT OF A SCRIPT: what it writes from the databases' states, and the states after it
 abbrev pub Output : List ℕ → List State → List ℕ → List State → Type 0
 Output script states out new = ServesLines states (lines_of script) out new
 
+-- the script was served whole: it is no longer than a script may be, and its output was written
+pub record ServesWhole (script : List ℕ) (states new : List State) (old_bytes new_bytes : Option (List ℕ)) : Type 0 where
+  pub limit : length script ≤ MAX_SCRIPT
+  pub out : List ℕ
+  pub output : Output script states out new
+  pub appends : Appends old_bytes new_bytes out
+
+-- after a fault of the reader no reply is left to write, and after one of the writer some of one is
+abbrev pub Leaves : ServeFault → List ℕ → Type 0
+Leaves serve_fault.Read unwritten = unwritten ≡ []
+Leaves serve_fault.Write unwritten = 0 < length unwritten
+Leaves serve_fault.Memory unwritten = ⊤
+
 -- What a fault leaves: some lines of the script from its first on were served, and a front of their
 -- output was written.
-pub record StopsWithin (script : List ℕ) (states new : List State) (old_bytes new_bytes : Option (List ℕ)) : Type 0 where
+pub record StopsWithin (fault : ServeFault) (script : List ℕ) (states new : List State) (old_bytes new_bytes : Option (List ℕ)) : Type 0 where
   pub served : List (List ℕ)
   pub unserved : List (List ℕ)
   pub written : List ℕ
@@ -63,3 +93,4 @@ pub record StopsWithin (script : List ℕ) (states new : List State) (old_bytes 
   pub lines : lines_of script ≡ served ++ unserved
   pub serves : ServesLines states served (written ++ unwritten) new
   pub appends : Appends old_bytes new_bytes written
+  pub leaves : Leaves fault unwritten

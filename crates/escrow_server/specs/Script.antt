@@ -1,7 +1,9 @@
+-- What helps to prove how the lines of a script are read.
 use Rattle.std.specs.Prelude.{◌≡◌, ℕ, ◌+◌, ◌==◌, Bool, true, false, nat_lt, Option, Some, None, List, [], ◌∷◌, ◌++◌, length, take, drop, ⊤}
 use Rattle.std.specs.Io.KnownBytes.{prepend_known}
 use Rattle.std.specs.List.{position_or_len}
 use Rattle.escrow_server.specs.Line.{lines_of}
+use Rattle.escrow_server.specs.declared.limits.TheConstants.{MAX_LINE}
 
 -- a line feed
 abbrev pub is_feed : ℕ → Bool
@@ -12,17 +14,24 @@ is_feed b = b == 10
 abbrev pub left : List ℕ → Option (List ℕ) → Option (List ℕ)
 left unread remaining = prepend_known unread remaining
 
+-- what a reader gave, where its bytes are known, was taken from what a script may still have
+abbrev pub Spends : Option (List ℕ) → Option (List ℕ) → ℕ → ℕ → Type 0
+Spends None rest old new = ⊤
+Spends (Some bytes) None old new = ⊥
+Spends (Some bytes) (Some rest) old new = length bytes + new ≡ length rest + old
+
 -- The next line was taken: the bytes that were left are its bytes and the rest's lines, and of its
--- bytes the first 4,097 were kept. Or there was none, and nothing is left.
+-- bytes as many were kept as a line may have and one more. Or there was none, and nothing is left.
 abbrev pub TakesLine : Bool → Option (List ℕ) → Option (List ℕ) → List ℕ → Type 0
 TakesLine found None rest kept = ⊤
 TakesLine found (Some bytes) None kept = ⊥
-TakesLine true (Some bytes) (Some rest) kept = (line : List ℕ) × (lines_of bytes ≡ line ∷ lines_of rest) × (kept ≡ take 4097 line)
+TakesLine true (Some bytes) (Some rest) kept = (line : List ℕ) × (lines_of bytes ≡ line ∷ lines_of rest) × (kept ≡ take (MAX_LINE + 1) line)
 TakesLine false (Some bytes) (Some rest) kept = (lines_of bytes ≡ []) × (rest ≡ [])
 
--- The bytes up to the first line feed went from what is unread to a line, of which 4,097 bytes are
--- kept, and the line feed was taken; or all of them, where there is no line feed.
+-- The bytes up to the first line feed went from what is unread to a line, of which as many bytes are
+-- kept as it may have and one more, and the line feed was taken; or all of them, where there is no line
+-- feed.
 pub record Moves (found : Bool) (unread rest line kept : List ℕ) : Type 0 where
   pub is_found : found ≡ nat_lt (position_or_len is_feed unread) (length unread)
   pub is_rest : rest ≡ drop (position_or_len is_feed unread + 1) unread
-  pub is_kept : kept ≡ take 4097 (line ++ take (position_or_len is_feed unread) unread)
+  pub is_kept : kept ≡ take (MAX_LINE + 1) (line ++ take (position_or_len is_feed unread) unread)

@@ -1,5 +1,6 @@
 use Rattle.std.specs.Prelude.{ℕ, List, [], ◌∷◌, ◌++◌, codes, decimal}
 use Rattle.std.specs.Fmt.{signed_decimal}
+use Rattle.std.specs.List.{flat_map}
 use Rattle.escrow_num.specs.declared.span.Side.{Side}
 use Rattle.escrow_num.specs.declared.span.Side.TheVariants as side
 use Rattle.escrow_num.specs.declared.refusal.Breach.{Breach}
@@ -46,7 +47,7 @@ refusal_text refusal.Store = codes "store"
 refusal_text refusal.ForeignStore = codes "foreign store"
 refusal_text refusal.UnknownVersion = codes "unknown version"
 
--- the words for a reply
+-- the words of a reply of one line
 abbrev pub reply_text : Reply → List ℕ
 reply_text (reply.Refused r) = codes "ERR " ++ decimal (number_of r) ++ codes " " ++ refusal_text r
 reply_text (reply.Created name) = codes "OK created " ++ name
@@ -55,10 +56,22 @@ reply_text (reply.Reserved id) = codes "OK reserved " ++ decimal id
 reply_text (reply.Committed count) = codes "OK committed " ++ decimal count
 reply_text (reply.RolledBack count) = codes "OK rolled back " ++ decimal count
 
--- a reply's line: the database and the session that it is for, the words, and a line feed
-abbrev pub rendered : List ℕ → ℕ → Reply → List ℕ
-rendered database session answer = database ++ codes "." ++ decimal session ++ codes "> " ++ reply_text answer ++ 10 ∷ []
+-- the lines of a reply: so far each has one
+abbrev pub reply_lines : Reply → List (List ℕ)
+reply_lines answer = reply_text answer ∷ []
 
--- the line that answers what is no line of a script
+-- lines, each with a prefix before it and a line feed after it
+abbrev pub with_prefix : List ℕ → List (List ℕ) → List ℕ
+with_prefix prefix lines = flat_map (λ line. prefix ++ line ++ 10 ∷ []) lines
+
+-- the prefix of a reply: the database and the session that it is for
+abbrev pub prefix_of : List ℕ → ℕ → List ℕ
+prefix_of database session = database ++ codes "." ++ decimal session ++ codes "> "
+
+-- a reply as it is written
+abbrev pub rendered : List ℕ → ℕ → Reply → List ℕ
+rendered database session answer = with_prefix (prefix_of database session) (reply_lines answer)
+
+-- the reply to what is no line of a script
 abbrev pub no_line_text : List ℕ
-no_line_text = codes "script> " ++ reply_text (reply.Refused refusal.Line) ++ 10 ∷ []
+no_line_text = with_prefix (codes "script> ") (reply_lines (reply.Refused refusal.Line))

@@ -1,8 +1,9 @@
 ghost use Rattle.std.specs.Prelude.{◌≡◌, ◌≤◌, ◌⊎◌, Some, None, map, option_map, IfOk, IfSome, IsErrAnd, MatchResult};
 ghost use Rattle.clap.specs.Words.{FailsBy, app_of, found_of, kind_of, matches_of, rows_of};
 ghost use Rattle.escrow_server.specs.declared.args.Args.{Args};
-ghost use Rattle.escrow_server.specs.Args.{app, asked_by, databases_of, faults_of, mode_of, refused_status, status_of, values_ask};
+ghost use Rattle.escrow_server.specs.Args.{app, asked_by, databases_of, fault_status, faults_of, mode_of, refused_status, status_of, values_ask};
 
+use crate::limits::MAX_DATABASES;
 use clap::error::ErrorKind;
 use clap::{Arg, ArgAction, ArgMatches, Command, Error};
 use escrow_num::Text;
@@ -27,11 +28,29 @@ pub struct Args {
 
 /// Why there are no arguments to go on with.
 #[derive(Debug, Drop)]
-pub struct ArgFault {
-    /// The exit status: 0 where help was asked, 1 for want of memory, 2 for a mistake.
-    pub status: u8,
-    /// The text to print: help where it was asked, otherwise what is wrong.
-    pub text: Text,
+pub enum ArgFault {
+    /// Help is asked, which is this text.
+    Help(Text),
+    /// The words are wrong, and why.
+    Wrong(Text),
+    /// Memory was refused.
+    Memory,
+}
+
+impl ArgFault {
+    ghost use Rattle.std.specs.Prelude.{◌≡◌};
+    ghost use Rattle.escrow_server.specs.Args.{fault_status};
+
+    /// The exit status: 0 where help is asked, 1 for want of memory, 2 for a mistake.
+    pub fn status(&self) -> u8
+        ensures { result ≡ fault_status self.now }
+    {
+        match self {
+            ArgFault::Help(_) => 0,
+            ArgFault::Memory => 1,
+            ArgFault::Wrong(_) => 2,
+        }
+    }
 }
 
 /// Reads the words of a command line, the program's name first: `run`, and `--databases N` with N
@@ -39,20 +58,20 @@ pub struct ArgFault {
 ///
 /// # Errors
 ///
-/// A fault of status 0 where the words ask for help, of 2 where anything is wrong with them, and of 1
-/// for want of memory, which may come at any words.
+/// Help where the words ask for it, a mistake where anything is wrong with them, and want of memory,
+/// which may come at any words.
 pub fn read_args<S: AsStr>(alloc: Global, words: &[S]) -> Result<Args, ArgFault>
     // Words that ask are refused for want of memory alone, and others always.
     ensures asked { (args : Args) → asked_by (map S.text words.now) ≡ Some args
-        → MatchResult result (λ read. read ≡ args) (λ fault. fault.status ≡ 1) }
+        → MatchResult result (λ read. read ≡ args) (λ fault. fault ≡ ArgFault.Memory) }
     ensures refused { asked_by (map S.text words.now) ≡ None
-        → IsErrAnd result (λ fault. (fault.status ≡ 1) ⊎ (fault.status ≡ refused_status (map S.text words.now))) }
-    ensures databases { IfOk result (λ args. (1 ≤ args.databases) × (args.databases ≤ 16)) }
+        → IsErrAnd result (λ fault. (fault ≡ ArgFault.Memory) ⊎ (fault_status fault ≡ refused_status (map S.text words.now))) }
+    ensures databases { IfOk result (λ args. (1 ≤ args.databases) × (args.databases ≤ MAX_DATABASES)) }
 {
     match parsed(alloc, words) {
         Ok(matches) => match asked(&matches) {
             Ok(args) => Ok(args),
-            Err(text) => Err(fault(alloc, 2, text)),
+            Err(text) => Err(wrong(alloc, text)),
         },
         Err(error) => Err(fault_of(alloc, &error)),
     }
@@ -112,7 +131,7 @@ a reply can't be written or memory is short, 2 for wrong arguments.";
 fn asked(matches: &ArgMatches<'_>) -> Result<Args, &'static str>
     ensures values { MatchResult result (λ args. values_ask (rows_of (found_of matches.now)) ≡ Some args)
         (λ _. values_ask (rows_of (found_of matches.now)) ≡ None) }
-    ensures databases { IfOk result (λ args. (1 ≤ args.databases) × (args.databases ≤ 16)) }
+    ensures databases { IfOk result (λ args. (1 ≤ args.databases) × (args.databases ≤ MAX_DATABASES)) }
 {
     let Some(mode) = mode_of(matches.get_str("mode")) else {
         return Err("the mode has to be `run`\n");
@@ -133,44 +152,35 @@ fn mode_of(name: Option<&str>) -> Option<Mode>
     }
 }
 
-/// How many databases a value asks, from 1 to 16.
+/// How many databases a value asks, from 1 to 16: a number as Rust reads a `u8`, so `+3` and
+/// `00000016` are taken.
 fn databases_of(value: Option<&str>) -> Option<u8>
     ensures value { result ≡ databases_of (option_map (λ s. s.now) value.entry) }
-    ensures range { IfSome result (λ count. (1 ≤ count) × (count ≤ 16)) }
+    ensures range { IfSome result (λ count. (1 ≤ count) × (count ≤ MAX_DATABASES)) }
 {
     let Some(text) = value else {
         return Some(1);
     };
     let count = text.parse::<u8>().unwrap_or(0);
-    if 1 <= count && count <= 16 {
+    if 1 <= count && count <= MAX_DATABASES {
         Some(count)
     } else {
         None
     }
 }
 
-/// What a parse without matches gives to print, and the exit status.
+/// What a parse without matches gives to print.
 fn fault_of(alloc: Global, error: &Error) -> ArgFault
-    ensures { (result.status ≡ 1) ⊎ (result.status ≡ status_of (kind_of error.now)) }
+    ensures status { (result ≡ ArgFault.Memory) ⊎ (fault_status result ≡ status_of (kind_of error.now)) }
+    ensures memory { kind_of error.now ≡ ErrorKind.OutOfMemory → result ≡ ArgFault.Memory }
 {
-    match error.to_string(alloc) {
-        Ok(text) => fault(
-            alloc,
-            status_of(error.kind()),
-            without_prefix(text.as_str()),
-        ),
-        Err(_) => no_memory(alloc),
-    }
-}
-
-/// The exit status of a kind of error.
-fn status_of(kind: ErrorKind) -> u8
-    ensures { result ≡ status_of kind }
-{
-    match kind {
-        ErrorKind::DisplayHelp => 0,
-        ErrorKind::OutOfMemory => 1,
-        _ => 2,
+    let Ok(text) = error.to_string(alloc) else {
+        return ArgFault::Memory;
+    };
+    match error.kind() {
+        ErrorKind::OutOfMemory => ArgFault::Memory,
+        ErrorKind::DisplayHelp => ArgFault::Help(Text::from_string(text)),
+        _ => wrong(alloc, without_prefix(text.as_str())),
     }
 }
 
@@ -179,26 +189,13 @@ fn without_prefix(text: &str) -> &str {
     text.strip_prefix("error: ").unwrap_or(text)
 }
 
-/// A fault with this status, or of memory where there is none for its text.
-fn fault(alloc: Global, status: u8, text: &str) -> ArgFault
-    ensures { (result.status ≡ 1) ⊎ (result.status ≡ status) }
+/// The fault of words that are wrong, or of memory where there is none for its text.
+fn wrong(alloc: Global, text: &str) -> ArgFault
+    ensures { (result ≡ ArgFault.Memory) ⊎ (fault_status result ≡ 2) }
 {
     match String::from_str(alloc, text) {
-        Ok(text) => ArgFault {
-            status,
-            text: Text::from_string(text),
-        },
-        Err(_) => no_memory(alloc),
-    }
-}
-
-/// The fault of memory, which has no text.
-fn no_memory(alloc: Global) -> ArgFault
-    ensures { result.status ≡ 1 }
-{
-    ArgFault {
-        status: 1,
-        text: Text::from_string(String::new(alloc)),
+        Ok(text) => ArgFault::Wrong(Text::from_string(text)),
+        Err(_) => ArgFault::Memory,
     }
 }
 

@@ -1,3 +1,4 @@
+use crate::limits::MAX_SCRIPT;
 use std::alloc::AllocError;
 use thiserror::Error;
 
@@ -5,7 +6,7 @@ use thiserror::Error;
 #[derive(Clone, Copy, Debug, PartialEq, Eq, Error)]
 pub enum ServeFault {
     /// The reader answered an error, or gave more than a script may have.
-    #[error("the script can't be read, or is longer than 16777216 bytes")]
+    #[error("the script can't be read, or is longer than {MAX_SCRIPT} bytes")]
     Read,
     /// The writer answered an error, or took nothing of what was left to write.
     #[error("a reply can't be written")]

@@ -1,18 +1,19 @@
-ghost use Rattle.std.specs.Prelude.{◌≡◌, ◌==◌, ◌<◌, ◌≤◌, option_map, position, IfSome};
+ghost use Rattle.std.specs.Prelude.{◌≡◌, ◌≤◌, List, ℕ, IfNone, IfSome};
 ghost use Rattle.std.specs.List.{prefix_len, list_all};
-ghost use Rattle.escrow_server.specs.Line.{line_of, text_of, statement_of, seen, IsPlaceIn, without_return, after_blanks, is_blank, is_join, is_silent, cut_at, session_of};
+ghost use Rattle.escrow_server.specs.Line.{Reads, ReadsContent, IsMadeOf, IsStatement, without_return, after_blanks, content_of, is_blank};
+ghost use Rattle.escrow_server.specs.Reading.{seen, is_nothing, is_join, session_of};
 
+use crate::limits::{MAX_DATABASES, MAX_LINE};
 use crate::names::place_of;
 use escrow_num::Session;
-
-/// The most bytes of a line, without its line feed and before its carriage return is dropped.
-pub(crate) const MOST_LINE: usize = 4096;
 
 /// What a line of a script is.
 #[derive(Clone, Copy, Debug)]
 pub(crate) enum Line<'a> {
-    /// A blank line, a comment or `@join`: it has no reply.
+    /// A blank line or a comment: it has no reply.
     Nothing,
+    /// `@join`: it ends a phase, and has no reply.
+    Join,
     /// A statement.
     Statement {
         /// The place of its database, from 0.
@@ -28,25 +29,31 @@ pub(crate) enum Line<'a> {
 
 /// What the bytes of a line are, without their line feed, for so many databases.
 pub(crate) fn classify(databases: usize, line: &[u8]) -> Line<'_>
-    requires { databases ≤ 16 }
-    ensures reading { seen result ≡ line_of databases line.now }
-    ensures place { IsPlaceIn databases result }
+    requires { databases ≤ MAX_DATABASES }
+    ensures { Reads databases line.now (seen result) }
 {
-    if line.len() > MOST_LINE {
+    if line.len() > MAX_LINE {
         return Line::NoLine;
     }
-    match str::from_utf8(without_return(line)) {
-        Ok(text) => classify_text(databases, text),
+    match str::from_utf8(line) {
+        Ok(text) => classify_content(databases, content_of(text)),
         Err(_) => Line::NoLine,
     }
 }
 
+/// The line without its carriage return and the blanks in front.
+fn content_of(line: &str) -> &str
+    ensures { result.now ≡ content_of line.now }
+{
+    after_blanks(without_return(line))
+}
+
 /// The line without the carriage return at its end, if there is one.
-fn without_return(line: &[u8]) -> &[u8]
+fn without_return(line: &str) -> &str
     ensures { result.now ≡ without_return line.now }
 {
-    match line {
-        [front @ .., b'\r'] => front,
+    match line.as_bytes() {
+        [front @ .., b'\r'] => &line[..front.len()],
         _ => line,
     }
 }
@@ -77,6 +84,23 @@ fn after_blanks(line: &str) -> &str
     &line[blanks(line.as_bytes())..]
 }
 
+/// What the content of a line is.
+fn classify_content(databases: usize, content: &str) -> Line<'_>
+    requires { databases ≤ MAX_DATABASES }
+    ensures { ReadsContent databases content.now (seen result) }
+{
+    if is_nothing(content.as_bytes()) {
+        return Line::Nothing;
+    }
+    if is_join(content.as_bytes()) {
+        return Line::Join;
+    }
+    match statement_of(databases, content) {
+        Some(statement) => statement,
+        None => Line::NoLine,
+    }
+}
+
 /// Whether there is nothing but spaces and tabs.
 fn is_all_blank(bytes: &[u8]) -> bool
     ensures { result ≡ list_all is_blank bytes.now }
@@ -84,67 +108,35 @@ fn is_all_blank(bytes: &[u8]) -> bool
     bytes.iter().all(|byte| is_blank(*byte))
 }
 
-/// Whether a line is `@join` and nothing but spaces and tabs behind it.
-fn is_join(line: &[u8]) -> bool
-    ensures { result ≡ is_join line.now }
+/// Whether a content is empty or a comment.
+fn is_nothing(content: &[u8]) -> bool
+    ensures { result ≡ is_nothing content.now }
 {
-    line.starts_with(b"@join") && is_all_blank(&line[5..])
+    content.is_empty() || content.starts_with(b"--")
 }
 
-/// Whether a line has no reply: it is empty, a comment or `@join`.
-fn is_silent(line: &[u8]) -> bool
-    ensures { result ≡ is_silent line.now }
+/// Whether a content is `@join` and nothing but spaces and tabs behind it.
+fn is_join(content: &[u8]) -> bool
+    ensures { result ≡ is_join content.now }
 {
-    line.is_empty() || line.starts_with(b"--") || is_join(line)
+    content.starts_with(b"@join") && is_all_blank(&content[5..])
 }
 
-/// What a line without its carriage return is.
-fn classify_text(databases: usize, line: &str) -> Line<'_>
-    requires { databases ≤ 16 }
-    ensures reading { seen result ≡ text_of databases (after_blanks line.now) }
-    ensures place { IsPlaceIn databases result }
+/// A statement: a database's name, a point, a session, a colon, and the text.
+fn statement_of(databases: usize, content: &str) -> Option<Line<'_>>
+    requires { databases ≤ MAX_DATABASES }
+    ensures some { IfSome result (λ line. IsMadeOf databases content.now (seen line)) }
+    ensures none { IfNone result ((place session : ℕ) (text : List ℕ) → IsStatement databases content.now place session text → ⊥) }
 {
-    let line = after_blanks(line);
-    if is_silent(line.as_bytes()) {
-        return Line::Nothing;
-    }
-    match statement_of(databases, line) {
-        Some(statement) => statement,
-        None => Line::NoLine,
-    }
-}
-
-/// A statement's line: a database's name, a point, a session, a colon, and the text.
-fn statement_of(databases: usize, line: &str) -> Option<Line<'_>>
-    requires { databases ≤ 16 }
-    ensures reading { option_map seen result ≡ statement_of databases line.now }
-    ensures place { IfSome result (IsPlaceIn databases) }
-{
-    let (name, rest) = cut_at(line, b'.')?;
-    let (number, text) = cut_at(rest, b':')?;
-    let database = place_of(databases, name.as_bytes())?;
+    let (name, rest) = content.split_once('.')?;
+    let (number, text) = rest.split_once(':')?;
+    let database = place_of(databases, name)?;
     let session = session_of(number.as_bytes())?;
     Some(Line::Statement {
         database,
         session,
         text,
     })
-}
-
-/// What stands before the first such byte, an ASCII character, and what behind it.
-fn cut_at(text: &str, byte: u8) -> Option<(&str, &str)>
-    requires { byte < 128 }
-    ensures { option_map (λ p. (p.0.now, p.1.now)) result ≡ cut_at byte text.now }
-{
-    let at = place_in(text.as_bytes(), byte)?;
-    Some((&text[..at], &text[at + 1..]))
-}
-
-/// The place of the first such byte.
-fn place_in(bytes: &[u8], byte: u8) -> Option<usize>
-    ensures { result ≡ position (λ b. b == byte) bytes.now }
-{
-    bytes.iter().position(|other| *other == byte)
 }
 
 /// The session of one or two digits, the first of them not zero.

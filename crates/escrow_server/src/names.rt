@@ -1,9 +1,12 @@
-ghost use Rattle.std.specs.Prelude.{◌≡◌, ◌<◌, ◌≤◌, IfSome};
-ghost use Rattle.escrow_server.specs.Line.{database_name, place_of};
+ghost use Rattle.std.specs.Prelude.{◌≡◌, ◌<◌, ◌≤◌};
+ghost use Rattle.escrow_server.specs.Line.{database_name};
+ghost use Rattle.escrow_server.specs.Reading.{place_of};
+
+use crate::limits::MAX_DATABASES;
 
 /// The name of the database at a place, counted from 0: `bank`, `bank2`, `bank3` and so on.
 pub(crate) fn database_name(place: usize) -> &'static str
-    requires { place < 16 }
+    requires { place < MAX_DATABASES }
     ensures { result.now ≡ database_name place }
 {
     match place {
@@ -28,15 +31,14 @@ pub(crate) fn database_name(place: usize) -> &'static str
 }
 
 /// The place of the database of a name, of so many databases.
-pub(crate) fn place_of(databases: usize, name: &[u8]) -> Option<usize>
-    requires { databases ≤ 16 }
-    ensures value { result ≡ place_of databases name.now }
-    ensures within { IfSome result (λ place. place < databases) }
+pub(crate) fn place_of(databases: usize, name: &str) -> Option<usize>
+    requires { databases ≤ MAX_DATABASES }
+    ensures { result ≡ place_of databases name.now }
 {
     let mut left = databases;
     while left > 0 {
         left -= 1;
-        if database_name(left).as_bytes() == name {
+        if database_name(left) == name {
             return Some(left);
         }
     }

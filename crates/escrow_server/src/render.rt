@@ -1,13 +1,12 @@
 ghost use Rattle.std.specs.Prelude.{◌≡◌, ◌++◌, IfOk, OnOk, codes, decimal};
 ghost use Rattle.std.specs.Fmt.{signed_decimal};
-ghost use Rattle.escrow_server.specs.Text.{rendered, reply_text, refusal_text, breach_text, side_text, no_line_text};
+ghost use Rattle.escrow_server.specs.Text.{rendered, prefix_of, with_prefix, reply_lines, reply_text, refusal_text, breach_text, side_text, no_line_text};
 
 use escrow_core::Reply;
 use escrow_num::{Breach, Refusal, Session, Side};
 use std::alloc::{AllocError, Global};
 
-/// The line that answers a statement: the database and the session that it is for, what is
-/// answered, and a line feed.
+/// The lines that answer a statement, each behind the database and the session that they are for.
 pub(crate) fn render(
     alloc: Global,
     database: &str,
@@ -16,25 +15,38 @@ pub(crate) fn render(
 ) -> Result<Vec<u8>, AllocError>
     ensures { IfOk result (λ bytes. bytes.items ≡ rendered database.now session reply.now) }
 {
-    let mut line = Vec::new(alloc);
-    push_text(&mut line, database)?;
-    push_text(&mut line, ".")?;
-    push_number(alloc, &mut line, u64::from(session.get()))?;
-    push_text(&mut line, "> ")?;
-    push_reply(alloc, &mut line, reply)?;
-    push_text(&mut line, "\n")?;
-    Ok(line)
+    let prefix = prefix_of(alloc, database, session)?;
+    with_prefix(alloc, prefix.as_slice(), reply)
 }
 
-/// The line that answers what is no line of a script.
+/// The lines that answer what is no line of a script.
 pub(crate) fn render_no_line(alloc: Global) -> Result<Vec<u8>, AllocError>
     ensures { IfOk result (λ bytes. bytes.items ≡ no_line_text) }
 {
-    let mut line = Vec::new(alloc);
-    push_text(&mut line, "script> ")?;
-    push_reply(alloc, &mut line, &Reply::Refused(Refusal::Line))?;
-    push_text(&mut line, "\n")?;
-    Ok(line)
+    with_prefix(alloc, b"script> ", &Reply::Refused(Refusal::Line))
+}
+
+/// The prefix of a reply's lines.
+fn prefix_of(alloc: Global, database: &str, session: Session) -> Result<Vec<u8>, AllocError>
+    ensures { IfOk result (λ bytes. bytes.items ≡ prefix_of database.now session) }
+{
+    let mut prefix = Vec::new(alloc);
+    push_text(&mut prefix, database)?;
+    push_text(&mut prefix, ".")?;
+    push_number(alloc, &mut prefix, u64::from(session.get()))?;
+    push_text(&mut prefix, "> ")?;
+    Ok(prefix)
+}
+
+/// The lines of a reply, each with the prefix before it and a line feed after it.
+fn with_prefix(alloc: Global, prefix: &[u8], reply: &Reply) -> Result<Vec<u8>, AllocError>
+    ensures { IfOk result (λ bytes. bytes.items ≡ with_prefix prefix.now (reply_lines reply.now)) }
+{
+    let mut lines = Vec::new(alloc);
+    push_bytes(&mut lines, prefix)?;
+    push_words(alloc, &mut lines, reply)?;
+    push_text(&mut lines, "\n")?;
+    Ok(lines)
 }
 
 fn push_bytes(line: &mut Vec<u8>, bytes: &[u8]) -> Result<(), AllocError>
@@ -78,8 +90,8 @@ fn push_measure(
     push_signed(alloc, line, number)
 }
 
-/// The words for a reply.
-fn push_reply(alloc: Global, line: &mut Vec<u8>, reply: &Reply) -> Result<(), AllocError>
+/// The words of a reply of one line.
+fn push_words(alloc: Global, line: &mut Vec<u8>, reply: &Reply) -> Result<(), AllocError>
     ensures { OnOk result (line.new.items ≡ line.old.items ++ reply_text reply.now) }
 {
     match reply {
@@ -90,8 +102,13 @@ fn push_reply(alloc: Global, line: &mut Vec<u8>, reply: &Reply) -> Result<(), Al
         }
         Reply::Inserted => push_text(line, "OK inserted"),
         Reply::Reserved { id } => push_counted(alloc, line, "OK reserved ", *id),
-        Reply::Committed { count } => push_counted(alloc, line, "OK committed ", *count),
-        Reply::RolledBack { count } => push_counted(alloc, line, "OK rolled back ", *count),
+        Reply::Committed { count } => push_counted(alloc, line, "OK committed ", u64::from(*count)),
+        Reply::RolledBack { count } => push_counted(
+            alloc,
+            line,
+            "OK rolled back ",
+            u64::from(*count),
+        ),
     }
 }
 

@@ -1,19 +1,14 @@
-ghost use Rattle.std.specs.Prelude.{◌≡◌, ◌≤◌, ◌<◌, ◌+◌, ◌++◌, [], length, take, true, vec_len, IfOk, OnOk};
+ghost use Rattle.std.specs.Prelude.{◌≡◌, ◌≢◌, ◌≤◌, ◌<◌, ◌+◌, ◌++◌, [], length, take, true, vec_len, IfOk, IfErr, OnOk};
 ghost use Rattle.std.specs.List.{position_or_len};
 ghost use Rattle.std.specs.Io.KnownBytes.{Consumes, IsAtEnd};
 ghost use Rattle.escrow_server.specs.Script.{is_feed};
+ghost use Rattle.escrow_server.specs.declared.limits.TheConstants.{MAX_LINE, MAX_SCRIPT};
 
 use crate::fault::ServeFault;
-use crate::line::MOST_LINE;
+use crate::limits::{MAX_LINE, MAX_READS, MAX_SCRIPT};
 use crate::unread::Unread;
 use std::alloc::{AllocError, Global};
 use std::io::Read;
-
-/// The most bytes of a script.
-const MOST_BYTES: usize = 16_777_216;
-
-/// The most calls of a script's reader.
-const MOST_READS: usize = 33_554_432;
 
 /// A script that is read line by line: the bytes that aren't taken yet, and the line that was taken
 /// last. One byte more than a line may have is kept of a longer one, which tells that it is too
@@ -24,29 +19,30 @@ pub(crate) struct Script {
     line: Vec<u8>,
     bytes_left: usize,
     reads_left: usize,
-    ghost short: { vec_len line ≤ 4097 },
-    ghost few: { bytes_left ≤ 16777216 },
+    ghost short: { vec_len line ≤ MAX_LINE + 1 },
+    ghost few: { bytes_left ≤ MAX_SCRIPT },
 }
 
 impl Script {
-    ghost use Rattle.escrow_server.specs.Script.{left, TakesLine, Moves};
+    ghost use Rattle.escrow_server.specs.Script.{left, Spends, TakesLine, Moves};
 
     /// A script of which nothing is read.
     pub(crate) fn new(alloc: Global) -> Result<Script, AllocError>
-        ensures { IfOk result (λ s. s.unread ≡ []) }
+        ensures { IfOk result (λ s. (s.unread ≡ []) × (s.bytes_left ≡ MAX_SCRIPT)) }
     {
         Ok(Script {
             unread: Unread::new(alloc)?,
             line: Vec::new(alloc),
-            bytes_left: MOST_BYTES,
-            reads_left: MOST_READS,
+            bytes_left: MAX_SCRIPT,
+            reads_left: MAX_READS,
         })
     }
 
-    /// The line that was taken last, without its line feed: all of it, or its first 4,097 bytes.
+    /// The line that was taken last, without its line feed: all of it, or its first bytes, one more than
+    /// a line may have.
     pub(crate) fn line(&self) -> &[u8]
         ensures value { result.now ≡ self.now.line.items }
-        ensures within { length result.now ≤ 4097 }
+        ensures within { length result.now ≤ MAX_LINE + 1 }
     {
         self.line.as_slice()
     }
@@ -57,6 +53,9 @@ impl Script {
             (left self.new.unread (R.remaining reader.new)) self.new.line.items) }
         ensures less { IfOk result (λ found. found ≡ true →
             self.new.bytes_left + length self.new.unread < self.old.bytes_left + length self.old.unread) }
+        ensures spent { OnOk result (Spends (R.remaining reader.old) (R.remaining reader.new) self.old.bytes_left self.new.bytes_left) }
+        // The writer has no part in it.
+        ensures kind { IfErr result (λ fault. fault ≢ ServeFault.Write) }
     {
         self.line.clear();
         while self.reads_left > 0 {
@@ -97,6 +96,7 @@ impl Script {
         ensures line { self.new.line ≡ self.old.line }
         ensures bytes { IfOk result (λ count. self.new.bytes_left + count ≡ self.old.bytes_left) }
         ensures reads { self.new.reads_left + 1 ≡ self.old.reads_left }
+        ensures kind { IfErr result (λ fault. fault ≡ ServeFault.Read) }
     {
         self.reads_left -= 1;
         let count = self.unread.fill(reader)?;
@@ -121,13 +121,13 @@ fn line_len(bytes: &[u8]) -> usize
     bytes.len()
 }
 
-/// Adds bytes to a line, of which no more than 4,097 are kept.
+/// Adds bytes to a line, of which no more than one more than a line may have are kept.
 fn keep(line: &mut Vec<u8>, bytes: &[u8]) -> Result<(), AllocError>
-    requires { vec_len line.old ≤ 4097 }
-    ensures ok { OnOk result (line.new.items ≡ take 4097 (line.old.items ++ bytes.now)) }
-    ensures short { vec_len line.new ≤ 4097 }
+    requires { vec_len line.old ≤ MAX_LINE + 1 }
+    ensures ok { OnOk result (line.new.items ≡ take (MAX_LINE + 1) (line.old.items ++ bytes.now)) }
+    ensures short { vec_len line.new ≤ MAX_LINE + 1 }
 {
-    let room = MOST_LINE + 1 - line.len();
+    let room = MAX_LINE + 1 - line.len();
     line.extend_from_slice(&bytes[..room.min(bytes.len())])?;
     Ok(())
 }

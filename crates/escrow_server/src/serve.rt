@@ -1,11 +1,11 @@
-ghost use Rattle.std.specs.Prelude.{◌≡◌, ◌≤◌, List, ℕ, length, take, vec_len, OnOk, OnErr, IfOk, IfSome};
+ghost use Rattle.std.specs.Prelude.{◌≡◌, ◌≤◌, ◌<◌, List, ℕ, length, take, vec_len, OnOk, OnErr, IfOk, IfErr, IfSome};
 ghost use Rattle.std.specs.Io.KnownBytes.{Appends, IsAtEnd};
 ghost use Rattle.escrow_sql.specs.declared.statement.Statement.{Statement};
 ghost use Rattle.escrow_core.specs.Step.{StepOrRefusal};
-ghost use Rattle.escrow_server.specs.Line.{line_of};
-ghost use Rattle.escrow_server.specs.Output.{refusal_of, Answers, ServesLine, Output, StopsWithin};
+ghost use Rattle.escrow_server.specs.Output.{refusal_of, states_of, Answers, ServesBytes, ServesWhole, StopsWithin};
 
 use crate::fault::ServeFault;
+use crate::limits::MAX_DATABASES;
 use crate::line::{Line, classify};
 use crate::names::database_name;
 use crate::render::{render, render_no_line};
@@ -28,16 +28,16 @@ pub fn serve_script<R: Read, W: Write>(
     writer: &mut W,
 ) -> Result<(), ServeFault>
     requires some { 1 ≤ vec_len databases.old }
-    requires few { vec_len databases.old ≤ 16 }
+    requires few { vec_len databases.old ≤ MAX_DATABASES }
 
     // What was written and the states after it are those of the script, all of which was read.
-    ensures output { OnOk result (IfSome (R.remaining reader.old) (λ script. (out : List ℕ)
-        × Output script databases.old.items out databases.new.items × Appends (W.contents writer.old) (W.contents writer.new) out)) }
+    ensures output { OnOk result (IfSome (R.remaining reader.old) (λ script.
+        ServesWhole script (states_of databases.old.items) (states_of databases.new.items) (W.contents writer.old) (W.contents writer.new))) }
     ensures end { OnOk result (IfSome (R.remaining reader.old) (λ script. IsAtEnd (R.remaining reader.new))) }
 
     // After a fault some lines were served, and a front of their output was written.
-    ensures fault { OnErr result (IfSome (R.remaining reader.old) (λ script.
-        StopsWithin script databases.old.items databases.new.items (W.contents writer.old) (W.contents writer.new))) }
+    ensures fault { IfErr result (λ fault. IfSome (R.remaining reader.old) (λ script.
+        StopsWithin fault script (states_of databases.old.items) (states_of databases.new.items) (W.contents writer.old) (W.contents writer.new))) }
 {
     let mut script = Script::new(alloc)?;
     while script.next_line(reader)? {
@@ -47,14 +47,14 @@ pub fn serve_script<R: Read, W: Write>(
     Ok(())
 }
 
-/// Serves one line, and answers the line of its reply, which is empty where there is none.
+/// Serves one line, and answers the lines of its reply, of which there may be none.
 fn serve_line(alloc: Global, databases: &mut [Database], line: &[u8]) -> Result<Vec<u8>, AllocError>
-    requires { length databases.old ≤ 16 }
-    ensures ok { IfOk result (λ out. ServesLine databases.old (line_of (length databases.old) line.now) out.items databases.new) }
-    ensures err { OnErr result ((out : List ℕ) × ServesLine databases.old (line_of (length databases.old) line.now) out databases.new) }
+    requires { length databases.old ≤ MAX_DATABASES }
+    ensures ok { IfOk result (λ out. ServesBytes (states_of databases.old) line.now out.items (states_of databases.new)) }
+    ensures err { OnErr result ((out : List ℕ) × ServesBytes (states_of databases.old) line.now out (states_of databases.new)) }
 {
     match classify(databases.len(), line) {
-        Line::Nothing => Ok(Vec::new(alloc)),
+        Line::Nothing | Line::Join => Ok(Vec::new(alloc)),
         Line::NoLine => render_no_line(alloc),
         Line::Statement {
             database,
@@ -69,7 +69,7 @@ fn serve_line(alloc: Global, databases: &mut [Database], line: &[u8]) -> Result<
 
 /// Serves the text of a statement: a text that is none is refused, and changes nothing.
 fn answer(alloc: Global, database: &mut Database, session: Session, text: &str) -> Reply
-    ensures { Answers database.old session text.now result database.new }
+    ensures { Answers database.old.state session text.now result database.new.state }
 {
     match parse(alloc, text) {
         Ok(request) => serve_request(alloc, database, session, request),
@@ -84,7 +84,7 @@ fn serve_request(
     session: Session,
     request: Request,
 ) -> Reply
-    ensures { (asked : Statement) × (request ≡ Request.Statement asked) × StepOrRefusal database.old session asked result database.new }
+    ensures { (asked : Statement) × (request ≡ Request.Statement asked) × StepOrRefusal database.old.state session asked result database.new.state }
 {
     let Request::Statement(statement) = request;
     database.step(alloc, session, &statement)
@@ -100,10 +100,11 @@ fn refusal_of(fault: ParseFault) -> Refusal
     }
 }
 
-/// Writes all of the bytes, or a front of them.
-fn write_whole<W: Write>(writer: &mut W, bytes: &[u8]) -> Result<(), ServeFault>
+/// Writes all of the bytes, or fewer of them from the front on.
+pub(crate) fn write_whole<W: Write>(writer: &mut W, bytes: &[u8]) -> Result<(), ServeFault>
     ensures ok { OnOk result (Appends (W.contents writer.old) (W.contents writer.new) bytes.now) }
-    ensures err { OnErr result ((len : ℕ) × Appends (W.contents writer.old) (W.contents writer.new) (take len bytes.now)) }
+    ensures err { OnErr result ((len : ℕ) × (len < length bytes.now) × Appends (W.contents writer.old) (W.contents writer.new) (take len bytes.now)) }
+    ensures kind { IfErr result (λ fault. fault ≡ ServeFault.Write) }
 {
     let mut rest = bytes;
     while !rest.is_empty() {

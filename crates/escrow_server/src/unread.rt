@@ -1,4 +1,4 @@
-ghost use Rattle.std.specs.Prelude.{◌≡◌, [], length, drop, IfOk, OnOk};
+ghost use Rattle.std.specs.Prelude.{◌≡◌, [], length, drop, IfOk, IfErr, OnOk};
 ghost use Rattle.std.specs.Io.KnownBytes.{Consumes, IsAtEnd};
 
 use crate::fault::ServeFault;
@@ -64,6 +64,7 @@ impl Unread {
         ensures read { OnOk result (Consumes (R.remaining reader.old) (R.remaining reader.new) self.new) }
         ensures count { IfOk result (λ count. count ≡ length self.new) }
         ensures end { IfOk result (λ count. count ≡ 0 → IsAtEnd (R.remaining reader.new)) }
+        ensures kind { IfErr result (λ fault. fault ≡ ServeFault.Read) }
     {
         let Ok(count) = reader.read(self.chunk.as_mut_slice()) else {
             return Err(ServeFault::Read);

@@ -2,12 +2,14 @@ use super::*;
 use std::test::Fail;
 
 /// Words behind the program's name, and how many databases they ask.
-const GOOD: [(&[&str], u8); 5] = [
+const GOOD: [(&[&str], u8); 7] = [
     (&["escrowd", "run"], 1),
     (&["escrowd", "run", "--databases", "1"], 1),
     (&["escrowd", "run", "--databases", "16"], 16),
     (&["escrowd", "run", "--databases=2"], 2),
     (&["escrowd", "--databases", "3", "run"], 3),
+    (&["escrowd", "run", "--databases", "+3"], 3),
+    (&["escrowd", "run", "--databases", "00000016"], 16),
 ];
 
 /// Words that are refused, with the exit status.
@@ -38,8 +40,7 @@ fn words(rt: HostRuntime) -> Result<(), Fail> {
         let Err(fault) = read_args(rt.alloc(), words) else {
             return Err(Fail::from("read"));
         };
-        assert_eq!(rt; fault.status, *status);
-        assert!(rt; !fault.text.as_str().is_empty());
+        assert_eq!(rt; fault.status(), *status);
     }
     Ok(())
 }

@@ -7,6 +7,6 @@ use Rattle.escrow_server.proofs.args.read_args.Goals as goal
 
 pub returns-clause-refused : goal.returns-clause-refused
 returns-clause-refused g c none =
-    status_among (faults_of (map g.S.AsStr.text c.args.words.now)) (kind_of c.in-Err.error) c.fault_of.result.status
-    (one_fault (map g.S.AsStr.text c.args.words.now)) c.fault_of.ensures
-    c.in-Err.ensures.kinds
+    status_among (faults_of (map g.S.AsStr.text c.args.words.now)) (kind_of c.in-Err.error) c.fault_of.result
+    (one_fault (map g.S.AsStr.text c.args.words.now)) c.fault_of.ensures.status
+    c.in-Err.ensures.kinds c.fault_of.ensures.memory

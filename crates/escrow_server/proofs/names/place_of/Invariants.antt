@@ -1,5 +1,5 @@
 use Rattle.std.proofs.Common.{◌≡◌, ◌≤◌}
-use Rattle.escrow_server.specs.Line.{place_of}
+use Rattle.escrow_server.specs.Reading.{place_of}
 use Rattle.escrow_server.proofs.names.place_of.Given as goal
 
 abbrev pub invariant-loop-left : goal.invariant-loop-left

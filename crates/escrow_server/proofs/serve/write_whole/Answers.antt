@@ -1,7 +1,7 @@
-use Rattle.std.proofs.Common.{◌≡◌, ℕ, ◌+◌, List, take, drop, sym, ap, subst, ◌∙◌}
+use Rattle.std.proofs.Common.{◌≡◌, ℕ, ◌+◌, List, length, take, drop, sym, ap, subst, ◌∙◌, arith}
 use Rattle.std.specs.Io.KnownBytes.{Appends}
 use Rattle.std.proofs.Math.Seq.{take-add}
-use Rattle.std.proofs.lemmas.List.{take_rest, drop-drop}
+use Rattle.std.proofs.lemmas.List.{take_rest, drop-drop, length-drop}
 use Rattle.escrow_server.proofs.ServeLemmas.{appends_more}
 use Rattle.escrow_server.proofs.serve.write_whole.Goals as goal
 
@@ -12,10 +12,11 @@ loop-rest-preserved g c =
     let n = c.in-Ok.count in
     let bytes = c.args.bytes.now in
     let wrote = c.in-Ok.ensures in
-    let rest : drop n c.loop-rest.rest.now ≡ drop (so_far.0 + n) bytes = ap (drop n) so_far.1 ∙ drop-drop n so_far.0 bytes in
-    let now = subst (λ (r : List ℕ). Appends (contents c.loop-rest.writer) (contents c.write.new.self) (take n r)) so_far.1 wrote.bytes in
-    let both = appends_more _ _ _ (take so_far.0 bytes) (take n (drop so_far.0 bytes)) so_far.2 now in (
+    let rest : drop n c.loop-rest.rest.now ≡ drop (so_far.0 + n) bytes = ap (drop n) so_far.2 ∙ drop-drop n so_far.0 bytes in
+    let now = subst (λ (r : List ℕ). Appends (contents c.loop-rest.writer) (contents c.write.new.self) (take n r)) so_far.2 wrote.bytes in
+    let both = appends_more _ _ _ (take so_far.0 bytes) (take n (drop so_far.0 bytes)) so_far.3 now in (
       so_far.0 + n,
+      omega (arith, wrote.bound, ap length so_far.2, length-drop so_far.0 bytes, so_far.1),
       take_rest c.loop-rest.rest.now n ∙ rest,
       subst (λ (b : List ℕ). Appends (contents c.args.writer.now) (contents c.write.new.self) b) (sym (take-add so_far.0 n bytes)) both,
     )

@@ -1,6 +1,7 @@
-use Rattle.std.proofs.Common.{◌≡◌, ◌++◌, length, arith, not}
+use Rattle.std.proofs.Common.{◌≡◌, ◌++◌, ℕ, length, arith, not, sym, subst, ◌∙◌}
+use Rattle.escrow_server.specs.Script.{Spends}
 use Rattle.std.specs.Prelude.{vec_len}
-use Rattle.escrow_server.proofs.ScriptLemmas.{turn_takes, turn_goes_on, turn_reads, turn_ends, some_by_test, none_by_test}
+use Rattle.escrow_server.proofs.ScriptLemmas.{turn_takes, turn_goes_on, turn_reads, turn_ends, some_by_test, none_by_test, spends_more, spends_read}
 use Rattle.escrow_server.proofs.script.Script.next_line.Goals as goal
 
 pub returns-then-branch-clause-taken : goal.returns-then-branch-clause-taken
@@ -41,5 +42,20 @@ loop-self-preserved g c =
     let same_len : vec_len c.fill.new.self.line ≡ vec_len c.take_front.new.self.line = cc in
     record {
       so_far = (so_far.0 ++ c.loop-self.self.unread, reads.is_line, reads.goes_on);
+      spent =
+          spends_more _ _ _ c.args.self.now.bytes_left c.loop-self.self.bytes_left c.fill.new.self.bytes_left c.loop-self.invariant.spent
+          (spends_read _ _ c.fill.new.self.unread c.loop-self.self.bytes_left c.fill.new.self.bytes_left c.in_ok-fill.field-0 read.read read.count (read.bytes ∙ turn.bytes));
       fewer = omega (arith, read.count, read.bytes, turn.bytes, turn.less, same_len);
     }
+
+pub returns-then-branch-clause-spent : goal.returns-then-branch-clause-spent
+returns-then-branch-clause-spent g c =
+    subst (λ (n : ℕ). Spends (g.R.Read.remaining c.args.reader.now) (g.R.Read.remaining c.loop-self.reader) c.args.self.now.bytes_left n)
+    (sym c.in_ok-take_front.ensures.bytes) c.loop-self.invariant.spent
+
+pub returns-then-branch-eq0-clause-spent : goal.returns-then-branch-eq0-clause-spent
+returns-then-branch-eq0-clause-spent g c =
+    let turn = c.in_ok-take_front.ensures in
+    let read = c.in_ok-fill.ensures in
+    spends_more _ _ _ c.args.self.now.bytes_left c.loop-self.self.bytes_left c.fill.new.self.bytes_left c.loop-self.invariant.spent
+    (spends_read _ _ c.fill.new.self.unread c.loop-self.self.bytes_left c.fill.new.self.bytes_left c.in_ok-fill.field-0 read.read read.count (read.bytes ∙ turn.bytes))

@@ -1,0 +1,21 @@
+use Rattle.std.proofs.Common.{ap, sym, ◌∙◌}
+use Rattle.escrow_server.specs.Reading.{is_nothing, is_join}
+use Rattle.escrow_server.proofs.LineLemmas.{made_of_none, is_nothing_made, is_join_made}
+use Rattle.escrow_server.proofs.line.classify_content.Goals as goal
+
+pub returns-then-is_nothing : goal.returns-then-is_nothing
+returns-then-is_nothing c =
+    is_nothing_made c.args.databases c.args.content.now
+    (ap is_nothing (sym c.as_bytes.ensures.value) ∙ sym c.is_nothing.ensures ∙ c.if-is_nothing.true)
+
+pub returns-then-is_join : goal.returns-then-is_join
+returns-then-is_join c =
+    is_join_made c.args.content.now
+    (ap is_join (sym c.as_bytes-2.ensures.value) ∙ sym c.is_join.ensures ∙ c.if-is_join.true)
+
+pub returns-in-None : goal.returns-in-None
+returns-in-None c =
+    made_of_none c.args.databases c.args.content.now
+    (ap is_nothing (sym c.as_bytes.ensures.value) ∙ sym c.is_nothing.ensures ∙ c.if-is_nothing.false)
+    (ap is_join (sym c.as_bytes-2.ensures.value) ∙ sym c.is_join.ensures ∙ c.if-is_join.false)
+    c.in-None.ensures.none

@@ -1,0 +1,175 @@
+ghost use Rattle.std.specs.Prelude.{◌≡◌, ◌≢◌, ◌⊎◌, ◌≤◌, ◌++◌, ℕ, List, Some, None, map, take, codes, IfOk, IfErr, IfSome, OnOk};
+ghost use Rattle.std.specs.Io.KnownBytes.{Keeps};
+ghost use Rattle.std.specs.Process.{exit_status};
+ghost use Rattle.escrow_core.specs.State.{State};
+ghost use Rattle.escrow_server.specs.declared.args.Args.{Args};
+ghost use Rattle.escrow_server.specs.Args.{asked_by, fault_status, refused_status};
+ghost use Rattle.escrow_server.specs.Output.{states_of, ServesWhole, StopsWithin};
+ghost use Rattle.escrow_server.specs.Program.{empty_states, help_of, unread_status, EndsScript, SaysWhy, WritesFront, WritesNothing};
+
+use crate::args::{ArgFault, read_args};
+use crate::fault::ServeFault;
+use crate::limits::MAX_DATABASES;
+use crate::serve::{serve_script, write_whole};
+use escrow_core::Database;
+use std::alloc::{AllocError, Global};
+use std::convert::AsStr;
+use std::env::Env;
+use std::io::{ErrorKind, Read, Write};
+use std::process::ExitCode;
+use std::{env, io};
+
+/// Runs the program: reads the words of its command line, makes the databases that they ask, and
+/// serves the script that comes from `input`, with the replies to `output`. Help goes to `output`
+/// too, and why the program ends early to `errors`.
+///
+/// Exit status: 0 when all was served and written, and for help; 1 when the script can't be read, a
+/// reply can't be written or memory is short; 2 for wrong arguments, one that isn't UTF-8 among them.
+pub fn run_program<E: Env + AllocGlobal, R: Read, W: Write, F: Write>(
+    rt: &E,
+    input: &mut R,
+    output: &mut W,
+    errors: &mut F,
+) -> ExitCode
+    // Status 0 comes without a word on `errors`, and any other with one, as far as it is taken.
+    ensures silent { exit_status result ≡ 0 → WritesNothing (F.contents errors.old) (F.contents errors.new) }
+    ensures said { exit_status result ≢ 0 → SaysWhy (F.contents errors.old) (F.contents errors.new) }
+{
+    let status = match words(rt) {
+        Ok(words) => run_words(rt.alloc(), words.as_slice(), input, output, errors),
+        Err(error) => without_words(errors, error.kind()),
+    };
+    ExitCode::from(status)
+}
+
+/// The words of the command line.
+fn words<E: Env + AllocGlobal>(rt: &E) -> io::Result<Vec<String>> {
+    Ok(env::args(rt)?.collect(rt.alloc())?)
+}
+
+/// Says why the words can't be had, and answers the exit status.
+fn without_words<F: Write>(errors: &mut F, error: ErrorKind) -> u8
+    ensures status { result ≡ unread_status error }
+    ensures said { SaysWhy (F.contents errors.old) (F.contents errors.new) }
+{
+    match error {
+        ErrorKind::InvalidData => {
+            say_why(errors, "the arguments have to be UTF-8\n");
+            2
+        }
+        _ => {
+            say_why(errors, "the arguments can't be read\n");
+            1
+        }
+    }
+}
+
+/// Runs the program with the words of its command line, its name first, and answers the exit status.
+fn run_words<S: AsStr, R: Read, W: Write, F: Write>(
+    alloc: Global,
+    words: &[S],
+    input: &mut R,
+    output: &mut W,
+    errors: &mut F,
+) -> u8
+    // Words that ask have the script served, in as many databases as they ask.
+    ensures asked { (args : Args) → asked_by (map S.text words.now) ≡ Some args → IfSome (R.remaining input.old) (λ script.
+        EndsScript args.databases result script (W.contents output.old) (W.contents output.new)) }
+
+    // Other words end with the status of what is wrong with them, or that of memory; nothing is
+    // read, and nothing written but help.
+    ensures refused { asked_by (map S.text words.now) ≡ None → (result ≡ 1) ⊎ (result ≡ refused_status (map S.text words.now)) }
+    ensures unread { asked_by (map S.text words.now) ≡ None → Keeps (R.remaining input.old) (R.remaining input.new) }
+    ensures unserved { asked_by (map S.text words.now) ≡ None → result ≢ 0 → WritesNothing (W.contents output.old) (W.contents output.new) }
+
+    ensures silent { result ≡ 0 → WritesNothing (F.contents errors.old) (F.contents errors.new) }
+    ensures said { result ≢ 0 → SaysWhy (F.contents errors.old) (F.contents errors.new) }
+{
+    match read_args(alloc, words) {
+        Ok(args) => match serve_databases(alloc, args.databases, input, output) {
+            Ok(()) => 0,
+            Err(fault) => stop(alloc, errors, fault),
+        },
+        Err(fault) => refuse(output, errors, &fault),
+    }
+}
+
+/// Serves the script in so many databases without tables.
+fn serve_databases<R: Read, W: Write>(
+    alloc: Global,
+    count: u8,
+    input: &mut R,
+    output: &mut W,
+) -> Result<(), ServeFault>
+    requires least { 1 ≤ count }
+    requires most { count ≤ MAX_DATABASES }
+    ensures served { OnOk result (IfSome (R.remaining input.old) (λ script. (new : List State)
+        × ServesWhole script (empty_states count) new (W.contents output.old) (W.contents output.new))) }
+    ensures stopped { IfErr result (λ fault. IfSome (R.remaining input.old) (λ script. (new : List State)
+        × StopsWithin fault script (empty_states count) new (W.contents output.old) (W.contents output.new))) }
+{
+    let mut databases = empty_databases(alloc, count)?;
+    serve_script(alloc, &mut databases, input, output)
+}
+
+/// So many databases without tables.
+fn empty_databases(alloc: Global, count: u8) -> Result<Vec<Database>, AllocError>
+    ensures { IfOk result (λ databases. states_of databases.items ≡ empty_states count) }
+{
+    let mut databases = Vec::new(alloc);
+    for _place in 0..count {
+        databases.push(Database::empty(alloc)?)?;
+    }
+    Ok(databases)
+}
+
+/// Prints help where it is asked, or else says what is wrong, and answers the exit status.
+fn refuse<W: Write, F: Write>(output: &mut W, errors: &mut F, fault: &ArgFault) -> u8
+    ensures status { result ≡ fault_status fault.now }
+    ensures help { WritesFront (W.contents output.old) (W.contents output.new) (help_of fault.now) }
+    ensures unserved { result ≢ 0 → WritesNothing (W.contents output.old) (W.contents output.new) }
+    ensures silent { result ≡ 0 → WritesNothing (F.contents errors.old) (F.contents errors.new) }
+    ensures said { result ≢ 0 → SaysWhy (F.contents errors.old) (F.contents errors.new) }
+{
+    match fault {
+        ArgFault::Help(text) => print_help(output, text.as_str()),
+        ArgFault::Wrong(text) => say_why(errors, text.as_str()),
+        ArgFault::Memory => say_why(errors, NO_MEMORY),
+    }
+    fault.status()
+}
+
+/// Prints help, as far as the output takes it: the exit status is the same.
+fn print_help<W: Write>(output: &mut W, text: &str)
+    ensures { WritesFront (W.contents output.old) (W.contents output.new) text.now }
+{
+    let _ = write_whole(output, text.as_bytes());
+}
+
+/// What is said where memory is short.
+const NO_MEMORY: &str = "out of memory\n";
+
+/// Says why a script isn't served to its end, and answers the exit status.
+fn stop<F: Write>(alloc: Global, errors: &mut F, fault: ServeFault) -> u8
+    ensures status { result ≡ 1 }
+    ensures said { SaysWhy (F.contents errors.old) (F.contents errors.new) }
+{
+    match format!(in alloc; "{fault}\n") {
+        Ok(text) => say_why(errors, text.as_str()),
+        Err(_) => say_why(errors, NO_MEMORY),
+    }
+    1
+}
+
+/// Writes the program's name, a colon and a text. Where they can't be written, nothing is left to
+/// say it to.
+fn say_why<F: Write>(errors: &mut F, text: &str)
+    ensures { WritesFront (F.contents errors.old) (F.contents errors.new) (codes "escrowd: " ++ text.now) }
+{
+    if write_whole(errors, b"escrowd: ").is_ok() {
+        let _ = write_whole(errors, text.as_bytes());
+    }
+}
+
+#[cfg(test)]
+mod tests;
