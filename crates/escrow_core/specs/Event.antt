@@ -1,3 +1,4 @@
+-- Believed: when an event is one of a session of a database.
 use Rattle.escrow_num.specs.Session.{IsSession}
 use Rattle.escrow_core.specs.declared.event.Event.{Event}
 use Rattle.escrow_core.specs.declared.event.Event.TheVariants as event

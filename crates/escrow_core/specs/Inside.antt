@@ -1,3 +1,4 @@
+-- Helps: the state that the fields of a database hold.
 use Rattle.escrow_core.specs.declared.database.Database.TheInside.{Inside}
 use Rattle.escrow_core.specs.State.{State}
 

@@ -1,3 +1,4 @@
+-- Believed: the statements of the laws in src/laws.rt.
 use Rattle.std.specs.Prelude.{◌≡◌, ℕ, ◌+◌, ◌≤◌, Some, None, IsSomeAnd, List, [], ◌∷◌, ◌++◌, length, take, Contains}
 use Rattle.std.specs.List.{AllByRecursion}
 use Rattle.escrow_num.specs.declared.refusal.Breach.{Breach}

@@ -1,3 +1,4 @@
+-- Believed: which replies are failures.
 use Rattle.std.specs.Prelude.{Option, Some, None}
 use Rattle.escrow_num.specs.declared.refusal.Refusal.{Refusal}
 use Rattle.escrow_num.specs.declared.refusal.Refusal.TheVariants as refusal

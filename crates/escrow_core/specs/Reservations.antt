@@ -1,3 +1,4 @@
+-- Believed: whose open reservations and savepoints are whose, and their order.
 use Rattle.std.specs.Prelude.{ℕ, Bool, ◌==◌, ◌||◌, ◌&&◌, not, nat_lt, nat_le, List, filter, bytes_eq}
 use Rattle.escrow_num.specs.declared.reservation.Reservation.{Reservation}
 use Rattle.escrow_num.specs.declared.reservation.Savepoint.{Savepoint}

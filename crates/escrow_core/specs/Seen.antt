@@ -1,3 +1,4 @@
+-- Believed: what contracts see of a database.
 use Rattle.escrow_core.specs.State.{State}
 
 -- what contracts see of a database

@@ -1,3 +1,4 @@
+-- Helps: words of private contracts.
 use Rattle.std.specs.Prelude.{◌≡◌, ◌⊎◌, ℕ, ◌≤◌, Some, None, IsTrue, List, length}
 use Rattle.std.specs.List.{AllByRecursion}
 use Rattle.escrow_num.specs.Amount.{IsAmount}
@@ -13,8 +14,6 @@ use Rattle.escrow_core.specs.Reply.{failure_of_refusal}
 use Rattle.escrow_core.specs.State.{State}
 use Rattle.escrow_core.specs.Step.{refusals, may_fail}
 use Rattle.escrow_core.specs.Turn.{turn_of}
-
--- Words of private contracts alone.
 
 -- no refusal of a statement applies
 abbrev pub IsAccepted : State → ℕ → Statement → Type 0

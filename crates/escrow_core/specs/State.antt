@@ -1,3 +1,4 @@
+-- Believed: the state of a database, and what is read from it.
 use Rattle.std.specs.Prelude.{ℕ, ℤ, Bool, ◌||◌, nat_lt, if◌then◌else◌, Option, List, [], ◌∷◌, length, map, filter, find, bytes_eq}
 use Rattle.std.specs.Ordering.{nat_cmp, is_lt}
 use Rattle.std.specs.Cmp.Lexicographic.{slice_cmp}

@@ -1,3 +1,4 @@
+-- Believed: the step, what may come in its place, and runs.
 use Rattle.std.specs.Prelude.{◌≡◌, ℕ, Bool, ◌&&◌, Option, is_none, option_map, unwrap_or, MatchOption, IsTrue, List, [], ◌∷◌, ◌++◌}
 use Rattle.escrow_num.specs.declared.refusal.Refusal.{Refusal}
 use Rattle.escrow_num.specs.Refusal.{first_refusal}

@@ -1,3 +1,4 @@
+-- Believed: the table of statements.
 use Rattle.std.specs.Prelude.{ℕ, ◌+◌, Bool, true, false, nat_lt, nat_le, Option, is_some, is_none, option_map, option_and_then, unwrap_or, List, [], ◌∷◌, ◌++◌, length, map}
 use Rattle.std.specs.Result.{result_ok, result_err}
 use Rattle.escrow_num.specs.declared.refusal.Refusal.{Refusal}

@@ -1,3 +1,4 @@
+-- Believed: what the words of a command line ask, by clap's definition of a simple command.
 use Rattle.std.specs.Prelude.{◌&&◌, ℕ, Option, Some, None, option_map, option_and_then, List, [], ◌∷◌, true, bytes_eq, codes, nat_le, if◌then◌else◌}
 use Rattle.clap.specs.Walk.{Row, Rule, Text, byte_or_zero, first_of, is_empty}
 use Rattle.clap.specs.Simple.{App, matches_of, new_app, new_rule, with_rule}

@@ -1,3 +1,4 @@
+-- Believed: the statements of the laws in src/laws.rt.
 use Rattle.std.specs.Prelude.{◌≡◌, ◌≤◌, ℕ, List}
 use Rattle.escrow_server.specs.declared.limits.TheConstants.{MAX_DATABASES}
 use Rattle.escrow_server.specs.Line.{Reading, Reads}

@@ -1,3 +1,4 @@
+-- Believed: the output of a script.
 use Rattle.std.specs.Prelude.{◌≡◌, ◌⊎◌, ℕ, ◌<◌, ◌≤◌, Option, IsSomeAnd, List, [], ◌∷◌, ◌++◌, length, map, slice_get, slice_set, ⊤}
 use Rattle.std.specs.Io.KnownBytes.{Appends}
 use Rattle.escrow_num.specs.declared.refusal.Refusal.{Refusal}

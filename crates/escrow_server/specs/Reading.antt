@@ -1,4 +1,4 @@
--- What helps to prove what a line is: its parts, found one after another.
+-- Helps: what a line is, by its parts, found one after another.
 use Rattle.std.specs.Prelude.{ℕ, zero, suc, ◌+◌, ◌-◌, ◌*◌, ◌==◌, Bool, ◌&&◌, ◌||◌, nat_eq, nat_le, if◌then◌else◌, Option, Some, None, List, [], ◌∷◌, length, drop, bytes_eq, codes}
 use Rattle.std.specs.Char.{is_ascii_digit}
 use Rattle.std.specs.List.{starts_with, list_all}

@@ -1,4 +1,4 @@
--- Helps only: a number for each class of tokens.
+-- Helps: a number for each class of tokens.
 use Rattle.std.specs.Prelude.{ℕ, ◌+◌}
 use Rattle.escrow_sql.specs.declared.token.Symbol.{Symbol}
 use Rattle.escrow_sql.specs.declared.token.Symbol.TheVariants as symbol

@@ -1,4 +1,4 @@
--- To be believed: which statements hold memory.
+-- Believed: which statements hold memory.
 use Rattle.std.specs.Prelude.{Bool, true, false}
 use Rattle.escrow_sql.specs.declared.statement.Literal.{Literal}
 use Rattle.escrow_sql.specs.declared.statement.Literal.TheVariants as literal

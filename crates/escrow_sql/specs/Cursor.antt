@@ -1,4 +1,4 @@
--- Helps only: what a cursor answers of the tokens that it stands before.
+-- Helps: what a cursor answers of the tokens that it stands before.
 use Rattle.std.specs.Prelude.{◌≡◌, Result, Ok, Err, List}
 use Rattle.escrow_sql.specs.declared.halt.Halt.{Halt}
 use Rattle.escrow_sql.specs.declared.halt.Halt.TheVariants as halt

@@ -1,4 +1,4 @@
--- To be believed: grammars, their sentences, and where tokens that are no sentence first go wrong.
+-- Believed: grammars, their sentences, and where tokens that are no sentence first go wrong.
 use Rattle.std.specs.Prelude.{◌≡◌, ℕ, ◌+◌, ◌<◌, ◌≤◌, ◌⊎◌, List, [], ◌∷◌, ◌++◌, length, take}
 use Rattle.escrow_sql.specs.declared.token.Kind.{Kind}
 use Rattle.escrow_sql.specs.declared.token.Token.{Token}

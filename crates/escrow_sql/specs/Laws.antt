@@ -1,4 +1,4 @@
--- To be believed: what laws say of texts.
+-- Believed: what laws say of texts.
 use Rattle.std.specs.Prelude.{◌≡◌, ℕ, ◌⊎◌, Result, List}
 use Rattle.escrow_sql.specs.declared.statement.Request.{Request}
 use Rattle.escrow_sql.specs.declared.token.Token.{Token}

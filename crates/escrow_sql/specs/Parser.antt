@@ -1,4 +1,4 @@
--- To be believed: what a text asks, and which column its fault has.
+-- Believed: what a text asks, and which column its fault has.
 use Rattle.std.specs.Prelude.{◌≡◌, ℕ, ◌⊎◌, Ok, Err, List, length, drop}
 use Rattle.escrow_sql.specs.declared.fault.ParseFault.{ParseFault}
 use Rattle.escrow_sql.specs.declared.fault.ParseFault.TheVariants as fault

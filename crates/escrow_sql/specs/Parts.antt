@@ -1,4 +1,4 @@
--- Helps only: what a list of a statement is made of is never nothing.
+-- Helps: what a list of a statement is made of is never nothing.
 use Rattle.std.specs.Prelude.{◌≡◌, refl, false}
 use Rattle.escrow_sql.specs.Predictive.{may_be_empty}
 use Rattle.escrow_sql.specs.Statement.{sign, signed_number, literal, constraint, check, mark, column, item}

@@ -1,4 +1,4 @@
--- Helps only: reading a grammar's sentences from left to right, with one token in hand. Contracts of public
+-- Helps: reading a grammar's sentences from left to right, with one token in hand. Contracts of public
 -- calls rest on Grammar.
 use Rattle.std.specs.Prelude.{ℕ, zero, suc, ◌==◌, Bool, true, false, not, ◌&&◌, ◌||◌, if◌then◌else◌, Result, Ok, Err, List, [], ◌∷◌, ◌++◌, length}
 use Rattle.escrow_sql.specs.Grammar.{Grammar, token, nothing, sequence, either, many}

@@ -1,4 +1,4 @@
--- Helps only: how the lexer goes through a text, from left to right. Contracts of public calls rest on Lex.
+-- Helps: how the lexer goes through a text, from left to right. Contracts of public calls rest on Lex.
 use Rattle.std.specs.Prelude.{ℕ, zero, suc, ◌+◌, ◌-◌, ◌==◌, Bool, true, false, ◌<◌, ◌≤◌, if◌then◌else◌, Option, Some, None, option_map, Result, Ok, Err, List, [], ◌∷◌, take, position}
 use Rattle.escrow_sql.specs.Lex.{is_forbidden, plain_piece, with_token}
 use Rattle.escrow_sql.specs.declared.lexer.piece.Piece.{Piece}

@@ -1,4 +1,4 @@
--- To be believed: the grammar of statements, and what each sentence of it means.
+-- Believed: the grammar of statements, and what each sentence of it means.
 use Rattle.std.specs.Prelude.{ℕ, ℤ, pos, neg_ℤ, Bool, true, false, if◌then◌else◌, Option, Some, None, List, [], ◌∷◌}
 use Rattle.escrow_sql.specs.Grammar.{Grammar, token, nothing, sequence, either, many}
 use Rattle.escrow_sql.specs.declared.token.Symbol.{Symbol}

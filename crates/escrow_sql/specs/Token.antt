@@ -1,4 +1,4 @@
--- To be believed: what a token is without what it holds, and where the tokens of a text stand.
+-- Believed: what a token is without what it holds, and where the tokens of a text stand.
 use Rattle.std.specs.Prelude.{ℕ, pos, ◌+◌, ◌≤◌, ◌<◌, List, [], ◌∷◌}
 use Rattle.escrow_sql.specs.declared.token.Kind.{Kind}
 use Rattle.escrow_sql.specs.declared.token.Kind.TheVariants as kind

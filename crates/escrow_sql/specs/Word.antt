@@ -1,4 +1,4 @@
--- To be believed: the reserved words.
+-- Believed: the reserved words.
 use Rattle.std.specs.Prelude.{ℕ, List, [], ◌∷◌, Option, bytes_eq, codes}
 use Rattle.std.specs.List.{find}
 use Rattle.escrow_sql.specs.declared.word.Word.{Word}
