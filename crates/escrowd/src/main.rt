@@ -5,10 +5,5 @@ use escrow_server::run_program;
 use std::process::ExitCode;
 
 fn main(rt: HostRuntime) -> ExitCode {
-    run_program(
-        &rt,
-        &mut rt.stdin(),
-        &mut rt.stdout(),
-        &mut rt.stderr(),
-    )
+    run_program(&rt, &mut rt.stdin(), &mut rt.stdout(), &mut rt.stderr())
 }
