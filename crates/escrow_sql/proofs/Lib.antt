@@ -15,3 +15,4 @@ pub mod Sentences
 pub mod Slices
 pub mod TextLemmas
 pub mod TokenLemmas
+pub mod Writing

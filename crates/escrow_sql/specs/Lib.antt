@@ -2,6 +2,7 @@ pub mod Classes
 pub mod Copies
 pub mod Cursor
 pub mod Grammar
+pub mod Joined
 pub mod Laws
 pub mod Lex
 pub mod Parser
