@@ -1,16 +1,23 @@
 -- Helps: what a list of a statement is made of is never nothing.
 use Rattle.std.specs.Prelude.{◌≡◌, refl, false}
 use Rattle.escrow_sql.specs.Predictive.{may_be_empty}
-use Rattle.escrow_sql.specs.Statement.{sign, signed_number, literal, constraint, check, mark, column, item}
+use Rattle.escrow_sql.specs.Statement.{name, sign, signed_number, literal, assign, constraint, check, mark, column, item}
+
+pub name-not_empty : may_be_empty name ≡ false
+name-not_empty = refl
 
 pub literal-not_empty : may_be_empty literal ≡ false
 unfolding literal signed_number sign
 literal-not_empty = refl
+
+pub assign-not_empty : may_be_empty assign ≡ false
+unfolding assign
+assign-not_empty = refl
 
 pub mark-not_empty : may_be_empty mark ≡ false
 unfolding mark check constraint
 mark-not_empty = refl
 
 pub item-not_empty : may_be_empty item ≡ false
-unfolding item column
+unfolding item column check constraint
 item-not_empty = refl

@@ -8,6 +8,8 @@ use Rattle.escrow_sql.specs.declared.token.Kind.TheVariants as kind
 use Rattle.escrow_sql.specs.declared.word.Word.{Word}
 use Rattle.escrow_sql.specs.declared.word.Word.TheVariants as words
 use Rattle.escrow_sql.specs.declared.statement.Assign.{Assign}
+use Rattle.escrow_sql.specs.declared.statement.Assigned.{Assigned}
+use Rattle.escrow_sql.specs.declared.statement.Assigned.TheVariants as assigned_values
 use Rattle.escrow_sql.specs.declared.statement.CheckText.{CheckText}
 use Rattle.escrow_sql.specs.declared.statement.ColumnMark.{ColumnMark}
 use Rattle.escrow_sql.specs.declared.statement.ColumnMark.TheVariants as marks
@@ -16,6 +18,7 @@ use Rattle.escrow_sql.specs.declared.statement.Comparison.{Comparison}
 use Rattle.escrow_sql.specs.declared.statement.Comparison.TheVariants as comparisons
 use Rattle.escrow_sql.specs.declared.statement.Condition.{Condition}
 use Rattle.escrow_sql.specs.declared.statement.CreateText.{CreateText}
+use Rattle.escrow_sql.specs.declared.statement.DeleteText.{DeleteText}
 use Rattle.escrow_sql.specs.declared.statement.InsertText.{InsertText}
 use Rattle.escrow_sql.specs.declared.statement.Item.{Item}
 use Rattle.escrow_sql.specs.declared.statement.Item.TheVariants as items
@@ -23,6 +26,7 @@ use Rattle.escrow_sql.specs.declared.statement.Literal.{Literal}
 use Rattle.escrow_sql.specs.declared.statement.Literal.TheVariants as literals
 use Rattle.escrow_sql.specs.declared.statement.Request.{Request}
 use Rattle.escrow_sql.specs.declared.statement.Request.TheVariants as requests
+use Rattle.escrow_sql.specs.declared.statement.SelectText.{SelectText}
 use Rattle.escrow_sql.specs.declared.statement.Statement.{Statement}
 use Rattle.escrow_sql.specs.declared.statement.Statement.TheVariants as statements
 use Rattle.escrow_sql.specs.declared.statement.TypeText.{TypeText}
@@ -78,12 +82,19 @@ abbrev pub number_in : Kind → ℤ
 number_in (kind.Number n) = n
 number_in other = pos 0
 
--- a name, a number
+abbrev pub text_in : Kind → List ℕ
+text_in (kind.Text t) = t
+text_in other = []
+
+-- a name, a number, a text
 abbrev pub name : Grammar (List ℕ)
 name = token (kind.Name []) name_in
 
 abbrev pub number : Grammar ℤ
 number = token (kind.Number (pos 0)) number_in
+
+abbrev pub text : Grammar (List ℕ)
+text = token (kind.Text []) text_in
 
 -- a minus makes a number negative
 abbrev pub with_sign : Bool → ℤ → ℤ
@@ -97,9 +108,9 @@ sign = meaning (λ s. false) (symbol symbols.Plus) or meaning (λ s. true) (symb
 unfoldable pub signed_number : Grammar ℤ
 signed_number = sequence (optional false sign) number with_sign
 
--- literal = snum
+-- literal = snum | text
 unfoldable pub literal : Grammar Literal
-literal = meaning literals.Number signed_number
+literal = meaning literals.Number signed_number or meaning literals.Text text
 
 -- where = WHERE name "=" literal
 unfoldable pub where_part : Grammar WhereText
@@ -109,17 +120,33 @@ where_part = word words.Where then sequence name (symbol symbols.Equal then lite
 unfoldable pub change : Grammar ℤ
 change = sequence sign number with_sign
 
--- assign = name "=" name change
+-- assigned = literal | name change
+unfoldable pub assigned : Grammar Assigned
+assigned = meaning assigned_values.Literal literal or sequence name change (λ s n. assigned_values.Change s n)
+
+-- assign = name "=" assigned
 unfoldable pub assign : Grammar Assign
-assign = sequence (both name (symbol symbols.Equal then name)) change (λ p n. record { column = p.0; source = p.1; change = n })
+assign = sequence name (symbol symbols.Equal then assigned) (λ c v. record { column = c; value = v })
 
--- update = UPDATE name SET assign where
+-- update = UPDATE name SET assign { "," assign } where
 unfoldable pub update : Grammar UpdateText
-update = word words.Update then sequence (both name (word words.Set then assign)) where_part (λ p w. record { table = p.0; assign = p.1; row = w })
+update = word words.Update then sequence (both name (word words.Set then list assign)) where_part (λ p w. record { table = p.0; assigns = p.1; row = w })
 
--- insert = INSERT INTO name VALUES "(" literal { "," literal } ")"
+-- columns = [ "(" name { "," name } ")" ]
+unfoldable pub columns : Grammar (Option (List (List ℕ)))
+columns = optional None (meaning (λ ns. Some ns) (in_parentheses (list name)))
+
+-- insert = INSERT INTO name columns VALUES "(" literal { "," literal } ")"
 unfoldable pub insert : Grammar InsertText
-insert = word words.Insert then word words.Into then sequence name (word words.Values then in_parentheses (list literal)) (λ t vs. record { table = t; values = vs })
+insert = word words.Insert then word words.Into then sequence (both name columns) (word words.Values then in_parentheses (list literal)) (λ p vs. record { table = p.0; columns = p.1; values = vs })
+
+-- delete = DELETE FROM name where
+unfoldable pub delete : Grammar DeleteText
+delete = word words.Delete then word words.From then sequence name where_part (λ t w. record { table = t; row = w })
+
+-- select = SELECT "*" FROM name [ where ]
+unfoldable pub select : Grammar SelectText
+select = word words.Select then symbol symbols.Star then word words.From then sequence name (optional None (meaning (λ w. Some w) where_part)) (λ t w. record { table = t; row = w })
 
 -- comparison = "<" | "<=" | ">" | ">="
 unfoldable pub comparison : Grammar Comparison
@@ -153,34 +180,52 @@ mark =
 unfoldable pub digits : Grammar (Option ℤ)
 digits = optional None (meaning (λ n. Some n) (in_parentheses number))
 
--- type = INTEGER | NUMBER digits
+-- type = INTEGER | NUMBER digits | VARCHAR2 "(" number ")"
 unfoldable pub type_text : Grammar TypeText
-type_text = meaning (λ k. types.Integer) (word words.Integer) or meaning types.Number (word words.Number then digits)
+type_text =
+    meaning (λ k. types.Integer) (word words.Integer)
+    or meaning types.Number (word words.Number then digits)
+    or meaning types.Varchar2 (word words.Varchar2 then in_parentheses number)
 
 -- column = name type { mark }
 unfoldable pub column : Grammar ColumnText
 column = sequence (both name type_text) (many mark (λ ms. ms)) (λ p ms. record { name = p.0; kind = p.1; marks = ms })
 
--- item = column
+-- item = column | check | PRIMARY KEY "(" name ")"
 unfoldable pub item : Grammar Item
-item = meaning items.Column column
+item =
+    meaning items.Column column
+    or meaning items.Check check
+    or meaning items.PrimaryKey (word words.Primary then word words.Key then in_parentheses name)
 
 -- create = CREATE TABLE name "(" item { "," item } ")"
 unfoldable pub create : Grammar CreateText
 create = word words.Create then word words.Table then sequence name (in_parentheses (list item)) (λ t is. record { table = t; items = is })
 
+-- drop = DROP TABLE name
+unfoldable pub drop : Grammar (List ℕ)
+drop = word words.Drop then word words.Table then name
+
+-- show = SHOW TABLE name
+unfoldable pub show : Grammar (List ℕ)
+show = word words.Show then word words.Table then name
+
 -- work = [ WORK ]
 unfoldable pub work : Grammar (Unit {0})
 work = optional tt (word words.Work)
 
--- body = create | insert | update | COMMIT work | ROLLBACK work
+-- body = create | drop | insert | update | delete | select | COMMIT work | ROLLBACK work | show
 unfoldable pub body : Grammar Statement
 body =
     meaning statements.Create create
+    or meaning statements.Drop drop
     or meaning statements.Insert insert
     or meaning statements.Update update
+    or meaning statements.Delete delete
+    or meaning statements.Select select
     or meaning (λ k. statements.Commit) (word words.Commit then work)
     or meaning (λ k. statements.Rollback) (word words.Rollback then work)
+    or meaning statements.ShowTable show
 
 -- request = body [ ";" ]
 unfoldable pub request : Grammar Request

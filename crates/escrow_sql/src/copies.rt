@@ -1,11 +1,11 @@
 ghost use Rattle.std.specs.Prelude.{◌≡◌, ◌↔◌, IsTrue, IsOk, IfOk, false};
-ghost use Rattle.escrow_sql.specs.Copies.{holds_memory, literal_holds_memory};
+ghost use Rattle.escrow_sql.specs.Copies.{holds_memory, literal_holds_memory, row_holds_memory};
 
 use crate::statement::{
-    CheckText, ColumnMark, ColumnText, CreateText, InsertText, Item, Literal, Statement,
-    UpdateText, WhereText,
+    Assign, Assigned, CheckText, ColumnMark, ColumnText, CreateText, DeleteText, InsertText, Item,
+    Literal, SelectText, Statement, UpdateText, WhereText,
 };
-use escrow_num::Seq;
+use escrow_num::{Name, Seq};
 use std::alloc::{AllocError, Global};
 
 /// What is copied and compared whole: the parts of a statement that hold memory, and what its lists
@@ -44,6 +44,16 @@ fn are_same<T: Copied>(items: &[T], others: &[T]) -> bool
         }
     }
     true
+}
+
+impl Copied for Name {
+    fn copy(&self, _: Global) -> Result<Name, AllocError> {
+        Ok(*self)
+    }
+
+    fn is_same(&self, other: &Name) -> bool {
+        *self == *other
+    }
 }
 
 impl Literal {
@@ -127,12 +137,17 @@ impl Copied for Item {
     fn copy(&self, alloc: Global) -> Result<Item, AllocError> {
         match self {
             Item::Column(column) => Ok(Item::Column(column.copy(alloc)?)),
+            Item::Check(check) => Ok(Item::Check(check.copy(alloc)?)),
+            Item::PrimaryKey(column) => Ok(Item::PrimaryKey(*column)),
         }
     }
 
     fn is_same(&self, other: &Item) -> bool {
         match (self, other) {
             (Item::Column(a), Item::Column(b)) => a.is_same(b),
+            (Item::Check(a), Item::Check(b)) => a.is_same(b),
+            (Item::PrimaryKey(a), Item::PrimaryKey(b)) => *a == *b,
+            _ => false,
         }
     }
 }
@@ -150,16 +165,79 @@ impl Copied for CreateText {
     }
 }
 
+/// A copy of the columns that an INSERT names, if it names any. Want of memory is the only error.
+fn copy_columns(alloc: Global, columns: &Option<Seq<Name>>) -> Result<Option<Seq<Name>>, AllocError>
+    ensures { IfOk result (λ copied. copied ≡ columns.now) }
+{
+    match columns {
+        None => Ok(None),
+        Some(names) => Ok(Some(copy_all(alloc, names.as_slice())?)),
+    }
+}
+
+/// Whether two INSERTs name the same columns, in the same order, or both name none.
+fn are_same_columns(columns: &Option<Seq<Name>>, others: &Option<Seq<Name>>) -> bool
+    ensures { IsTrue result ↔ (columns.now ≡ others.now) }
+{
+    match (columns, others) {
+        (None, None) => true,
+        (Some(a), Some(b)) => are_same(a.as_slice(), b.as_slice()),
+        _ => false,
+    }
+}
+
 impl Copied for InsertText {
     fn copy(&self, alloc: Global) -> Result<InsertText, AllocError> {
         Ok(InsertText {
             table: self.table,
+            columns: copy_columns(alloc, &self.columns)?,
             values: copy_all(alloc, self.values.as_slice())?,
         })
     }
 
     fn is_same(&self, other: &InsertText) -> bool {
-        self.table == other.table && are_same(self.values.as_slice(), other.values.as_slice())
+        self.table == other.table
+            && are_same_columns(&self.columns, &other.columns)
+            && are_same(self.values.as_slice(), other.values.as_slice())
+    }
+}
+
+impl Copied for Assigned {
+    fn copy(&self, alloc: Global) -> Result<Assigned, AllocError> {
+        match self {
+            Assigned::Literal(literal) => Ok(Assigned::Literal(literal.copied(alloc)?)),
+            Assigned::Change { source, change } => Ok(Assigned::Change {
+                source: *source,
+                change: *change,
+            }),
+        }
+    }
+
+    fn is_same(&self, other: &Assigned) -> bool {
+        match (self, other) {
+            (Assigned::Literal(a), Assigned::Literal(b)) => a.is_same(b),
+            (
+                Assigned::Change { source, change },
+                Assigned::Change {
+                    source: other_source,
+                    change: other_change,
+                },
+            ) => *source == *other_source && *change == *other_change,
+            _ => false,
+        }
+    }
+}
+
+impl Copied for Assign {
+    fn copy(&self, alloc: Global) -> Result<Assign, AllocError> {
+        Ok(Assign {
+            column: self.column,
+            value: self.value.copy(alloc)?,
+        })
+    }
+
+    fn is_same(&self, other: &Assign) -> bool {
+        self.column == other.column && self.value.is_same(&other.value)
     }
 }
 
@@ -183,38 +261,88 @@ impl WhereText {
     }
 }
 
-impl UpdateText {
-    /// A copy of the UPDATE. Only a text in its WHERE takes memory.
-    fn copy(&self, alloc: Global) -> Result<UpdateText, AllocError>
-        ensures same { IfOk result (λ t. t ≡ self.now) }
-        ensures succeeds { literal_holds_memory self.now.row.literal ≡ false → IsOk result }
-    {
+impl Copied for UpdateText {
+    fn copy(&self, alloc: Global) -> Result<UpdateText, AllocError> {
         Ok(UpdateText {
             table: self.table,
-            assign: self.assign,
+            assigns: copy_all(alloc, self.assigns.as_slice())?,
             row: self.row.copy(alloc)?,
         })
     }
 
-    /// Whether two UPDATEs are the same.
-    fn is_same(&self, other: &UpdateText) -> bool
+    fn is_same(&self, other: &UpdateText) -> bool {
+        self.table == other.table
+            && are_same(self.assigns.as_slice(), other.assigns.as_slice())
+            && self.row.is_same(&other.row)
+    }
+}
+
+impl DeleteText {
+    /// A copy of the DELETE. Only a text in its WHERE takes memory.
+    fn copy(&self, alloc: Global) -> Result<DeleteText, AllocError>
+        ensures same { IfOk result (λ t. t ≡ self.now) }
+        ensures succeeds { literal_holds_memory self.now.row.literal ≡ false → IsOk result }
+    {
+        Ok(DeleteText {
+            table: self.table,
+            row: self.row.copy(alloc)?,
+        })
+    }
+
+    /// Whether two DELETEs are the same.
+    fn is_same(&self, other: &DeleteText) -> bool
         ensures { IsTrue result ↔ (self.now ≡ other.now) }
     {
-        self.table == other.table && self.assign == other.assign && self.row.is_same(&other.row)
+        self.table == other.table && self.row.is_same(&other.row)
+    }
+}
+
+impl SelectText {
+    /// A copy of the SELECT. Only a text in its WHERE takes memory.
+    fn copy(&self, alloc: Global) -> Result<SelectText, AllocError>
+        ensures same { IfOk result (λ t. t ≡ self.now) }
+        ensures succeeds { row_holds_memory self.now.row ≡ false → IsOk result }
+    {
+        let row = match &self.row {
+            None => None,
+            Some(row) => Some(row.copy(alloc)?),
+        };
+        Ok(SelectText {
+            table: self.table,
+            row,
+        })
+    }
+
+    /// Whether two SELECTs are the same.
+    fn is_same(&self, other: &SelectText) -> bool
+        ensures { IsTrue result ↔ (self.now ≡ other.now) }
+    {
+        if self.table != other.table {
+            return false;
+        }
+        match (&self.row, &other.row) {
+            (None, None) => true,
+            (Some(a), Some(b)) => a.is_same(b),
+            _ => false,
+        }
     }
 }
 
 impl Statement {
-    /// A copy of the statement. Want of memory is the only error; COMMIT, ROLLBACK and an UPDATE
-    /// of a row whose key is a number take none.
+    /// A copy of the statement. Want of memory is the only error; a statement without a list and
+    /// without a text takes none.
     pub fn copy(&self, alloc: Global) -> Result<Statement, AllocError>
         ensures same { IfOk result (λ t. t ≡ self.now) }
         ensures succeeds { holds_memory self.now ≡ false → IsOk result }
     {
         match self {
             Statement::Create(text) => Ok(Statement::Create(text.copy(alloc)?)),
+            Statement::Drop(table) => Ok(Statement::Drop(*table)),
             Statement::Insert(text) => Ok(Statement::Insert(text.copy(alloc)?)),
             Statement::Update(text) => Ok(Statement::Update(text.copy(alloc)?)),
+            Statement::Delete(text) => Ok(Statement::Delete(text.copy(alloc)?)),
+            Statement::Select(text) => Ok(Statement::Select(text.copy(alloc)?)),
+            Statement::ShowTable(table) => Ok(Statement::ShowTable(*table)),
             Statement::Commit => Ok(Statement::Commit),
             Statement::Rollback => Ok(Statement::Rollback),
         }
@@ -227,8 +355,12 @@ impl Statement {
     {
         match (self, other) {
             (Statement::Create(a), Statement::Create(b)) => a.is_same(b),
+            (Statement::Drop(a), Statement::Drop(b)) => *a == *b,
             (Statement::Insert(a), Statement::Insert(b)) => a.is_same(b),
             (Statement::Update(a), Statement::Update(b)) => a.is_same(b),
+            (Statement::Delete(a), Statement::Delete(b)) => a.is_same(b),
+            (Statement::Select(a), Statement::Select(b)) => a.is_same(b),
+            (Statement::ShowTable(a), Statement::ShowTable(b)) => *a == *b,
             (Statement::Commit, Statement::Commit) => true,
             (Statement::Rollback, Statement::Rollback) => true,
             _ => false,

@@ -1,14 +1,15 @@
-ghost use Rattle.std.specs.Prelude.{◌≡◌, [], ◌∷◌, false, Ok, MatchBool};
+ghost use Rattle.std.specs.Prelude.{◌≡◌, [], ◌∷◌, pos, false, Ok, MatchBool};
 ghost use Rattle.escrow_sql.specs.Predictive.{run, starts};
 ghost use Rattle.escrow_sql.specs.Cursor.{Advances};
 ghost use Rattle.escrow_sql.specs.Classes.{class_number};
-ghost use Rattle.escrow_sql.specs.Statement.{word, symbol, name, number};
+ghost use Rattle.escrow_sql.specs.Statement.{word, symbol, name, number, text};
 ghost use Rattle.escrow_sql.specs.declared.token.Kind.TheVariants as kind;
 
 use crate::halt::Halt;
 use crate::token::{Kind, Symbol, Token};
 use crate::word::Word;
-use escrow_num::{Amount, Name};
+use escrow_num::{Amount, Name, Text};
+use std::alloc::Global;
 
 /// A place among the tokens of a text. Each method that reads leaves it behind what was read, or at
 /// the token that no sentence goes on with.
@@ -36,6 +37,36 @@ impl Cursor<'_> {
         match self.tokens {
             [] => false,
             [token, ..] => token.kind.class() == Kind::Symbol(expected).class(),
+        }
+    }
+
+    /// Whether a name comes next.
+    pub(crate) fn is_at_name(&self) -> bool
+        ensures { result ≡ starts (class_number (kind.Name []) ∷ []) self.now.tokens.now }
+    {
+        match self.tokens {
+            [] => false,
+            [token, ..] => matches!(&token.kind, Kind::Name(_)),
+        }
+    }
+
+    /// Whether a number comes next.
+    pub(crate) fn is_at_number(&self) -> bool
+        ensures { result ≡ starts (class_number (kind.Number (pos 0)) ∷ []) self.now.tokens.now }
+    {
+        match self.tokens {
+            [] => false,
+            [token, ..] => matches!(&token.kind, Kind::Number(_)),
+        }
+    }
+
+    /// Whether a text comes next.
+    pub(crate) fn is_at_text(&self) -> bool
+        ensures { result ≡ starts (class_number (kind.Text []) ∷ []) self.now.tokens.now }
+    {
+        match self.tokens {
+            [] => false,
+            [token, ..] => matches!(&token.kind, Kind::Text(_)),
         }
     }
 
@@ -106,6 +137,23 @@ impl Cursor<'_> {
             Kind::Number(number) => {
                 self.tokens = rest;
                 Ok(*number)
+            }
+            _ => Err(Halt::Syntax),
+        }
+    }
+
+    /// Reads a text, and answers a copy of it.
+    pub(crate) fn text(&mut self, alloc: Global) -> Result<Text, Halt>
+        ensures { Advances self.new.tokens.now result (run text self.old.tokens.now) }
+    {
+        let [token, rest @ ..] = self.tokens else {
+            return Err(Halt::Syntax);
+        };
+        match &token.kind {
+            Kind::Text(text) => {
+                let copied = text.copy(alloc)?;
+                self.tokens = rest;
+                Ok(copied)
             }
             _ => Err(Halt::Syntax),
         }

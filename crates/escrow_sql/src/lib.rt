@@ -19,8 +19,9 @@ pub use fault::ParseFault;
 pub use lexer::{MAX_TEXT, lex};
 pub use parser::parse;
 pub use statement::{
-    Assign, CheckText, ColumnMark, ColumnText, Comparison, Condition, CreateText, InsertText, Item,
-    Literal, Request, Statement, TypeText, UpdateText, WhereText,
+    Assign, Assigned, CheckText, ColumnMark, ColumnText, Comparison, Condition, CreateText,
+    DeleteText, InsertText, Item, Literal, Request, SelectText, Statement, TypeText, UpdateText,
+    WhereText,
 };
 pub use token::{Kind, Symbol, Token};
 pub use word::Word;

@@ -2,7 +2,7 @@ ghost use Rattle.std.specs.Prelude.{◌≡◌, ◌≤◌, ◌+◌, IfOk, IfErr, 
 ghost use Rattle.escrow_sql.specs.Token.{column_at};
 ghost use Rattle.escrow_sql.specs.Predictive.{run, run_whole};
 ghost use Rattle.escrow_sql.specs.Cursor.{Advances, Ends};
-ghost use Rattle.escrow_sql.specs.Statement.{work, body, request};
+ghost use Rattle.escrow_sql.specs.Statement.{show, work, body, request};
 ghost use Rattle.escrow_sql.specs.Parser.{Asks, IsFaultIn};
 ghost use Rattle.escrow_sql.specs.declared.lexer.TheConstants.{MAX_TEXT};
 ghost use Rattle.escrow_sql.specs.declared.statement.Request.{Request};
@@ -11,6 +11,7 @@ ghost use Rattle.escrow_sql.specs.declared.fault.ParseFault.TheVariants.{Memory}
 mod change;
 mod create;
 mod part;
+mod rows;
 
 use crate::cursor::Cursor;
 use crate::fault::ParseFault;
@@ -19,6 +20,7 @@ use crate::lexer;
 use crate::statement::{Request, Statement};
 use crate::token::{Symbol, Token};
 use crate::word::Word;
+use escrow_num::Name;
 use std::alloc::Global;
 
 impl Cursor<'_> {
@@ -33,31 +35,50 @@ impl Cursor<'_> {
         Ok(())
     }
 
-    /// `create | insert | update | COMMIT work | ROLLBACK work`
-    #[tactic(auto, unfolding(crate::specs::Statement::body, crate::specs::Statement::create, crate::specs::Statement::insert, crate::specs::Statement::update))]
+    /// `SHOW TABLE name`
+    #[tactic(auto, unfolding(crate::specs::Statement::show))]
+    fn show_table(&mut self) -> Result<Name, Halt>
+        ensures { Advances self.new.tokens.now result (run show self.old.tokens.now) }
+    {
+        self.word(Word::Show)?;
+        self.word(Word::Table)?;
+        self.name()
+    }
+
+    /// `create | drop | insert | update | delete | select | COMMIT work | ROLLBACK work | show`
+    #[tactic(auto, unfolding(crate::specs::Statement::body, crate::specs::Statement::create, crate::specs::Statement::drop, crate::specs::Statement::insert, crate::specs::Statement::update, crate::specs::Statement::delete, crate::specs::Statement::select))]
     fn body(&mut self, alloc: Global) -> Result<Statement, Halt>
         ensures { Advances self.new.tokens.now result (run body self.old.tokens.now) }
     {
         if self.is_at_word(Word::Create) {
-            let create = self.create(alloc)?;
-            return Ok(Statement::Create(create));
+            return Ok(Statement::Create(self.create(alloc)?));
+        }
+        if self.is_at_word(Word::Drop) {
+            return Ok(Statement::Drop(self.drop_table()?));
         }
         if self.is_at_word(Word::Insert) {
-            let insert = self.insert(alloc)?;
-            return Ok(Statement::Insert(insert));
+            return Ok(Statement::Insert(self.insert(alloc)?));
         }
         if self.is_at_word(Word::Update) {
-            let update = self.update()?;
-            return Ok(Statement::Update(update));
+            return Ok(Statement::Update(self.update(alloc)?));
+        }
+        if self.is_at_word(Word::Delete) {
+            return Ok(Statement::Delete(self.delete(alloc)?));
+        }
+        if self.is_at_word(Word::Select) {
+            return Ok(Statement::Select(self.select(alloc)?));
         }
         if self.is_at_word(Word::Commit) {
             self.word(Word::Commit)?;
             self.work()?;
             return Ok(Statement::Commit);
         }
-        self.word(Word::Rollback)?;
-        self.work()?;
-        Ok(Statement::Rollback)
+        if self.is_at_word(Word::Rollback) {
+            self.word(Word::Rollback)?;
+            self.work()?;
+            return Ok(Statement::Rollback);
+        }
+        Ok(Statement::ShowTable(self.show_table()?))
     }
 
     /// `body [ ";" ]`

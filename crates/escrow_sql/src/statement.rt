@@ -12,10 +12,18 @@ pub enum Request {
 pub enum Statement {
     /// `CREATE TABLE name (..)`
     Create(CreateText),
-    /// `INSERT INTO name VALUES (..)`
+    /// `DROP TABLE name`, with the table's name.
+    Drop(Name),
+    /// `INSERT INTO name [(..)] VALUES (..)`
     Insert(InsertText),
     /// `UPDATE name SET .. WHERE ..`
     Update(UpdateText),
+    /// `DELETE FROM name WHERE ..`
+    Delete(DeleteText),
+    /// `SELECT * FROM name [WHERE ..]`
+    Select(SelectText),
+    /// `SHOW TABLE name`, with the table's name.
+    ShowTable(Name),
     /// `COMMIT [WORK]`
     Commit,
     /// `ROLLBACK [WORK]`
@@ -36,6 +44,10 @@ pub struct CreateText {
 pub enum Item {
     /// A column.
     Column(ColumnText),
+    /// `[CONSTRAINT name] CHECK (..)`
+    Check(CheckText),
+    /// `PRIMARY KEY (name)`, with the name of the column that is the key.
+    PrimaryKey(Name),
 }
 
 /// The text of a column.
@@ -56,6 +68,8 @@ pub enum TypeText {
     Integer,
     /// `NUMBER`, or `NUMBER(p)` with the p that is written.
     Number(Option<Amount>),
+    /// `VARCHAR2(n)`, with the n that is written.
+    Varchar2(Amount),
 }
 
 /// What may stand behind a column's type.
@@ -109,6 +123,8 @@ pub enum Comparison {
 pub struct InsertText {
     /// The table's name.
     pub table: Name,
+    /// The columns that are named in front of VALUES, in order, if they are.
+    pub columns: Option<Seq<Name>>,
     /// The literals, in order.
     pub values: Seq<Literal>,
 }
@@ -118,21 +134,51 @@ pub struct InsertText {
 pub struct UpdateText {
     /// The table's name.
     pub table: Name,
-    /// What stands behind SET.
-    pub assign: Assign,
+    /// What stands behind SET, in order.
+    pub assigns: Seq<Assign>,
     /// What stands behind WHERE.
     pub row: WhereText,
 }
 
-/// An assignment, `column = source + change`, where a minus makes the change negative.
-#[derive(Clone, Copy, Debug, PartialEq, Eq)]
+/// An assignment, `column = value`.
+#[derive(Debug, Drop)]
 pub struct Assign {
     /// The column that is assigned.
     pub column: Name,
-    /// The column on the right.
-    pub source: Name,
-    /// What is added to it.
-    pub change: Amount,
+    /// What is assigned to it.
+    pub value: Assigned,
+}
+
+/// What an assignment has on its right.
+#[derive(Debug, Drop)]
+pub enum Assigned {
+    /// A literal.
+    Literal(Literal),
+    /// `source + change`, where a minus makes the change negative.
+    Change {
+        /// The column that is changed.
+        source: Name,
+        /// What is added to it.
+        change: Amount,
+    },
+}
+
+/// The text of a DELETE.
+#[derive(Debug, Drop)]
+pub struct DeleteText {
+    /// The table's name.
+    pub table: Name,
+    /// What stands behind WHERE.
+    pub row: WhereText,
+}
+
+/// The text of a SELECT.
+#[derive(Debug, Drop)]
+pub struct SelectText {
+    /// The table's name.
+    pub table: Name,
+    /// What stands behind WHERE, if it does.
+    pub row: Option<WhereText>,
 }
 
 /// The condition of a WHERE, `column = literal`.

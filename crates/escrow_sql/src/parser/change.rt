@@ -1,14 +1,14 @@
 ghost use Rattle.std.specs.Prelude.{◌≡◌, refl};
 ghost use Rattle.escrow_sql.specs.Predictive.{run, starts, first};
 ghost use Rattle.escrow_sql.specs.Cursor.{Advances};
-ghost use Rattle.escrow_sql.specs.Statement.{optional, sign, signed_number, with_sign, literal, where_part, change, assign, update, insert};
+ghost use Rattle.escrow_sql.specs.Statement.{optional, sign, signed_number, with_sign, literal, where_part, change, assigned, assign, update};
 ghost use Rattle.std.specs.Prelude.{false};
 
 use crate::cursor::Cursor;
 use crate::halt::Halt;
 use crate::parser::part;
 use crate::parser::part::Part;
-use crate::statement::{Assign, InsertText, Literal, UpdateText, WhereText};
+use crate::statement::{Assign, Assigned, Literal, UpdateText, WhereText};
 use crate::token::Symbol;
 use crate::word::Word;
 use escrow_num::Amount;
@@ -67,24 +67,44 @@ impl Cursor<'_> {
         Ok(apply_sign(minus, number))
     }
 
-    /// `signed_number`
+    /// Whether a signed number comes next.
+    #[tactic(auto, unfolding(crate::specs::Statement::signed_number, crate::specs::Statement::sign))]
+    fn is_at_signed_number(&self) -> bool
+        ensures { result ≡ starts (first signed_number) self.now.tokens.now }
+    {
+        self.is_at_sign() || self.is_at_number()
+    }
+
+    /// Whether a literal comes next.
+    #[tactic(auto, unfolding(crate::specs::Statement::literal, crate::specs::Statement::signed_number, crate::specs::Statement::sign))]
+    fn is_at_literal(&self) -> bool
+        ensures { result ≡ starts (first literal) self.now.tokens.now }
+    {
+        self.is_at_signed_number() || self.is_at_text()
+    }
+
+    /// `signed_number | text`
     #[tactic(auto, unfolding(crate::specs::Statement::literal))]
-    fn literal(&mut self) -> Result<Literal, Halt>
+    fn literal(&mut self, alloc: Global) -> Result<Literal, Halt>
         ensures { Advances self.new.tokens.now result (run literal self.old.tokens.now) }
     {
-        let number = self.signed_number()?;
-        Ok(Literal::Number(number))
+        if self.is_at_signed_number() {
+            let number = self.signed_number()?;
+            return Ok(Literal::Number(number));
+        }
+        let text = self.text(alloc)?;
+        Ok(Literal::Text(text))
     }
 
     /// `WHERE name "=" literal`
     #[tactic(auto, unfolding(crate::specs::Statement::where_part))]
-    fn where_part(&mut self) -> Result<WhereText, Halt>
+    pub(super) fn where_part(&mut self, alloc: Global) -> Result<WhereText, Halt>
         ensures { Advances self.new.tokens.now result (run where_part self.old.tokens.now) }
     {
         self.word(Word::Where)?;
         let column = self.name()?;
         self.symbol(Symbol::Equal)?;
-        let literal = self.literal()?;
+        let literal = self.literal(alloc)?;
         Ok(WhereText { column, literal })
     }
 
@@ -98,48 +118,46 @@ impl Cursor<'_> {
         Ok(apply_sign(minus, number))
     }
 
-    /// `name "=" name change`
+    /// `literal | name change`
+    #[tactic(auto, unfolding(crate::specs::Statement::assigned))]
+    fn assigned(&mut self, alloc: Global) -> Result<Assigned, Halt>
+        ensures { Advances self.new.tokens.now result (run assigned self.old.tokens.now) }
+    {
+        if self.is_at_literal() {
+            let literal = self.literal(alloc)?;
+            return Ok(Assigned::Literal(literal));
+        }
+        let source = self.name()?;
+        let change = self.change()?;
+        Ok(Assigned::Change { source, change })
+    }
+
+    /// `name "=" assigned`
     #[tactic(auto, unfolding(crate::specs::Statement::assign))]
-    fn assign(&mut self) -> Result<Assign, Halt>
+    fn assign(&mut self, alloc: Global) -> Result<Assign, Halt>
         ensures { Advances self.new.tokens.now result (run assign self.old.tokens.now) }
     {
         let column = self.name()?;
         self.symbol(Symbol::Equal)?;
-        let source = self.name()?;
-        let change = self.change()?;
-        Ok(Assign {
-            column,
-            source,
-            change,
-        })
+        let value = self.assigned(alloc)?;
+        Ok(Assign { column, value })
     }
 
-    /// `UPDATE name SET assign where_part`
+    /// `UPDATE name SET assign { "," assign } where_part`
     #[tactic(auto, unfolding(crate::specs::Statement::update))]
-    pub(super) fn update(&mut self) -> Result<UpdateText, Halt>
+    pub(super) fn update(&mut self, alloc: Global) -> Result<UpdateText, Halt>
         ensures { Advances self.new.tokens.now result (run update self.old.tokens.now) }
     {
         self.word(Word::Update)?;
         let table = self.name()?;
         self.word(Word::Set)?;
-        let assign = self.assign()?;
-        let row = self.where_part()?;
-        Ok(UpdateText { table, assign, row })
-    }
-
-    /// `INSERT INTO name VALUES "(" literal { "," literal } ")"`
-    #[tactic(auto, unfolding(crate::specs::Statement::insert))]
-    pub(super) fn insert(&mut self, alloc: Global) -> Result<InsertText, Halt>
-        ensures { Advances self.new.tokens.now result (run insert self.old.tokens.now) }
-    {
-        self.word(Word::Insert)?;
-        self.word(Word::Into)?;
-        let table = self.name()?;
-        self.word(Word::Values)?;
-        self.symbol(Symbol::Open)?;
-        let values = part::read_list(alloc, self)?;
-        self.symbol(Symbol::Close)?;
-        Ok(InsertText { table, values })
+        let assigns = part::read_list(alloc, self)?;
+        let row = self.where_part(alloc)?;
+        Ok(UpdateText {
+            table,
+            assigns,
+            row,
+        })
     }
 }
 
@@ -151,7 +169,20 @@ impl Part for Literal {
 
     ghost not_empty = { literal-not_empty };
 
-    fn read(_alloc: Global, cursor: &mut Cursor) -> Result<Literal, Halt> {
-        cursor.literal()
+    fn read(alloc: Global, cursor: &mut Cursor) -> Result<Literal, Halt> {
+        cursor.literal(alloc)
+    }
+}
+
+impl Part for Assign {
+    ghost use Rattle.escrow_sql.specs.Statement.{assign};
+    ghost use Rattle.escrow_sql.specs.Parts.{assign-not_empty};
+
+    ghost grammar = { assign };
+
+    ghost not_empty = { assign-not_empty };
+
+    fn read(alloc: Global, cursor: &mut Cursor) -> Result<Assign, Halt> {
+        cursor.assign(alloc)
     }
 }

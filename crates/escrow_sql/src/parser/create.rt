@@ -1,7 +1,7 @@
 ghost use Rattle.std.specs.Prelude.{◌≡◌};
 ghost use Rattle.escrow_sql.specs.Predictive.{run, starts, first};
 ghost use Rattle.escrow_sql.specs.Cursor.{Advances};
-ghost use Rattle.escrow_sql.specs.Statement.{comparison, condition, constraint, check, mark, digits, type_text, column, item, create};
+ghost use Rattle.escrow_sql.specs.Statement.{comparison, condition, constraint, check, mark, digits, type_text, column, item, create, drop};
 
 use crate::cursor::Cursor;
 use crate::halt::Halt;
@@ -78,6 +78,14 @@ impl Cursor<'_> {
         Ok(CheckText { name, condition })
     }
 
+    /// Whether a CHECK comes next.
+    #[tactic(auto, unfolding(crate::specs::Statement::check, crate::specs::Statement::constraint))]
+    fn is_at_check(&self) -> bool
+        ensures { result ≡ starts (first check) self.now.tokens.now }
+    {
+        self.is_at_word(Word::Constraint) || self.is_at_word(Word::Check)
+    }
+
     /// Whether a mark comes next.
     #[tactic(auto, unfolding(crate::specs::Statement::mark, crate::specs::Statement::check, crate::specs::Statement::constraint))]
     fn is_at_mark(&self) -> bool
@@ -86,8 +94,7 @@ impl Cursor<'_> {
         self.is_at_word(Word::Primary)
             || self.is_at_word(Word::Reservable)
             || self.is_at_word(Word::Not)
-            || self.is_at_word(Word::Constraint)
-            || self.is_at_word(Word::Check)
+            || self.is_at_check()
     }
 
     /// `PRIMARY KEY | RESERVABLE | NOT NULL | check`
@@ -127,7 +134,7 @@ impl Cursor<'_> {
         Ok(Some(number))
     }
 
-    /// `INTEGER | NUMBER digits`
+    /// `INTEGER | NUMBER digits | VARCHAR2 "(" number ")"`
     #[tactic(auto, unfolding(crate::specs::Statement::type_text))]
     fn type_text(&mut self) -> Result<TypeText, Halt>
         ensures { Advances self.new.tokens.now result (run type_text self.old.tokens.now) }
@@ -136,9 +143,16 @@ impl Cursor<'_> {
             self.word(Word::Integer)?;
             return Ok(TypeText::Integer);
         }
-        self.word(Word::Number)?;
-        let digits = self.digits()?;
-        Ok(TypeText::Number(digits))
+        if self.is_at_word(Word::Number) {
+            self.word(Word::Number)?;
+            let digits = self.digits()?;
+            return Ok(TypeText::Number(digits));
+        }
+        self.word(Word::Varchar2)?;
+        self.symbol(Symbol::Open)?;
+        let size = self.number()?;
+        self.symbol(Symbol::Close)?;
+        Ok(TypeText::Varchar2(size))
     }
 
     /// `name type_text { mark }`
@@ -152,13 +166,25 @@ impl Cursor<'_> {
         Ok(ColumnText { name, kind, marks })
     }
 
-    /// `column`
-    #[tactic(auto, unfolding(crate::specs::Statement::item))]
+    /// `column | check | PRIMARY KEY "(" name ")"`
+    #[tactic(auto, unfolding(crate::specs::Statement::item, crate::specs::Statement::column))]
     fn item(&mut self, alloc: Global) -> Result<Item, Halt>
         ensures { Advances self.new.tokens.now result (run item self.old.tokens.now) }
     {
-        let column = self.column(alloc)?;
-        Ok(Item::Column(column))
+        if self.is_at_name() {
+            let column = self.column(alloc)?;
+            return Ok(Item::Column(column));
+        }
+        if self.is_at_check() {
+            let check = self.check()?;
+            return Ok(Item::Check(check));
+        }
+        self.word(Word::Primary)?;
+        self.word(Word::Key)?;
+        self.symbol(Symbol::Open)?;
+        let key = self.name()?;
+        self.symbol(Symbol::Close)?;
+        Ok(Item::PrimaryKey(key))
     }
 
     /// `CREATE TABLE name "(" item { "," item } ")"`
@@ -173,6 +199,16 @@ impl Cursor<'_> {
         let items = part::read_list(alloc, self)?;
         self.symbol(Symbol::Close)?;
         Ok(CreateText { table, items })
+    }
+
+    /// `DROP TABLE name`
+    #[tactic(auto, unfolding(crate::specs::Statement::drop))]
+    pub(super) fn drop_table(&mut self) -> Result<Name, Halt>
+        ensures { Advances self.new.tokens.now result (run drop self.old.tokens.now) }
+    {
+        self.word(Word::Drop)?;
+        self.word(Word::Table)?;
+        self.name()
     }
 }
 

@@ -1,0 +1,100 @@
+ghost use Rattle.escrow_sql.specs.Predictive.{run};
+ghost use Rattle.escrow_sql.specs.Cursor.{Advances};
+ghost use Rattle.std.specs.Prelude.{Some, None};
+ghost use Rattle.escrow_sql.specs.Statement.{optional, meaning, where_part, columns, insert, delete, select};
+
+use crate::cursor::Cursor;
+use crate::halt::Halt;
+use crate::parser::part;
+use crate::parser::part::Part;
+use crate::statement::{DeleteText, InsertText, SelectText, WhereText};
+use crate::token::Symbol;
+use crate::word::Word;
+use escrow_num::{Name, Seq};
+use std::alloc::Global;
+
+impl Cursor<'_> {
+    /// `[ "(" name { "," name } ")" ]`
+    #[tactic(auto, unfolding(crate::specs::Statement::columns))]
+    fn columns(&mut self, alloc: Global) -> Result<Option<Seq<Name>>, Halt>
+        ensures { Advances self.new.tokens.now result (run columns self.old.tokens.now) }
+    {
+        if !self.is_at_symbol(Symbol::Open) {
+            return Ok(None);
+        }
+        self.symbol(Symbol::Open)?;
+        let names = part::read_list(alloc, self)?;
+        self.symbol(Symbol::Close)?;
+        Ok(Some(names))
+    }
+
+    /// `INSERT INTO name columns VALUES "(" literal { "," literal } ")"`
+    #[tactic(auto, unfolding(crate::specs::Statement::insert))]
+    pub(super) fn insert(&mut self, alloc: Global) -> Result<InsertText, Halt>
+        ensures { Advances self.new.tokens.now result (run insert self.old.tokens.now) }
+    {
+        self.word(Word::Insert)?;
+        self.word(Word::Into)?;
+        let table = self.name()?;
+        let columns = self.columns(alloc)?;
+        self.word(Word::Values)?;
+        self.symbol(Symbol::Open)?;
+        let values = part::read_list(alloc, self)?;
+        self.symbol(Symbol::Close)?;
+        Ok(InsertText {
+            table,
+            columns,
+            values,
+        })
+    }
+
+    /// `DELETE FROM name where_part`
+    #[tactic(auto, unfolding(crate::specs::Statement::delete))]
+    pub(super) fn delete(&mut self, alloc: Global) -> Result<DeleteText, Halt>
+        ensures { Advances self.new.tokens.now result (run delete self.old.tokens.now) }
+    {
+        self.word(Word::Delete)?;
+        self.word(Word::From)?;
+        let table = self.name()?;
+        let row = self.where_part(alloc)?;
+        Ok(DeleteText { table, row })
+    }
+
+    /// `[ where_part ]`
+    #[tactic(auto, unfolding(crate::specs::Statement::where_part))]
+    fn optional_where(&mut self, alloc: Global) -> Result<Option<WhereText>, Halt>
+        ensures { Advances self.new.tokens.now result (run (optional None (meaning (λ w. Some w) where_part)) self.old.tokens.now) }
+    {
+        if !self.is_at_word(Word::Where) {
+            return Ok(None);
+        }
+        let row = self.where_part(alloc)?;
+        Ok(Some(row))
+    }
+
+    /// `SELECT "*" FROM name [ where_part ]`
+    #[tactic(auto, unfolding(crate::specs::Statement::select))]
+    pub(super) fn select(&mut self, alloc: Global) -> Result<SelectText, Halt>
+        ensures { Advances self.new.tokens.now result (run select self.old.tokens.now) }
+    {
+        self.word(Word::Select)?;
+        self.symbol(Symbol::Star)?;
+        self.word(Word::From)?;
+        let table = self.name()?;
+        let row = self.optional_where(alloc)?;
+        Ok(SelectText { table, row })
+    }
+}
+
+impl Part for Name {
+    ghost use Rattle.escrow_sql.specs.Statement.{name};
+    ghost use Rattle.escrow_sql.specs.Parts.{name-not_empty};
+
+    ghost grammar = { name };
+
+    ghost not_empty = { name-not_empty };
+
+    fn read(_alloc: Global, cursor: &mut Cursor) -> Result<Name, Halt> {
+        cursor.name()
+    }
+}
