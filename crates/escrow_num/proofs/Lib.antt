@@ -1,3 +1,8 @@
+pub mod Ascending
+pub mod Items
 pub mod NameLemmas
+pub mod Orders
+pub mod Places
+pub mod Put
 pub mod ReadLemmas
 pub mod Spelling

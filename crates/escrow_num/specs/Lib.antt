@@ -1,4 +1,5 @@
 pub mod Amount
+pub mod Ascending
 pub mod Name
 pub mod Order
 pub mod Padded
