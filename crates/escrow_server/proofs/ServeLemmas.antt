@@ -11,7 +11,7 @@ use Rattle.escrow_core.specs.State.{State}
 use Rattle.escrow_server.specs.declared.fault.ServeFault.{ServeFault}
 use Rattle.escrow_server.specs.declared.fault.ServeFault.TheVariants as fault
 use Rattle.escrow_server.specs.Line.{Reading, statement, no_line, database_name, Reads, lines_of}
-use Rattle.escrow_server.specs.Text.{rendered}
+use Rattle.escrow_reply.specs.Text.{rendered}
 use Rattle.escrow_server.specs.Output.{state_in, states_of, Answers, ServesLine, ServesBytes, ServesLines, ServesWhole, Leaves, StopsWithin}
 use Rattle.escrow_server.specs.declared.limits.TheConstants.{MAX_LINE, MAX_SCRIPT}
 use Rattle.escrow_server.specs.Script.{TakesLine, Spends, left}

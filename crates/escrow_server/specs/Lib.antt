@@ -5,4 +5,3 @@ pub mod Output
 pub mod Program
 pub mod Reading
 pub mod Script
-pub mod Text

@@ -1,5 +1,5 @@
 -- Believed: the output of a script.
-use Rattle.std.specs.Prelude.{◌≡◌, ◌⊎◌, ℕ, ◌<◌, ◌≤◌, Option, IsSomeAnd, List, [], ◌∷◌, ◌++◌, length, map, slice_get, slice_set, ⊤}
+use Rattle.std.specs.Prelude.{◌≡◌, ◌⊎◌, ℕ, ◌<◌, ◌≤◌, Option, IsSomeAnd, List, [], ◌∷◌, ◌++◌, length, map, slice_get, slice_set, codes, ⊤}
 use Rattle.std.specs.Io.KnownBytes.{Appends}
 use Rattle.escrow_num.specs.declared.refusal.Refusal.{Refusal}
 use Rattle.escrow_num.specs.declared.refusal.Refusal.TheVariants as refusal
@@ -13,11 +13,11 @@ use Rattle.escrow_core.specs.declared.reply.Reply.TheVariants as reply
 use Rattle.escrow_core.specs.Seen.{Seen}
 use Rattle.escrow_core.specs.State.{State}
 use Rattle.escrow_core.specs.Step.{StepOrRefusal}
+use Rattle.escrow_reply.specs.Text.{rendered, reply_lines, with_prefix}
 use Rattle.escrow_server.specs.declared.fault.ServeFault.{ServeFault}
 use Rattle.escrow_server.specs.declared.fault.ServeFault.TheVariants as serve_fault
 use Rattle.escrow_server.specs.declared.limits.TheConstants.{MAX_SCRIPT}
 use Rattle.escrow_server.specs.Line.{Reading, nothing, join, statement, no_line, database_name, Reads, lines_of}
-use Rattle.escrow_server.specs.Text.{rendered, no_line_text}
 
 -- the state in a database, as contracts show it
 abbrev pub state_in : Seen → State
@@ -45,6 +45,10 @@ IsRefused s text answer new = (f : ParseFault) × IsFaultIn text f × (answer �
 -- the answer to a text of a session, and the state after it
 abbrev pub Answers : State → ℕ → List ℕ → Reply → State → Type 0
 Answers s session text answer new = IsServed s session text answer new ⊎ IsRefused s text answer new
+
+-- the reply to what is no line of a script
+abbrev pub no_line_text : List ℕ
+no_line_text = with_prefix (codes "script> ") (reply_lines (reply.Refused refusal.Line))
 
 -- what a line writes, and the states of the databases after it: a statement is answered by the
 -- database at its place, and the others stay

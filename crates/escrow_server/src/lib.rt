@@ -1,5 +1,5 @@
-//! Scripts of statements: their lines, the text of replies, the arguments of the program, and what
-//! the program does with them.
+//! Scripts of statements: their lines, the arguments of the program, and what the program does with
+//! them.
 //!
 //! Its one contract: what [`serve_script`] writes, and the states of the databases after it, are
 //! those of the script's lines, served one after another by the machine. [`run_program`] is that of
@@ -13,7 +13,6 @@ mod limits;
 mod line;
 mod names;
 mod program;
-mod render;
 mod script;
 mod serve;
 mod unread;

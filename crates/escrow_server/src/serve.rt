@@ -8,10 +8,10 @@ use crate::fault::ServeFault;
 use crate::limits::MAX_DATABASES;
 use crate::line::{Line, classify};
 use crate::names::database_name;
-use crate::render::{render, render_no_line};
 use crate::script::Script;
 use escrow_core::{Database, Reply};
 use escrow_num::{Refusal, Session};
+use escrow_reply::{render, render_lines};
 use escrow_sql::{ParseFault, Request, parse};
 use std::alloc::{AllocError, Global};
 use std::io::{Read, Write};
@@ -55,7 +55,7 @@ fn serve_line(alloc: Global, databases: &mut [Database], line: &[u8]) -> Result<
 {
     match classify(databases.len(), line) {
         Line::Nothing | Line::Join => Ok(Vec::new(alloc)),
-        Line::NoLine => render_no_line(alloc),
+        Line::NoLine => render_lines(alloc, "script> ", &Reply::Refused(Refusal::Line)),
         Line::Statement {
             database,
             session,

@@ -1,21 +1,21 @@
 use Rattle.std.proofs.Common.{◌≡◌, ℕ, List, length, get_or, Some, ap, refl, ◌∙◌}
 use Rattle.std.specs.Prelude.{slice_get, slice_set}
 use Rattle.std.proofs.lemmas.Option.{slice_get-get_or}
-use Rattle.escrow_server.specs.Text.{no_line_text, rendered}
+use Rattle.escrow_reply.specs.Text.{rendered}
 use Rattle.escrow_server.specs.Line.{database_name, no_line, statement}
-use Rattle.escrow_server.specs.Output.{state_in}
+use Rattle.escrow_server.specs.Output.{no_line_text, state_in}
 use Rattle.escrow_server.proofs.ServeLemmas.{serves_reading, serves_statement, names_one, state_at, states_after, at_err, at_ok}
 use Rattle.escrow_server.proofs.serve.serve_line.Goals as goal
 
 pub returns-in-NoLine-clause-ok : goal.returns-in-NoLine-clause-ok
 returns-in-NoLine-clause-ok c =
     let databases = c.args.databases.now in
-    at_ok _ _ c.render_no_line.result (λ out e. serves_reading databases databases c.args.line.now out.items no_line c.in-NoLine.ensures (e, refl)) c.render_no_line.ensures
+    at_ok _ _ c.render_lines.result (λ out e. serves_reading databases databases c.args.line.now out.items no_line c.in-NoLine.ensures (e, refl)) c.render_lines.ensures
 
 pub returns-in-NoLine-clause-err : goal.returns-in-NoLine-clause-err
 returns-in-NoLine-clause-err c =
     let databases = c.args.databases.now in
-    at_err c.render_no_line.result (no_line_text, serves_reading databases databases c.args.line.now no_line_text no_line c.in-NoLine.ensures (refl, refl))
+    at_err c.render_lines.result (no_line_text, serves_reading databases databases c.args.line.now no_line_text no_line c.in-NoLine.ensures (refl, refl))
 
 pub returns-in-Statement-clause-ok : goal.returns-in-Statement-clause-ok
 returns-in-Statement-clause-ok c =

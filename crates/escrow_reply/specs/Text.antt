@@ -72,7 +72,3 @@ prefix_of database session = database ++ codes "." ++ decimal session ++ codes "
 -- a reply as it is written
 abbrev pub rendered : List ℕ → ℕ → Reply → List ℕ
 rendered database session answer = with_prefix (prefix_of database session) (reply_lines answer)
-
--- the reply to what is no line of a script
-abbrev pub no_line_text : List ℕ
-no_line_text = with_prefix (codes "script> ") (reply_lines (reply.Refused refusal.Line))

@@ -1,0 +1,11 @@
+//! The text of replies.
+//!
+//! Its one contract: [`render`] gives the lines of a reply to the byte, each behind the database and
+//! the session that it is for.
+#![tactic(auto)]
+
+mod lines;
+mod push;
+mod words;
+
+pub use lines::{render, render_lines};
