@@ -6,14 +6,61 @@ use std::test::Fail;
 fn copies_statements(rt: HostRuntime) -> Result<(), Fail> {
     for text in [
         "CREATE TABLE T (A INTEGER PRIMARY KEY, B NUMBER(5) RESERVABLE CHECK (B >= 10))",
+        "CREATE TABLE T (A VARCHAR2(9), B NUMBER, PRIMARY KEY (A), CONSTRAINT C CHECK (B < 5))",
+        "DROP TABLE T",
         "INSERT INTO T VALUES (1, 20)",
+        "INSERT INTO T (B, A) VALUES (20, 'b''1')",
         "UPDATE T SET B = B - 5 WHERE A = 1",
+        "UPDATE T SET A = 'é', B = 7, C = B + 1 WHERE A = 'a'",
+        "DELETE FROM T WHERE A = 'a'",
+        "SELECT * FROM T",
+        "SELECT * FROM T WHERE A = 'a'",
+        "SHOW TABLE T",
         "COMMIT",
         "ROLLBACK",
     ] {
         let Request::Statement(statement) = parse(rt.alloc(), text)?;
         let copied = statement.copy(rt.alloc())?;
         assert!(rt; copied.is_same(&statement), "at {text}");
+    }
+    Ok(())
+}
+
+#[test]
+fn tells_statements_apart(rt: HostRuntime) -> Result<(), Fail> {
+    for (text, other) in [
+        ("DROP TABLE T", "SHOW TABLE T"),
+        (
+            "CREATE TABLE T (A VARCHAR2(9))",
+            "CREATE TABLE T (A VARCHAR2(8))",
+        ),
+        (
+            "CREATE TABLE T (A NUMBER PRIMARY KEY)",
+            "CREATE TABLE T (A NUMBER, PRIMARY KEY (A))",
+        ),
+        (
+            "INSERT INTO T VALUES (1, 20)",
+            "INSERT INTO T (A, B) VALUES (1, 20)",
+        ),
+        (
+            "INSERT INTO T (A, B) VALUES (1, 20)",
+            "INSERT INTO T (B, A) VALUES (1, 20)",
+        ),
+        ("INSERT INTO T VALUES (1)", "INSERT INTO T VALUES ('1')"),
+        (
+            "UPDATE T SET B = 5 WHERE A = 1",
+            "UPDATE T SET B = B + 5 WHERE A = 1",
+        ),
+        (
+            "UPDATE T SET B = 5 WHERE A = 1",
+            "UPDATE T SET B = 5, B = 5 WHERE A = 1",
+        ),
+        ("DELETE FROM T WHERE A = 'a'", "DELETE FROM T WHERE A = 'A'"),
+        ("SELECT * FROM T", "SELECT * FROM T WHERE A = 1"),
+    ] {
+        let Request::Statement(a) = parse(rt.alloc(), text)?;
+        let Request::Statement(b) = parse(rt.alloc(), other)?;
+        assert!(rt; !a.is_same(&b), "at {text} and {other}");
     }
     Ok(())
 }
