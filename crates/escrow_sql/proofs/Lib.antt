@@ -16,3 +16,5 @@ pub mod Slices
 pub mod TextLemmas
 pub mod TokenLemmas
 pub mod Writing
+pub mod WritingLists
+pub mod WritingTokens

@@ -1,13 +1,17 @@
 -- A text that is written as a grammar's sentences are is read as them, whatever may follow it.
-use Rattle.std.proofs.Common.{◌≡◌, ℕ, ◌+◌, Bool, true, false, Result, Ok, Err, List, [], ◌∷◌, ◌++◌, length, refl, sym, ap, ◌∙◌, subst, append_assoc, arith, length-append, inl, inr}
+use Rattle.std.proofs.Common.{◌≡◌, ℕ, ◌+◌, ◌≤◌, Bool, true, Result, Ok, Err, List, [], ◌∷◌, ◌++◌, length, refl, sym, ap, ◌∙◌, subst, append_assoc, arith, length-append, inl, inr}
 use Rattle.std.specs.Prelude.{◌==◌, ◌||◌}
 use Rattle.std.proofs.lemmas.List.{append-nil}
 use Rattle.escrow_sql.specs.declared.lexer.piece.Piece.TheVariants as piece
 use Rattle.escrow_sql.specs.declared.token.Token.{Token}
 use Rattle.escrow_sql.specs.Grammar.{Grammar, nothing, sequence, either, many, Sentence, Repeats}
 use Rattle.escrow_sql.specs.Lex.{is_blank, plain_piece}
-use Rattle.escrow_sql.specs.Scan.{piece_of, tokens_from}
-use Rattle.escrow_sql.specs.Statement.{meaning}
+use Rattle.escrow_sql.specs.Scan.{tokens_from}
+use Rattle.escrow_sql.specs.Parser.{Asks}
+use Rattle.escrow_sql.specs.Statement.{meaning, request}
+use Rattle.escrow_sql.specs.declared.lexer.TheConstants.{MAX_TEXT}
+use Rattle.escrow_sql.specs.declared.statement.Request.{Request}
+use Rattle.escrow_sql.proofs.Pieces.{is_lexed}
 use Rattle.escrow_sql.proofs.TokenLemmas.{after, tokens_from-piece, tokens_from-behind}
 
 -- what may stand behind a word, a name or a number: nothing, a blank, or one of ( ) , ;
@@ -52,7 +56,7 @@ writes_both {s = s} {t = t} {x = x} {y = y} l follows r = record {
       (one.0 ++ two.0, cut_both s t rest at one.0 two.0 one.1 two.1, (one.0, two.0, x, y, refl, one.2, two.2, refl));
 }
 
--- the same where what may follow is less, and the text is bare of what stands before it
+-- the same, where less may follow
 pub weaker : {V : Type 0} {P Q : List ℕ → Bool} {g : Grammar V} {s : List ℕ} {v : V} → ((rest : List ℕ) → Q rest ≡ true → P rest ≡ true) → Writes P g s v → Writes Q g s v
 weaker follows w = record { cut = λ rest at q. w.cut rest at (follows rest q) }
 
@@ -93,7 +97,7 @@ writes_spaced {s = s} w = record {
       );
 }
 
--- either, a meaning, nothing
+-- one or the other
 pub writes_left : {V : Type 0} {P : List ℕ → Bool} {a b : Grammar V} {s : List ℕ} {v : V} → Writes P a s v → Writes P (either a b) s v
 writes_left w = record { cut = λ rest at q. let c = w.cut rest at q in (c.0, c.1, inl c.2) }
 
@@ -103,12 +107,14 @@ writes_right w = record { cut = λ rest at q. let c = w.cut rest at q in (c.0, c
 pub writes_nothing : {V : Type 0} {P : List ℕ → Bool} {v : V} → Writes P (nothing v) [] v
 writes_nothing = record { cut = λ rest at q. ([], ap (λ (n : ℕ). tokens_from 0 n rest) (omega arith) ∙ after-none _, (refl, refl)) }
 
+-- one, and then what nothing is written of
+pub writes_first : {A B V : Type 0} {P : List ℕ → Bool} {a : Grammar A} {b : Grammar B} {f : A → B → V} {s : List ℕ} {x : A} {y : B}
+    → Writes P a s x → Writes P b [] y → Writes P (sequence a b f) s (f x y)
+writes_first {P = P} {a = a} {b = b} {f = f} {s = s} {x = x} {y = y} l r =
+    subst (λ (t : List ℕ). Writes P (sequence a b f) t (f x y)) (append-nil s) (writes_both l (λ rest q. q) r)
+
 pub writes_meaning : {A V : Type 0} {P : List ℕ → Bool} {f : A → V} {a : Grammar A} {s : List ℕ} {x : A} → Writes P a s x → Writes P (meaning f a) s (f x)
-writes_meaning {f = f} {x = x} w = record {
-  cut = λ rest at q.
-      let c = w.cut rest at q in
-      (c.0, c.1, (c.0, [], x, tt {0}, sym (append-nil c.0), c.2, (refl, refl), refl));
-}
+writes_meaning w = writes_first w writes_nothing
 
 -- any number of one
 pub none_more : {A V : Type 0} {P : List ℕ → Bool} {a : Grammar A} {f : List A → V} → Writes P (many a f) [] (f [])
@@ -128,3 +134,10 @@ more_both {a = a} {s = s} {t = t} {x = x} {xs = xs} l follows r = record {
 pub one_more : {A V : Type 0} {a : Grammar A} {f : List A → V} {s t : List ℕ} {x : A} {xs : List A}
     → Writes is_behind a s x → is_behind t ≡ true → Writes is_behind (many a (λ ys. ys)) t xs → Writes is_behind (many a f) (s ++ t) (f (x ∷ xs))
 one_more {t = t} l e r = more_both l (λ rest q. behind_both t rest e q) r
+
+-- a text that writes a request asks it
+pub asks_written : {text : List ℕ} {r : Request} → Writes is_behind request text r → length text ≤ MAX_TEXT → Asks text r
+asks_written {text = text} w short =
+    let c = w.cut [] 0 refl in
+    let lexed : tokens_from 0 0 text ≡ Ok c.0 = ap (tokens_from 0 0) (sym (append-nil text)) ∙ (c.1 ∙ ap (λ (ts : List Token). Ok ts) (append-nil c.0)) in
+    (c.0, is_lexed text (Ok c.0) short lexed, c.2)

@@ -1,0 +1,66 @@
+-- Lists and signed numbers, as they are written, are read as themselves.
+use Rattle.std.proofs.Common.{◌≡◌, ℕ, suc, ℤ, pos, negsuc, ◌^◌, ◌≤◌, ◌<◌, true, List, [], ◌∷◌, ◌++◌, length, get_or, map, arith, refl}
+use Rattle.std.specs.Prelude.{codes, flat_map}
+use Rattle.std.specs.Fmt.{decimal, signed_decimal}
+use Rattle.std.specs.List.{AllByRecursion}
+use Rattle.std.proofs.lemmas.Bool.Decides.{nat_tests}
+use Rattle.std.proofs.lemmas.Fmt.{decimal_nonempty, first_decimal}
+use Rattle.std.proofs.lemmas.Int.{ints}
+use Rattle.escrow_num.specs.Amount.{IsAmount}
+use Rattle.escrow_sql.specs.declared.token.Symbol.TheVariants as symbols
+use Rattle.escrow_sql.specs.Grammar.{Grammar, many}
+use Rattle.escrow_sql.specs.Joined.{joined}
+use Rattle.escrow_sql.specs.Statement.{symbol, ◌then◌, list, sign, signed_number}
+use Rattle.escrow_sql.proofs.Writing.{Writes, is_behind, writes_both, writes_joined, writes_apart, writes_blank, writes_left, writes_right, writes_meaning, writes_nothing, none_more, one_more}
+use Rattle.escrow_sql.proofs.WritingTokens.{writes_symbol, writes_number, no_minus}
+
+-- each text writes its value
+abbrev pub WriteEach : {V : Type 0} → Grammar V → List (List ℕ) → List V → Type 0
+WriteEach a [] [] = Unit {0}
+WriteEach a (t ∷ ts) (v ∷ vs) = Writes is_behind a t v × WriteEach a ts vs
+WriteEach a [] (v ∷ vs) = ⊥
+WriteEach a (t ∷ ts) [] = ⊥
+
+pub each_append : {V : Type 0} (a : Grammar V) (ts us : List (List ℕ)) (vs ws : List V) → WriteEach a ts vs → WriteEach a us ws → WriteEach a (ts ++ us) (vs ++ ws)
+each_append a [] us [] ws h k = k
+each_append a (t ∷ ts) us (v ∷ vs) ws h k = (h.0, each_append a ts us vs ws h.1 k)
+each_append a [] us (v ∷ vs) ws h k = absurd h
+each_append a (t ∷ ts) us [] ws h k = absurd h
+
+pub each_of : {X V : Type 0} (a : Grammar V) (text : X → List ℕ) (value : X → V) (P : X → Type 0) → ((x : X) → P x → Writes is_behind a (text x) (value x))
+    → (xs : List X) → AllByRecursion P xs → WriteEach a (map text xs) (map value xs)
+each_of a text value P one [] h = tt
+each_of a text value P one (x ∷ xs) h = (one x h.0, each_of a text value P one xs h.1)
+
+-- what is behind the first of a list
+others_behind : (ts : List (List ℕ)) → is_behind (flat_map (λ t. codes ", " ++ t) ts) ≡ true
+others_behind [] = refl
+others_behind (t ∷ ts) = refl
+
+writes_others : {V : Type 0} (a : Grammar V) (ts : List (List ℕ)) (vs : List V) → WriteEach a ts vs
+    → Writes is_behind (many (symbol symbols.Comma then a) (λ xs. xs)) (flat_map (λ t. codes ", " ++ t) ts) vs
+writes_others a [] [] h = none_more
+writes_others a (t ∷ ts) (v ∷ vs) h = one_more (writes_joined (writes_symbol symbols.Comma) (writes_blank h.0)) (others_behind ts) (writes_others a ts vs h.1)
+writes_others a [] (v ∷ vs) h = absurd h
+writes_others a (t ∷ ts) [] h = absurd h
+
+-- one or more, with a comma and a blank between two
+pub writes_listed : {V : Type 0} (a : Grammar V) (ts : List (List ℕ)) (vs : List V) → 1 ≤ length vs → WriteEach a ts vs → Writes is_behind (list a) (joined ts) vs
+writes_listed a [] [] long h = absurd (omega arith)
+writes_listed a (t ∷ ts) (v ∷ vs) long h = writes_apart h.0 (others_behind ts) (writes_others a ts vs h.1)
+writes_listed a [] (v ∷ vs) long h = absurd h
+writes_listed a (t ∷ ts) [] long h = absurd h
+
+-- digits begin with no minus
+digits_no_minus : (ds rest : List ℕ) → 0 < length ds → 48 < get_or ds 0 0 → no_minus (ds ++ rest) ≡ true
+digits_no_minus [] rest long first = absurd (omega arith)
+digits_no_minus (c ∷ cs) rest long first = grind (arith, nat_tests)
+
+pub writes_signed : (z : ℤ) → IsAmount z → Writes is_behind signed_number (signed_decimal z) z
+unfolding signed_number sign
+writes_signed (pos n) h = writes_joined (writes_right writes_nothing) (writes_number n (omega (arith, ints, h.1)))
+writes_signed (negsuc n) h =
+    let small : suc n ≤ 999999999999999 = omega (arith, ints, h.0) in
+    let fits : suc n < 2 ^ 64 = omega arith in
+    writes_both (writes_left (writes_right (writes_meaning (writes_symbol symbols.Minus))))
+    (λ rest q. digits_no_minus (decimal (suc n)) rest (decimal_nonempty (suc n) fits) (first_decimal (suc n) (omega arith) fits)) (writes_number (suc n) small)

@@ -1,0 +1,232 @@
+-- Words, symbols, names and numbers, as they are written, are read as themselves.
+use Rattle.std.proofs.Common.{◌≡◌, ℕ, pos, ◌+◌, ◌^◌, ◌≤◌, ◌<◌, Bool, true, false, Result, Ok, Err, List, [], ◌∷◌, ◌++◌, length, take, drop, map, Some, None, arith, rules, refl, sym, ap, ap₂, ◌∙◌}
+use Rattle.std.specs.Prelude.{codes, not, nat_lt, nat_le, ◌==◌, if◌then◌else◌}
+use Rattle.std.specs.Char.{is_ascii_alphabetic, is_ascii_uppercase, is_ascii_digit, to_ascii_uppercase}
+use Rattle.std.specs.Fmt.{decimal}
+use Rattle.std.specs.List.{prefix_len, list_all}
+use Rattle.std.specs.Str.{all_ascii_digits}
+use Rattle.std.proofs.Math.Seq.{take-append_seam, drop-append_seam}
+use Rattle.std.proofs.lemmas.Bool.{and_parts, and_from, or_left, not-true, le-leb, leb-true, le-ltb, cond-true, cond-false}
+use Rattle.std.proofs.lemmas.Bool.Decides.{nat_tests}
+use Rattle.std.proofs.lemmas.Fmt.{digits_decimal, digits_value-decimal, decimal_nonempty}
+use Rattle.std.proofs.lemmas.Str.Ascii.{uppercase_is}
+use Rattle.std.proofs.lemmas.Str.Parse.{IsNumeralModel, numerals_by_fold, tells_all_ascii_digits}
+use Rattle.escrow_num.specs.Amount.{is_amount, number_after, number_of}
+use Rattle.escrow_num.specs.Name.{is_name_byte, spells_name}
+use Rattle.escrow_num.specs.declared.name.TheConstants.Name.{MAX_WRITTEN}
+use Rattle.escrow_sql.specs.declared.lexer.piece.Piece.{Piece}
+use Rattle.escrow_sql.specs.declared.lexer.piece.Piece.TheVariants as piece
+use Rattle.escrow_sql.specs.declared.token.Kind.{Kind}
+use Rattle.escrow_sql.specs.declared.token.Kind.TheVariants as kind
+use Rattle.escrow_sql.specs.declared.token.Symbol.{Symbol}
+use Rattle.escrow_sql.specs.declared.token.Symbol.TheVariants as symbols
+use Rattle.escrow_sql.specs.declared.token.Token.{Token}
+use Rattle.escrow_sql.specs.declared.word.Word.{Word}
+use Rattle.escrow_sql.specs.declared.word.Word.TheVariants as words
+use Rattle.escrow_sql.specs.Grammar.{Grammar, token}
+use Rattle.escrow_sql.specs.Lex.{begins, goes_on, is_blank, word_or_name, name_piece, number_piece, symbol_piece, plain_piece, with_token}
+use Rattle.escrow_sql.specs.Scan.{piece_of, tokens_from}
+use Rattle.escrow_sql.specs.Statement.{word, symbol, in_parentheses, name, name_in, number, number_in}
+use Rattle.escrow_sql.specs.Token.{class_of}
+use Rattle.escrow_sql.specs.Word.{reserved, spelling}
+use Rattle.escrow_sql.proofs.TokenLemmas.{after, tokens_from-piece, tokens_from-behind}
+use Rattle.escrow_sql.proofs.Writing.{Writes, is_behind, anything, weaker, writes_both, writes_joined}
+
+with_one : (t : Token) (r : Result (List Token) ℕ) → with_token t r ≡ after (t ∷ []) r
+with_one t (Ok ts) = refl
+with_one t (Err column) = refl
+
+-- bytes that begin with a token, whatever may follow, write it
+writes_token : {V : Type 0} (P : List ℕ → Bool) (like k : Kind) (f : Kind → V) (c : ℕ) (cs : List ℕ) → class_of k ≡ class_of like
+    → ((rest : List ℕ) → P rest ≡ true → piece_of c (cs ++ rest) ≡ piece.Token k (length (c ∷ cs))) → Writes P (token like f) (c ∷ cs) (f k)
+writes_token P like k f c cs same reads = record {
+  cut = λ rest at q.
+      let len = length (c ∷ cs) in
+      let t : Token = record { kind = k; start = at; end = at + len } in
+      let left : drop len (c ∷ (cs ++ rest)) ≡ rest = drop-append_seam (c ∷ cs) rest in (
+        t ∷ [],
+        tokens_from-piece c at (cs ++ rest) (piece.Token k len) (sym (reads rest q))
+            ∙ (ap (with_token t) (tokens_from-behind c (cs ++ rest) at len (omega arith) ∙ ap (tokens_from 0 (at + len)) left) ∙ with_one t (tokens_from 0 (at + len) rest)),
+        (t, refl, same, refl),
+      );
+}
+
+-- how each symbol is written
+abbrev pub written : Symbol → List ℕ
+written symbols.Open = codes "("
+written symbols.Close = codes ")"
+written symbols.Comma = codes ","
+written symbols.Semicolon = codes ";"
+written symbols.Star = codes "*"
+written symbols.Plus = codes "+"
+written symbols.Minus = codes "-"
+written symbols.Equal = codes "="
+written symbols.Below = codes "<"
+written symbols.AtMost = codes "<="
+written symbols.Above = codes ">"
+written symbols.AtLeast = codes ">="
+
+-- a minus may not follow a minus, which would begin a comment
+abbrev pub no_minus : List ℕ → Bool
+no_minus rest = not (begins 45 rest)
+
+-- what may follow each symbol
+abbrev pub may_follow : Symbol → List ℕ → Bool
+may_follow symbols.Minus = no_minus
+may_follow symbols.Below = is_behind
+may_follow symbols.Above = is_behind
+may_follow other = anything
+
+no_equal : (rest : List ℕ) → is_behind rest ≡ true → begins 61 rest ≡ false
+no_equal [] e = refl
+no_equal (c ∷ cs) e = grind (arith, nat_tests)
+
+mark : (s : Symbol) (P : List ℕ → Bool) (c : ℕ) (cs : List ℕ) → ((rest : List ℕ) → P rest ≡ true → piece_of c (cs ++ rest) ≡ piece.Token (kind.Symbol s) (length (c ∷ cs)))
+    → Writes P (symbol s) (c ∷ cs) (tt {0})
+mark s P c cs reads = writes_token P (kind.Symbol s) (kind.Symbol s) (λ k. tt {0}) c cs refl reads
+
+pub writes_symbol : (s : Symbol) → Writes (may_follow s) (symbol s) (written s) (tt {0})
+unfolding plain_piece symbol_piece
+writes_symbol symbols.Minus = mark symbols.Minus no_minus 45 [] (λ rest q. let e = not-true (begins 45 rest) q in rw e refl)
+writes_symbol symbols.Below = mark symbols.Below is_behind 60 [] (λ rest q. let e = no_equal rest q in rw e refl)
+writes_symbol symbols.Above = mark symbols.Above is_behind 62 [] (λ rest q. let e = no_equal rest q in rw e refl)
+writes_symbol other = mark other anything _ _ (λ rest q. refl)
+
+-- what may stand behind a word may stand behind a symbol
+behind_symbol : (s : Symbol) (rest : List ℕ) → is_behind rest ≡ true → may_follow s rest ≡ true
+behind_symbol symbols.Minus [] q = refl
+behind_symbol symbols.Minus (c ∷ cs) q = grind (arith, nat_tests)
+behind_symbol symbols.Below rest q = q
+behind_symbol symbols.Above rest q = q
+behind_symbol other rest q = refl
+
+pub writes_symbol_apart : (s : Symbol) → Writes is_behind (symbol s) (written s) (tt {0})
+writes_symbol_apart s = weaker (behind_symbol s) (writes_symbol s)
+
+pub writes_in_parentheses : {V : Type 0} {Q : List ℕ → Bool} {a : Grammar V} {s : List ℕ} {v : V} → Writes is_behind a s v → Writes Q (in_parentheses a) (codes "(" ++ (s ++ codes ")")) v
+writes_in_parentheses w = writes_joined (writes_symbol symbols.Open) (writes_both w (λ rest q. refl) (weaker (λ rest q. refl) (writes_symbol symbols.Close)))
+
+-- bytes don't go on as a front does
+abbrev ends : (ℕ → Bool) → List ℕ → Bool
+ends p [] = true
+ends p (c ∷ cs) = not (p c)
+
+front_whole : (p : ℕ → Bool) (front rest : List ℕ) → list_all p front ≡ true → ends p rest ≡ true → prefix_len p (front ++ rest) ≡ length front
+front_whole p [] [] e q = refl
+front_whole p [] (c ∷ cs) e q = cond-false (p c) (1 + prefix_len p cs) 0 (not-true (p c) q)
+front_whole p (c ∷ front) rest e q =
+    let all = and_parts (p c) (list_all p front) e in
+    let others = front_whole p front rest all.1 q in
+    cond-true (p c) (1 + prefix_len p (front ++ rest)) 0 all.0 ∙ omega arith
+
+name_ends : (rest : List ℕ) → is_behind rest ≡ true → ends goes_on rest ≡ true
+name_ends [] e = refl
+name_ends (c ∷ cs) e = let u = uppercase_is c in grind (arith, nat_tests)
+
+number_ends : (rest : List ℕ) → is_behind rest ≡ true → ends is_ascii_digit rest ≡ true
+number_ends [] e = refl
+number_ends (c ∷ cs) e = grind (arith, nat_tests)
+
+-- bytes of a name are in upper case, and it goes on with them
+byte_upper : (c : ℕ) → is_name_byte c ≡ true → to_ascii_uppercase c ≡ c
+byte_upper c e = let u = uppercase_is c in grind (arith, nat_tests)
+
+bytes_upper : (cs : List ℕ) → list_all is_name_byte cs ≡ true → (map to_ascii_uppercase cs ≡ cs) × (list_all goes_on cs ≡ true)
+bytes_upper [] e = (refl, refl)
+bytes_upper (c ∷ cs) e =
+    let all = and_parts (is_name_byte c) (list_all is_name_byte cs) e in
+    let same = byte_upper c all.0 in
+    let others = bytes_upper cs all.1 in
+    (ap₂ (λ (d : ℕ) (ds : List ℕ). d ∷ ds) same others.0, rw (same, all.0) others.1)
+
+-- a capital letter begins a name, and a digit a number
+begins_name : (c : ℕ) (next : List ℕ) → is_ascii_uppercase c ≡ true → piece_of c next ≡ name_piece (c ∷ next)
+unfolding plain_piece
+begins_name c next h =
+    let quote : (c == 39) ≡ false = grind (arith, nat_tests) in
+    let blank : is_blank c ≡ false = grind (arith, nat_tests) in
+    let minus : (c == 45) ≡ false = grind (arith, nat_tests) in
+    let letter : is_ascii_alphabetic c ≡ true = grind (arith, nat_tests) in
+    rw (quote, blank, minus, letter) refl
+
+begins_number : (c : ℕ) (next : List ℕ) → is_ascii_digit c ≡ true → piece_of c next ≡ number_piece (c ∷ next)
+unfolding plain_piece
+begins_number c next h =
+    let quote : (c == 39) ≡ false = grind (arith, nat_tests) in
+    let blank : is_blank c ≡ false = grind (arith, nat_tests) in
+    let minus : (c == 45) ≡ false = grind (arith, nat_tests) in
+    let letter : is_ascii_alphabetic c ≡ false = grind (arith, nat_tests) in
+    rw (quote, blank, minus, letter, h) refl
+
+-- a name and a number, by their lengths and their bytes
+abbrev name_with : ℕ → List ℕ → Piece
+name_with len upper = if nat_lt MAX_WRITTEN len then piece.Fault 0 else piece.Token (word_or_name upper (reserved upper)) len
+
+abbrev number_with : ℕ → List ℕ → Piece
+number_with len digits = if is_amount (pos (number_of digits)) then piece.Token (kind.Number (pos (number_of digits))) len else piece.Fault 0
+
+name_read : (n rest : List ℕ) → list_all is_name_byte n ≡ true → length n ≤ MAX_WRITTEN → is_behind rest ≡ true
+    → name_piece (n ++ rest) ≡ piece.Token (word_or_name n (reserved n)) (length n)
+unfolding name_piece
+name_read n rest h short q =
+    let upper = bytes_upper n h in
+    let len : prefix_len goes_on (n ++ rest) ≡ length n = front_whole goes_on n rest upper.1 (name_ends rest q) in
+    let front : map to_ascii_uppercase (take (prefix_len goes_on (n ++ rest)) (n ++ rest)) ≡ n =
+    ap (λ (k : ℕ). map to_ascii_uppercase (take k (n ++ rest))) len ∙ (ap (map to_ascii_uppercase) (take-append_seam n rest) ∙ upper.0) in
+    ap₂ name_with len front ∙ cond-false (nat_lt MAX_WRITTEN (length n)) (piece.Fault 0) (piece.Token (word_or_name n (reserved n)) (length n)) (le-ltb MAX_WRITTEN (length n) short)
+
+number_read : (n : ℕ) (digits rest : List ℕ) → list_all is_ascii_digit digits ≡ true → number_of digits ≡ n → is_amount (pos n) ≡ true → is_behind rest ≡ true
+    → number_piece (digits ++ rest) ≡ piece.Token (kind.Number (pos n)) (length digits)
+unfolding number_piece
+number_read n digits rest h value small q =
+    let len : prefix_len is_ascii_digit (digits ++ rest) ≡ length digits = front_whole is_ascii_digit digits rest h (number_ends rest q) in
+    let front : take (prefix_len is_ascii_digit (digits ++ rest)) (digits ++ rest) ≡ digits = ap (λ (k : ℕ). take k (digits ++ rest)) len ∙ take-append_seam digits rest in
+    ap₂ number_with len front ∙ (ap (λ (m : ℕ). if is_amount (pos m) then piece.Token (kind.Number (pos m)) (length digits) else piece.Fault 0) value
+    ∙ cond-true (is_amount (pos n)) (piece.Token (kind.Number (pos n)) (length digits)) (piece.Fault 0) small)
+
+-- what spells a name is read as a word or a name
+writes_spelled : {V : Type 0} (like : Kind) (f : Kind → V) (n : List ℕ) (k : Kind) → spells_name n ≡ true → length n ≤ MAX_WRITTEN → word_or_name n (reserved n) ≡ k → class_of k ≡ class_of like
+    → Writes is_behind (token like f) n (f k)
+writes_spelled like f [] k h short e same = absurd (cc)
+writes_spelled like f (c ∷ cs) k h short e same =
+    let parts = and_parts (is_ascii_uppercase c) (list_all is_name_byte cs) h in
+    let first : is_name_byte c ≡ true = or_left (is_ascii_uppercase c) _ parts.0 in
+    let all : list_all is_name_byte (c ∷ cs) ≡ true = and_from (is_name_byte c) (list_all is_name_byte cs) first parts.1 in
+    writes_token is_behind like k f c cs same
+    (λ rest q. begins_name c (cs ++ rest) parts.0 ∙ (name_read (c ∷ cs) rest all short q ∙ ap (λ (l : Kind). piece.Token l (length (c ∷ cs))) e))
+
+-- each reserved word is spelled as names are, and is the one that is spelled so
+word_spelled : (w : Word) → (spells_name (spelling w) ≡ true) × (nat_le (length (spelling w)) MAX_WRITTEN ≡ true) × (reserved (spelling w) ≡ Some w)
+word_spelled words.Add = (refl, refl, refl)
+word_spelled other = (refl, refl, refl)
+
+pub writes_word : (w : Word) → Writes is_behind (word w) (spelling w) (tt {0})
+writes_word w =
+    let s = word_spelled w in
+    writes_spelled (kind.Word w) (λ k. tt {0}) (spelling w) (kind.Word w) s.0 (leb-true (length (spelling w)) MAX_WRITTEN s.1) (ap (word_or_name (spelling w)) s.2) refl
+
+pub writes_name : (n : List ℕ) → spells_name n ≡ true → length n ≤ MAX_WRITTEN → reserved n ≡ None → Writes is_behind name n n
+writes_name n h short free = writes_spelled (kind.Name []) name_in n (kind.Name n) h short (ap (word_or_name n) free) refl
+
+digits_all : (ds : List ℕ) → all_ascii_digits ds ≡ true → list_all is_ascii_digit ds ≡ true
+digits_all [] h = refl
+digits_all (c ∷ cs) h = let p = and_parts (is_ascii_digit c) (all_ascii_digits cs) h in and_from (is_ascii_digit c) (list_all is_ascii_digit cs) p.0 (digits_all cs p.1)
+
+writes_digits : (n : ℕ) (ds : List ℕ) → all_ascii_digits ds ≡ true → 0 < length ds → number_of ds ≡ n → is_amount (pos n) ≡ true → Writes is_behind number ds (pos n)
+writes_digits n [] h long value small = absurd (omega arith)
+writes_digits n (c ∷ cs) h long value small =
+    let first = and_parts (is_ascii_digit c) (all_ascii_digits cs) h in
+    writes_token is_behind (kind.Number (pos 0)) (kind.Number (pos n)) number_in c cs refl
+    (λ rest q. begins_number c (cs ++ rest) first.0 ∙ number_read n (c ∷ cs) rest (digits_all (c ∷ cs) h) value small q)
+
+-- the digits and the number of specs/Amount.antt are those that are written
+own : IsNumeralModel (λ ds. all_ascii_digits ds ≡ true) number_of
+own = numerals_by_fold _ tells_all_ascii_digits number_after (search rules)
+
+small_amount : (n : ℕ) → n ≤ 999999999999999 → is_amount (pos n) ≡ true
+small_amount n h = le-leb n 999999999999999 h
+
+pub writes_number : (n : ℕ) → n ≤ 999999999999999 → Writes is_behind number (decimal n) (pos n)
+writes_number n h =
+    let fits : n < 2 ^ 64 = omega arith in
+    writes_digits n (decimal n) (digits_decimal own n fits) (decimal_nonempty n fits) (digits_value-decimal own n fits) (small_amount n h)
