@@ -1,11 +1,12 @@
 -- Lists and signed numbers, as they are written, are read as themselves.
-use Rattle.std.proofs.Common.{◌≡◌, ℕ, suc, ℤ, pos, negsuc, ◌^◌, ◌≤◌, ◌<◌, true, List, [], ◌∷◌, ◌++◌, length, get_or, map, arith, refl}
+use Rattle.std.proofs.Common.{◌≡◌, ℕ, suc, ℤ, pos, negsuc, ◌^◌, ◌≤◌, ◌<◌, true, List, [], ◌∷◌, ◌++◌, length, get_or, map, arith, refl, sym}
 use Rattle.std.specs.Prelude.{codes, flat_map}
 use Rattle.std.specs.Fmt.{decimal, signed_decimal}
 use Rattle.std.specs.List.{AllByRecursion}
 use Rattle.std.proofs.lemmas.Bool.Decides.{nat_tests}
 use Rattle.std.proofs.lemmas.Fmt.{decimal_nonempty, first_decimal}
 use Rattle.std.proofs.lemmas.Int.{ints}
+use Rattle.std.proofs.lemmas.List.{flat_map_more}
 use Rattle.escrow_num.specs.Amount.{IsAmount}
 use Rattle.escrow_sql.specs.declared.token.Symbol.TheVariants as symbols
 use Rattle.escrow_sql.specs.Grammar.{Grammar, many}
@@ -64,3 +65,8 @@ writes_signed (negsuc n) h =
     let fits : suc n < 2 ^ 64 = omega arith in
     writes_both (writes_left (writes_right (writes_meaning (writes_symbol symbols.Minus))))
     (λ rest q. digits_no_minus (decimal (suc n)) rest (decimal_nonempty (suc n) fits) (first_decimal (suc n) (omega arith) fits)) (writes_number (suc n) small)
+
+-- one text more at the end of some
+pub joined_more : (ts : List (List ℕ)) (t : List ℕ) → 1 ≤ length ts → joined (ts ++ t ∷ []) ≡ joined ts ++ (codes ", " ++ t)
+joined_more [] t some = absurd (omega arith)
+joined_more (u ∷ ts) t some = sym (flat_map_more (λ (v : List ℕ). codes ", " ++ v) u ts t)

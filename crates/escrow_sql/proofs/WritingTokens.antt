@@ -1,6 +1,6 @@
 -- Words, symbols, names and numbers, as they are written, are read as themselves.
-use Rattle.std.proofs.Common.{◌≡◌, ℕ, pos, ◌+◌, ◌^◌, ◌≤◌, ◌<◌, Bool, true, false, Result, Ok, Err, List, [], ◌∷◌, ◌++◌, length, take, drop, map, Some, None, arith, rules, refl, sym, ap, ap₂, ◌∙◌}
-use Rattle.std.specs.Prelude.{codes, not, nat_lt, nat_le, ◌==◌, if◌then◌else◌}
+use Rattle.std.proofs.Common.{◌≡◌, ℕ, pos, ◌+◌, ◌^◌, ◌≤◌, ◌<◌, Bool, true, false, Result, Ok, Err, List, [], ◌∷◌, ◌++◌, length, take, drop, map, Some, None, arith, rules, refl, sym, ap, ap₂, ◌∙◌, append_assoc, length-append, inl}
+use Rattle.std.specs.Prelude.{codes, position, not, nat_lt, nat_le, ◌==◌, if◌then◌else◌}
 use Rattle.std.specs.Char.{is_ascii_alphabetic, is_ascii_uppercase, is_ascii_digit, to_ascii_uppercase}
 use Rattle.std.specs.Fmt.{decimal}
 use Rattle.std.specs.List.{prefix_len, list_all}
@@ -24,17 +24,22 @@ use Rattle.escrow_sql.specs.declared.token.Token.{Token}
 use Rattle.escrow_sql.specs.declared.word.Word.{Word}
 use Rattle.escrow_sql.specs.declared.word.Word.TheVariants as words
 use Rattle.escrow_sql.specs.Grammar.{Grammar, token}
-use Rattle.escrow_sql.specs.Lex.{begins, goes_on, is_blank, word_or_name, name_piece, number_piece, symbol_piece, plain_piece, with_token}
+use Rattle.escrow_sql.specs.Lex.{begins, doubled, goes_on, is_blank, is_forbidden, IsQuoted, quoted_piece, word_or_name, name_piece, number_piece, symbol_piece, plain_piece, with_token}
 use Rattle.escrow_sql.specs.Scan.{piece_of, tokens_from}
-use Rattle.escrow_sql.specs.Statement.{word, symbol, in_parentheses, name, name_in, number, number_in}
+use Rattle.escrow_sql.specs.Statement.{word, symbol, in_parentheses, name, name_in, number, number_in, text, text_in}
 use Rattle.escrow_sql.specs.Token.{class_of}
 use Rattle.escrow_sql.specs.Word.{reserved, spelling}
+use Rattle.escrow_sql.proofs.QuotedLemmas.{text_piece-only}
 use Rattle.escrow_sql.proofs.TokenLemmas.{after, tokens_from-piece, tokens_from-behind}
 use Rattle.escrow_sql.proofs.Writing.{Writes, is_behind, anything, weaker, writes_both, writes_joined}
 
 with_one : (t : Token) (r : Result (List Token) ℕ) → with_token t r ≡ after (t ∷ []) r
 with_one t (Ok ts) = refl
 with_one t (Err column) = refl
+
+no_quote : (rest : List ℕ) → is_behind rest ≡ true → begins 39 rest ≡ false
+no_quote [] e = refl
+no_quote (c ∷ cs) e = grind (arith, nat_tests)
 
 -- bytes that begin with a token, whatever may follow, write it
 writes_token : {V : Type 0} (P : List ℕ → Bool) (like k : Kind) (f : Kind → V) (c : ℕ) (cs : List ℕ) → class_of k ≡ class_of like
@@ -230,3 +235,13 @@ pub writes_number : (n : ℕ) → n ≤ 999999999999999 → Writes is_behind num
 writes_number n h =
     let fits : n < 2 ^ 64 = omega arith in
     writes_digits n (decimal n) (digits_decimal own n fits) (decimal_nonempty n fits) (digits_value-decimal own n fits) (small_amount n h)
+
+-- a text in quotes, with each quote in it twice, is read back where all of its characters may stand in one
+pub writes_text : (t : List ℕ) → position is_forbidden (doubled t) ≡ None → Writes is_behind text ((39 ∷ doubled t) ++ 39 ∷ []) t
+writes_text t allowed =
+    writes_token is_behind (kind.Text []) (kind.Text t) text_in 39 (doubled t ++ 39 ∷ []) refl
+    (λ rest q.
+    let long : length (39 ∷ (doubled t ++ 39 ∷ [])) ≡ length (doubled t) + 2 = omega (arith, length-append (doubled t) (39 ∷ [])) in
+    let quoted : IsQuoted ((doubled t ++ 39 ∷ []) ++ rest) t rest = record { written = append_assoc (doubled t) (39 ∷ []) rest; ended = no_quote rest q } in
+    sym (text_piece-only ((doubled t ++ 39 ∷ []) ++ rest) (quoted_piece t None) (inl (t, rest, quoted, ap (quoted_piece t) (sym allowed))))
+    ∙ ap (piece.Token (kind.Text t)) (sym long))
