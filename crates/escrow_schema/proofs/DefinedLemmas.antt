@@ -14,7 +14,7 @@ use Rattle.escrow_checks.specs.WrittenName.{is_written_name}
 use Rattle.escrow_schema.specs.declared.column.Column.{Column}
 use Rattle.escrow_schema.specs.declared.table.TableDef.{TableDef}
 use Rattle.escrow_schema.specs.declared.table.TheConstants.TableDef.{MIN_COLUMNS, MAX_COLUMNS}
-use Rattle.escrow_schema.specs.Column.{reservables, names_of}
+use Rattle.escrow_schema.specs.Column.{is_numeric, reservables, names_of}
 use Rattle.escrow_schema.specs.Definition.{are_columns, are_distinct, check_names, checks_in, definition_of, is_plain_at, key_place, only_one, place_of, range_checks, table_of, table_with}
 use Rattle.escrow_schema.specs.Rules.{FollowsRules}
 use Rattle.escrow_schema.proofs.DistinctLemmas.{distinct_back, first_apart, same_name}
@@ -47,10 +47,12 @@ columns_follow text table h =
     list_all-from_AllPass is_written_name (names_of columns) (All-from_recursion (λ name. IsTrue (is_written_name name)) (names_of columns) h.written_names.1) in
     let plain : is_plain_at columns table.key ≡ true =
     subst (λ (o : Option Column). unwrap_or (option_map (λ (c : Column). not c.reservable) o) false ≡ true) (sym h.key_there) (not_from_false h.key.reservable h.plain_key) in
-    and_from _ _ (and_from _ _ (and_from _ _ (and_from _ _ (and_from _ _ (and_from _ _
+    let numeric : list_all (λ column. is_numeric column.kind) (reservables columns) ≡ true =
+    list_all-from_AllPass (λ column. is_numeric column.kind) (reservables columns) (All-from_recursion (λ column. IsTrue (is_numeric column.kind)) (reservables columns) h.number_reservable) in
+    and_from _ _ (and_from _ _ (and_from _ _ (and_from _ _ (and_from _ _ (and_from _ _ (and_from _ _
     (le-leb MIN_COLUMNS (length columns) h.enough_columns) (le-leb (length columns) MAX_COLUMNS h.few_columns))
     (distinct_back (names_of columns) h.distinct_columns)) written) plain)
-    (le-leb 1 (length (reservables columns)) h.some_reservable)) (le-leb (length (reservables columns)) MAX_LEN h.few_reservable)
+    (le-leb 1 (length (reservables columns)) h.some_reservable)) (le-leb (length (reservables columns)) MAX_LEN h.few_reservable)) numeric
 
 -- the table of the columns, the key and the declared checks
 with_checks : (text : CreateText) (table : TableDef) (h : FollowsRules text table) → table_with text.table table.columns table.key h.declared ≡ Some table

@@ -7,21 +7,14 @@ use Rattle.std.proofs.lemmas.List.Concat.{flat_map-cons}
 use Rattle.std.proofs.lemmas.List.Sums.{length-filter}
 use Rattle.escrow_sql.specs.declared.statement.ColumnMark.{ColumnMark}
 use Rattle.escrow_sql.specs.declared.statement.Item.{Item}
-use Rattle.escrow_schema.specs.Definition.{is_key_mark, key_names, keys_of, marks_of, name_of, only_one}
+use Rattle.escrow_schema.specs.Definition.{is_key_mark, key_names, keys_of, only_one}
 use Rattle.escrow_schema.proofs.ListLemmas.{drop_item}
 
--- an item writes as many names as key as it has such marks
-length-keys_of : (i : Item) → length (keys_of i) ≡ count_by is_key_mark (marks_of i)
-length-keys_of i = length-map (filter is_key_mark (marks_of i)) (λ mark. name_of i) ∙ length-filter is_key_mark (marks_of i)
-
--- an item with one such mark writes its column's
-only_key : (i : Item) → count_by is_key_mark (marks_of i) ≡ 1 → keys_of i ≡ name_of i ∷ []
-only_key i e = go (filter is_key_mark (marks_of i)) (length-filter is_key_mark (marks_of i) ∙ e)
-  where
-    go : (kept : List ColumnMark) → length kept ≡ 1 → map (λ mark. name_of i) kept ≡ name_of i ∷ []
-    go [] e = absurd (omega arith)
-    go (mark ∷ []) e = refl
-    go (mark ∷ other ∷ kept) e = absurd (omega arith)
+-- one name is the only one
+only_key : (names : List (List ℕ)) → length names ≡ 1 → option_to_list (only_one names) ≡ names
+only_key [] e = absurd (omega arith)
+only_key (name ∷ []) e = refl
+only_key (name ∷ other ∷ names) e = absurd (omega arith)
 
 nothing : (names : List (List ℕ)) → length names ≡ 0 → names ≡ []
 nothing [] e = refl
@@ -34,18 +27,18 @@ keys_from items i item within at = ap key_names (drop_item items i item within a
 
 -- an item that writes none
 pub no_key : (items : List Item) (i : ℕ) (item : Item) (before : List (List ℕ)) → i < length items → item ≡ get_or items i item
-    → count_by is_key_mark (marks_of item) ≡ 0 → before ++ key_names (drop i items) ≡ key_names items → before ++ key_names (drop (i + 1) items) ≡ key_names items
+    → length (keys_of item) ≡ 0 → before ++ key_names (drop i items) ≡ key_names items → before ++ key_names (drop (i + 1) items) ≡ key_names items
 no_key items i item before within at none h =
-    subst (λ (keys : List (List ℕ)). before ++ (keys ++ key_names (drop (i + 1) items)) ≡ key_names items) (nothing (keys_of item) (length-keys_of item ∙ none))
+    subst (λ (keys : List (List ℕ)). before ++ (keys ++ key_names (drop (i + 1) items)) ≡ key_names items) (nothing (keys_of item) none)
     (subst (λ (keys : List (List ℕ)). before ++ keys ≡ key_names items) (keys_from items i item within at) h)
 
 -- an item that writes the first
 pub first_key : (items : List Item) (i : ℕ) (item : Item) (known : Option (List ℕ)) → i < length items → item ≡ get_or items i item
-    → count_by is_key_mark (marks_of item) ≡ 1 → is_some known ≡ false → option_to_list known ++ key_names (drop i items) ≡ key_names items
-    → name_of item ∷ key_names (drop (i + 1) items) ≡ key_names items
+    → length (keys_of item) ≡ 1 → is_some known ≡ false → option_to_list known ++ key_names (drop i items) ≡ key_names items
+    → option_to_list (only_one (keys_of item)) ++ key_names (drop (i + 1) items) ≡ key_names items
 first_key items i item (Some known) within at one none h = absurd (false≢true (sym none))
 first_key items i item None within at one none h =
-    subst (λ (keys : List (List ℕ)). keys ++ key_names (drop (i + 1) items) ≡ key_names items) (only_key item one) (sym (keys_from items i item within at) ∙ h)
+    subst (λ (keys : List (List ℕ)). keys ++ key_names (drop (i + 1) items) ≡ key_names items) (sym (only_key (keys_of item) one)) (sym (keys_from items i item within at) ∙ h)
 
 -- of two names or more there isn't only one
 not_one : (names : List (List ℕ)) → 1 < length names → None ≡ only_one names
@@ -55,14 +48,28 @@ not_one (name ∷ other ∷ names) many = refl
 
 -- an item that writes two, or a second one
 pub more_keys : (items : List Item) (i : ℕ) (item : Item) (before : List (List ℕ)) → i < length items → item ≡ get_or items i item
-    → 1 < length before + count_by is_key_mark (marks_of item) → before ++ key_names (drop i items) ≡ key_names items → None ≡ only_one (key_names items)
+    → 1 < length before + length (keys_of item) → before ++ key_names (drop i items) ≡ key_names items → None ≡ only_one (key_names items)
 more_keys items i item before within at many h =
     let rest = key_names (drop (i + 1) items) in
     let whole : before ++ (keys_of item ++ rest) ≡ key_names items = subst (λ (keys : List (List ℕ)). before ++ keys ≡ key_names items) (keys_from items i item within at) h in
     not_one (key_names items) (subst (λ (names : List (List ℕ)). 1 < length names) whole
-    (let keys = length-keys_of item in omega (arith, length-append before (keys_of item ++ rest), length-append (keys_of item) rest)))
+    (omega (arith, length-append before (keys_of item ++ rest), length-append (keys_of item) rest)))
 
 -- what is there is one
 pub one_known : (known : Option (List ℕ)) → is_some known ≡ true → length (option_to_list known) ≡ 1
 one_known None h = absurd (false≢true h)
 one_known (Some name) h = refl
+
+-- a column is written as key as often as it is marked
+pub length-keys_of : (name : List ℕ) (marks : List ColumnMark) → count_by is_key_mark marks ≡ length (map (λ mark. name) (filter is_key_mark marks))
+length-keys_of name marks = sym (length-map (filter is_key_mark marks) (λ mark. name) ∙ length-filter is_key_mark marks)
+
+-- one that is marked once writes its name
+pub key_of_column : (name : List ℕ) (marks : List ColumnMark) → length (map (λ mark. name) (filter is_key_mark marks)) ≡ 1
+    → Some name ≡ only_one (map (λ mark. name) (filter is_key_mark marks))
+key_of_column name marks e = go (filter is_key_mark marks) (sym (length-map (filter is_key_mark marks) (λ mark. name)) ∙ e)
+  where
+    go : (kept : List ColumnMark) → length kept ≡ 1 → Some name ≡ only_one (map (λ mark. name) kept)
+    go [] e = absurd (omega arith)
+    go (mark ∷ []) e = refl
+    go (mark ∷ other ∷ kept) e = absurd (omega arith)

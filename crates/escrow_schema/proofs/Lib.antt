@@ -1,14 +1,12 @@
+pub mod CatalogLemmas
 pub mod CheckLemmas
 pub mod ColumnLemmas
 pub mod ColumnsLemmas
 pub mod DefinedLemmas
 pub mod DistinctLemmas
-pub mod FitLemmas
 pub mod KeyLemmas
-pub mod LawLemmas
 pub mod ListLemmas
 pub mod RangeLemmas
-pub mod RowLemmas
 pub mod RuleLemmas
 pub mod TableLemmas
 pub mod UnitLemmas

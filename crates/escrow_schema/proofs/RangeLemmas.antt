@@ -13,8 +13,8 @@ use Rattle.escrow_checks.specs.Checks.{unit_of}
 use Rattle.escrow_checks.specs.Grant.{Meets}
 use Rattle.escrow_schema.specs.declared.column.Column.{Column}
 use Rattle.escrow_schema.specs.declared.column.ColumnType.{ColumnType}
-use Rattle.escrow_schema.specs.declared.column.ColumnType.TheVariants.{Number}
-use Rattle.escrow_schema.specs.Column.{top_of, fits, names_of}
+use Rattle.escrow_schema.specs.declared.column.ColumnType.TheVariants.{Number, Varchar2}
+use Rattle.escrow_schema.specs.Column.{top_of, fits, is_numeric, names_of}
 use Rattle.escrow_schema.specs.Definition.{are_distinct, range_check}
 use Rattle.escrow_schema.specs.Fit.{FitColumns}
 use Rattle.escrow_schema.specs.Typed.{IsType}
@@ -52,6 +52,7 @@ amount_between (Number digits) z small h =
     let top = power_within digits small.1 in
     let positive = power_positive digits in
     (omega (arith, ints), omega (arith, ints))
+amount_between (Varchar2 bytes) z small h = (omega (arith, ints), omega (arith, ints))
 
 -- a test of two numbers, and what it tells
 int_le_true : (a b : ℤ) → int_le a b ≡ true → a ≤ℤ b
@@ -66,14 +67,19 @@ int_le_from (pos a) (negsuc b) h = absurd (omega (arith, ints))
 int_le_from (negsuc a) (pos b) h = refl
 int_le_from (negsuc a) (negsuc b) h = elim (leb_tells b a) [ inl t ↦ t.0 | inr f ↦ (let less = f.1 in absurd (omega (arith, ints))) ]
 
--- what fits a type is between its limits, and what is between them fits
+-- what fits a type of numbers is between its limits, and what is between them fits
 between : (kind : ColumnType) (z : ℤ) → fits kind (value.Number z) ≡ true → Between kind z
-between kind z e =
-    let parts = and_parts (int_le (neg_ℤ (top_of kind)) z) (int_le z (top_of kind)) e in
-    (int_le_true (neg_ℤ (top_of kind)) z parts.0, int_le_true z (top_of kind) parts.1)
+between (Number digits) z e =
+    let top = top_of (Number digits) in
+    let parts = and_parts (int_le (neg_ℤ top) z) (int_le z top) e in
+    (int_le_true (neg_ℤ top) z parts.0, int_le_true z top parts.1)
+between (Varchar2 bytes) z e = absurd (false≢true e)
 
-fits_between : (kind : ColumnType) (z : ℤ) → Between kind z → fits kind (value.Number z) ≡ true
-fits_between kind z h = and_from (int_le (neg_ℤ (top_of kind)) z) (int_le z (top_of kind)) (int_le_from (neg_ℤ (top_of kind)) z h.0) (int_le_from z (top_of kind) h.1)
+fits_between : (kind : ColumnType) (z : ℤ) → is_numeric kind ≡ true → Between kind z → fits kind (value.Number z) ≡ true
+fits_between (Number digits) z numeric h =
+    let top = top_of (Number digits) in
+    and_from (int_le (neg_ℤ top) z) (int_le z top) (int_le_from (neg_ℤ top) z h.0) (int_le_from z top h.1)
+fits_between (Varchar2 bytes) z numeric h = absurd (false≢true numeric)
 
 -- the checks of the other columns, at the numbers behind the first
 rest_meets : (first : List ℕ) (names : List (List ℕ)) (a : ℤ) (rest : List ℤ) (columns : List Column)
@@ -99,17 +105,17 @@ meets_rest first names a rest (column ∷ columns) none h =
 
 -- numbers that meet the range checks of columns fit their types
 pub fit_in_range : (columns : List Column) (numbers : List ℤ)
-    → are_distinct (names_of columns) ≡ true → length numbers ≡ length columns
+    → are_distinct (names_of columns) ≡ true → AllByRecursion (λ column. is_numeric column.kind ≡ true) columns → length numbers ≡ length columns
     → AllByRecursion (λ check. Meets check numbers) (map (range_check (names_of columns)) columns)
     → FitColumns columns (map value.Number numbers)
-fit_in_range [] [] apart same h = tt
-fit_in_range [] (a ∷ rest) apart same h = absurd (omega arith)
-fit_in_range (column ∷ columns) [] apart same h = absurd (omega arith)
-fit_in_range (column ∷ columns) (a ∷ rest) apart same h =
+fit_in_range [] [] apart numeric same h = tt
+fit_in_range [] (a ∷ rest) apart numeric same h = absurd (omega arith)
+fit_in_range (column ∷ columns) [] apart numeric same h = absurd (omega arith)
+fit_in_range (column ∷ columns) (a ∷ rest) apart numeric same h =
     let parts = first_apart column.name (names_of columns) apart in
     let here : Between column.kind a = subst (Between column.kind) (form-unit_first (names_of columns) column.name a rest parts.0) h.0 in
     let shorter : length rest ≡ length columns = omega arith in
-    (fits_between column.kind a here, fit_in_range columns rest parts.1 shorter (rest_meets column.name (names_of columns) a rest columns parts.0 h.1))
+    (fits_between column.kind a numeric.0 here, fit_in_range columns rest parts.1 numeric.1 shorter (rest_meets column.name (names_of columns) a rest columns parts.0 h.1))
 
 -- and numbers that fit them meet those checks
 pub range_met : (columns : List Column) (numbers : List ℤ)

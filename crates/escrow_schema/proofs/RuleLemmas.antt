@@ -16,8 +16,8 @@ use Rattle.escrow_checks.specs.WrittenName.{is_written_name}
 use Rattle.escrow_schema.specs.declared.column.Column.{Column}
 use Rattle.escrow_schema.specs.declared.table.TableDef.{TableDef}
 use Rattle.escrow_schema.specs.declared.table.TheConstants.TableDef.{MIN_COLUMNS, MAX_COLUMNS}
-use Rattle.escrow_schema.specs.Column.{reservables, names_of}
-use Rattle.escrow_schema.specs.Definition.{IsTable, check_names, checks_in, columns_of, definition_of, are_columns, are_distinct, is_plain_at, key_names, key_place, only_one, place_of}
+use Rattle.escrow_schema.specs.Column.{is_numeric, reservables, names_of}
+use Rattle.escrow_schema.specs.Definition.{IsTable, check_names, checks_in, column_texts, columns_of, definition_of, are_columns, are_distinct, is_plain_at, key_names, key_place, only_one, place_of}
 use Rattle.escrow_schema.specs.Rules.{FollowsRules}
 use Rattle.escrow_schema.specs.Typed.{CanRange, TypedColumns}
 use Rattle.escrow_schema.proofs.ColumnsLemmas.{HasType, written_columns, reservables_distinct, reservables_written}
@@ -32,10 +32,12 @@ pub record Rules (columns : List Column) (key : ℕ) : Type 0 where
   pub plain_key : is_plain_at columns key ≡ true
   pub some_reservable : 1 ≤ length (reservables columns)
   pub few_reservable : length (reservables columns) ≤ MAX_LEN
+  pub numeric : list_all (λ column. is_numeric column.kind) (reservables columns) ≡ true
 
 pub rules_on : (columns : List Column) (key : ℕ) → are_columns columns key ≡ true → Rules columns key
 rules_on columns key e =
-    let h = and_parts _ _ e in
+    let k = and_parts _ _ e in
+    let h = and_parts _ _ k.0 in
     let g = and_parts _ _ h.0 in
     let f = and_parts _ _ g.0 in
     let s = and_parts _ _ f.0 in
@@ -49,6 +51,7 @@ rules_on columns key e =
       plain_key = f.1;
       some_reservable = leb-true _ _ g.1;
       few_reservable = leb-true _ _ h.1;
+      numeric = k.1;
     }
 
 -- the columns of a table follow them
@@ -57,7 +60,7 @@ rules_of table is_table = rules_on table.columns table.key (parts is_table.0 tab
 
 -- each column of a table has a type
 pub column_types : (table : TableDef) → IsTable table → AllByRecursion HasType table.columns
-column_types table is_table = written_columns is_table.0.items table.columns (parts is_table.0 table is_table.1).columns
+column_types table is_table = written_columns (column_texts is_table.0.items) table.columns (parts is_table.0 table is_table.1).columns
 
 -- a column at which a test holds stands there
 stands : (columns : List Column) (key : ℕ) → is_plain_at columns key ≡ true → key < length columns
@@ -85,8 +88,8 @@ can_range columns reserved key follow types same =
     (rules.few_reservable, reservables_distinct columns rules.distinct, reservables_written columns rules.written_names, All-filter (λ column. column.reservable) HasType columns types)
 
 -- columns that items write are typed
-pub written_typed : (items : List Item) (columns : List Column) → columns_of items ≡ Some columns → TypedColumns columns
-written_typed items columns e = All-from_recursion HasType columns (written_columns items columns e)
+pub written_typed : (items : List Item) (columns : List Column) → columns_of (column_texts items) ≡ Some columns → TypedColumns columns
+written_typed items columns e = All-from_recursion HasType columns (written_columns (column_texts items) columns e)
 
 -- the item of a list of one
 only_from : (names : List (List ℕ)) (name : List ℕ) → only_one names ≡ Some name → names ≡ name ∷ []
@@ -113,6 +116,11 @@ key_written items columns key column e found =
 passes : (names : List (List ℕ)) → list_all is_written_name names ≡ true → AllByRecursion (λ name. IsTrue (is_written_name name)) names
 passes names e = recursion_from_All (λ name. IsTrue (is_written_name name)) names (AllPass-from_list_all is_written_name names e)
 
+-- what is of numbers column by column
+pub numeric_each : (columns : List Column) → list_all (λ column. is_numeric column.kind) columns ≡ true → AllByRecursion (λ column. IsTrue (is_numeric column.kind)) columns
+numeric_each columns e =
+    recursion_from_All (λ column. IsTrue (is_numeric column.kind)) columns (AllPass-from_list_all (λ column. is_numeric column.kind) columns e)
+
 -- a table follows the rules
 pub follows_rules : (text : CreateText) (table : TableDef) → definition_of text ≡ Some table → FollowsRules text table
 follows_rules text table e =
@@ -133,6 +141,7 @@ follows_rules text table e =
       plain_key = key.2;
       some_reservable = rules.some_reservable;
       few_reservable = rules.few_reservable;
+      number_reservable = numeric_each (reservables table.columns) rules.numeric;
       declared = p.written;
       of_text = p.from_texts;
       few_declared = written.1;

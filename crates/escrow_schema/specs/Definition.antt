@@ -1,10 +1,11 @@
 -- Believed: which table a CREATE TABLE defines.
-use Rattle.std.specs.Prelude.{◌≡◌, ℕ, neg_ℤ, Bool, true, false, ◌&&◌, not, nat_le, if◌then◌else◌, Option, Some, None, option_map, option_and_then, unwrap_or, List, [], ◌∷◌, ◌++◌, length, map, filter, position, slice_get, codes, bytes_eq}
+use Rattle.std.specs.Prelude.{◌≡◌, ℕ, neg_ℤ, Bool, true, false, ◌&&◌, not, nat_le, if◌then◌else◌, Option, Some, None, option_map, option_and_then, unwrap_or, List, [], ◌∷◌, ◌++◌, length, map, filter, filter_map, position, slice_get, codes, bytes_eq}
 use Rattle.std.specs.List.{list_any, list_all, flat_map}
 use Rattle.escrow_sql.specs.declared.statement.CreateText.{CreateText}
 use Rattle.escrow_sql.specs.declared.statement.Item.{Item}
 use Rattle.escrow_sql.specs.declared.statement.Item.TheVariants as item
 use Rattle.escrow_sql.specs.declared.statement.CheckText.{CheckText}
+use Rattle.escrow_sql.specs.declared.statement.ColumnText.{ColumnText}
 use Rattle.escrow_sql.specs.declared.statement.ColumnMark.{ColumnMark}
 use Rattle.escrow_sql.specs.declared.statement.ColumnMark.TheVariants as mark
 use Rattle.escrow_checks.specs.declared.check.Check.{Check}
@@ -14,7 +15,7 @@ use Rattle.escrow_checks.specs.WrittenName.{is_written_name}
 use Rattle.escrow_schema.specs.declared.column.Column.{Column}
 use Rattle.escrow_schema.specs.declared.table.TableDef.{TableDef}
 use Rattle.escrow_schema.specs.declared.table.TheConstants.TableDef.{MIN_COLUMNS, MAX_COLUMNS}
-use Rattle.escrow_schema.specs.Column.{type_of, top_of, reservables, names_of}
+use Rattle.escrow_schema.specs.Column.{type_of, is_numeric, top_of, reservables, names_of}
 
 -- a mark is PRIMARY KEY
 abbrev pub is_key_mark : ColumnMark → Bool
@@ -37,21 +38,32 @@ check_of_mark mark.Reservable = []
 check_of_mark mark.NotNull = []
 check_of_mark (mark.Check text) = text ∷ []
 
--- the marks of an item
-abbrev pub marks_of : Item → List ColumnMark
-marks_of (item.Column text) = text.marks
+-- the column that an item is, if it is one
+abbrev pub column_text : Item → Option ColumnText
+column_text (item.Column text) = Some text
+column_text (item.Check text) = None
+column_text (item.PrimaryKey name) = None
 
--- the name of the column that an item writes
-abbrev pub name_of : Item → List ℕ
-name_of (item.Column text) = text.name
+-- the columns among items, in order
+abbrev pub column_texts : List Item → List ColumnText
+column_texts items = filter_map column_text items
+
+-- the CHECKs that an item writes, in order: those of a column's marks, or the one that it is
+abbrev pub checks_of_item : Item → List CheckText
+checks_of_item (item.Column text) = flat_map check_of_mark text.marks
+checks_of_item (item.Check text) = text ∷ []
+checks_of_item (item.PrimaryKey name) = []
 
 -- the CHECKs of a text, in order, wherever they stand
 abbrev pub checks_in : List Item → List CheckText
-checks_in items = flat_map (λ i. flat_map check_of_mark (marks_of i)) items
+checks_in items = flat_map checks_of_item items
 
--- the names that an item writes as key: its column's, as often as it is marked PRIMARY KEY
+-- the names that an item writes as key: its column's, as often as it is marked PRIMARY KEY, or the
+-- one behind PRIMARY KEY
 abbrev pub keys_of : Item → List (List ℕ)
-keys_of i = map (λ mark. name_of i) (filter is_key_mark (marks_of i))
+keys_of (item.Column text) = map (λ mark. text.name) (filter is_key_mark text.marks)
+keys_of (item.Check text) = []
+keys_of (item.PrimaryKey name) = name ∷ []
 
 -- the names that are written as key
 abbrev pub key_names : List Item → List (List ℕ)
@@ -71,15 +83,15 @@ place_of columns name = position (λ column. bytes_eq column.name name) columns
 abbrev pub key_place : List Item → List Column → Option ℕ
 key_place items columns = option_and_then (place_of columns) (only_one (key_names items))
 
--- the column that an item writes, where its type is one
-abbrev pub column_of : Item → Option Column
-column_of (item.Column text) =
+-- the column that a text writes, where its type is one
+abbrev pub column_of : ColumnText → Option Column
+column_of text =
     option_map (λ kind. record { name = text.name; kind = kind; reservable = list_any is_reservable_mark text.marks }) (type_of text.kind)
 
--- the columns that items write, in order, where each one's type is one
-abbrev pub columns_of : List Item → Option (List Column)
+-- the columns that texts write, in order, where each one's type is one
+abbrev pub columns_of : List ColumnText → Option (List Column)
 columns_of [] = Some []
-columns_of (i ∷ items) = option_and_then (λ column. option_map (λ columns. column ∷ columns) (columns_of items)) (column_of i)
+columns_of (text ∷ texts) = option_and_then (λ column. option_map (λ columns. column ∷ columns) (columns_of texts)) (column_of text)
 
 -- no two names are the same
 abbrev pub are_distinct : List (List ℕ) → Bool
@@ -103,13 +115,14 @@ abbrev pub is_plain_at : List Column → ℕ → Bool
 is_plain_at columns place = unwrap_or (option_map (λ column. not column.reservable) (slice_get columns place)) false
 
 -- the rules on columns: 2 to 30 of them, of distinct names that a statement can write; a key that
--- isn't RESERVABLE; 1 to 10 RESERVABLE ones
+-- isn't RESERVABLE; 1 to 10 RESERVABLE ones, each of numbers
 abbrev pub are_columns : List Column → ℕ → Bool
 are_columns columns key =
     nat_le MIN_COLUMNS (length columns) && nat_le (length columns) MAX_COLUMNS
     && are_distinct (names_of columns) && list_all is_written_name (names_of columns)
     && is_plain_at columns key
     && nat_le 1 (length (reservables columns)) && nat_le (length (reservables columns)) MAX_LEN
+    && list_all (λ column. is_numeric column.kind) (reservables columns)
 
 -- the names of a list of checks
 abbrev pub check_names : List Check → List (List ℕ)
@@ -132,8 +145,12 @@ table_of text columns key =
 -- the table that a CREATE TABLE defines, or nothing where it breaks a rule
 abbrev pub definition_of : CreateText → Option TableDef
 definition_of text =
-    option_and_then (λ columns. option_and_then (table_of text columns) (key_place text.items columns)) (columns_of text.items)
+    option_and_then (λ columns. option_and_then (table_of text columns) (key_place text.items columns)) (columns_of (column_texts text.items))
 
 -- a table is one that some text defines
 abbrev pub IsTable : TableDef → Type 0
 IsTable table = (text : CreateText) × (definition_of text ≡ Some table)
+
+-- the key column of a table
+abbrev pub key_column : TableDef → Option Column
+key_column table = slice_get table.columns table.key

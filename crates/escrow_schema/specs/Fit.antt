@@ -1,13 +1,15 @@
--- Believed: which row literals make, and which values a row has.
-use Rattle.std.specs.Prelude.{ℕ, ℤ, pos, ◌+◌, ◌==◌, ◌||◌, if◌then◌else◌, Option, Some, None, option_map, option_and_then, List, [], ◌∷◌, ◌++◌, map, take, drop, slice_get, IsTrue}
+-- Believed: which row an INSERT makes, and which values a row has.
+use Rattle.std.specs.Prelude.{◌≡◌, ℕ, ℤ, pos, ◌+◌, ◌==◌, ◌||◌, ◌&&◌, if◌then◌else◌, IsSomeAnd, bytes_eq, length, Option, Some, None, option_map, option_and_then, List, [], ◌∷◌, ◌++◌, map, take, drop, slice_get, IsTrue}
 use Rattle.std.specs.List.{AllZip}
 use Rattle.escrow_num.specs.declared.value.Value.{Value}
 use Rattle.escrow_num.specs.declared.value.Value.TheVariants as value
 use Rattle.escrow_num.specs.declared.row.Row.{Row}
+use Rattle.escrow_sql.specs.declared.statement.InsertText.{InsertText}
 use Rattle.escrow_sql.specs.declared.statement.Literal.{Literal}
 use Rattle.escrow_schema.specs.declared.column.Column.{Column}
 use Rattle.escrow_schema.specs.declared.table.TableDef.{TableDef}
-use Rattle.escrow_schema.specs.Column.{fits, value_in}
+use Rattle.escrow_schema.specs.Column.{fits, reservables, value_in}
+use Rattle.escrow_schema.specs.Definition.{are_distinct, key_column}
 
 -- the values that literals are, one for each column, where each fits its column's type
 abbrev pub values_in : List Column → List Literal → Option (List Value)
@@ -50,6 +52,44 @@ row_with table values = option_map (λ key. record {
 -- the row that literals make, where they fit the table
 abbrev pub fitted : TableDef → List Literal → Option Row
 fitted table literals = option_and_then (row_with table) (values_in table.columns literals)
+
+-- the literal that stands beside a name in a list of names
+abbrev pub literal_beside : List (List ℕ) → List Literal → List ℕ → Option Literal
+literal_beside [] literals name = None
+literal_beside (other ∷ names) [] name = None
+literal_beside (other ∷ names) (literal ∷ literals) name = if bytes_eq other name then Some literal else literal_beside names literals name
+
+-- the literals beside the names of columns, in the order of the columns, where each has one
+abbrev pub literals_beside : List (List ℕ) → List Literal → List Column → Option (List Literal)
+literals_beside names literals [] = Some []
+literals_beside names literals (column ∷ columns) =
+    option_and_then (λ literal. option_map (λ more. literal ∷ more) (literals_beside names literals columns)) (literal_beside names literals column.name)
+
+-- the literals in the order of the columns: as they stand where no column is named, and otherwise
+-- each column is named once, and has the literal beside its name
+abbrev pub in_column_order : List Column → Option (List (List ℕ)) → List Literal → Option (List Literal)
+in_column_order columns None literals = Some literals
+in_column_order columns (Some names) literals =
+    if are_distinct names && length names == length columns && length names == length literals
+    then literals_beside names literals columns else None
+
+-- the row that an INSERT makes, where its columns and its literals fit the table
+abbrev pub inserted_row : TableDef → InsertText → Option Row
+inserted_row table text = option_and_then (fitted table) (in_column_order table.columns text.columns text.values)
+
+-- the columns that are neither RESERVABLE nor the key, in order, where the first stands at a place
+abbrev pub plains : List Column → ℕ → ℕ → List Column
+plains [] place key = []
+plains (column ∷ columns) place key =
+    if column.reservable || place == key then plains columns (place + 1) key else column ∷ plains columns (place + 1) key
+
+-- a row is one of a table: it has its name, a key and plain values that fit its columns' types, and
+-- an amount for each RESERVABLE column
+pub record IsRowOf (table : TableDef) (row : Row) : Type 0 where
+  pub table_name : row.name.table ≡ table.name
+  pub key : IsSomeAnd (key_column table) (λ column. IsTrue (fits column.kind row.name.key))
+  pub plain : FitColumns (plains table.columns 0 table.key) row.plain
+  pub amounts : length row.amounts ≡ length (reservables table.columns)
 
 -- the values of columns, in their order: the next amount for each RESERVABLE one, the key at its
 -- place, the next plain value for each other; the first of the columns stands at a place

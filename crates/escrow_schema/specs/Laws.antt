@@ -1,6 +1,6 @@
 -- Believed: the statements of the laws in src/laws.rt.
-use Rattle.std.specs.Prelude.{◌≡◌, ◌⊎◌, ◌↔◌, ℤ, ◌+◌, ◌≤◌, Option, Some, Ok, Err, List, length, map}
-use Rattle.std.specs.List.{AllByRecursion}
+use Rattle.std.specs.Prelude.{◌≡◌, ◌⊎◌, ◌↔◌, ℕ, ℤ, ◌+◌, ◌≤◌, Option, Some, Ok, Err, IfSome, IsTrue, List, length, map, slice_get}
+use Rattle.std.specs.List.{AllByRecursion, AllZip}
 use Rattle.escrow_num.specs.Amount.{IsAmount}
 use Rattle.escrow_num.specs.declared.refusal.Refusal.{Refusal}
 use Rattle.escrow_num.specs.declared.refusal.Refusal.TheVariants as refusal
@@ -8,18 +8,21 @@ use Rattle.escrow_num.specs.declared.row.Row.{Row}
 use Rattle.escrow_num.specs.declared.value.Value.{Value}
 use Rattle.escrow_num.specs.declared.value.Value.TheVariants as value
 use Rattle.escrow_sql.specs.declared.statement.CreateText.{CreateText}
+use Rattle.escrow_sql.specs.declared.statement.InsertText.{InsertText}
 use Rattle.escrow_sql.specs.declared.statement.Literal.{Literal}
 use Rattle.escrow_sql.specs.declared.statement.UpdateText.{UpdateText}
+use Rattle.escrow_sql.specs.declared.statement.WhereText.{WhereText}
 use Rattle.escrow_checks.specs.declared.coefficients.TheConstants.Coefficients.{MAX_LEN}
 use Rattle.escrow_checks.specs.declared.condition.TheConstants.{MAX_CHECKS}
 use Rattle.escrow_checks.specs.Condition.{MeetsText}
 use Rattle.escrow_checks.specs.Grant.{Meets}
-use Rattle.escrow_schema.specs.declared.plan.Plan.TheVariants.{Reserve}
+use Rattle.escrow_schema.specs.declared.column.Column.{Column}
+use Rattle.escrow_schema.specs.declared.plan.Plan.TheVariants.{Reserve, Plain}
 use Rattle.escrow_schema.specs.declared.table.TableDef.{TableDef}
-use Rattle.escrow_schema.specs.Column.{reservables, names_of}
+use Rattle.escrow_schema.specs.Column.{fits, reservables, names_of, value_of}
 use Rattle.escrow_schema.specs.Definition.{IsTable, checks_in, definition_of}
-use Rattle.escrow_schema.specs.Fit.{FitColumns, fitted, values_in, values_of}
-use Rattle.escrow_schema.specs.Plan.{planned}
+use Rattle.escrow_schema.specs.Fit.{FitColumns, IsRowOf, fitted, inserted_row, plains, values_in, values_of}
+use Rattle.escrow_schema.specs.Plan.{key_named, planned}
 use Rattle.escrow_schema.specs.Rules.{FollowsRules}
 
 -- a table has the name that its text writes
@@ -44,11 +47,9 @@ ChecksKeepAmounts =
 abbrev pub FewChecks : Type 0
 FewChecks = (table : TableDef) → IsTable table → length table.checks ≤ MAX_CHECKS + MAX_LEN
 
--- the row that literals make is of its table, and has an amount for each RESERVABLE column
+-- the row that an INSERT makes is one of its table
 abbrev pub RowsOfTable : Type 0
-RowsOfTable =
-    (table : TableDef) (literals : List Literal) (row : Row) → fitted table literals ≡ Some row
-    → (row.name.table ≡ table.name) × (length row.amounts ≡ length (reservables table.columns))
+RowsOfTable = (table : TableDef) (text : InsertText) (row : Row) → inserted_row table text ≡ Some row → IsRowOf table row
 
 -- a plan has a change, or none, for each RESERVABLE column
 abbrev pub PlansOfWholeRow : Type 0
@@ -56,11 +57,23 @@ PlansOfWholeRow =
     (table : TableDef) (text : UpdateText) (key : Value) (changes : List (Option ℤ)) → planned table text ≡ Ok (Reserve key changes)
     → length changes ≡ length (reservables table.columns)
 
--- an UPDATE that can't be planned is refused for its assignment, for its WHERE's column or for its literal
+-- a plan of new values has a value that fits, or none, for each column that is neither RESERVABLE nor
+-- the key
+abbrev pub PlainPlansFit : Type 0
+PlainPlansFit =
+    (table : TableDef) (text : UpdateText) (key : Value) (values : List (Option Value)) → planned table text ≡ Ok (Plain key values)
+    → AllZip (λ column new. IfSome new (λ v. IsTrue (fits column.kind v))) (plains table.columns 0 table.key) values
+
+-- an UPDATE that can't be planned is refused for its assignments, for its WHERE's column or for a literal
 abbrev pub RefusalsOfPlans : Type 0
 RefusalsOfPlans =
     (table : TableDef) (text : UpdateText) (r : Refusal) → planned table text ≡ Err r
     → (r ≡ refusal.BadAssignment) ⊎ ((r ≡ refusal.NotTheKey) ⊎ (r ≡ refusal.BadValue))
+
+-- a WHERE that names no key is refused for its column or for its literal
+abbrev pub RefusalsOfKeys : Type 0
+RefusalsOfKeys =
+    (table : TableDef) (row : WhereText) (r : Refusal) → key_named table row ≡ Err r → (r ≡ refusal.NotTheKey) ⊎ (r ≡ refusal.BadValue)
 
 -- the values of the row that literals make are the values that the literals are
 abbrev pub ValuesOfRow : Type 0
@@ -68,12 +81,19 @@ ValuesOfRow =
     (table : TableDef) (literals : List Literal) (row : Row) → fitted table literals ≡ Some row
     → values_in table.columns literals ≡ Some (values_of table row)
 
--- whatever amounts the row that literals make has by now, where they meet every check of its table,
--- its values fit their columns' types
+-- the literal beside a column's name is the column's value in the row that an INSERT with a column
+-- list makes, wherever in the list the two stand
+abbrev pub ValuesBesideNames : Type 0
+ValuesBesideNames =
+    (table : TableDef) (text : InsertText) (names : List (List ℕ)) (row : Row) → text.columns ≡ Some names → inserted_row table text ≡ Some row
+    → (i k : ℕ) (column : Column) (literal : Literal) → slice_get table.columns i ≡ Some column
+    → slice_get names k ≡ Some column.name → slice_get text.values k ≡ Some literal
+    → slice_get (values_of table row) i ≡ Some (value_of literal)
+
+-- the values of a row of a table, whose amounts meet every check of it, fit their columns' types
 abbrev pub ValuesFit : Type 0
 ValuesFit =
-    (table : TableDef) (literals : List Literal) (made row : Row) → IsTable table → fitted table literals ≡ Some made
-    → row.name ≡ made.name → row.plain ≡ made.plain → length row.amounts ≡ length made.amounts
+    (table : TableDef) (row : Row) → IsTable table → IsRowOf table row
     → AllByRecursion (λ check. Meets check row.amounts) table.checks → FitColumns table.columns (values_of table row)
 
 -- numbers, one for each RESERVABLE column, meet every check of a table exactly where they meet every

@@ -1,26 +1,24 @@
 -- Believed: what an UPDATE asks of a row, or why it can't be planned.
-use Rattle.std.specs.Prelude.{ℕ, ℤ, Bool, false, ◌&&◌, not, if◌then◌else◌, Option, Some, None, option_map, option_and_then, unwrap_or, Result, Err, List, map, slice_get, bytes_eq}
+use Rattle.std.specs.Prelude.{ℕ, ℤ, Bool, true, false, ◌&&◌, not, if◌then◌else◌, Option, Some, None, option_map, option_and_then, unwrap_or, Result, Ok, Err, List, [], ◌∷◌, map, find, bytes_eq}
 use Rattle.std.specs.Option.{ok_or}
-use Rattle.std.specs.List.{list_any}
+use Rattle.std.specs.List.{list_any, list_all}
 use Rattle.escrow_num.specs.declared.value.Value.{Value}
 use Rattle.escrow_num.specs.declared.refusal.Refusal.{Refusal}
 use Rattle.escrow_num.specs.declared.refusal.Refusal.TheVariants as refusal
 use Rattle.escrow_sql.specs.declared.statement.Assign.{Assign}
+use Rattle.escrow_sql.specs.declared.statement.Assigned.{Assigned}
+use Rattle.escrow_sql.specs.declared.statement.Assigned.TheVariants as assigned
 use Rattle.escrow_sql.specs.declared.statement.Literal.{Literal}
 use Rattle.escrow_sql.specs.declared.statement.UpdateText.{UpdateText}
+use Rattle.escrow_sql.specs.declared.statement.WhereText.{WhereText}
 use Rattle.escrow_schema.specs.declared.column.Column.{Column}
+use Rattle.escrow_schema.specs.declared.column.ColumnType.{ColumnType}
 use Rattle.escrow_schema.specs.declared.plan.Plan.{Plan}
-use Rattle.escrow_schema.specs.declared.plan.Plan.TheVariants.{Reserve}
+use Rattle.escrow_schema.specs.declared.plan.Plan.TheVariants.{Reserve, Plain}
 use Rattle.escrow_schema.specs.declared.table.TableDef.{TableDef}
 use Rattle.escrow_schema.specs.Column.{value_in, reservables}
-
--- an assignment is of a RESERVABLE column, to itself plus or minus a number
-abbrev pub can_assign : List Column → Assign → Bool
-can_assign columns assign = list_any (λ column. column.reservable && bytes_eq column.name assign.column) columns && bytes_eq assign.column assign.source
-
--- the key column of a table
-abbrev pub key_column : TableDef → Option Column
-key_column table = slice_get table.columns table.key
+use Rattle.escrow_schema.specs.Definition.{are_distinct, key_column}
+use Rattle.escrow_schema.specs.Fit.{plains}
 
 -- a name is the key column's
 abbrev pub is_key : TableDef → List ℕ → Bool
@@ -30,14 +28,88 @@ is_key table name = unwrap_or (option_map (λ column. bytes_eq column.name name)
 abbrev pub key_in : TableDef → Literal → Option Value
 key_in table literal = option_and_then (λ column. value_in column.kind literal) (key_column table)
 
--- the change of each RESERVABLE column, in column order: none where it isn't assigned
-abbrev pub changes_of : List Column → Assign → List (Option ℤ)
-changes_of columns assign = map (λ column. if bytes_eq column.name assign.column then Some assign.change else None) (reservables columns)
+-- the key that a WHERE names, or why it names none: it is of another column than the key, or its
+-- literal isn't one that the key's type holds
+abbrev pub key_named : TableDef → WhereText → Result Value Refusal
+key_named table row = if not (is_key table row.column) then Err refusal.NotTheKey else ok_or (key_in table row.literal) refusal.BadValue
 
--- what an UPDATE asks, or why it can't be planned: a bad assignment, then a WHERE of another column
--- than the key, then a literal that the key's type doesn't hold
+-- what is assigned to a column is the column itself plus or minus a number
+abbrev pub is_itself : List ℕ → Assigned → Bool
+is_itself column (assigned.Literal literal) = false
+is_itself column (assigned.Change source change) = bytes_eq column source
+
+-- an assignment is of a RESERVABLE column, to itself plus or minus a number
+abbrev pub is_change : List Column → Assign → Bool
+is_change columns assign = list_any (λ column. column.reservable && bytes_eq column.name assign.column) columns && is_itself assign.column assign.value
+
+-- a column of a name is among columns
+abbrev pub has_column : List Column → List ℕ → Bool
+has_column columns name = list_any (λ column. bytes_eq column.name name) columns
+
+-- what is assigned is a literal
+abbrev pub is_literal : Assigned → Bool
+is_literal (assigned.Literal literal) = true
+is_literal (assigned.Change source change) = false
+
+-- an assignment is of a column that is neither RESERVABLE nor the key, to a literal
+abbrev pub is_replacement : TableDef → Assign → Bool
+is_replacement table assign = has_column (plains table.columns 0 table.key) assign.column && is_literal assign.value
+
+-- assignments change RESERVABLE columns: there is exactly one, and it does
+abbrev pub are_changes : List Column → List Assign → Bool
+are_changes columns [] = false
+are_changes columns (assign ∷ []) = is_change columns assign
+are_changes columns (assign ∷ other ∷ assigns) = false
+
+-- assignments replace plain values: each does, and no two are of one column
+abbrev pub are_replacements : TableDef → List Assign → Bool
+are_replacements table assigns = are_distinct (map (λ assign. assign.column) assigns) && list_all (is_replacement table) assigns
+
+-- what is assigned to a column, if anything is
+abbrev pub assigned_to : List Assign → List ℕ → Option Assigned
+assigned_to assigns column = option_map (λ assign. assign.value) (find (λ assign. bytes_eq assign.column column) assigns)
+
+-- the change, and the literal, that is assigned
+abbrev pub change_in : Assigned → Option ℤ
+change_in (assigned.Literal literal) = None
+change_in (assigned.Change source change) = Some change
+
+abbrev pub literal_in : Assigned → Option Literal
+literal_in (assigned.Literal literal) = Some literal
+literal_in (assigned.Change source change) = None
+
+-- the change of each RESERVABLE column, in column order: none where it isn't assigned
+abbrev pub changes_of : List Column → List Assign → List (Option ℤ)
+changes_of columns assigns = map (λ column. option_and_then change_in (assigned_to assigns column.name)) (reservables columns)
+
+-- the new value of a column of a type: none where no literal is assigned to it, and nothing at all
+-- where the literal doesn't fit
+abbrev pub new_value : ColumnType → Option Literal → Option (Option Value)
+new_value kind None = Some None
+new_value kind (Some literal) = option_map (λ v. Some v) (value_in kind literal)
+
+-- the new value, or none, of each of some columns, where each literal fits
+abbrev pub new_values_of : List Column → List Assign → Option (List (Option Value))
+new_values_of [] assigns = Some []
+new_values_of (column ∷ columns) assigns =
+    option_and_then (λ v. option_map (λ values. v ∷ values) (new_values_of columns assigns))
+    (new_value column.kind (option_and_then literal_in (assigned_to assigns column.name)))
+
+-- the new value, or none, of each column that is neither RESERVABLE nor the key, in column order
+abbrev pub new_values : TableDef → List Assign → Option (List (Option Value))
+new_values table assigns = new_values_of (plains table.columns 0 table.key) assigns
+
+-- a plan for the key that a WHERE names
+abbrev pub for_key : (Value → Result Plan Refusal) → Result Value Refusal → Result Plan Refusal
+for_key plan (Ok key) = plan key
+for_key plan (Err refusal) = Err refusal
+
+-- what an UPDATE asks, or why it can't be planned: bad assignments, then a WHERE of another column
+-- than the key, then a literal, of the WHERE or assigned, that its column's type doesn't hold
 abbrev pub planned : TableDef → UpdateText → Result Plan Refusal
 planned table text =
-    if not (can_assign table.columns text.assign) then Err refusal.BadAssignment
-    else (if not (is_key table text.row.column) then Err refusal.NotTheKey
-    else ok_or (option_map (λ key. Reserve key (changes_of table.columns text.assign)) (key_in table text.row.literal)) refusal.BadValue)
+    if are_changes table.columns text.assigns
+    then for_key (λ key. Ok (Reserve key (changes_of table.columns text.assigns))) (key_named table text.row)
+    else (if are_replacements table text.assigns
+    then for_key (λ key. ok_or (option_map (λ values. Plain key values) (new_values table text.assigns)) refusal.BadValue) (key_named table text.row)
+    else Err refusal.BadAssignment)

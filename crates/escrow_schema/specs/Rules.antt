@@ -10,14 +10,14 @@ use Rattle.escrow_checks.specs.WrittenName.{is_written_name}
 use Rattle.escrow_schema.specs.declared.column.Column.{Column}
 use Rattle.escrow_schema.specs.declared.table.TableDef.{TableDef}
 use Rattle.escrow_schema.specs.declared.table.TheConstants.TableDef.{MIN_COLUMNS, MAX_COLUMNS}
-use Rattle.escrow_schema.specs.Column.{reservables, names_of}
-use Rattle.escrow_schema.specs.Definition.{check_names, checks_in, columns_of, key_names, range_checks}
+use Rattle.escrow_schema.specs.Column.{is_numeric, reservables, names_of}
+use Rattle.escrow_schema.specs.Definition.{check_names, checks_in, column_texts, columns_of, key_names, range_checks}
 
 -- a table follows the rules that its text has to keep
 pub record FollowsRules (text : CreateText) (table : TableDef) : Type 0 where
   -- its name and its columns are those of the text, in order, 2 to 30 of them
   pub name : table.name ≡ text.table
-  pub columns : columns_of text.items ≡ Some table.columns
+  pub columns : columns_of (column_texts text.items) ≡ Some table.columns
   pub enough_columns : MIN_COLUMNS ≤ length table.columns
   pub few_columns : length table.columns ≤ MAX_COLUMNS
   -- a statement can write the names, and no two columns have one
@@ -28,9 +28,10 @@ pub record FollowsRules (text : CreateText) (table : TableDef) : Type 0 where
   pub key_there : slice_get table.columns table.key ≡ Some key
   pub one_key : key_names text.items ≡ key.name ∷ []
   pub plain_key : key.reservable ≡ false
-  -- 1 to 10 columns are RESERVABLE
+  -- 1 to 10 columns are RESERVABLE, and each of these is of numbers
   pub some_reservable : 1 ≤ length (reservables table.columns)
   pub few_reservable : length (reservables table.columns) ≤ MAX_LEN
+  pub number_reservable : AllByRecursion (λ column. IsTrue (is_numeric column.kind)) (reservables table.columns)
   -- its checks are at most 32 declared ones, in order, each over the RESERVABLE columns and of a name
   -- that a statement can write, and behind them the range of each RESERVABLE column; no two have one
   -- name

@@ -5,14 +5,15 @@ use Rattle.escrow_checks.specs.declared.coefficients.TheConstants.Coefficients.{
 use Rattle.escrow_checks.specs.WrittenName.{is_written_name}
 use Rattle.escrow_schema.specs.declared.column.Column.{Column}
 use Rattle.escrow_schema.specs.declared.column.ColumnType.{ColumnType}
-use Rattle.escrow_schema.specs.declared.column.ColumnType.TheVariants.{Number}
-use Rattle.escrow_schema.specs.declared.column.TheConstants.ColumnType.{MAX_DIGITS}
+use Rattle.escrow_schema.specs.declared.column.ColumnType.TheVariants.{Number, Varchar2}
+use Rattle.escrow_schema.specs.declared.column.TheConstants.ColumnType.{MAX_DIGITS, MAX_BYTES}
 use Rattle.escrow_schema.specs.Column.{names_of}
 use Rattle.escrow_schema.specs.Definition.{are_distinct}
 
--- a type holds numbers of 1 to 15 digits
+-- a type holds numbers of 1 to 15 digits, or texts of at most 1 to 255 bytes
 abbrev pub IsType : ColumnType → Type 0
 IsType (Number digits) = (1 ≤ digits) × (digits ≤ MAX_DIGITS)
+IsType (Varchar2 bytes) = (1 ≤ bytes) × (bytes ≤ MAX_BYTES)
 
 -- each of columns has a type
 abbrev pub TypedColumns : List Column → Type 0

@@ -1,20 +1,24 @@
 //! What the items of a CREATE TABLE write.
-ghost use Rattle.std.specs.Prelude.{◌≡◌, ◌++◌, IfOk, OnOk, count_by, map};
+ghost use Rattle.std.specs.Prelude.{◌≡◌, ◌++◌, IfOk, OnOk, count_by, length, map};
 ghost use Rattle.std.specs.List.{list_any, flat_map};
-ghost use Rattle.escrow_schema.specs.Definition.{column_of, columns_of, is_key_mark, is_reservable_mark, key_names, only_one, checks_in, check_of_mark, marks_of, name_of};
+ghost use Rattle.escrow_schema.specs.Definition.{column_of, column_texts, columns_of, is_key_mark, is_reservable_mark, keys_of, key_names, only_one, checks_in, checks_of_item, check_of_mark};
 
 use crate::column::{Column, ColumnType};
+use crate::lists::add;
 use escrow_num::{Name, Seq};
-use escrow_sql::{CheckText, ColumnMark, Item};
+use escrow_sql::{CheckText, ColumnMark, ColumnText, Item};
 use std::alloc::{AllocError, Global};
 
 /// The columns that items write, in order, or `None` where one has no type.
 pub(crate) fn columns_of(alloc: Global, items: &[Item]) -> Result<Option<Seq<Column>>, AllocError>
-    ensures { IfOk result (λ columns. columns ≡ columns_of items.now) }
+    ensures { IfOk result (λ columns. columns ≡ columns_of (column_texts items.now)) }
 {
     let mut columns = Vec::new(alloc);
     for item in items {
-        match column_of(item) {
+        let Item::Column(text) = item else {
+            continue;
+        };
+        match column_of(text) {
             Some(column) => columns.push(column)?,
             None => return Ok(None),
         }
@@ -22,11 +26,10 @@ pub(crate) fn columns_of(alloc: Global, items: &[Item]) -> Result<Option<Seq<Col
     Ok(Some(Seq::from_vec(columns)))
 }
 
-/// The column that an item writes, or `None` where it has no type.
-fn column_of(item: &Item) -> Option<Column>
-    ensures { result ≡ column_of item.now }
+/// The column that a text writes, or `None` where it has no type.
+fn column_of(text: &ColumnText) -> Option<Column>
+    ensures { result ≡ column_of text.now }
 {
-    let Item::Column(text) = item;
     let kind = ColumnType::from_text(&text.kind)?;
     Some(Column {
         name: text.name,
@@ -64,29 +67,38 @@ pub(crate) fn key_name(items: &[Item]) -> Option<Name>
         if 1 < keys || key.is_some() {
             return None;
         }
-        key = Some(name_of(item));
+        key = name_of(item);
     }
     key
 }
 
 /// How many names an item writes as key.
 fn count_keys(item: &Item) -> usize
-    ensures { result ≡ count_by is_key_mark (marks_of item.now) }
+    ensures { result ≡ length (keys_of item.now) }
 {
-    let Item::Column(text) = item;
-    text.marks
-        .as_slice()
-        .iter()
-        .filter(|mark| is_key_mark(mark))
-        .count()
+    match item {
+        Item::Column(text) => count_key_marks(text.marks.as_slice()),
+        Item::Check(_) => 0,
+        Item::PrimaryKey(_) => 1,
+    }
 }
 
-/// The name of the column that an item writes.
-fn name_of(item: &Item) -> Name
-    ensures { result ≡ name_of item.now }
+/// How many of marks are PRIMARY KEY.
+fn count_key_marks(marks: &[ColumnMark]) -> usize
+    ensures { result ≡ count_by is_key_mark marks.now }
 {
-    let Item::Column(text) = item;
-    text.name
+    marks.iter().filter(|mark| is_key_mark(mark)).count()
+}
+
+/// The name that an item which writes one as key writes.
+fn name_of(item: &Item) -> Option<Name>
+    ensures { length (keys_of item.now) ≡ 1 → result ≡ only_one (keys_of item.now) }
+{
+    match item {
+        Item::Column(text) => Some(text.name),
+        Item::Check(_) => None,
+        Item::PrimaryKey(name) => Some(*name),
+    }
 }
 
 /// The CHECKs of items, in order.
@@ -105,10 +117,23 @@ pub(crate) fn checks_in<'a>(
 
 /// Adds the CHECKs of an item.
 fn push_checks<'a>(texts: &mut Vec<&'a CheckText>, item: &'a Item) -> Result<(), AllocError>
-    ensures { OnOk result (map (λ text. text.now) texts.new.items ≡ map (λ text. text.now) texts.old.items ++ flat_map check_of_mark (marks_of item.now)) }
+    ensures { OnOk result (map (λ text. text.now) texts.new.items ≡ map (λ text. text.now) texts.old.items ++ checks_of_item item.now) }
 {
-    let Item::Column(text) = item;
-    for mark in text.marks.as_slice() {
+    match item {
+        Item::Column(text) => push_check_marks(texts, text.marks.as_slice()),
+        Item::Check(text) => add(texts, text),
+        Item::PrimaryKey(_) => Ok(()),
+    }
+}
+
+/// Adds the CHECKs among marks.
+fn push_check_marks<'a>(
+    texts: &mut Vec<&'a CheckText>,
+    marks: &'a [ColumnMark],
+) -> Result<(), AllocError>
+    ensures { OnOk result (map (λ text. text.now) texts.new.items ≡ map (λ text. text.now) texts.old.items ++ flat_map check_of_mark marks.now) }
+{
+    for mark in marks {
         if let ColumnMark::Check(text) = mark {
             texts.push(text)?;
         }

@@ -5,22 +5,20 @@
 //! rule of definitions is broken.
 #![tactic(auto)]
 
+mod catalog;
 mod column;
 mod definition;
-mod fit;
 mod items;
-pub mod laws;
 mod lists;
+mod literal;
 mod plan;
 mod ranges;
 mod rules;
 mod table;
 
+pub use catalog::Catalog;
 pub use column::{Column, ColumnType};
 pub use definition::define;
-pub use fit::fit_row;
-pub use plan::{Plan, plan_update};
+pub use literal::is_value;
+pub use plan::Plan;
 pub use table::TableDef;
-
-#[cfg(test)]
-mod tests;

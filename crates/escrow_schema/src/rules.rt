@@ -2,7 +2,7 @@
 ghost use Rattle.std.specs.Prelude.{◌≡◌, ◌&&◌, IfOk, bytes_eq, position};
 ghost use Rattle.std.specs.List.{list_any, list_all};
 ghost use Rattle.escrow_checks.specs.WrittenName.{is_written_name};
-ghost use Rattle.escrow_schema.specs.Column.{reservables, names_of};
+ghost use Rattle.escrow_schema.specs.Column.{is_numeric, reservables, names_of};
 ghost use Rattle.escrow_schema.specs.Definition.{are_columns, are_distinct, check_names, is_plain_at, place_of};
 
 use crate::column::Column;
@@ -12,7 +12,7 @@ use escrow_num::Name;
 use std::alloc::{AllocError, Global};
 
 /// Whether columns follow the rules: 2 to 30 of them, of distinct names that a statement can write;
-/// a key that isn't RESERVABLE; 1 to 10 RESERVABLE ones.
+/// a key that isn't RESERVABLE; 1 to 10 RESERVABLE ones, each of numbers.
 pub(crate) fn are_columns(
     alloc: Global,
     columns: &[Column],
@@ -29,8 +29,16 @@ pub(crate) fn are_columns(
             && are_names(names.as_slice())
             && is_plain_at(columns, key)
             && 1 <= reservable.len()
-            && reservable.len() <= Coefficients::MAX_LEN,
+            && reservable.len() <= Coefficients::MAX_LEN
+            && are_numeric(reservable),
     )
+}
+
+/// Whether each column is of numbers.
+fn are_numeric(columns: &[Column]) -> bool
+    ensures { result ≡ list_all (λ column. is_numeric column.kind) columns.now }
+{
+    columns.iter().all(|column| column.kind.is_numeric())
 }
 
 /// Whether names are distinct, and a statement can write each.

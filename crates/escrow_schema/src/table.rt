@@ -18,8 +18,7 @@ pub struct TableDef {
 }
 
 impl TableDef {
-    ghost use Rattle.escrow_schema.specs.Definition.{IsTable};
-    ghost use Rattle.escrow_schema.specs.Plan.{key_column};
+    ghost use Rattle.escrow_schema.specs.Definition.{IsTable, key_column};
     ghost use Rattle.escrow_schema.specs.Typed.{TypedColumns};
 
     /// The fewest columns of a table: its key, and a RESERVABLE one.

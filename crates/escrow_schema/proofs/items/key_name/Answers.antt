@@ -1,6 +1,6 @@
-use Rattle.std.proofs.Common.{◌≡◌, ◌+◌, ◌∷◌, arith, drop, subst, sym, ◌∙◌}
-use Rattle.std.specs.Prelude.{count_by, option_to_list}
-use Rattle.escrow_schema.specs.Definition.{is_key_mark, key_names, marks_of}
+use Rattle.std.proofs.Common.{◌≡◌, ◌+◌, ◌++◌, length, arith, drop, subst, sym, ◌∙◌}
+use Rattle.std.specs.Prelude.{option_to_list}
+use Rattle.escrow_schema.specs.Definition.{key_names, keys_of}
 use Rattle.escrow_schema.proofs.KeyLemmas.{first_key, more_keys, no_key, one_known}
 use Rattle.escrow_schema.proofs.items.key_name.Goals as goal
 use Rattle.escrow_schema.proofs.items.key_name.Goals.{then-keys-gt1-via-then-keys-gt1, then-keys-gt1-via-else-keys-gt1+then-is_some}
@@ -21,7 +21,7 @@ returns-then-keys-gt1 c =
 
 pub loop-item-preserved : goal.loop-item-preserved
 loop-item-preserved c =
-    let one : count_by is_key_mark (marks_of c.item-item.result) ≡ 1 = omega arith in
+    let one : length (keys_of c.item-item.result) ≡ 1 = omega arith in
     let none = sym c.is_some.ensures ∙ c.if-is_some.false in
     let whole = first_key c.args.items.now c.loop-item.item-index c.item-item.result c.loop-item.key (omega arith) c.item-item.is one none c.loop-item.invariant in
-    subst (λ name. name ∷ key_names (drop (c.loop-item.item-index + 1) c.args.items.now) ≡ key_names c.args.items.now) (sym c.name_of.ensures) whole
+    subst (λ o. option_to_list o ++ key_names (drop (c.loop-item.item-index + 1) c.args.items.now) ≡ key_names c.args.items.now) (sym (c.name_of-key.ensures one)) whole

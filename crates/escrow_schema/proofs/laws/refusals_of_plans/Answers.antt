@@ -1,5 +1,0 @@
-use Rattle.escrow_schema.proofs.LawLemmas.{refusals_of_plans}
-use Rattle.escrow_schema.proofs.laws.refusals_of_plans.Goals as goal
-
-pub returns : goal.returns
-returns c = refusals_of_plans

@@ -1,0 +1,138 @@
+ghost use Rattle.std.specs.Prelude.{◌≡◌, ◌⊎◌, ◌↔◌, ◌≤◌, None, Some, Ok, Err, OnOk, OnErr, IfOk, IfErr, IfSome, IsErr, IsErrOf, length, insert, position, remove, option_copied, bytes_eq};
+ghost use Rattle.std.specs.Ordering.{nat_cmp, is_lt};
+ghost use Rattle.std.specs.Cmp.Lexicographic.{slice_cmp};
+ghost use Rattle.escrow_schema.specs.declared.table.TableDef.{TableDef};
+ghost use Rattle.escrow_schema.specs.Catalog.{table_named, with_table};
+
+use crate::table::TableDef;
+use escrow_num::{Name, Refusal};
+use std::alloc::Global;
+use std::marker::Model;
+
+/// The tables of a database, in order of name, which contracts see as their list: at most
+/// [`Catalog::MAX_TABLES`] of them, no two of one name, and each is one that some text defines.
+#[derive(Debug, Drop)]
+pub struct Catalog {
+    tables: Vec<TableDef>,
+}
+
+impl Model for Catalog {
+    ghost use Rattle.std.specs.Prelude.{List};
+    ghost use Rattle.escrow_schema.specs.Catalog.{IsCatalog};
+    ghost use Rattle.escrow_schema.specs.declared.table.TableDef.{TableDef};
+
+    ghost Value = { List TableDef };
+
+    ghost view = { λ c. c.tables.items };
+
+    ghost invariant = { λ c. IsCatalog c.tables.items };
+}
+
+impl Catalog {
+    ghost use Rattle.std.specs.Prelude.{[]};
+    ghost use Rattle.escrow_schema.specs.Catalog.{IsCatalog, add_refusal, table_named, with_table, without_table};
+    ghost use Rattle.escrow_schema.specs.Definition.{IsTable};
+
+    /// The most tables.
+    pub const MAX_TABLES: usize = 32;
+
+    /// No tables. Takes no memory.
+    pub fn new(alloc: Global) -> Self
+        ensures { result ≡ [] }
+    {
+        Catalog {
+            tables: Vec::new(alloc),
+        }
+    }
+
+    /// The tables, in order of name.
+    pub fn tables(&self) -> &[TableDef]
+        ensures value { result.now ≡ self.now }
+        ensures catalog { IsCatalog self.now }
+    {
+        &self.tables
+    }
+
+    /// The table of a name.
+    pub fn find(&self, name: Name) -> Option<&TableDef>
+        ensures found { option_copied result ≡ table_named self.now name }
+        ensures table { IfSome result (λ table. IsTable table.now) }
+    {
+        find_table(self.tables(), name)
+    }
+
+    /// Adds a table, in order of name. Refused where a table of its name stands, and then where as
+    /// many stand as there may be; memory is only taken, and wanted, where neither is so. Where it
+    /// is refused the catalog stays.
+    pub fn add(&mut self, table: TableDef) -> Result<(), Refusal>
+        requires { IsTable table }
+        ensures added { OnOk result (self.new ≡ with_table table self.old) }
+        ensures unchanged { OnErr result (self.new ≡ self.old) }
+        ensures refused { IfSome (add_refusal self.old table) (λ e. result ≡ Err e) }
+        ensures only { IfErr result (λ e. (add_refusal self.old table ≡ Some e) ⊎ (e ≡ Refusal.Memory)) }
+        ensures memory { IsErrOf result Refusal.Memory → add_refusal self.old table ≡ None }
+    {
+        if self.find(table.name).is_some() {
+            return Err(Refusal::TableExists);
+        }
+        if Self::MAX_TABLES <= self.tables.len() {
+            return Err(Refusal::TooManyTables);
+        }
+        let place = table_place(&self.tables, table.name);
+        match self.tables.insert(place, table) {
+            Ok(()) => Ok(()),
+            Err(_) => Err(Refusal::Memory),
+        }
+    }
+
+    /// Takes the table of a name out, and hands it back. Refused exactly where there is none, and
+    /// then the catalog stays. Takes no memory.
+    pub fn remove(&mut self, name: Name) -> Result<TableDef, Refusal>
+        ensures removed { IfOk result (λ table. table_named self.old name ≡ Some table) }
+        ensures rest { OnOk result (self.new ≡ without_table name self.old) }
+        ensures unchanged { OnErr result (self.new ≡ self.old) }
+        ensures refused { IsErr result ↔ (table_named self.old name ≡ None) }
+        ensures only { IfErr result (λ e. e ≡ Refusal.NoSuchTable) }
+    {
+        match place_of(&self.tables, name) {
+            Some(place) => Ok(self.tables.remove(place)),
+            None => Err(Refusal::NoSuchTable),
+        }
+    }
+}
+
+/// The table of a name.
+fn find_table(catalog: &[TableDef], name: Name) -> Option<&TableDef>
+    ensures { option_copied result ≡ table_named catalog.now name }
+{
+    catalog.iter().find(|table| table.name == name)
+}
+
+/// The place of the table of a name.
+fn place_of(catalog: &[TableDef], name: Name) -> Option<usize>
+    ensures { result ≡ position (λ table. bytes_eq table.name name) catalog.now }
+{
+    catalog.iter().position(|table| table.name == name)
+}
+
+/// Whether a name stands before a table's in the order of names.
+fn is_before(name: Name, table: &TableDef) -> bool
+    ensures { result ≡ is_lt (slice_cmp nat_cmp name table.now.name) }
+{
+    name.cmp(&table.name).is_lt()
+}
+
+/// The place of the first table whose name is greater than this one.
+fn first_after(catalog: &[TableDef], name: Name) -> Option<usize>
+    ensures { result ≡ position (λ other. is_lt (slice_cmp nat_cmp name other.name)) catalog.now }
+{
+    catalog.iter().position(|other| is_before(name, other))
+}
+
+/// The place at which a table of this name stands in order.
+fn table_place(catalog: &[TableDef], name: Name) -> usize
+    ensures within { result ≤ length catalog.now }
+    ensures place { (table : TableDef) → table.name ≡ name → insert catalog.now result table ≡ with_table table catalog.now }
+{
+    first_after(catalog, name).unwrap_or(catalog.len())
+}
