@@ -116,7 +116,7 @@ fn name_of(text: &CheckText, place: usize) -> Option<Name>
 }
 
 /// Whether a statement can write the name: it has at most [`Name::MAX_WRITTEN`] bytes, and is no
-/// reserved word.
+/// reserved word. A name is spelled as one.
 #[tactic(auto, unfolding(crate::specs::WrittenName::is_written_name))]
 pub fn is_written_name(name: &Name) -> bool
     ensures { result ≡ is_written_name name.now }

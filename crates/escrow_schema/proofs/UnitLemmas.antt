@@ -1,6 +1,7 @@
 -- The coefficients of one column among columns of distinct names.
-use Rattle.std.proofs.Common.{◌≡◌, ℕ, zero, suc, ℤ, pos, ◌<◌, ◌≤◌, true, false, not, nat_le, bytes_eq, List, [], ◌∷◌, length, set, get_or, replicate, sym, ap, ◌∙◌, subst, refl, arith}
+use Rattle.std.proofs.Common.{◌≡◌, ℕ, zero, suc, ℤ, pos, ◌<◌, ◌≤◌, true, false, ◌&&◌, not, nat_le, bytes_eq, List, [], ◌∷◌, length, set, get_or, replicate, sym, ap, ◌∙◌, subst, refl, arith}
 use Rattle.std.specs.Prelude.{codes, neg_ℤ, ◌++◌, Some, is_none}
+use Rattle.escrow_num.specs.Name.{spells_name}
 use Rattle.escrow_num.specs.declared.name.TheConstants.Name.{MAX_WRITTEN}
 use Rattle.escrow_sql.specs.Word.{reserved}
 use Rattle.std.proofs.lemmas.List.{get_or_read}
@@ -48,7 +49,7 @@ unit_at (column ∷ columns) (suc place) d apart within =
 -- a name that a statement can write is short
 short_from : (name : List ℕ) → is_written_name name ≡ true → length name ≤ MAX_WRITTEN
 unfolding is_written_name
-short_from name h = leb-true (length name) MAX_WRITTEN (and_parts (nat_le (length name) MAX_WRITTEN) (is_none (reserved name)) h).0
+short_from name h = leb-true (length name) MAX_WRITTEN (and_parts (spells_name name) (nat_le (length name) MAX_WRITTEN) (and_parts (spells_name name && nat_le (length name) MAX_WRITTEN) (is_none (reserved name)) h).0).1
 
 -- so is each of such names
 pub short_at : (columns : List Column) (place : ℕ) (d : Column) → list_all is_written_name (names_of columns) ≡ true → place < length columns → length (get_or columns place d).name ≤ MAX_WRITTEN
