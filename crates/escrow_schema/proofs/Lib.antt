@@ -6,6 +6,7 @@ pub mod DefinedLemmas
 pub mod DistinctLemmas
 pub mod KeyLemmas
 pub mod ListLemmas
+pub mod PrintLemmas
 pub mod RangeLemmas
 pub mod RuleLemmas
 pub mod TableLemmas

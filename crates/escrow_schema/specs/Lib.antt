@@ -4,5 +4,6 @@ pub mod Definition
 pub mod Fit
 pub mod Laws
 pub mod Plan
+pub mod Print
 pub mod Rules
 pub mod Typed

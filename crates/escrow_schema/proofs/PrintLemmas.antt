@@ -1,0 +1,57 @@
+-- The canonical text of a table, item by item.
+use Rattle.std.proofs.Common.{◌≡◌, ℕ, ℤ, pos, zero, suc, ◌+◌, ◌≤◌, ◌<◌, min, false, cond, Result, OnOk, List, [], ◌∷◌, ◌++◌, length, drop, map, get_or, refl, sym, ap, ◌∙◌, subst, append_assoc, arith}
+use Rattle.std.specs.Prelude.{◌==◌, codes}
+use Rattle.std.specs.List.{flat_map}
+use Rattle.std.specs.Ordering.{int_eq}
+use Rattle.std.proofs.lemmas.List.Concat.{flat_map-append}
+use Rattle.escrow_sql.specs.Joined.{joined}
+use Rattle.escrow_schema.specs.declared.column.Column.{Column}
+use Rattle.escrow_schema.specs.Print.{column_with, columns_words, column_words}
+use Rattle.escrow_schema.proofs.ListLemmas.{drop_item}
+
+-- the texts from a place on, with what stands before each but the first of all
+abbrev pub joined_from : ℕ → List (List ℕ) → List ℕ
+joined_from zero texts = joined texts
+joined_from (suc place) texts = flat_map (λ text. codes ", " ++ text) texts
+
+-- texts behind one or more columns
+pub joined_behind : (columns : List Column) (key : ℕ) (texts : List (List ℕ)) → 1 ≤ length columns
+    → joined (columns_words columns 0 key ++ texts) ≡ joined (columns_words columns 0 key) ++ flat_map (λ text. codes ", " ++ text) texts
+joined_behind [] key texts some = absurd (omega arith)
+joined_behind (column ∷ columns) key texts some =
+    let separated : List ℕ → List ℕ = λ text. codes ", " ++ text in
+    let rest = columns_words columns 1 key in
+    ap (λ more. column_words (0 == key) column ++ more) (flat_map-append separated rest texts)
+    ∙ sym (append_assoc (column_words (0 == key) column) (flat_map separated rest) (flat_map separated texts))
+
+-- the first column with a coefficient other than zero is that of the form
+pub column_found : (names : List (List ℕ)) (coeffs : List ℤ) (i : ℕ) (name : List ℕ) (c : ℤ) → i < length names → i < length coeffs
+    → name ≡ get_or names i name → c ≡ get_or coeffs i c → int_eq c (pos 0) ≡ false → column_with (drop i names) (drop i coeffs) ≡ name
+column_found names coeffs i name c here there named at other = rw (drop_item names i name here named, drop_item coeffs i c there at, other) refl
+
+-- behind the last name or the last coefficient there is none
+pub column_past : (names : List (List ℕ)) (coeffs : List ℤ) (i : ℕ) → i ≡ min (length names) (length coeffs) → column_with (drop i names) (drop i coeffs) ≡ []
+column_past [] coeffs zero end = refl
+column_past (name ∷ names) [] zero end = refl
+column_past (name ∷ names) (c ∷ coeffs) zero end = absurd (omega arith)
+column_past [] coeffs (suc i) end = absurd (omega arith)
+column_past (name ∷ names) [] (suc i) end = absurd (omega arith)
+column_past (name ∷ names) (c ∷ coeffs) (suc i) end = column_past names coeffs i (omega arith)
+
+-- what was added is what was to be added, where both are the same
+pub added : {A E : Type 0} (r : Result A E) (new before old : List ℕ) (last text : List ℕ) → OnOk r (new ≡ before ++ last) → before ++ last ≡ old ++ text → OnOk r (new ≡ old ++ text)
+added r new before old last text h e = subst (λ (bytes : List ℕ). OnOk r (new ≡ bytes)) e h
+
+-- four texts, one behind the other
+pub four_texts : (old a b c d : List ℕ) (one two three : List ℕ) → one ≡ old ++ a → two ≡ one ++ b → three ≡ two ++ c → three ++ d ≡ old ++ (a ++ (b ++ (c ++ d)))
+four_texts old a b c d one two three e f g = rw (g, f, e, append_assoc, append_assoc, append_assoc) refl
+
+-- the columns were added, and then the other items behind them
+pub items_added : {A E : Type 0} (r : Result A E) (new between old : List ℕ) (columns : List Column) (key : ℕ) (texts : List (List ℕ)) → 1 ≤ length columns
+    → OnOk r (new ≡ between ++ flat_map (λ text. codes ", " ++ text) texts) → between ≡ old ++ joined (columns_words columns 0 key)
+    → OnOk r (new ≡ old ++ joined (columns_words columns 0 key ++ texts))
+items_added r new between old columns key texts some h e =
+    let front = joined (columns_words columns 0 key) in
+    let rest = flat_map (λ text. codes ", " ++ text) texts in
+    added r new between old rest (joined (columns_words columns 0 key ++ texts)) h
+    (ap (λ (bytes : List ℕ). bytes ++ rest) e ∙ (append_assoc old front rest ∙ ap (λ (bytes : List ℕ). old ++ bytes) (sym (joined_behind columns key texts some))))

@@ -1,0 +1,191 @@
+//! The canonical text of a table: a CREATE TABLE that is read back as the same table.
+ghost use Rattle.std.specs.Prelude.{◌≡◌, ◌++◌, ◌-◌, ◌==◌, [], IfOk, OnOk, codes, decimal, if◌then◌else◌, length, map, string_bytes};
+ghost use Rattle.std.specs.List.{flat_map};
+ghost use Rattle.escrow_sql.specs.Joined.{joined};
+ghost use Rattle.escrow_schema.specs.Column.{reservables, names_of};
+ghost use Rattle.escrow_schema.specs.Definition.{IsTable};
+ghost use Rattle.escrow_schema.specs.Print.{ReadsBack, canonical, check_words, column_with, column_words, columns_words, declared_checks, limit_words, marks_words, table_words, type_words};
+
+mod words;
+
+use crate::column::{Column, ColumnType};
+use crate::print::words::{column_with, push, push_named, push_limits, push_number};
+use crate::rules::{names_of, reservables};
+use crate::table::TableDef;
+use escrow_checks::Check;
+use escrow_num::{Name, Text};
+use std::alloc::{AllocError, Global};
+
+/// The canonical text of a table: its columns in order, each with its type and its mark, then its
+/// declared checks under their names. The text is that of a CREATE TABLE which defines the same
+/// table.
+pub fn print_table(alloc: Global, table: &TableDef) -> Result<Text, AllocError>
+    requires { IsTable table.now }
+    ensures text { IfOk result (λ text. text ≡ canonical table.now) }
+{
+    let mut text = String::new(alloc);
+    push_table(alloc, &mut text, table)?;
+    Ok(Text::from_string(text))
+}
+
+/// Adds the whole text.
+#[tactic(auto, unfolding(crate::specs::Print::table_words))]
+fn push_table(alloc: Global, text: &mut String, table: &TableDef) -> Result<(), AllocError>
+    requires { IsTable table.now }
+    ensures { OnOk result (string_bytes text.new ≡ string_bytes text.old ++ canonical table.now) }
+{
+    let names = reservable_names(alloc, table)?;
+    push_named(text, "CREATE TABLE ", &table.name)?;
+    push(text, " (")?;
+    push_items(alloc, text, table, names.as_slice())?;
+    push(text, ")")
+}
+
+/// The names of the RESERVABLE columns of a table, in column order.
+fn reservable_names(alloc: Global, table: &TableDef) -> Result<Vec<Name>, AllocError>
+    ensures { IfOk result (λ names. names.items ≡ names_of (reservables table.now.columns)) }
+{
+    let reservable = reservables(alloc, table.columns.as_slice())?;
+    names_of(alloc, reservable.as_slice())
+}
+
+/// Adds the columns, and behind them the declared checks, which are over the columns of these names.
+fn push_items(
+    alloc: Global,
+    text: &mut String,
+    table: &TableDef,
+    names: &[Name],
+) -> Result<(), AllocError>
+    requires table { IsTable table.now }
+    requires names { names.now ≡ names_of (reservables table.now.columns) }
+    ensures { OnOk result (string_bytes text.new ≡ string_bytes text.old
+        ++ joined (columns_words table.now.columns 0 table.now.key ++ map (check_words names.now) (declared_checks table.now))) }
+{
+    push_columns(alloc, text, table.columns.as_slice(), table.key)?;
+    push_checks(alloc, text, names, declared_checks(table, names.len()))
+}
+
+/// The declared checks of a table with so many RESERVABLE columns: those before the ranges.
+fn declared_checks(table: &TableDef, reservable: usize) -> &[Check]
+    requires { reservable ≡ length (reservables table.now.columns) }
+    ensures { result.now ≡ declared_checks table.now }
+{
+    let checks = table.checks.as_slice();
+    &checks[..checks.len().saturating_sub(reservable)]
+}
+
+/// Adds columns, of which the key stands at a place.
+fn push_columns(
+    alloc: Global,
+    text: &mut String,
+    columns: &[Column],
+    key: usize,
+) -> Result<(), AllocError>
+    ensures { OnOk result (string_bytes text.new ≡ string_bytes text.old ++ joined (columns_words columns.now 0 key)) }
+{
+    for (place, column) in columns.iter().enumerate() {
+        push_separator(text, place)?;
+        push_column(alloc, text, column, place == key)?;
+    }
+    Ok(())
+}
+
+/// Adds what stands before the item at a place: nothing before the first one.
+fn push_separator(text: &mut String, place: usize) -> Result<(), AllocError>
+    ensures { OnOk result (string_bytes text.new ≡ string_bytes text.old ++ (if place == 0 then [] else codes ", ")) }
+{
+    push(text, if place == 0 { "" } else { ", " })
+}
+
+/// Adds a column: its name, its type, its mark.
+fn push_column(
+    alloc: Global,
+    text: &mut String,
+    column: &Column,
+    is_key: bool,
+) -> Result<(), AllocError>
+    ensures { OnOk result (string_bytes text.new ≡ string_bytes text.old ++ column_words is_key column.now) }
+{
+    push(text, column.name.as_str())?;
+    push(text, " ")?;
+    push_type(alloc, text, &column.kind)?;
+    push(text, mark_of(is_key, column.reservable))
+}
+
+/// Adds a type.
+fn push_type(alloc: Global, text: &mut String, kind: &ColumnType) -> Result<(), AllocError>
+    ensures { OnOk result (string_bytes text.new ≡ string_bytes text.old ++ type_words kind.now) }
+{
+    match kind {
+        ColumnType::Number { digits } => {
+            push(text, "NUMBER(")?;
+            push_number(alloc, text, u64::from(*digits))?;
+        }
+        ColumnType::Varchar2 { bytes } => {
+            push(text, "VARCHAR2(")?;
+            push_number(alloc, text, u64::from(*bytes))?;
+        }
+    }
+    push(text, ")")
+}
+
+/// The mark of the key, or of a RESERVABLE column, behind a space.
+#[tactic(auto, unfolding(crate::specs::Print::marks_words))]
+fn mark_of(is_key: bool, reservable: bool) -> &'static str
+    ensures { result.now ≡ marks_words is_key reservable }
+{
+    if is_key {
+        " PRIMARY KEY"
+    } else if reservable {
+        " RESERVABLE"
+    } else {
+        ""
+    }
+}
+
+/// Adds checks over the RESERVABLE columns of these names, behind what stands before them.
+fn push_checks(
+    alloc: Global,
+    text: &mut String,
+    names: &[Name],
+    checks: &[Check],
+) -> Result<(), AllocError>
+    ensures { OnOk result (string_bytes text.new ≡ string_bytes text.old
+        ++ flat_map (λ words. codes ", " ++ words) (map (check_words names.now) checks.now)) }
+{
+    for check in checks {
+        push(text, ", ")?;
+        push_check(alloc, text, names, check)?;
+    }
+    Ok(())
+}
+
+/// Adds a check: its name, its form, its limits.
+#[tactic(auto, unfolding(crate::specs::Print::check_words))]
+fn push_check(
+    alloc: Global,
+    text: &mut String,
+    names: &[Name],
+    check: &Check,
+) -> Result<(), AllocError>
+    ensures { OnOk result (string_bytes text.new ≡ string_bytes text.old ++ check_words names.now check.now) }
+{
+    push_named(text, "CONSTRAINT ", &check.name)?;
+    push(text, " CHECK (")?;
+    push_condition(alloc, text, names, check)?;
+    push(text, ")")
+}
+
+/// Adds the condition of a check: its form and its limits.
+fn push_condition(
+    alloc: Global,
+    text: &mut String,
+    names: &[Name],
+    check: &Check,
+) -> Result<(), AllocError>
+    ensures { OnOk result (string_bytes text.new ≡ string_bytes text.old
+        ++ (column_with names.now check.now.coeffs ++ limit_words check.now.span.lo check.now.span.hi)) }
+{
+    push(text, column_with(names, check.coeffs.as_slice()))?;
+    push_limits(alloc, text, &check.span)
+}
