@@ -6,7 +6,12 @@ pub mod DefinedLemmas
 pub mod DistinctLemmas
 pub mod KeyLemmas
 pub mod ListLemmas
+pub mod PrintBack
+pub mod PrintChecks
 pub mod PrintLemmas
+pub mod PrintLength
+pub mod PrintTree
+pub mod PrintWrites
 pub mod RangeLemmas
 pub mod RuleLemmas
 pub mod TableLemmas

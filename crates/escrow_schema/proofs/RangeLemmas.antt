@@ -55,7 +55,7 @@ amount_between (Number digits) z small h =
 amount_between (Varchar2 bytes) z small h = (omega (arith, ints), omega (arith, ints))
 
 -- a test of two numbers, and what it tells
-int_le_true : (a b : ℤ) → int_le a b ≡ true → a ≤ℤ b
+pub int_le_true : (a b : ℤ) → int_le a b ≡ true → a ≤ℤ b
 int_le_true (pos a) (pos b) e = let h = leb-true a b e in omega (arith, ints)
 int_le_true (pos a) (negsuc b) e = absurd (false≢true e)
 int_le_true (negsuc a) (pos b) e = omega (arith, ints)

@@ -47,7 +47,7 @@ unit_at (column ∷ columns) (suc place) d apart within =
     rw other (ap (λ rest. pos 0 ∷ rest) (unit_at columns place d parts.1 (omega arith)))
 
 -- a name that a statement can write is short
-short_from : (name : List ℕ) → is_written_name name ≡ true → length name ≤ MAX_WRITTEN
+pub short_from : (name : List ℕ) → is_written_name name ≡ true → length name ≤ MAX_WRITTEN
 unfolding is_written_name
 short_from name h = leb-true (length name) MAX_WRITTEN (and_parts (spells_name name) (nat_le (length name) MAX_WRITTEN) (and_parts (spells_name name && nat_le (length name) MAX_WRITTEN) (is_none (reserved name)) h).0).1
 

@@ -22,6 +22,7 @@ use std::alloc::{AllocError, Global};
 pub fn print_table(alloc: Global, table: &TableDef) -> Result<Text, AllocError>
     requires { IsTable table.now }
     ensures text { IfOk result (λ text. text ≡ canonical table.now) }
+    ensures read_back { ReadsBack table.now }
 {
     let mut text = String::new(alloc);
     push_table(alloc, &mut text, table)?;

@@ -1,0 +1,131 @@
+-- The canonical text of a table is read back as that table.
+use Rattle.std.proofs.Common.{◌≡◌, ℕ, ◌+◌, ◌-◌, ◌≤◌, true, List, [], ◌∷◌, ◌++◌, Some, length, map, take, refl, sym, ap, ◌∙◌, subst, arith, length-append}
+use Rattle.std.specs.Prelude.{nat_le}
+use Rattle.std.specs.List.{AllByRecursion, list_all}
+use Rattle.std.proofs.Math.Seq.{take-append_seam}
+use Rattle.std.proofs.lemmas.Bool.{cond-true, le-leb}
+use Rattle.std.proofs.lemmas.List.{length-map}
+use Rattle.escrow_sql.specs.declared.statement.CheckText.{CheckText}
+use Rattle.escrow_sql.specs.declared.statement.CreateText.{CreateText}
+use Rattle.escrow_sql.specs.declared.statement.Item.{Item}
+use Rattle.escrow_sql.proofs.Writing.{asks_written}
+use Rattle.escrow_sql.proofs.WritingLists.{each_append}
+use Rattle.escrow_sql.specs.Parser.{Asks}
+use Rattle.escrow_sql.specs.Statement.{item}
+use Rattle.escrow_sql.specs.declared.statement.Request.TheVariants as requests
+use Rattle.escrow_sql.specs.declared.statement.Statement.TheVariants as statements
+use Rattle.escrow_checks.specs.declared.check.Check.{Check}
+use Rattle.escrow_checks.specs.declared.condition.TheConstants.{MAX_CHECKS}
+use Rattle.escrow_checks.specs.Checks.{checks_from, checks_of}
+use Rattle.escrow_checks.specs.WrittenName.{is_written_name}
+use Rattle.escrow_schema.specs.declared.column.Column.{Column}
+use Rattle.escrow_schema.specs.declared.table.TableDef.{TableDef}
+use Rattle.escrow_schema.specs.Column.{names_of, reservables}
+use Rattle.escrow_schema.specs.Definition.{IsTable, checks_in, definition_of, range_check, range_checks}
+use Rattle.escrow_schema.specs.Print.{ReadsBack, canonical, check_words, columns_words, declared_checks}
+use Rattle.escrow_schema.specs.Rules.{FollowsRules}
+use Rattle.escrow_schema.proofs.ColumnsLemmas.{HasType, reservables_written}
+use Rattle.escrow_schema.proofs.DefinedLemmas.{defined}
+use Rattle.escrow_schema.proofs.ListLemmas.{both_parts, some_under}
+use Rattle.escrow_schema.proofs.RuleLemmas.{Rules, column_types, follows_rules, rules_of}
+use Rattle.escrow_schema.proofs.PrintChecks.{Declared, all_again, all_declared}
+use Rattle.escrow_schema.proofs.PrintLength.{IsShort, checks_short, columns_short, length-columns_words, table_length}
+use Rattle.escrow_schema.proofs.PrintTree.{check_item, check_tree, checks_back, columns_back, columns_tree, items_tree, keys_back, plain_found, tree_of}
+use Rattle.escrow_schema.proofs.PrintWrites.{writes_checks, writes_columns, writes_table}
+
+-- the declared checks stand before those of ranges
+declared_first : (table : TableDef) (declared : List Check) → table.checks ≡ declared ++ range_checks table.columns → declared_checks table ≡ declared
+declared_first table declared e =
+    let reserved = reservables table.columns in
+    let ranges = range_checks table.columns in
+    let many : length table.checks - length reserved ≡ length declared =
+    let whole = ap length e in
+    omega (arith, whole, length-append declared ranges, length-map reserved (range_check (names_of reserved))) in
+    ap (λ (n : ℕ). take n table.checks) many ∙ (ap (take (length declared)) e ∙ take-append_seam declared ranges)
+
+-- what the definition of a table gives for its text: names that can be written, types, declared checks
+record Sound (table : TableDef) : Type 0 where
+  pub name : is_written_name table.name ≡ true
+  pub names : list_all is_written_name (names_of table.columns) ≡ true
+  pub types : AllByRecursion HasType table.columns
+  pub some : 1 ≤ length table.columns
+  pub columns : length table.columns ≤ 30
+  pub few : length (declared_checks table) ≤ MAX_CHECKS
+  pub declared : AllByRecursion (Declared (names_of (reservables table.columns))) (declared_checks table)
+  pub checks : table.checks ≡ declared_checks table ++ range_checks table.columns
+
+sound : (text : CreateText) (table : TableDef) → definition_of text ≡ Some table → FollowsRules text table → Sound table
+sound text table e h =
+    let rules = rules_of table (text, e) in
+    let names = names_of (reservables table.columns) in
+    let same = declared_first table h.declared h.checks in
+    let from = some_under (nat_le (length (checks_in text.items)) MAX_CHECKS) (checks_from names (checks_in text.items) 1) h.declared h.of_text in
+    let least = rules.least in
+    record {
+      name = h.written_names.0;
+      names = rules.written_names;
+      types = column_types table (text, e);
+      some = omega arith;
+      columns = rules.most;
+      few = subst (λ (checks : List Check). length checks ≤ MAX_CHECKS) (sym same) h.few_declared;
+      checks = h.checks ∙ ap (λ (checks : List Check). checks ++ range_checks table.columns) (sym same);
+      declared = subst (AllByRecursion (Declared names)) (sym same) (all_declared names (checks_in text.items) 1 h.declared (reservables_written table.columns rules.written_names) from.1);
+    }
+
+-- the declared checks, of their own texts
+checks_again : (names : List (List ℕ)) (checks : List Check) → length checks ≤ MAX_CHECKS → AllByRecursion (Declared names) checks → checks_of names (map (check_tree names) checks) ≡ Some checks
+checks_again names checks few all =
+    let short : nat_le (length (map (check_tree names) checks)) MAX_CHECKS ≡ true = le-leb (length (map (check_tree names) checks)) MAX_CHECKS (omega (arith, length-map checks (check_tree names))) in
+    cond-true _ _ _ short ∙ all_again names checks 1 all
+
+-- the tree and the table follow the rules of definitions
+follows_tree : (text : CreateText) (table : TableDef) → Sound table → FollowsRules text table → FollowsRules (tree_of table) table
+follows_tree text table s h =
+    let names = names_of (reservables table.columns) in
+    let checks = declared_checks table in
+    record {
+      name = refl;
+      columns = columns_back table.columns 0 table.key names checks s.types (plain_found table.columns 0 table.key table.key h.key (omega arith) h.key_there h.plain_key);
+      enough_columns = h.enough_columns;
+      few_columns = h.few_columns;
+      written_names = h.written_names;
+      distinct_columns = h.distinct_columns;
+      key = h.key;
+      key_there = h.key_there;
+      one_key = keys_back table.columns 0 table.key table.key h.key names checks (omega arith) h.key_there;
+      plain_key = h.plain_key;
+      some_reservable = h.some_reservable;
+      few_reservable = h.few_reservable;
+      number_reservable = h.number_reservable;
+      declared = checks;
+      of_text = ap (checks_of names) (checks_back table.columns 0 table.key names checks) ∙ checks_again names checks s.few s.declared;
+      few_declared = s.few;
+      checks = s.checks;
+      distinct_checks = h.distinct_checks;
+    }
+
+-- there is an item where there is a column
+some_item : (columns : List Column) (key : ℕ) (rest : List Item) → 1 ≤ length columns → 1 ≤ length (columns_tree columns 0 key ++ rest)
+some_item [] key rest some = absurd (omega arith)
+some_item (column ∷ columns) key rest some = omega arith
+
+-- the text asks a CREATE TABLE with the tree
+asks_tree : (table : TableDef) → Sound table → Asks (canonical table) (requests.Statement (statements.Create (tree_of table)))
+asks_tree table s =
+    let names = names_of (reservables table.columns) in
+    let columns = columns_words table.columns 0 table.key in
+    let checks = map (check_words names) (declared_checks table) in
+    let few : length (columns ++ checks) ≤ 62 =
+    omega (arith, s.columns, s.few, length-append columns checks, length-columns_words table.columns 0 table.key, length-map (declared_checks table) (check_words names)) in
+    let short : AllByRecursion IsShort (columns ++ checks) =
+    both_parts IsShort columns checks (columns_short table.columns 0 table.key s.names s.types) (checks_short names (declared_checks table) s.declared) in
+    let each = each_append item columns checks (columns_tree table.columns 0 table.key) (map (check_item names) (declared_checks table))
+    (writes_columns table.columns 0 table.key s.names s.types) (writes_checks names (declared_checks table) s.declared) in
+    asks_written (writes_table table.name (columns ++ checks) (items_tree table) s.name (some_item table.columns table.key (map (check_item names) (declared_checks table)) s.some) each)
+    (table_length table.name (columns ++ checks) s.name short few)
+
+pub read_back : (table : TableDef) → IsTable table → ReadsBack table
+read_back table (text, e) =
+    let h = follows_rules text table e in
+    let s = sound text table e h in
+    (tree_of table, asks_tree table s, defined (tree_of table) table (follows_tree text table s h))

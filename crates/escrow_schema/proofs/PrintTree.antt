@@ -1,0 +1,145 @@
+-- The tree that the canonical text of a table writes, and what it declares: the table's columns, key and checks.
+use Rattle.std.proofs.Common.{◌≡◌, ℕ, zero, suc, ℤ, pos, ◌+◌, ◌<◌, ◌≤◌, Bool, true, false, Option, Some, None, option_map, option_and_then, List, [], ◌∷◌, ◌++◌, length, map, filter, refl, sym, ap, ◌∙◌, subst, arith}
+use Rattle.std.specs.Prelude.{◌==◌, filter_map, if◌then◌else◌, slice_get}
+use Rattle.std.specs.List.{AllByRecursion, flat_map, list_any}
+use Rattle.std.proofs.lemmas.Bool.Decides.{nat_tests}
+use Rattle.std.proofs.lemmas.Bool.{eqb-true, eq-eqb, le-leb, and_from}
+use Rattle.std.proofs.lemmas.Option.{same_Some}
+use Rattle.escrow_sql.specs.declared.statement.CheckText.{CheckText}
+use Rattle.escrow_sql.specs.declared.statement.ColumnMark.{ColumnMark}
+use Rattle.escrow_sql.specs.declared.statement.ColumnMark.TheVariants as marks
+use Rattle.escrow_sql.specs.declared.statement.ColumnText.{ColumnText}
+use Rattle.escrow_sql.specs.declared.statement.Comparison.TheVariants as comparisons
+use Rattle.escrow_sql.specs.declared.statement.Condition.{Condition}
+use Rattle.escrow_sql.specs.declared.statement.CreateText.{CreateText}
+use Rattle.escrow_sql.specs.declared.statement.Item.{Item}
+use Rattle.escrow_sql.specs.declared.statement.Item.TheVariants as items
+use Rattle.escrow_sql.specs.declared.statement.TypeText.{TypeText}
+use Rattle.escrow_sql.specs.declared.statement.TypeText.TheVariants as types
+use Rattle.escrow_checks.specs.declared.check.Check.{Check}
+use Rattle.escrow_schema.specs.declared.column.Column.{Column}
+use Rattle.escrow_schema.specs.declared.column.ColumnType.{ColumnType}
+use Rattle.escrow_schema.specs.declared.column.ColumnType.TheVariants.{Number, Varchar2}
+use Rattle.escrow_schema.specs.declared.table.TableDef.{TableDef}
+use Rattle.escrow_schema.specs.Column.{type_of, reservables, names_of}
+use Rattle.escrow_schema.specs.Definition.{check_of_mark, checks_in, column_of, column_text, column_texts, columns_of, is_key_mark, is_reservable_mark, key_names}
+use Rattle.escrow_schema.specs.Print.{column_with, declared_checks}
+use Rattle.escrow_schema.specs.Typed.{IsType}
+use Rattle.escrow_schema.proofs.ColumnsLemmas.{HasType}
+
+-- a type
+abbrev pub type_tree : ColumnType → TypeText
+type_tree (Number digits) = types.Number (Some (pos digits))
+type_tree (Varchar2 bytes) = types.Varchar2 (pos bytes)
+
+-- the mark of the key, or of a RESERVABLE column
+abbrev pub marks_tree : Bool → Bool → List ColumnMark
+marks_tree true reservable = marks.PrimaryKey ∷ []
+marks_tree false true = marks.Reservable ∷ []
+marks_tree false false = []
+
+-- a column
+abbrev pub column_tree : Bool → Column → ColumnText
+column_tree is_key column = record { name = column.name; kind = type_tree column.kind; marks = marks_tree is_key column.reservable }
+
+-- columns in order, of which the first stands at a place
+abbrev pub columns_tree : List Column → ℕ → ℕ → List Item
+columns_tree [] place key = []
+columns_tree (column ∷ columns) place key = items.Column (column_tree (place == key) column) ∷ columns_tree columns (place + 1) key
+
+-- a form of one column within its limits
+abbrev pub condition_tree : List ℕ → Option ℤ → Option ℤ → Condition
+condition_tree column (Some lo) hi = record { column = column; comparison = comparisons.AtLeast; limit = lo }
+condition_tree column None (Some hi) = record { column = column; comparison = comparisons.AtMost; limit = hi }
+condition_tree column None None = record { column = column; comparison = comparisons.AtMost; limit = pos 0 }
+
+-- a check over columns of these names
+abbrev pub check_tree : List (List ℕ) → Check → CheckText
+check_tree names check = record { name = Some check.name; condition = condition_tree (column_with names check.coeffs) check.span.lo check.span.hi }
+
+abbrev pub check_item : List (List ℕ) → Check → Item
+check_item names check = items.Check (check_tree names check)
+
+-- a table's items, and the whole
+abbrev pub items_tree : TableDef → List Item
+items_tree table = columns_tree table.columns 0 table.key ++ map (check_item (names_of (reservables table.columns))) (declared_checks table)
+
+abbrev pub tree_of : TableDef → CreateText
+tree_of table = record { table = table.name; items = items_tree table }
+
+-- ---- the columns
+
+-- what is at the key's place isn't RESERVABLE
+abbrev pub PlainKey : List Column → ℕ → ℕ → Type 0
+PlainKey [] place key = Unit {0}
+PlainKey (column ∷ columns) place key = ((place == key) ≡ true → column.reservable ≡ false) × PlainKey columns (place + 1) key
+
+plain_past : (columns : List Column) (place key : ℕ) → key < place → PlainKey columns place key
+plain_past [] place key past = tt
+plain_past (column ∷ columns) place key past = (λ e. let same = eqb-true place key e in absurd (omega arith), plain_past columns (place + 1) key (omega arith))
+
+pub plain_found : (columns : List Column) (place key i : ℕ) (column : Column) → key ≡ place + i → slice_get columns i ≡ Some column → column.reservable ≡ false → PlainKey columns place key
+plain_found [] place key i column at found plain = tt
+plain_found (first ∷ columns) place key zero column at found plain =
+    (λ e. subst (λ (c : Column). c.reservable ≡ false) (sym (same_Some first column found)) plain, plain_past columns (place + 1) key (omega arith))
+plain_found (first ∷ columns) place key (suc i) column at found plain =
+    (λ e. let same = eqb-true place key e in absurd (omega arith), plain_found columns (place + 1) key i column (omega arith) found plain)
+
+-- a type that is one is read back
+type_back : (kind : ColumnType) → IsType kind → type_of (type_tree kind) ≡ Some kind
+type_back (Number digits) h = let low = le-leb 1 digits h.0 in let high = le-leb digits 15 h.1 in rw (low, high) refl
+type_back (Varchar2 bytes) h = let low = le-leb 1 bytes h.0 in let high = le-leb bytes 255 h.1 in rw (low, high) refl
+
+marks_back : (is_key reservable : Bool) → (is_key ≡ true → reservable ≡ false) → list_any is_reservable_mark (marks_tree is_key reservable) ≡ reservable
+marks_back true reservable plain = sym (plain refl)
+marks_back false true plain = refl
+marks_back false false plain = refl
+
+column_back : (is_key : Bool) (column : Column) → HasType column → (is_key ≡ true → column.reservable ≡ false) → column_of (column_tree is_key column) ≡ Some column
+column_back is_key column typed plain = rw (type_back column.kind typed, marks_back is_key column.reservable plain) refl
+
+pub columns_back : (columns : List Column) (place key : ℕ) (names : List (List ℕ)) (checks : List Check) → AllByRecursion HasType columns → PlainKey columns place key
+    → columns_of (column_texts (columns_tree columns place key ++ map (check_item names) checks)) ≡ Some columns
+columns_back [] place key names [] typed plain = refl
+columns_back [] place key names (check ∷ checks) typed plain = columns_back [] place key names checks typed plain
+columns_back (column ∷ columns) place key names checks typed plain =
+    rw (column_back (place == key) column typed.0 plain.0, columns_back columns (place + 1) key names checks typed.1 plain.1) refl
+
+-- ---- the key
+
+no_keys : (names : List (List ℕ)) (checks : List Check) → key_names (map (check_item names) checks) ≡ []
+no_keys names [] = refl
+no_keys names (check ∷ checks) = no_keys names checks
+
+no_key_mark : (reservable : Bool) (name : List ℕ) → map (λ mark. name) (filter is_key_mark (marks_tree false reservable)) ≡ []
+no_key_mark true name = refl
+no_key_mark false name = refl
+
+keys_past : (columns : List Column) (place key : ℕ) (names : List (List ℕ)) (checks : List Check) → key < place → key_names (columns_tree columns place key ++ map (check_item names) checks) ≡ []
+keys_past [] place key names checks past = no_keys names checks
+keys_past (column ∷ columns) place key names checks past =
+    let apart : (place == key) ≡ false = grind (arith, nat_tests) in
+    rw (apart, no_key_mark column.reservable column.name) (keys_past columns (place + 1) key names checks (omega arith))
+
+pub keys_back : (columns : List Column) (place key i : ℕ) (column : Column) (names : List (List ℕ)) (checks : List Check) → key ≡ place + i → slice_get columns i ≡ Some column
+    → key_names (columns_tree columns place key ++ map (check_item names) checks) ≡ column.name ∷ []
+keys_back [] place key i column names checks at found = absurd (cc)
+keys_back (first ∷ columns) place key zero column names checks at found =
+    let same : (place == key) ≡ true = eq-eqb place key (omega arith) in
+    rw (same, keys_past columns (place + 1) key names checks (omega arith)) (ap (λ (c : Column). c.name ∷ []) (same_Some first column found))
+keys_back (first ∷ columns) place key (suc i) column names checks at found =
+    let apart : (place == key) ≡ false = grind (arith, nat_tests) in
+    rw (apart, no_key_mark first.reservable first.name) (keys_back columns (place + 1) key i column names checks (omega arith) found)
+
+-- ---- the CHECKs
+
+no_check_mark : (is_key reservable : Bool) → flat_map check_of_mark (marks_tree is_key reservable) ≡ []
+no_check_mark true reservable = refl
+no_check_mark false true = refl
+no_check_mark false false = refl
+
+pub checks_back : (columns : List Column) (place key : ℕ) (names : List (List ℕ)) (checks : List Check)
+    → checks_in (columns_tree columns place key ++ map (check_item names) checks) ≡ map (check_tree names) checks
+checks_back [] place key names [] = refl
+checks_back [] place key names (check ∷ checks) = ap (λ (texts : List CheckText). check_tree names check ∷ texts) (checks_back [] place key names checks)
+checks_back (column ∷ columns) place key names checks = rw (no_check_mark (place == key) column.reservable) (checks_back columns (place + 1) key names checks)
