@@ -1,11 +1,10 @@
 -- The canonical text of a table is read back as that table.
-use Rattle.std.proofs.Common.{◌≡◌, ℕ, ◌+◌, ◌-◌, ◌≤◌, true, List, [], ◌∷◌, ◌++◌, Some, length, map, take, refl, sym, ap, ◌∙◌, subst, arith, length-append}
+use Rattle.std.proofs.Common.{◌≡◌, ℕ, ◌-◌, ◌≤◌, true, List, [], ◌∷◌, ◌++◌, Some, length, map, take, refl, sym, ap, ◌∙◌, subst, arith, length-append}
 use Rattle.std.specs.Prelude.{nat_le}
 use Rattle.std.specs.List.{AllByRecursion, list_all}
 use Rattle.std.proofs.Math.Seq.{take-append_seam}
 use Rattle.std.proofs.lemmas.Bool.{cond-true, le-leb}
 use Rattle.std.proofs.lemmas.List.{length-map}
-use Rattle.escrow_sql.specs.declared.statement.CheckText.{CheckText}
 use Rattle.escrow_sql.specs.declared.statement.CreateText.{CreateText}
 use Rattle.escrow_sql.specs.declared.statement.Item.{Item}
 use Rattle.escrow_sql.proofs.Writing.{asks_written}
@@ -27,7 +26,7 @@ use Rattle.escrow_schema.specs.Rules.{FollowsRules}
 use Rattle.escrow_schema.proofs.ColumnsLemmas.{HasType, reservables_written}
 use Rattle.escrow_schema.proofs.DefinedLemmas.{defined}
 use Rattle.escrow_schema.proofs.ListLemmas.{both_parts, some_under}
-use Rattle.escrow_schema.proofs.RuleLemmas.{Rules, column_types, follows_rules, rules_of}
+use Rattle.escrow_schema.proofs.RuleLemmas.{column_types, follows_rules, rules_of}
 use Rattle.escrow_schema.proofs.PrintChecks.{Declared, all_again, all_declared}
 use Rattle.escrow_schema.proofs.PrintLength.{IsShort, checks_short, columns_short, length-columns_words, table_length}
 use Rattle.escrow_schema.proofs.PrintTree.{check_item, check_tree, checks_back, columns_back, columns_tree, items_tree, keys_back, plain_found, tree_of}

@@ -1,9 +1,9 @@
 -- The tree that the canonical text of a table writes, and what it declares: the table's columns, key and checks.
-use Rattle.std.proofs.Common.{◌≡◌, ℕ, zero, suc, ℤ, pos, ◌+◌, ◌<◌, ◌≤◌, Bool, true, false, Option, Some, None, option_map, option_and_then, List, [], ◌∷◌, ◌++◌, length, map, filter, refl, sym, ap, ◌∙◌, subst, arith}
-use Rattle.std.specs.Prelude.{◌==◌, filter_map, if◌then◌else◌, slice_get}
+use Rattle.std.proofs.Common.{◌≡◌, ℕ, zero, suc, ℤ, pos, ◌+◌, ◌<◌, Bool, true, false, Option, Some, None, List, [], ◌∷◌, ◌++◌, map, filter, refl, sym, ap, subst, arith}
+use Rattle.std.specs.Prelude.{◌==◌, slice_get}
 use Rattle.std.specs.List.{AllByRecursion, flat_map, list_any}
 use Rattle.std.proofs.lemmas.Bool.Decides.{nat_tests}
-use Rattle.std.proofs.lemmas.Bool.{eqb-true, eq-eqb, le-leb, and_from}
+use Rattle.std.proofs.lemmas.Bool.{eqb-true, eq-eqb, le-leb}
 use Rattle.std.proofs.lemmas.Option.{same_Some}
 use Rattle.escrow_sql.specs.declared.statement.CheckText.{CheckText}
 use Rattle.escrow_sql.specs.declared.statement.ColumnMark.{ColumnMark}
@@ -22,7 +22,7 @@ use Rattle.escrow_schema.specs.declared.column.ColumnType.{ColumnType}
 use Rattle.escrow_schema.specs.declared.column.ColumnType.TheVariants.{Number, Varchar2}
 use Rattle.escrow_schema.specs.declared.table.TableDef.{TableDef}
 use Rattle.escrow_schema.specs.Column.{type_of, reservables, names_of}
-use Rattle.escrow_schema.specs.Definition.{check_of_mark, checks_in, column_of, column_text, column_texts, columns_of, is_key_mark, is_reservable_mark, key_names}
+use Rattle.escrow_schema.specs.Definition.{check_of_mark, checks_in, column_of, column_texts, columns_of, is_key_mark, is_reservable_mark, key_names}
 use Rattle.escrow_schema.specs.Print.{column_with, declared_checks}
 use Rattle.escrow_schema.specs.Typed.{IsType}
 use Rattle.escrow_schema.proofs.ColumnsLemmas.{HasType}

@@ -2,7 +2,6 @@
 use Rattle.std.specs.Prelude.{◌≡◌, ℕ, ℤ, pos, ◌+◌, ◌-◌, ◌==◌, Bool, if◌then◌else◌, Option, Some, None, List, [], ◌∷◌, ◌++◌, length, take, map, codes, decimal}
 use Rattle.std.specs.Fmt.{signed_decimal}
 use Rattle.std.specs.Ordering.{int_eq}
-use Rattle.escrow_num.specs.declared.span.Span.{Span}
 use Rattle.escrow_sql.specs.Joined.{joined}
 use Rattle.escrow_sql.specs.Parser.{Asks}
 use Rattle.escrow_sql.specs.declared.statement.CreateText.{CreateText}

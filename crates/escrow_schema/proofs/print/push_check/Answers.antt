@@ -1,4 +1,4 @@
-use Rattle.std.proofs.Common.{◌≡◌, ◌++◌, codes, string_bytes}
+use Rattle.std.proofs.Common.{◌++◌, codes, string_bytes}
 use Rattle.escrow_schema.specs.Print.{check_words, column_with, limit_words}
 use Rattle.escrow_schema.proofs.PrintLemmas.{added, four_texts}
 use Rattle.escrow_schema.proofs.print.push_check.Goals as goal

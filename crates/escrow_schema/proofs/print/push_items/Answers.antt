@@ -1,4 +1,4 @@
-use Rattle.std.proofs.Common.{◌≡◌, map, string_bytes, arith}
+use Rattle.std.proofs.Common.{map, string_bytes, arith}
 use Rattle.escrow_schema.specs.Print.{check_words, declared_checks}
 use Rattle.escrow_schema.proofs.PrintLemmas.{items_added}
 use Rattle.escrow_schema.proofs.RuleLemmas.{rules_of}

@@ -1,4 +1,4 @@
-use Rattle.std.proofs.Common.{◌≡◌, ◌∙◌, length, sym}
+use Rattle.std.proofs.Common.{◌∙◌, length, sym}
 use Rattle.std.proofs.lemmas.Slice.Zip.{zip_turn, zip_end}
 use Rattle.escrow_schema.proofs.PrintLemmas.{column_found, column_past}
 use Rattle.escrow_schema.proofs.print.words.column_with.Goals as goal
