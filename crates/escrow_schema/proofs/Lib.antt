@@ -1,9 +1,11 @@
+pub mod AskedLemmas
 pub mod CatalogLemmas
 pub mod CheckLemmas
 pub mod ColumnLemmas
 pub mod ColumnsLemmas
 pub mod DefinedLemmas
 pub mod DistinctLemmas
+pub mod FitLemmas
 pub mod KeyLemmas
 pub mod ListLemmas
 pub mod PrintBack
@@ -16,3 +18,4 @@ pub mod RangeLemmas
 pub mod RuleLemmas
 pub mod TableLemmas
 pub mod UnitLemmas
+pub mod ValuesLemmas

@@ -1,3 +1,4 @@
+pub mod Asked
 pub mod Catalog
 pub mod Column
 pub mod Definition

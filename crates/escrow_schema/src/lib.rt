@@ -8,19 +8,23 @@
 mod catalog;
 mod column;
 mod definition;
+mod fit;
 mod items;
 mod lists;
 mod literal;
 mod plan;
 mod print;
 mod ranges;
+mod row;
 mod rules;
 mod table;
 
 pub use catalog::Catalog;
 pub use column::{Column, ColumnType};
 pub use definition::define;
+pub use fit::fit_row;
 pub use literal::is_value;
 pub use plan::Plan;
 pub use print::print_table;
+pub use row::values_of;
 pub use table::TableDef;

@@ -1,0 +1,231 @@
+ghost use Rattle.std.specs.Prelude.{◌≡◌, ◌↔◌, ◌++◌, ◌⊎◌, ◌||◌, ◌==◌, ◌<◌, [], ◌∷◌, None, Some, IfOk, IfErr, IsErrOf, IsSome, IsTrue, OnOk, is_some, length, option_copied, option_map, option_to_list, if◌then◌else◌};
+ghost use Rattle.escrow_schema.specs.Asked.{asked_values, is_list, literal_for, value_at, values_at};
+ghost use Rattle.escrow_schema.specs.Column.{value_of};
+ghost use Rattle.escrow_schema.specs.Definition.{IsTable};
+ghost use Rattle.escrow_schema.specs.Fit.{amounts_of, inserted_row, literal_beside, number_in, plain_of, row_with};
+ghost use Rattle.escrow_schema.specs.Typed.{IsType, TypedColumns};
+
+use crate::column::Column;
+use crate::literal::value_of;
+use crate::rules::are_distinct;
+use crate::table::TableDef;
+use escrow_num::{Amount, Name, Refusal, Row, RowName, Seq, Value};
+use escrow_sql::{InsertText, Literal};
+use std::alloc::{AllocError, Global};
+
+/// The row that an INSERT makes. Refused as a bad value exactly where its columns aren't each of the
+/// table's once, where there aren't as many literals as columns, or where a literal doesn't fit its
+/// column's type. Memory is only taken for a row.
+pub fn fit_row(alloc: Global, table: &TableDef, text: &InsertText) -> Result<Row, Refusal>
+    requires { IsTable table.now }
+    ensures ok { IfOk result (λ row. inserted_row table.now text.now ≡ Some row) }
+    ensures bad { IsErrOf result Refusal.BadValue ↔ (inserted_row table.now text.now ≡ None) }
+    ensures memory { IsErrOf result Refusal.Memory → IsSome (inserted_row table.now text.now) }
+    ensures only { IfErr result (λ e. (e ≡ Refusal.BadValue) ⊎ (e ≡ Refusal.Memory)) }
+{
+    if !all_fit(table.typed_columns(), text) {
+        return Err(Refusal::BadValue);
+    }
+    match make_row(alloc, table, text) {
+        Ok(row) => Ok(row),
+        Err(_) => Err(Refusal::Memory),
+    }
+}
+
+/// Whether each column has a literal, no literal is left, and each fits its column's type.
+fn all_fit(columns: &[Column], text: &InsertText) -> bool
+    requires { TypedColumns columns.now }
+    ensures { result ≡ is_some (asked_values columns.now text.now) }
+{
+    is_list(columns, text) && each_fits(columns, text)
+}
+
+/// Whether there are as many literals as columns, and where columns are named, as many distinct
+/// names.
+fn is_list(columns: &[Column], text: &InsertText) -> bool
+    ensures { result ≡ is_list columns.now text.now.columns text.now.values }
+{
+    match &text.columns {
+        None => columns.len() == text.values.len(),
+        Some(names) => {
+            are_distinct(names.as_slice())
+                && names.len() == columns.len()
+                && names.len() == text.values.len()
+        }
+    }
+}
+
+/// Whether each column has a literal that fits its type.
+fn each_fits(columns: &[Column], text: &InsertText) -> bool
+    requires { TypedColumns columns.now }
+    ensures { result ≡ is_some (values_at text.now.columns text.now.values 0 columns.now) }
+{
+    for (i, column) in columns.iter().enumerate() {
+        if !has_value(column, i, text) {
+            return false;
+        }
+    }
+    true
+}
+
+/// Whether the column at a place has a literal that fits its type.
+fn has_value(column: &Column, place: usize, text: &InsertText) -> bool
+    requires { IsType column.now.kind }
+    ensures { result ≡ is_some (value_at text.now.columns text.now.values place column.now) }
+{
+    match literal_for(text, place, &column.name) {
+        Some(literal) => column.kind.fits(literal),
+        None => false,
+    }
+}
+
+/// The literal of the column of a name that stands at a place.
+fn literal_for<'a>(text: &'a InsertText, place: usize, name: &Name) -> Option<&'a Literal>
+    ensures { option_copied result ≡ literal_for text.now.columns text.now.values place name.now }
+{
+    match &text.columns {
+        None => text.values.get(place),
+        Some(names) => literal_beside(names.as_slice(), text.values.as_slice(), name),
+    }
+}
+
+/// The literal that stands beside a name.
+fn literal_beside<'a>(names: &[Name], literals: &'a [Literal], name: &Name) -> Option<&'a Literal>
+    ensures { option_copied result ≡ literal_beside names.now literals.now name.now }
+{
+    for (i, other) in names.iter().enumerate() {
+        if *other == *name {
+            return literals.get(i);
+        }
+    }
+    None
+}
+
+/// The row of an INSERT whose literals fit the table.
+fn make_row(alloc: Global, table: &TableDef, text: &InsertText) -> Result<Row, AllocError>
+    requires table { IsTable table.now }
+    requires fit { IsSome (asked_values table.now.columns text.now) }
+    ensures { IfOk result (λ row. inserted_row table.now text.now ≡ Some row) }
+{
+    let values = values_at(alloc, table.typed_columns(), text)?;
+    row_with(alloc, table, values.as_slice())
+}
+
+/// The values of columns, of which each has a literal that fits.
+fn values_at(
+    alloc: Global,
+    columns: &[Column],
+    text: &InsertText,
+) -> Result<Vec<Value>, AllocError>
+    requires { IsSome (values_at text.now.columns text.now.values 0 columns.now) }
+    ensures { IfOk result (λ values. values_at text.now.columns text.now.values 0 columns.now ≡ Some values.items) }
+{
+    let mut values = Vec::new(alloc);
+    for (i, column) in columns.iter().enumerate() {
+        push_value(alloc, &mut values, column, i, text)?;
+    }
+    Ok(values)
+}
+
+/// Adds the value of the column at a place, if it has a literal.
+fn push_value(
+    alloc: Global,
+    values: &mut Vec<Value>,
+    column: &Column,
+    place: usize,
+    text: &InsertText,
+) -> Result<(), AllocError>
+    ensures { OnOk result (values.new.items ≡ values.old.items ++ option_to_list (option_map value_of (literal_for text.now.columns text.now.values place column.now.name))) }
+{
+    if let Some(literal) = literal_for(text, place, &column.name) {
+        values.push(value_of(alloc, literal)?)?;
+    }
+    Ok(())
+}
+
+/// The row of values that fit the table.
+fn row_with(alloc: Global, table: &TableDef, values: &[Value]) -> Result<Row, AllocError>
+    requires as_many { length table.now.columns ≡ length values.now }
+    requires key { table.now.key < length values.now }
+    ensures { IfOk result (λ row. row_with table.now values.now ≡ Some row) }
+{
+    let columns = table.columns.as_slice();
+    Ok(Row {
+        name: RowName {
+            table: table.name,
+            key: values[table.key].copy(alloc)?,
+        },
+        amounts: Seq::from_vec(amounts_of(alloc, columns, values)?),
+        plain: Seq::from_vec(plain_of(alloc, columns, values, table.key)?),
+    })
+}
+
+/// The amounts of the RESERVABLE columns, in column order.
+fn amounts_of(
+    alloc: Global,
+    columns: &[Column],
+    values: &[Value],
+) -> Result<Vec<Amount>, AllocError>
+    requires { length columns.now ≡ length values.now }
+    ensures { IfOk result (λ amounts. amounts.items ≡ amounts_of columns.now values.now) }
+{
+    let mut amounts = Vec::new(alloc);
+    for (i, column) in columns.iter().enumerate() {
+        push_amount(&mut amounts, column, &values[i])?;
+    }
+    Ok(amounts)
+}
+
+/// Adds the amount of a RESERVABLE column.
+fn push_amount(amounts: &mut Vec<Amount>, column: &Column, value: &Value) -> Result<(), AllocError>
+    ensures { OnOk result (amounts.new.items ≡ amounts.old.items ++ (if column.now.reservable then number_in value.now ∷ [] else [])) }
+{
+    if column.reservable {
+        amounts.push(number_in(value))?;
+    }
+    Ok(())
+}
+
+/// The number that a value is; no text is a value of a RESERVABLE column.
+fn number_in(value: &Value) -> Amount
+    ensures { result ≡ number_in value.now }
+{
+    match value {
+        Value::Number(amount) => *amount,
+        Value::Text(_) => Amount::new(0).unwrap(),
+    }
+}
+
+/// The values of the other columns but the key, in column order.
+fn plain_of(
+    alloc: Global,
+    columns: &[Column],
+    values: &[Value],
+    key: usize,
+) -> Result<Vec<Value>, AllocError>
+    requires { length columns.now ≡ length values.now }
+    ensures { IfOk result (λ plain. plain.items ≡ plain_of columns.now values.now 0 key) }
+{
+    let mut plain = Vec::new(alloc);
+    for (i, column) in columns.iter().enumerate() {
+        push_plain(alloc, &mut plain, column, &values[i], i == key)?;
+    }
+    Ok(plain)
+}
+
+/// Adds the value of a column that is neither RESERVABLE nor the key.
+fn push_plain(
+    alloc: Global,
+    plain: &mut Vec<Value>,
+    column: &Column,
+    value: &Value,
+    is_key: bool,
+) -> Result<(), AllocError>
+    ensures { OnOk result (plain.new.items ≡ plain.old.items ++ (if column.now.reservable || is_key then [] else value.now ∷ [])) }
+{
+    if column.reservable || is_key {
+        return Ok(());
+    }
+    plain.push(value.copy(alloc)?)?;
+    Ok(())
+}
