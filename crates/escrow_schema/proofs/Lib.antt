@@ -8,6 +8,7 @@ pub mod DistinctLemmas
 pub mod FitLemmas
 pub mod KeyLemmas
 pub mod ListLemmas
+pub mod PlanLemmas
 pub mod PrintBack
 pub mod PrintChecks
 pub mod PrintLemmas

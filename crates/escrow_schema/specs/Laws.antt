@@ -17,12 +17,13 @@ use Rattle.escrow_checks.specs.declared.condition.TheConstants.{MAX_CHECKS}
 use Rattle.escrow_checks.specs.Condition.{MeetsText}
 use Rattle.escrow_checks.specs.Grant.{Meets}
 use Rattle.escrow_schema.specs.declared.column.Column.{Column}
+use Rattle.escrow_schema.specs.declared.plan.Plan.{Plan}
 use Rattle.escrow_schema.specs.declared.plan.Plan.TheVariants.{Reserve, Plain}
 use Rattle.escrow_schema.specs.declared.table.TableDef.{TableDef}
 use Rattle.escrow_schema.specs.Column.{fits, reservables, names_of, value_of}
 use Rattle.escrow_schema.specs.Definition.{IsTable, checks_in, definition_of}
 use Rattle.escrow_schema.specs.Fit.{FitColumns, IsRowOf, fitted, inserted_row, plains, values_in, values_of}
-use Rattle.escrow_schema.specs.Plan.{key_named, planned}
+use Rattle.escrow_schema.specs.Plan.{key_named, key_of, planned}
 use Rattle.escrow_schema.specs.Rules.{FollowsRules}
 
 -- a table has the name that its text writes
@@ -63,6 +64,10 @@ abbrev pub PlainPlansFit : Type 0
 PlainPlansFit =
     (table : TableDef) (text : UpdateText) (key : Value) (values : List (Option Value)) → planned table text ≡ Ok (Plain key values)
     → AllZip (λ column new. IfSome new (λ v. IsTrue (fits column.kind v))) (plains table.columns 0 table.key) values
+
+-- a plan's key is the literal of the UPDATE's WHERE
+abbrev pub KeysOfPlans : Type 0
+KeysOfPlans = (table : TableDef) (text : UpdateText) (plan : Plan) → planned table text ≡ Ok plan → key_of plan ≡ value_of text.row.literal
 
 -- an UPDATE that can't be planned is refused for its assignments, for its WHERE's column or for a literal
 abbrev pub RefusalsOfPlans : Type 0

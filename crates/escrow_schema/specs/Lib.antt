@@ -1,4 +1,5 @@
 pub mod Asked
+pub mod Assigned
 pub mod Catalog
 pub mod Column
 pub mod Definition

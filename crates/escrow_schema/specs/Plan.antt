@@ -99,6 +99,11 @@ new_values_of (column ∷ columns) assigns =
 abbrev pub new_values : TableDef → List Assign → Option (List (Option Value))
 new_values table assigns = new_values_of (plains table.columns 0 table.key) assigns
 
+-- the key of the row that a plan is for
+abbrev pub key_of : Plan → Value
+key_of (Reserve key changes) = key
+key_of (Plain key values) = key
+
 -- a plan for the key that a WHERE names
 abbrev pub for_key : (Value → Result Plan Refusal) → Result Value Refusal → Result Plan Refusal
 for_key plan (Ok key) = plan key

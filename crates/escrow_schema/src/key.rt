@@ -1,0 +1,25 @@
+//! The key that a WHERE names.
+ghost use Rattle.std.specs.Prelude.{◌≡◌};
+ghost use Rattle.std.specs.Result.{result_err};
+ghost use Rattle.escrow_schema.specs.Definition.{IsTable};
+ghost use Rattle.escrow_schema.specs.Plan.{key_named};
+
+use crate::table::TableDef;
+use escrow_num::Refusal;
+use escrow_sql::WhereText;
+
+/// Why a WHERE names no key, if it names none: it is of another column than the key, or its literal
+/// isn't one that the key's type holds, the first of these that applies. Takes no memory.
+pub fn check_key(table: &TableDef, row: &WhereText) -> Result<(), Refusal>
+    requires { IsTable table.now }
+    ensures { result_err result ≡ result_err (key_named table.now row.now) }
+{
+    let column = &table.typed_columns()[table.key];
+    if column.name != row.column {
+        return Err(Refusal::NotTheKey);
+    }
+    if !column.kind.fits(&row.literal) {
+        return Err(Refusal::BadValue);
+    }
+    Ok(())
+}

@@ -1,0 +1,61 @@
+//! Changes of RESERVABLE columns.
+ghost use Rattle.std.specs.Prelude.{◌≡◌, ◌&&◌, IfOk, bytes_eq};
+ghost use Rattle.std.specs.List.{list_any};
+ghost use Rattle.escrow_schema.specs.Plan.{are_changes, changes_of, is_change, is_itself};
+
+use super::assigned::change_to;
+use crate::column::Column;
+use escrow_num::{Amount, Name};
+use escrow_sql::{Assign, Assigned};
+use std::alloc::{AllocError, Global};
+
+/// Whether assignments change RESERVABLE columns: there is exactly one, and it does.
+pub(crate) fn are_changes(columns: &[Column], assigns: &[Assign]) -> bool
+    ensures { result ≡ are_changes columns.now assigns.now }
+{
+    match assigns {
+        [assign] => is_change(columns, assign),
+        _ => false,
+    }
+}
+
+/// Whether an assignment is of a RESERVABLE column, to itself plus or minus a number.
+fn is_change(columns: &[Column], assign: &Assign) -> bool
+    ensures { result ≡ is_change columns.now assign.now }
+{
+    has_reservable(columns, assign.column) && is_itself(assign.column, &assign.value)
+}
+
+/// Whether a RESERVABLE column of that name is among the columns.
+fn has_reservable(columns: &[Column], name: Name) -> bool
+    ensures { result ≡ list_any (λ column. column.reservable && bytes_eq column.name name) columns.now }
+{
+    columns
+        .iter()
+        .any(|column| column.reservable && column.name == name)
+}
+
+/// Whether what is assigned to a column is the column itself plus or minus a number.
+fn is_itself(column: Name, value: &Assigned) -> bool
+    ensures { result ≡ is_itself column value.now }
+{
+    match value {
+        Assigned::Change { source, .. } => column == *source,
+        Assigned::Literal(_) => false,
+    }
+}
+
+/// The change of each RESERVABLE column, in column order: `None` where it isn't assigned.
+pub(crate) fn changes_of(
+    alloc: Global,
+    columns: &[Column],
+    assigns: &[Assign],
+) -> Result<Vec<Option<Amount>>, AllocError>
+    ensures { IfOk result (λ changes. changes.items ≡ changes_of columns.now assigns.now) }
+{
+    columns
+        .iter()
+        .filter(|column| column.reservable)
+        .map(|column| change_to(assigns, column.name))
+        .collect(alloc)
+}
