@@ -1,8 +1,8 @@
 -- The values that an INSERT's literals are, column by column.
 use Rattle.std.proofs.Common.{◌≡◌, ℕ, zero, suc, ◌+◌, ◌==◌, ◌<◌, true, false, ◌&&◌, Bool, cond, Option, Some, None, option_map, option_and_then, List, [], ◌∷◌, ◌++◌, length, drop, get_or, sym, ap, ◌∙◌, subst, refl, arith, inl, inr, bytes_eq}
 use Rattle.std.specs.Prelude.{is_some, option_to_list, slice_get}
-use Rattle.std.proofs.Math.Numerals.{add-one}
-use Rattle.std.proofs.lemmas.Bool.{and_parts, cases_Bool, eqb-true, eqb-false, false≢true}
+use Rattle.std.specs.List.{list_any}
+use Rattle.std.proofs.lemmas.Bool.{cases_Bool, or_parts, eqb-true, eqb-false, false≢true}
 use Rattle.std.proofs.lemmas.Option.{none-some, option_and_then_some, same_Some}
 use Rattle.escrow_num.specs.declared.value.Value.{Value}
 use Rattle.escrow_num.specs.declared.row.Row.{Row}
@@ -15,6 +15,7 @@ use Rattle.escrow_schema.specs.Asked.{asked_values, is_list, literal_for, value_
 use Rattle.escrow_schema.specs.Column.{fits, value_in, value_of}
 use Rattle.escrow_schema.specs.Definition.{are_distinct}
 use Rattle.escrow_schema.specs.Fit.{fitted, in_column_order, inserted_row, literal_beside, literals_beside, row_with, values_in}
+use Rattle.escrow_schema.proofs.DistinctLemmas.{first_apart, same_name}
 use Rattle.escrow_schema.proofs.FitLemmas.{as_many_values, pushed, row_some, some_from}
 use Rattle.escrow_schema.proofs.ListLemmas.{after, drop_item, mapped_some}
 
@@ -157,3 +158,35 @@ one_more names literals columns i column done values within at before some more 
         → is_some (after done (option_and_then (λ v. option_map (λ vs. v ∷ vs) rest) o)) ≡ true → is_some o ≡ true
     first_there None rest done h = absurd (false≢true h)
     first_there (Some v) rest done h = refl
+
+-- the literal of the column at a place is the one beside its name
+pub beside_at : (names : List (List ℕ)) (literals : List Literal) (columns : List Column) (ordered : List Literal) (i : ℕ) (column : Column)
+    → literals_beside names literals columns ≡ Some ordered → slice_get columns i ≡ Some column → slice_get ordered i ≡ literal_beside names literals column.name
+beside_at names literals [] ordered i column e there = absurd (none-some column there)
+beside_at names literals (c ∷ columns) ordered i column e there =
+    option_and_then_some (λ l. option_map (λ ls. l ∷ ls) (literals_beside names literals columns)) (literal_beside names literals c.name) ordered e
+    (λ l here more. mapped_some (λ ls. l ∷ ls) (literals_beside names literals columns) ordered more
+    (λ ls others whole. subst (λ o. slice_get o i ≡ literal_beside names literals column.name) whole (at_place i l ls here (λ j found. beside_at names literals columns ls j column others found) there)))
+  where
+    at_place : (i : ℕ) (l : Literal) (ls : List Literal) → literal_beside names literals c.name ≡ Some l
+        → ((j : ℕ) → slice_get columns j ≡ Some column → slice_get ls j ≡ literal_beside names literals column.name) → slice_get (c ∷ columns) i ≡ Some column → slice_get (l ∷ ls) i ≡ literal_beside names literals column.name
+    at_place zero l ls here later there = sym here ∙ ap (λ (x : Column). literal_beside names literals x.name) (same_Some c column there)
+    at_place (suc i) l ls here later there = later i there
+
+-- of distinct names each has the literal beside it
+pub beside_is : (names : List (List ℕ)) (literals : List Literal) (k : ℕ) (name : List ℕ) (literal : Literal) → are_distinct names ≡ true
+    → slice_get names k ≡ Some name → slice_get literals k ≡ Some literal → literal_beside names literals name ≡ Some literal
+beside_is [] literals k name literal apart at here = absurd (none-some name at)
+beside_is (n ∷ names) [] k name literal apart at here = absurd (none-some literal here)
+beside_is (n ∷ names) (l ∷ literals) zero name literal apart at here =
+    let same : bytes_eq n name ≡ true = subst (λ x. bytes_eq n x ≡ true) (same_Some n name at) (same_name n) in
+    rw same here
+beside_is (n ∷ names) (l ∷ literals) (suc k) name literal apart at here =
+    let parts = first_apart n names apart in
+    let other = other_name names n k name parts.0 at in
+    rw other (beside_is names literals k name literal parts.1 at here)
+  where
+    other_name : (names : List (List ℕ)) (n : List ℕ) (k : ℕ) (name : List ℕ) → list_any (λ other. bytes_eq n other) names ≡ false → slice_get names k ≡ Some name → bytes_eq n name ≡ false
+    other_name [] n k name none at = absurd (none-some name at)
+    other_name (x ∷ names) n zero name none at = subst (λ y. bytes_eq n y ≡ false) (same_Some x name at) (or_parts (bytes_eq n x) (list_any (λ other. bytes_eq n other) names) none).0
+    other_name (x ∷ names) n (suc k) name none at = other_name names n k name (or_parts (bytes_eq n x) (list_any (λ other. bytes_eq n other) names) none).1 at

@@ -7,6 +7,7 @@ pub mod DefinedLemmas
 pub mod DistinctLemmas
 pub mod FitLemmas
 pub mod KeyLemmas
+pub mod LawLemmas
 pub mod ListLemmas
 pub mod PlanLemmas
 pub mod PrintBack
@@ -16,6 +17,7 @@ pub mod PrintLength
 pub mod PrintTree
 pub mod PrintWrites
 pub mod RangeLemmas
+pub mod RowLemmas
 pub mod RuleLemmas
 pub mod TableLemmas
 pub mod UnitLemmas

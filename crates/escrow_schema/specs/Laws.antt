@@ -83,14 +83,15 @@ RefusalsOfKeys =
 -- the values of the row that literals make are the values that the literals are
 abbrev pub ValuesOfRow : Type 0
 ValuesOfRow =
-    (table : TableDef) (literals : List Literal) (row : Row) → fitted table literals ≡ Some row
+    (table : TableDef) (literals : List Literal) (row : Row) → IsTable table → fitted table literals ≡ Some row
     → values_in table.columns literals ≡ Some (values_of table row)
 
 -- the literal beside a column's name is the column's value in the row that an INSERT with a column
 -- list makes, wherever in the list the two stand
 abbrev pub ValuesBesideNames : Type 0
 ValuesBesideNames =
-    (table : TableDef) (text : InsertText) (names : List (List ℕ)) (row : Row) → text.columns ≡ Some names → inserted_row table text ≡ Some row
+    (table : TableDef) (text : InsertText) (names : List (List ℕ)) (row : Row) → IsTable table → text.columns ≡ Some names
+    → inserted_row table text ≡ Some row
     → (i k : ℕ) (column : Column) (literal : Literal) → slice_get table.columns i ≡ Some column
     → slice_get names k ≡ Some column.name → slice_get text.values k ≡ Some literal
     → slice_get (values_of table row) i ≡ Some (value_of literal)

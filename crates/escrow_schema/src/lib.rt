@@ -11,6 +11,7 @@ mod definition;
 mod fit;
 mod items;
 mod key;
+pub mod laws;
 mod lists;
 mod literal;
 mod plan;

@@ -1,0 +1,62 @@
+//! What holds of every table that a text defines, and of the rows and plans of it: each law is the
+//! contract of a function that does nothing.
+ghost use Rattle.escrow_schema.specs.Laws.{NameOfTable, FewReservable, ChecksOfWholeRow, ChecksKeepAmounts, FewChecks, RowsOfTable, ValuesOfRow, ValuesBesideNames, ValuesFit, ChecksMeanConditions, DefinitionsFollowRules};
+
+/// A text defines a table exactly where the two follow the rules of definitions, one by one.
+pub fn definitions_follow_rules()
+    ensures { DefinitionsFollowRules }
+{}
+
+/// Numbers meet every check of a table exactly where they meet every CHECK as it is written and each
+/// fits its column's type.
+pub fn checks_mean_conditions()
+    ensures { ChecksMeanConditions }
+{}
+
+/// A table has the name that its text writes.
+pub fn name_of_table()
+    ensures { NameOfTable }
+{}
+
+/// A table has 1 to 10 RESERVABLE columns.
+pub fn few_reservable()
+    ensures { FewReservable }
+{}
+
+/// Each check of a table has a coefficient for each of its RESERVABLE columns.
+pub fn checks_of_whole_row()
+    ensures { ChecksOfWholeRow }
+{}
+
+/// Numbers that meet every check of a table are amounts, since each RESERVABLE column has a check
+/// of its range.
+pub fn checks_keep_amounts()
+    ensures { ChecksKeepAmounts }
+{}
+
+/// A table has at most 42 checks: 32 declared ones, and 10 ranges.
+pub fn few_checks()
+    ensures { FewChecks }
+{}
+
+/// The row that an INSERT makes is one of its table: its key and its plain values fit their columns'
+/// types, and it has an amount for each RESERVABLE column.
+pub fn rows_of_table()
+    ensures { RowsOfTable }
+{}
+
+/// The values of the row that literals make are the values that the literals are, in order.
+pub fn values_of_row()
+    ensures { ValuesOfRow }
+{}
+
+/// The literal beside a column's name is the column's value in the row that an INSERT with a column
+/// list makes, wherever in the list the two stand.
+pub fn values_beside_names()
+    ensures { ValuesBesideNames }
+{}
+
+/// The values of a row of a table, whose amounts meet every check of it, fit their columns' types.
+pub fn values_fit()
+    ensures { ValuesFit }
+{}
