@@ -44,7 +44,8 @@ added r new before old last text h e = subst (λ (bytes : List ℕ). OnOk r (new
 
 -- four texts, one behind the other
 pub four_texts : (old a b c d : List ℕ) (one two three : List ℕ) → one ≡ old ++ a → two ≡ one ++ b → three ≡ two ++ c → three ++ d ≡ old ++ (a ++ (b ++ (c ++ d)))
-four_texts old a b c d one two three e f g = rw (g, f, e, append_assoc, append_assoc, append_assoc) refl
+four_texts old a b c d one two three e f g =
+    rw (g, f, e) (append_assoc ((old ++ a) ++ b) c d ∙ (append_assoc (old ++ a) b (c ++ d) ∙ append_assoc old a (b ++ (c ++ d))))
 
 -- the columns were added, and then the other items behind them
 pub items_added : {A E : Type 0} (r : Result A E) (new between old : List ℕ) (columns : List Column) (key : ℕ) (texts : List (List ℕ)) → 1 ≤ length columns

@@ -37,8 +37,14 @@ type_length (Varchar2 n) h = let d = length-decimal-le 3 n (lit< tt) (omega (ari
 column_length : (is_key : Bool) (column : Column) → is_written_name column.name ≡ true → HasType column → IsShort (column_words is_key column)
 column_length is_key column written typed =
     let kind = type_words column.kind in
-    omega (arith, short_from column.name written, type_length column.kind typed, marks_length is_key column.reservable,
-    length-append (column.name ++ (codes " " ++ kind)) (marks_words is_key column.reservable), length-append column.name (codes " " ++ kind))
+    omega (
+      arith,
+      short_from column.name written,
+      type_length column.kind typed,
+      marks_length is_key column.reservable,
+      length-append (column.name ++ (codes " " ++ kind)) (marks_words is_key column.reservable),
+      length-append column.name (codes " " ++ kind),
+    )
 
 pub columns_short : (columns : List Column) (place key : ℕ) → list_all is_written_name (names_of columns) ≡ true → AllByRecursion HasType columns → AllByRecursion IsShort (columns_words columns place key)
 columns_short [] place key written typed = tt
@@ -66,8 +72,15 @@ check_length names check h =
     let column = column_with names check.coeffs in
     let limits = limit_words check.span.lo check.span.hi in
     let behind = codes " CHECK (" ++ ((column ++ limits) ++ codes ")") in
-    omega (arith, short_from check.name h.name, short_from column h.column, limit_length check.span.lo check.span.hi h.limit,
-    length-append (codes "CONSTRAINT " ++ check.name) behind, length-append (column ++ limits) (codes ")"), length-append column limits)
+    omega (
+      arith,
+      short_from check.name h.name,
+      short_from column h.column,
+      limit_length check.span.lo check.span.hi h.limit,
+      length-append (codes "CONSTRAINT " ++ check.name) behind,
+      length-append (column ++ limits) (codes ")"),
+      length-append column limits,
+    )
 
 pub checks_short : (names : List (List ℕ)) (checks : List Check) → AllByRecursion (Declared names) checks → AllByRecursion IsShort (map (check_words names) checks)
 checks_short names [] all = tt

@@ -9,7 +9,7 @@ ghost use Rattle.escrow_schema.specs.Print.{ReadsBack, canonical, check_words, c
 mod words;
 
 use crate::column::{Column, ColumnType};
-use crate::print::words::{column_with, push, push_named, push_limits, push_number};
+use crate::print::words::{column_with, push, push_limits, push_named, push_number};
 use crate::rules::{names_of, reservables};
 use crate::table::TableDef;
 use escrow_checks::Check;
@@ -190,3 +190,6 @@ fn push_condition(
     push(text, column_with(names, check.coeffs.as_slice()))?;
     push_limits(alloc, text, &check.span)
 }
+
+#[cfg(test)]
+mod tests;

@@ -31,12 +31,7 @@ pub(crate) fn push_number(alloc: Global, text: &mut String, number: u64) -> Resu
 }
 
 /// Adds words and a number behind them, with a minus where it is negative.
-fn push_limit(
-    alloc: Global,
-    text: &mut String,
-    words: &str,
-    limit: i128,
-) -> Result<(), AllocError>
+fn push_limit(alloc: Global, text: &mut String, words: &str, limit: i128) -> Result<(), AllocError>
     ensures { OnOk result (string_bytes text.new ≡ string_bytes text.old ++ (words.now ++ signed_decimal limit)) }
 {
     let digits = limit.to_string(alloc)?;
