@@ -30,7 +30,6 @@ pub fn print_table(alloc: Global, table: &TableDef) -> Result<Text, AllocError>
 }
 
 /// Adds the whole text.
-#[tactic(auto, unfolding(crate::specs::Print::table_words))]
 fn push_table(alloc: Global, text: &mut String, table: &TableDef) -> Result<(), AllocError>
     requires { IsTable table.now }
     ensures { OnOk result (string_bytes text.new ≡ string_bytes text.old ++ canonical table.now) }
@@ -162,7 +161,6 @@ fn push_checks(
 }
 
 /// Adds a check: its name, its form, its limits.
-#[tactic(auto, unfolding(crate::specs::Print::check_words))]
 fn push_check(
     alloc: Global,
     text: &mut String,
