@@ -89,3 +89,6 @@ fn make_plan(alloc: Global, table: &TableDef, text: &UpdateText) -> Result<Plan,
         Ok(Plan::Plain { key, values })
     }
 }
+
+#[cfg(test)]
+mod tests;
