@@ -1,6 +1,6 @@
 //! What holds of every table that a text defines, and of the rows and plans of it: each law is the
 //! contract of a function that does nothing.
-ghost use Rattle.escrow_schema.specs.Laws.{NameOfTable, FewReservable, ChecksOfWholeRow, ChecksKeepAmounts, FewChecks, RowsOfTable, ValuesOfRow, ValuesBesideNames, ValuesFit, ChecksMeanConditions, DefinitionsFollowRules};
+ghost use Rattle.escrow_schema.specs.Laws.{NameOfTable, FewReservable, ChecksOfWholeRow, ChecksKeepAmounts, FewChecks, RowsOfTable, ValuesOfRow, ValuesBesideNames, ValuesFit, ChecksMeanConditions, DefinitionsFollowRules, PlansOfWholeRow, PlainPlansFit, KeysOfPlans, RefusalsOfPlans, RefusalsOfKeys};
 
 /// A text defines a table exactly where the two follow the rules of definitions, one by one.
 pub fn definitions_follow_rules()
@@ -59,4 +59,31 @@ pub fn values_beside_names()
 /// The values of a row of a table, whose amounts meet every check of it, fit their columns' types.
 pub fn values_fit()
     ensures { ValuesFit }
+{}
+
+/// A plan of changes has one, or none, for each RESERVABLE column.
+pub fn plans_of_whole_row()
+    ensures { PlansOfWholeRow }
+{}
+
+/// A plan of new values has one that fits, or none, for each column that is neither RESERVABLE nor
+/// the key.
+pub fn plain_plans_fit()
+    ensures { PlainPlansFit }
+{}
+
+/// A plan's key is the literal of the UPDATE's WHERE.
+pub fn keys_of_plans()
+    ensures { KeysOfPlans }
+{}
+
+/// An UPDATE that can't be planned is refused for its assignments, for its WHERE's column or for a
+/// literal.
+pub fn refusals_of_plans()
+    ensures { RefusalsOfPlans }
+{}
+
+/// A WHERE that names no key is refused for its column or for its literal.
+pub fn refusals_of_keys()
+    ensures { RefusalsOfKeys }
 {}

@@ -175,11 +175,7 @@ fn plans_for_a_key_of_texts(rt: HostRuntime) -> Result<(), Fail> {
         "CREATE TABLE SHOP (CODE VARCHAR2(4) PRIMARY KEY, TITLE VARCHAR2(10), STOCK NUMBER(3) RESERVABLE)",
     )?;
     let shop = define(alloc, &text)?;
-    let text = update_text(
-        &rt,
-        alloc,
-        "UPDATE SHOP SET TITLE = 'Mug' WHERE CODE = 'a'",
-    )?;
+    let text = update_text(&rt, alloc, "UPDATE SHOP SET TITLE = 'Mug' WHERE CODE = 'a'")?;
     let plan = plan_update(alloc, &shop, &text)?;
     let plan = shown(alloc, &plan)?;
     assert_eq!(rt; plan.as_str(), "a values Mug");
