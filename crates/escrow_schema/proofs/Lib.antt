@@ -1,4 +1,5 @@
 pub mod AskedLemmas
+pub mod AssignedLemmas
 pub mod CatalogLemmas
 pub mod CheckLemmas
 pub mod ColumnLemmas

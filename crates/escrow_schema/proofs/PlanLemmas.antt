@@ -159,7 +159,7 @@ key_by false true (Ok key) changes (Some values) plan e = let same : Plain key v
 key_by false true (Err r) changes values plan e = absurd (cc)
 key_by false false k changes values plan e = absurd (cc)
 
-changes_by : (a b : Bool) (k : Result Value Refusal) (made : List (Option ℤ)) (values : Option (List (Option Value))) (key : Value) (changes : List (Option ℤ))
+pub changes_by : (a b : Bool) (k : Result Value Refusal) (made : List (Option ℤ)) (values : Option (List (Option Value))) (key : Value) (changes : List (Option ℤ))
     → plan_by a b k made values ≡ Ok (Reserve key changes) → made ≡ changes
 changes_by true b (Ok v) made values key changes e = cc
 changes_by true b (Err r) made values key changes e = absurd (cc)
@@ -168,7 +168,7 @@ changes_by false true (Ok v) made (Some values) key changes e = absurd (cc)
 changes_by false true (Err r) made values key changes e = absurd (cc)
 changes_by false false k made values key changes e = absurd (cc)
 
-values_by : (a b : Bool) (k : Result Value Refusal) (changes : List (Option ℤ)) (made : Option (List (Option Value))) (key : Value) (values : List (Option Value))
+pub values_by : (a b : Bool) (k : Result Value Refusal) (changes : List (Option ℤ)) (made : Option (List (Option Value))) (key : Value) (values : List (Option Value))
     → plan_by a b k changes made ≡ Ok (Plain key values) → made ≡ Some values
 values_by true b (Ok v) changes made key values e = absurd (cc)
 values_by true b (Err r) changes made key values e = absurd (cc)

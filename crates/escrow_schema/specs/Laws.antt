@@ -1,12 +1,14 @@
 -- Believed: the statements of the laws in src/laws.rt.
-use Rattle.std.specs.Prelude.{◌≡◌, ◌⊎◌, ◌↔◌, ℕ, ℤ, ◌+◌, ◌≤◌, Option, Some, Ok, Err, IfSome, IsTrue, List, length, map, slice_get}
-use Rattle.std.specs.List.{AllByRecursion, AllZip}
+use Rattle.std.specs.Prelude.{◌≡◌, ◌⊎◌, ◌↔◌, ℕ, ℤ, ◌+◌, ◌≤◌, false, Option, Some, None, Ok, Err, IfSome, IsTrue, List, bytes_eq, length, map, slice_get}
+use Rattle.std.specs.List.{AllByRecursion, AllZip, list_any}
 use Rattle.escrow_num.specs.Amount.{IsAmount}
 use Rattle.escrow_num.specs.declared.refusal.Refusal.{Refusal}
 use Rattle.escrow_num.specs.declared.refusal.Refusal.TheVariants as refusal
 use Rattle.escrow_num.specs.declared.row.Row.{Row}
 use Rattle.escrow_num.specs.declared.value.Value.{Value}
 use Rattle.escrow_num.specs.declared.value.Value.TheVariants as value
+use Rattle.escrow_sql.specs.declared.statement.Assign.{Assign}
+use Rattle.escrow_sql.specs.declared.statement.Assigned.TheVariants as assigned
 use Rattle.escrow_sql.specs.declared.statement.CreateText.{CreateText}
 use Rattle.escrow_sql.specs.declared.statement.InsertText.{InsertText}
 use Rattle.escrow_sql.specs.declared.statement.Literal.{Literal}
@@ -64,6 +66,26 @@ abbrev pub PlainPlansFit : Type 0
 PlainPlansFit =
     (table : TableDef) (text : UpdateText) (key : Value) (values : List (Option Value)) → planned table text ≡ Ok (Plain key values)
     → AllZip (λ column new. IfSome new (λ v. IsTrue (fits column.kind v))) (plains table.columns 0 table.key) values
+
+-- a plan of changes has for each RESERVABLE column the change that is assigned to it, wherever it
+-- stands, and none where nothing is
+abbrev pub ChangesAsAssigned : Type 0
+ChangesAsAssigned =
+    (table : TableDef) (text : UpdateText) (key : Value) (changes : List (Option ℤ)) → planned table text ≡ Ok (Reserve key changes)
+    → (i : ℕ) (column : Column) → slice_get (reservables table.columns) i ≡ Some column
+    → ((k : ℕ) (assign : Assign) (source : List ℕ) (change : ℤ) → slice_get text.assigns k ≡ Some assign → assign.column ≡ column.name
+    → assign.value ≡ assigned.Change source change → slice_get changes i ≡ Some (Some change))
+    × (list_any (λ assign. bytes_eq assign.column column.name) text.assigns ≡ false → slice_get changes i ≡ Some None)
+
+-- a plan of new values has for each column that is neither RESERVABLE nor the key the literal that is
+-- assigned to it, wherever it stands, and none where nothing is
+abbrev pub NewValuesAsAssigned : Type 0
+NewValuesAsAssigned =
+    (table : TableDef) (text : UpdateText) (key : Value) (values : List (Option Value)) → planned table text ≡ Ok (Plain key values)
+    → (i : ℕ) (column : Column) → slice_get (plains table.columns 0 table.key) i ≡ Some column
+    → ((k : ℕ) (assign : Assign) (literal : Literal) → slice_get text.assigns k ≡ Some assign → assign.column ≡ column.name
+    → assign.value ≡ assigned.Literal literal → slice_get values i ≡ Some (Some (value_of literal)))
+    × (list_any (λ assign. bytes_eq assign.column column.name) text.assigns ≡ false → slice_get values i ≡ Some None)
 
 -- a plan's key is the literal of the UPDATE's WHERE
 abbrev pub KeysOfPlans : Type 0

@@ -1,6 +1,6 @@
 //! What holds of every table that a text defines, and of the rows and plans of it: each law is the
 //! contract of a function that does nothing.
-ghost use Rattle.escrow_schema.specs.Laws.{NameOfTable, FewReservable, ChecksOfWholeRow, ChecksKeepAmounts, FewChecks, RowsOfTable, ValuesOfRow, ValuesBesideNames, ValuesFit, ChecksMeanConditions, DefinitionsFollowRules, PlansOfWholeRow, PlainPlansFit, KeysOfPlans, RefusalsOfPlans, RefusalsOfKeys};
+ghost use Rattle.escrow_schema.specs.Laws.{NameOfTable, FewReservable, ChecksOfWholeRow, ChecksKeepAmounts, FewChecks, RowsOfTable, ValuesOfRow, ValuesBesideNames, ValuesFit, ChecksMeanConditions, DefinitionsFollowRules, PlansOfWholeRow, PlainPlansFit, ChangesAsAssigned, NewValuesAsAssigned, KeysOfPlans, RefusalsOfPlans, RefusalsOfKeys};
 
 /// A text defines a table exactly where the two follow the rules of definitions, one by one.
 pub fn definitions_follow_rules()
@@ -70,6 +70,18 @@ pub fn plans_of_whole_row()
 /// the key.
 pub fn plain_plans_fit()
     ensures { PlainPlansFit }
+{}
+
+/// A plan of changes has for each RESERVABLE column the change that is assigned to it, and none where
+/// nothing is.
+pub fn changes_as_assigned()
+    ensures { ChangesAsAssigned }
+{}
+
+/// A plan of new values has for each column that is neither RESERVABLE nor the key the literal that
+/// is assigned to it, and none where nothing is.
+pub fn new_values_as_assigned()
+    ensures { NewValuesAsAssigned }
 {}
 
 /// A plan's key is the literal of the UPDATE's WHERE.
