@@ -147,6 +147,7 @@ values_fit table row is_table is_row met =
   where
     the_place : (at i : ℕ) → at ≡ 0 + i → at ≡ i
     the_place at i e = omega arith
+
     key_fits : (key : Value) (o : Option Column) (column : Column) → IsSomeAnd o (λ c. IsTrue (fits c.kind key)) → o ≡ Some column → fits column.kind key ≡ true
     key_fits key None column h e = absurd h
     key_fits key (Some c) column h e = subst (λ x. fits x.kind key ≡ true) (same_Some c column e) h

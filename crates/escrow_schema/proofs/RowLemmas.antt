@@ -133,6 +133,7 @@ values_from_fit (column ∷ columns) place at key numbers plain h fit others =
         → FitColumns (column ∷ columns) (map value.Number (take 1 numbers) ++ values_from columns (place + 1) at key (drop 1 numbers) plain)
     amount_fits column columns plain place at key [] fit all = absurd fit
     amount_fits column columns plain place at key (a ∷ more) fit all = (fit.0, all more fit.1)
+
     plain_value : (column : Column) (columns : List Column) (plain : List Value) (place at : ℕ) (key : Value) (numbers : List ℤ)
         → FitColumns (column ∷ plains columns (place + 1) at) plain
         → ((more : List Value) → FitColumns (plains columns (place + 1) at) more → FitColumns columns (values_from columns (place + 1) at key numbers more))

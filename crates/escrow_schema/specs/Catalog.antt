@@ -38,7 +38,7 @@ without_table name catalog = filter (λ table. not (bytes_eq table.name name)) c
 -- why a table can't be added, if it can't: a table of its name stands, then as many as there may be
 abbrev pub add_refusal : List TableDef → TableDef → Option Refusal
 add_refusal catalog table = first_refusal (
-  refuse_if (is_some (table_named catalog table.name)) refusal.TableExists
-  ∷ refuse_if (nat_le MAX_TABLES (length catalog)) refusal.TooManyTables
-  ∷ []
-)
+    refuse_if (is_some (table_named catalog table.name)) refusal.TableExists
+    ∷ refuse_if (nat_le MAX_TABLES (length catalog)) refusal.TooManyTables
+    ∷ []
+    )

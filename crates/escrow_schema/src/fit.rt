@@ -112,11 +112,7 @@ fn make_row(alloc: Global, table: &TableDef, text: &InsertText) -> Result<Row, A
 }
 
 /// The values of columns, of which each has a literal that fits.
-fn values_at(
-    alloc: Global,
-    columns: &[Column],
-    text: &InsertText,
-) -> Result<Vec<Value>, AllocError>
+fn values_at(alloc: Global, columns: &[Column], text: &InsertText) -> Result<Vec<Value>, AllocError>
     requires { IsSome (values_at text.now.columns text.now.values 0 columns.now) }
     ensures { IfOk result (λ values. values_at text.now.columns text.now.values 0 columns.now ≡ Some values.items) }
 {

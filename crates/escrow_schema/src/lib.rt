@@ -31,3 +31,6 @@ pub use plan::{Plan, plan_update};
 pub use print::print_table;
 pub use row::values_of;
 pub use table::TableDef;
+
+#[cfg(test)]
+mod tests;

@@ -20,18 +20,18 @@ loop-i-preserved c =
     let whole = values_of table row in
     elim c.if-column.branch [
       | then-column+in_ok-push_amount w ↦ rw (w.values-is, w.amounts-is, w.plain-is) (
-          amount_next columns i column table.key key row.amounts row.plain c.loop-i.amounts c.loop-i.plain done w.push_amount.new.values.items whole
-              within here w.if-column.true before w.in_ok-push_amount.ensures,
-          (omega arith, omega arith),
-        )
+        amount_next columns i column table.key key row.amounts row.plain c.loop-i.amounts c.loop-i.plain done w.push_amount.new.values.items whole
+            within here w.if-column.true before w.in_ok-push_amount.ensures,
+        (omega arith, omega arith),
+      )
       | else-column+then-i-table+in_ok-copy+in_ok-push w ↦ rw (w.values-is, w.amounts-is, w.plain-is) (
-          key_next columns i column table.key key row.amounts row.plain c.loop-i.amounts c.loop-i.plain done w.push.new.self.items whole
-              within here w.if-column.false w.if-i-table.true before (w.in_ok-push.ensures.items ∙ ap (λ v. done ++ v ∷ []) w.in_ok-copy.ensures.same),
-          (omega arith, omega arith),
-        )
+        key_next columns i column table.key key row.amounts row.plain c.loop-i.amounts c.loop-i.plain done w.push.new.self.items whole
+            within here w.if-column.false w.if-i-table.true before (w.in_ok-push.ensures.items ∙ ap (λ v. done ++ v ∷ []) w.in_ok-copy.ensures.same),
+        (omega arith, omega arith),
+      )
       | else-column+else-i-table+in_ok-push_plain w ↦ rw (w.values-is, w.amounts-is, w.plain-is) (
-          plain_next columns i column table.key key row.amounts row.plain c.loop-i.amounts c.loop-i.plain done w.push_plain.new.values.items whole
-              within here w.if-column.false w.if-i-table.false before w.in_ok-push_plain.ensures,
-          (omega arith, omega arith),
-        )
+        plain_next columns i column table.key key row.amounts row.plain c.loop-i.amounts c.loop-i.plain done w.push_plain.new.values.items whole
+            within here w.if-column.false w.if-i-table.false before w.in_ok-push_plain.ensures,
+        (omega arith, omega arith),
+      )
     ]
