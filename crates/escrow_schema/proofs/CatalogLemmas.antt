@@ -1,6 +1,6 @@
 -- The tables of a catalog: one that is put in its order, and one that is taken out.
 use Rattle.std.specs.Borrow.{Bor}
-use Rattle.std.specs.Prelude.{IfSome, option_copied, ◌≡◌, ◌<◌, ◌≤◌, ◌+◌, ℕ, Bool, true, false, cond, not, nat_lt, nat_le, is_some, List, [], ◌∷◌, Option, Some, None, length, filter, find, position, remove, bytes_eq, IsTrue}
+use Rattle.std.specs.Prelude.{IfSome, option_copied, ◌≡◌, ◌<◌, ◌≤◌, ◌+◌, ℕ, Bool, true, false, cond, not, nat_lt, is_some, List, [], ◌∷◌, Option, Some, None, length, filter, find, position, remove, bytes_eq, IsTrue}
 use Rattle.std.specs.List.{AllByRecursion, position_or_len}
 use Rattle.std.specs.Cmp.{IsTotalOrder}
 use Rattle.std.specs.Cmp.Lexicographic.{slice_cmp}
@@ -16,7 +16,7 @@ use Rattle.escrow_num.specs.Ascending.{IsAscending}
 use Rattle.escrow_num.proofs.Ascending.{ascending_filter}
 use Rattle.escrow_num.proofs.Items.{Has, all_filter, all_has, find_has, find_none, has_all}
 use Rattle.escrow_num.proofs.Orders.{before_itself, before_trans, list_tied, name_same, not_before, same_name}
-use Rattle.escrow_num.proofs.Put.{has_put, length-put, length_kept, put, put_ascending}
+use Rattle.escrow_num.proofs.Put.{has_put, length-put, put, put_ascending}
 use Rattle.escrow_schema.specs.declared.table.TableDef.{TableDef}
 use Rattle.escrow_schema.specs.declared.catalog.TheConstants.Catalog.{MAX_TABLES}
 use Rattle.escrow_schema.specs.Catalog.{IsCatalog, table_before, table_named, with_table, without_table}

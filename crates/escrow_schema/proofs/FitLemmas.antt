@@ -1,7 +1,7 @@
 -- The row that literals make.
-use Rattle.std.proofs.Common.{◌≡◌, ℕ, suc, ◌+◌, true, false, Option, Some, None, option_map, option_and_then, List, [], ◌∷◌, ◌++◌, append_assoc, length, drop, get_or, ◌<◌, pos, sym, ap, subst, refl, arith, inl, inr}
+use Rattle.std.proofs.Common.{◌≡◌, suc, true, Option, Some, None, option_map, option_and_then, List, [], ◌∷◌, ◌++◌, append_assoc, length, ◌<◌, pos, sym, ap, subst, refl, arith, inl, inr}
 use Rattle.std.specs.Prelude.{is_some, slice_get, option_to_list}
-use Rattle.std.proofs.lemmas.Bool.{cases_Bool, false≢true, false_from_ne_true}
+use Rattle.std.proofs.lemmas.Bool.{cases_Bool, false≢true}
 use Rattle.std.proofs.lemmas.Option.{none-some, same_Some, option_and_then_some, slice_get-get_or}
 use Rattle.escrow_num.specs.declared.value.Value.{Value}
 use Rattle.escrow_num.specs.declared.value.Value.TheVariants as value
@@ -11,7 +11,7 @@ use Rattle.escrow_schema.specs.declared.column.Column.{Column}
 use Rattle.escrow_schema.specs.declared.table.TableDef.{TableDef}
 use Rattle.escrow_schema.specs.Column.{reservables, value_in}
 use Rattle.escrow_schema.specs.Fit.{values_in, amounts_of, plain_of, row_with, fitted}
-use Rattle.escrow_schema.proofs.ListLemmas.{after, drop_item, mapped_some}
+use Rattle.escrow_schema.proofs.ListLemmas.{after, mapped_some}
 
 -- what the literals of one more column are
 pub values_split : {P : Type 0} (column : Column) (columns : List Column) (literal : Literal) (literals : List Literal) (values : List Value)

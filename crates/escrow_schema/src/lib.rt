@@ -1,8 +1,11 @@
-//! Table definitions: the rules that a CREATE TABLE has to follow, the row that an INSERT's values
-//! make, and what an UPDATE asks of a row.
+//! Table definitions: the rules that a CREATE TABLE has to follow, the catalog of the tables that
+//! stand, the row that an INSERT makes, what an UPDATE asks of a row, and the canonical text of a
+//! table.
 //!
-//! Its one contract: [`define`] gives the table that a text defines, and refuses exactly where a
-//! rule of definitions is broken.
+//! [`define`] gives the table that a text defines, and refuses exactly where a rule of definitions
+//! is broken. [`Catalog`] keeps such tables in order of name. [`fit_row`] and [`plan_update`] refuse
+//! exactly what doesn't fit the table, before they take memory. [`print_table`]'s text is read back
+//! as the same table.
 #![tactic(auto)]
 
 mod catalog;

@@ -1,4 +1,4 @@
-use Rattle.std.proofs.Common.{ap, refl, sym, ◌∙◌}
+use Rattle.std.proofs.Common.{ap, sym, ◌∙◌}
 use Rattle.std.specs.Prelude.{is_some}
 use Rattle.escrow_schema.proofs.AskedLemmas.{list_values, no_list}
 use Rattle.escrow_schema.proofs.fit.all_fit.Goals as goal

@@ -1,4 +1,4 @@
-use Rattle.std.proofs.Common.{◌≡◌, add-one, sym, ◌∙◌}
+use Rattle.std.proofs.Common.{add-one, sym, ◌∙◌}
 use Rattle.escrow_schema.proofs.AskedLemmas.{beside_later}
 use Rattle.escrow_schema.proofs.fit.literal_beside.Goals as goal
 

@@ -1,5 +1,4 @@
-use Rattle.std.proofs.Common.{◌≡◌, ◌∙◌, length, refl}
-use Rattle.escrow_schema.specs.Definition.{keys_of}
+use Rattle.std.proofs.Common.{refl}
 use Rattle.escrow_schema.proofs.KeyLemmas.{length-keys_of}
 use Rattle.escrow_schema.proofs.items.count_keys.Goals as goal
 

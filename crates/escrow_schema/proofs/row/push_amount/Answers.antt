@@ -1,6 +1,5 @@
 use Rattle.std.proofs.Common.{◌≡◌, Some, None, ap, append-nil, refl, ◌∙◌, sym}
-use Rattle.std.specs.Prelude.{map, option_copied, slice_get}
-use Rattle.escrow_num.specs.declared.value.Value.TheVariants as value
+use Rattle.std.specs.Prelude.{option_copied, slice_get}
 use Rattle.escrow_schema.proofs.ValuesLemmas.{item_from, none_from}
 use Rattle.escrow_schema.proofs.row.push_amount.Goals as goal
 

@@ -1,4 +1,4 @@
-use Rattle.std.proofs.Common.{◌≡◌, ◌<◌, ◌++◌, [], ◌∷◌, arith, get_or, length, ap, subst, ◌∙◌}
+use Rattle.std.proofs.Common.{◌≡◌, ◌<◌, arith, get_or, length, subst}
 use Rattle.escrow_schema.specs.Fit.{values_of}
 use Rattle.escrow_schema.proofs.ValuesLemmas.{amount_next, key_next, plain_next}
 use Rattle.escrow_schema.proofs.row.values_of.Goals as goal
@@ -26,7 +26,7 @@ loop-i-preserved c =
       )
       | else-column+then-i-table+in_ok-copy+in_ok-push w ↦ rw (w.values-is, w.amounts-is, w.plain-is) (
         key_next columns i column table.key key row.amounts row.plain c.loop-i.amounts c.loop-i.plain done w.push.new.self.items whole
-            within here w.if-column.false w.if-i-table.true before (w.in_ok-push.ensures.items ∙ ap (λ v. done ++ v ∷ []) w.in_ok-copy.ensures.same),
+            within here w.if-column.false w.if-i-table.true before (let copied = w.in_ok-copy.ensures.same in let added = w.in_ok-push.ensures.items in rw copied at added),
         (omega arith, omega arith),
       )
       | else-column+else-i-table+in_ok-push_plain w ↦ rw (w.values-is, w.amounts-is, w.plain-is) (

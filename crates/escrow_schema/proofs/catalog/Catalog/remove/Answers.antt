@@ -1,4 +1,4 @@
-use Rattle.std.specs.Prelude.{◌≡◌, List, Some, None, get_or, position, bytes_eq, find, filter, not, remove}
+use Rattle.std.specs.Prelude.{◌≡◌, Some, None, position, bytes_eq}
 use Rattle.std.proofs.Common.{sym, ap, subst, ◌∙◌}
 use Rattle.std.proofs.lemmas.Option.{none-some}
 use Rattle.escrow_schema.specs.declared.table.TableDef.{TableDef}
