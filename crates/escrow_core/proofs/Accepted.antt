@@ -1,15 +1,17 @@
 -- What holds where a statement is accepted, by the name of what was tested.
-use Rattle.std.specs.Prelude.{◌≡◌, ℕ, ◌<◌, ◌≤◌, is_some, is_none, nat_le, nat_lt, option_map, option_and_then, Option, Some, None, [], ◌∷◌, length, map, Result, Ok, Err}
-use Rattle.std.specs.Result.{result_ok}
+use Rattle.std.specs.Prelude.{◌≡◌, ℕ, ◌<◌, ◌≤◌, ℤ, Bool, true, false, unwrap_or, is_some, is_none, nat_le, nat_lt, option_map, option_and_then, Option, Some, None, List, [], ◌∷◌, ◌++◌, length, map, Result, Ok, Err}
+use Rattle.std.specs.Result.{result_ok, result_err}
 use Rattle.std.proofs.Common.{refl, sym, ap, subst, ◌∙◌, arith}
 use Rattle.std.proofs.lemmas.Option.{option_and_then_some}
 use Rattle.escrow_num.specs.declared.refusal.Refusal.{Refusal}
 use Rattle.escrow_num.specs.declared.refusal.Refusal.TheVariants as refusal
 use Rattle.escrow_num.specs.declared.reservation.Reservation.{Reservation}
 use Rattle.escrow_num.specs.declared.row.Row.{Row}
-use Rattle.escrow_num.specs.Refusal.{refuse_if}
+use Rattle.escrow_num.specs.declared.value.Value.{Value}
+use Rattle.escrow_num.specs.Refusal.{refuse_if, first_refusal}
 use Rattle.escrow_num.specs.Reservation.{counted}
 use Rattle.escrow_sql.specs.declared.statement.CreateText.{CreateText}
+use Rattle.escrow_sql.specs.declared.statement.DeleteText.{DeleteText}
 use Rattle.escrow_sql.specs.declared.statement.InsertText.{InsertText}
 use Rattle.escrow_sql.specs.declared.statement.UpdateText.{UpdateText}
 use Rattle.escrow_sql.specs.declared.statement.Statement.TheVariants as statement
@@ -17,18 +19,19 @@ use Rattle.escrow_checks.specs.Grant.{broken}
 use Rattle.escrow_schema.specs.declared.plan.Plan.{Plan}
 use Rattle.escrow_schema.specs.declared.plan.Plan.TheVariants as plan
 use Rattle.escrow_schema.specs.declared.table.TableDef.{TableDef}
-use Rattle.escrow_schema.specs.Column.{reservables}
-use Rattle.escrow_schema.specs.Definition.{definition_of, IsTable}
-use Rattle.escrow_schema.specs.Fit.{fitted}
+use Rattle.escrow_schema.specs.Catalog.{table_named}
+use Rattle.escrow_schema.specs.Definition.{definition_of}
+use Rattle.escrow_schema.specs.Fit.{inserted_row}
 use Rattle.escrow_schema.specs.Plan.{planned}
 use Rattle.escrow_num.specs.declared.reservation.TheConstants.Reservation.{MAX_ID}
-use Rattle.escrow_core.specs.declared.database.TheConstants.Database.{MAX_TABLES, MAX_ROWS, MAX_RESERVATIONS}
+use Rattle.escrow_schema.specs.declared.catalog.TheConstants.Catalog.{MAX_TABLES}
+use Rattle.escrow_core.specs.declared.database.TheConstants.Database.{MAX_ROWS, MAX_RESERVATIONS}
 use Rattle.escrow_core.specs.Reservations.{own}
-use Rattle.escrow_core.specs.Serving.{IsAccepted, IsShort}
-use Rattle.escrow_core.specs.State.{State, table_named, row_named, rows_of, is_open, changes_to}
-use Rattle.escrow_core.specs.Turn.{turn_of, row_of, insert_breach, reservation_from, reservation_of, plan_refusal_of, updated_row, breach_of}
+use Rattle.escrow_core.specs.Serving.{IsAccepted}
+use Rattle.escrow_core.specs.State.{State, row_named, rows_of, is_open, is_reserved, is_table_reserved, changes_to}
+use Rattle.escrow_core.specs.Turn.{turn_of, update_refusals}
+use Rattle.escrow_core.specs.Asked.{row_of, insert_breach, plan_of, plan_refusal_of, row_name, reservation_from, breach_of, named_by, key_refusal_of}
 use Rattle.escrow_core.proofs.Refusals.{passed, failed, unbroken, none_there, some_there, below, not_above}
-use Rattle.escrow_schema.proofs.LawLemmas.{few_reservable, plans_of_whole_row}
 
 -- a table that is created
 pub record CreateStands (s : State) (session : ℕ) (text : CreateText) : Type 0 where
@@ -62,17 +65,17 @@ pub record InsertStands (s : State) (session : ℕ) (text : InsertText) : Type 0
   pub named : table_named s.catalog text.table ≡ Some table
   pub row : Row
   pub made : row_of s text ≡ Some row
-  pub fits : fitted table text.values ≡ Some row
+  pub fits : inserted_row table text ≡ Some row
   pub new : row_named s.rows row.name ≡ None
   pub room : length (rows_of s.rows text.table) < MAX_ROWS
   pub safe : broken table.checks row.amounts [] [] ≡ None
 
 -- the row is made in its table, and judged by its checks
 fits_in : (s : State) (text : InsertText) (table : TableDef) (row : Row) → table_named s.catalog text.table ≡ Some table → row_of s text ≡ Some row
-    → fitted table text.values ≡ Some row
+    → inserted_row table text ≡ Some row
 fits_in s text table row named made = rw named at made
 
-safe_in : (s : State) (text : InsertText) (table : TableDef) (row : Row) → table_named s.catalog text.table ≡ Some table → fitted table text.values ≡ Some row
+safe_in : (s : State) (text : InsertText) (table : TableDef) (row : Row) → table_named s.catalog text.table ≡ Some table → inserted_row table text ≡ Some row
     → insert_breach s text ≡ None → broken table.checks row.amounts [] [] ≡ None
 safe_in s text table row named fits unbroken_all = rw (named, fits) at unbroken_all
 
@@ -109,92 +112,152 @@ insert_stands s session text accepted =
       safe = safe_in s text table.0 row.0 table.1 fits unbroken_all;
     }
 
--- a reservation that an UPDATE asks
-pub record Asks (s : State) (session : ℕ) (text : UpdateText) (table : TableDef) (r : Reservation) : Type 0 where
-  pub id : r.id ≡ s.next_id
-  pub of_session : r.session ≡ session
-  pub of_table : r.row.table ≡ text.table
-  pub whole : length r.changes ≡ length (reservables table.columns)
+-- a table that is dropped
+pub record DropStands (s : State) (name : List ℕ) : Type 0 where
+  pub table : TableDef
+  pub named : table_named s.catalog name ≡ Some table
+  pub free : is_table_reserved s name ≡ false
 
-asks_by : (s : State) (session : ℕ) (text : UpdateText) (table : TableDef) (r : Reservation) (asked : Result Plan Refusal) → planned table text ≡ asked
-    → option_map (reservation_from s session text.table) (result_ok asked) ≡ Some r → Asks s session text table r
-asks_by s session text table r (Ok (plan.Reserve key changes)) is e =
-    let same : reservation_from s session text.table (plan.Reserve key changes) ≡ r = cc in
-    subst (Asks s session text table) same (record { id = refl; of_session = refl; of_table = refl; whole = plans_of_whole_row table text key changes is })
-asks_by s session text table r (Err refused) is e = absurd (cc)
+pub drop_stands : (s : State) (session : ℕ) (name : List ℕ) → IsAccepted s session (statement.Drop name) → DropStands s name
+unfolding turn_of
+drop_stands s session name accepted =
+    let is_open = refuse_if (is_open session s) refusal.TransactionOpen in
+    let unknown = refuse_if (is_none (table_named s.catalog name)) refusal.NoSuchTable in
+    let reserved = refuse_if (is_table_reserved s name) refusal.TableReserved in
+    let closed = passed is_open (unknown ∷ reserved ∷ []) accepted in
+    let known = passed unknown (reserved ∷ []) closed.others in
+    let free = passed reserved [] known.others in
+    let table = some_there (table_named s.catalog name) (failed (is_none (table_named s.catalog name)) refusal.NoSuchTable known.first) in
+    record { table = table.0; named = table.1; free = failed (is_table_reserved s name) refusal.TableReserved free.first }
 
-pub asks : (s : State) (session : ℕ) (text : UpdateText) (table : TableDef) (r : Reservation) → table_named s.catalog text.table ≡ Some table
-    → reservation_of s session text ≡ Some r → Asks s session text table r
-asks s session text table r named asked =
-    let at_table : option_map (reservation_from s session text.table) (result_ok (planned table text)) ≡ Some r = rw named at asked in
-    asks_by s session text table r (planned table text) refl at_table
+-- a row that is deleted
+pub record DeleteStands (s : State) (text : DeleteText) : Type 0 where
+  pub row : Row
+  pub found : row_named s.rows (named_by text.table text.row) ≡ Some row
+  pub free : is_reserved s (named_by text.table text.row) ≡ false
 
--- it has a change for at most as many columns as a table has RESERVABLE ones
-pub short_asked : (s : State) (session : ℕ) (text : UpdateText) (table : TableDef) (asked : Plan) → IsTable table → table_named s.catalog text.table ≡ Some table
-    → planned table text ≡ Ok asked → IsShort (reservation_from s session text.table asked)
-short_asked s session text table asked is_table named is =
-    let r : Reservation = reservation_from s session text.table asked in
-    let is_asked : reservation_of s session text ≡ Some r = rw (named, is) refl in
-    let whole = (asks s session text table r named is_asked).whole in
-    let few = (few_reservable table is_table).1 in
-    omega arith
+pub delete_stands : (s : State) (session : ℕ) (text : DeleteText) → IsAccepted s session (statement.Delete text) → DeleteStands s text
+unfolding turn_of
+delete_stands s session text accepted =
+    let name = named_by text.table text.row in
+    let is_open = refuse_if (is_open session s) refusal.TransactionOpen in
+    let unknown = refuse_if (is_none (table_named s.catalog text.table)) refusal.NoSuchTable in
+    let bad_key = key_refusal_of s text.table text.row in
+    let no_row = refuse_if (is_none (row_named s.rows name)) refusal.NoSuchRow in
+    let reserved = refuse_if (is_reserved s name) refusal.RowReserved in
+    let closed = passed is_open (unknown ∷ bad_key ∷ no_row ∷ reserved ∷ []) accepted in
+    let known = passed unknown (bad_key ∷ no_row ∷ reserved ∷ []) closed.others in
+    let keyed = passed bad_key (no_row ∷ reserved ∷ []) known.others in
+    let stands = passed no_row (reserved ∷ []) keyed.others in
+    let free = passed reserved [] stands.others in
+    let row = some_there (row_named s.rows name) (failed (is_none (row_named s.rows name)) refusal.NoSuchRow stands.first) in
+    record { row = row.0; found = row.1; free = failed (is_reserved s name) refusal.RowReserved free.first }
 
--- an UPDATE's reservation is of its table
-table_by : (s : State) (session : ℕ) (text : UpdateText) (o : Option Plan) (r : Reservation)
-    → option_map (reservation_from s session text.table) o ≡ Some r → r.row.table ≡ text.table
-table_by s session text None r e = absurd (cc)
-table_by s session text (Some (plan.Reserve key changes)) r e =
-    let same : reservation_from s session text.table (plan.Reserve key changes) ≡ r = cc in
-    ap (λ (x : Reservation). x.row.table) (sym same)
-
-pub asked_table : (s : State) (session : ℕ) (text : UpdateText) (r : Reservation) → reservation_of s session text ≡ Some r → r.row.table ≡ text.table
-asked_table s session text r asked =
-    table_by s session text (option_and_then (λ (table : TableDef). result_ok (planned table text)) (table_named s.catalog text.table)) r asked
-
--- a reservation that is granted
-pub record UpdateStands (s : State) (session : ℕ) (text : UpdateText) : Type 0 where
+-- the table of an UPDATE that isn't refused early, and its plan
+pub record UpdatePlan (s : State) (text : UpdateText) : Type 0 where
   pub table : TableDef
   pub named : table_named s.catalog text.table ≡ Some table
-  pub asked : Reservation
-  pub is_asked : reservation_of s session text ≡ Some asked
-  pub asks : Asks s session text table asked
+  pub plan : Plan
+  pub planned : planned table text ≡ Ok plan
+  pub is : plan_of s text ≡ Some plan
+
+plan_at : (s : State) (text : UpdateText) (table : TableDef) (asked : Result Plan Refusal) → table_named s.catalog text.table ≡ Some table
+    → planned table text ≡ asked → result_err asked ≡ None → UpdatePlan s text
+plan_at s text table (Ok p) named is none =
+    let found : plan_of s text ≡ Some p = ap (option_and_then (λ (t : TableDef). result_ok (planned t text))) named ∙ ap result_ok is in
+    record { table = table; named = named; plan = p; planned = is; is = found }
+plan_at s text table (Err r) named is none = absurd (cc)
+
+pub plan_there : (s : State) (text : UpdateText) (late : List (Option Refusal))
+    → first_refusal (refuse_if (is_none (table_named s.catalog text.table)) refusal.NoSuchTable ∷ plan_refusal_of s text ∷ late) ≡ None → UpdatePlan s text
+plan_there s text late accepted =
+    let unknown = refuse_if (is_none (table_named s.catalog text.table)) refusal.NoSuchTable in
+    let known = passed unknown (plan_refusal_of s text ∷ late) accepted in
+    let good = passed (plan_refusal_of s text) late known.others in
+    let table = some_there (table_named s.catalog text.table) (failed (is_none (table_named s.catalog text.table)) refusal.NoSuchTable known.first) in
+    let at_table : result_err (planned table.0 text) ≡ None =
+    subst (λ (o : Option TableDef). option_and_then (λ (t : TableDef). result_err (planned t text)) o ≡ None) table.1 good.first in
+    plan_at s text table.0 (planned table.0 text) table.1 refl at_table
+
+-- an UPDATE that is accepted has a plan, and no late refusal of it applies
+pub update_plan : (s : State) (session : ℕ) (text : UpdateText) → IsAccepted s session (statement.Update text) → UpdatePlan s text
+unfolding turn_of
+update_plan s session text accepted = plan_there s text (unwrap_or (option_map (update_refusals s session text.table) (plan_of s text)) []) accepted
+
+late_passed : (s : State) (session : ℕ) (text : UpdateText) (asked : Plan) → plan_of s text ≡ Some asked → IsAccepted s session (statement.Update text)
+    → first_refusal (update_refusals s session text.table asked) ≡ None
+unfolding turn_of
+late_passed s session text asked is accepted =
+    let unknown = refuse_if (is_none (table_named s.catalog text.table)) refusal.NoSuchTable in
+    let late = unwrap_or (option_map (update_refusals s session text.table) (plan_of s text)) [] in
+    let known = passed unknown (plan_refusal_of s text ∷ late) accepted in
+    let good = passed (plan_refusal_of s text) late known.others in
+    subst (λ (o : Option Plan). first_refusal (unwrap_or (option_map (update_refusals s session text.table) o) []) ≡ None) is good.others
+
+-- a reservation that is granted
+pub record ReserveStands (s : State) (session : ℕ) (text : UpdateText) (key : Value) (changes : List (Option ℤ)) : Type 0 where
+  pub table : TableDef
+  pub named : table_named s.catalog text.table ≡ Some table
+  pub planned : planned table text ≡ Ok (plan.Reserve key changes)
   pub row : Row
-  pub found : row_named s.rows asked.row ≡ Some row
+  pub found : row_named s.rows (row_name text.table key) ≡ Some row
   pub room : length (own session s.reservations) < MAX_RESERVATIONS
   pub more_ids : s.next_id ≤ MAX_ID
-  pub safe : broken table.checks row.amounts (counted asked.changes) (map (changes_to row) s.reservations) ≡ None
+  pub safe : broken table.checks row.amounts (counted changes) (map (changes_to row) s.reservations) ≡ None
 
-pub update_stands : (s : State) (session : ℕ) (text : UpdateText) → IsAccepted s session (statement.Update text) → UpdateStands s session text
-unfolding turn_of
-update_stands s session text accepted =
-    let unknown = refuse_if (is_none (table_named s.catalog text.table)) refusal.NoSuchTable in
-    let unplanned = plan_refusal_of s text in
-    let no_row = refuse_if (is_none (updated_row s session text)) refusal.NoSuchRow in
+-- the plan that stands is the one that is named
+same_plan : (s : State) (text : UpdateText) (asked : Plan) (p : UpdatePlan s text) → plan_of s text ≡ Some asked → planned p.table text ≡ Ok asked
+same_plan s text asked p is =
+    let both : Some p.plan ≡ Some asked = sym p.is ∙ is in
+    let same : p.plan ≡ asked = cc in
+    p.planned ∙ ap (λ (x : Plan). Ok x) same
+
+pub reserve_stands : (s : State) (session : ℕ) (text : UpdateText) (key : Value) (changes : List (Option ℤ)) → plan_of s text ≡ Some (plan.Reserve key changes)
+    → IsAccepted s session (statement.Update text) → ReserveStands s session text key changes
+reserve_stands s session text key changes is accepted =
+    let name = row_name text.table key in
+    let r : Reservation = reservation_from s session name changes in
+    let p = update_plan s session text accepted in
+    let no_row = refuse_if (is_none (row_named s.rows name)) refusal.NoSuchRow in
     let many = refuse_if (nat_le MAX_RESERVATIONS (length (own session s.reservations))) refusal.TooManyReservations in
     let no_ids = refuse_if (nat_lt MAX_ID s.next_id) refusal.NoMoreIds in
-    let breach = option_map refusal.Check (option_and_then (breach_of s) (reservation_of s session text)) in
-    let known = passed unknown (unplanned ∷ no_row ∷ many ∷ no_ids ∷ breach ∷ []) accepted in
-    let good = passed unplanned (no_row ∷ many ∷ no_ids ∷ breach ∷ []) known.others in
-    let stands = passed no_row (many ∷ no_ids ∷ breach ∷ []) good.others in
+    let breach = option_map refusal.Check (breach_of s r) in
+    let stands = passed no_row (many ∷ no_ids ∷ breach ∷ []) (late_passed s session text (plan.Reserve key changes) is accepted) in
     let room = passed many (no_ids ∷ breach ∷ []) stands.others in
     let ids = passed no_ids (breach ∷ []) room.others in
     let kept = passed breach [] ids.others in
-    let table = some_there (table_named s.catalog text.table) (failed (is_none (table_named s.catalog text.table)) refusal.NoSuchTable known.first) in
-    let row = some_there (updated_row s session text) (failed (is_none (updated_row s session text)) refusal.NoSuchRow stands.first) in
-    let unbroken_all : option_and_then (breach_of s) (reservation_of s session text) ≡ None = unbroken (option_and_then (breach_of s) (reservation_of s session text)) kept.first in
-    option_and_then_some (λ (r : Reservation). row_named s.rows r.row) (reservation_of s session text) row.0 row.1 (λ r is_asked found.
-    let asked = asks s session text table.0 r table.1 is_asked in
-    let at_table : table_named s.catalog r.row.table ≡ Some table.0 = ap (table_named s.catalog) asked.of_table ∙ table.1 in
-    let unbroken_asked : breach_of s r ≡ None = rw is_asked at unbroken_all in
+    let row = some_there (row_named s.rows name) (failed (is_none (row_named s.rows name)) refusal.NoSuchRow stands.first) in
+    let none_broken : breach_of s r ≡ None = unbroken (breach_of s r) kept.first in
+    let in_table : option_and_then (λ (x : Row). broken p.table.checks x.amounts (counted changes) (map (changes_to x) s.reservations)) (row_named s.rows name) ≡ None =
+    subst (λ (o : Option TableDef). option_and_then (λ (t : TableDef). option_and_then (λ (x : Row). broken t.checks x.amounts (counted changes) (map (changes_to x) s.reservations)) (row_named s.rows name)) o ≡ None)
+    p.named none_broken in
     record {
-      table = table.0;
-      named = table.1;
-      asked = r;
-      is_asked = is_asked;
-      asks = asked;
+      table = p.table;
+      named = p.named;
+      planned = same_plan s text (plan.Reserve key changes) p is;
       row = row.0;
-      found = found;
+      found = row.1;
       room = below MAX_RESERVATIONS (length (own session s.reservations)) (failed (nat_le MAX_RESERVATIONS (length (own session s.reservations))) refusal.TooManyReservations room.first);
       more_ids = not_above MAX_ID s.next_id (failed (nat_lt MAX_ID s.next_id) refusal.NoMoreIds ids.first);
-      safe = rw (at_table, found) at unbroken_asked;
-    })
+      safe = subst (λ (o : Option Row). option_and_then (λ (x : Row). broken p.table.checks x.amounts (counted changes) (map (changes_to x) s.reservations)) o ≡ None) row.1 in_table;
+    }
+
+-- plain values that are replaced
+pub record PlainStands (s : State) (text : UpdateText) (key : Value) (values : List (Option Value)) : Type 0 where
+  pub table : TableDef
+  pub named : table_named s.catalog text.table ≡ Some table
+  pub planned : planned table text ≡ Ok (plan.Plain key values)
+  pub row : Row
+  pub found : row_named s.rows (row_name text.table key) ≡ Some row
+
+pub plain_stands : (s : State) (session : ℕ) (text : UpdateText) (key : Value) (values : List (Option Value)) → plan_of s text ≡ Some (plan.Plain key values)
+    → IsAccepted s session (statement.Update text) → PlainStands s text key values
+plain_stands s session text key values is accepted =
+    let name = row_name text.table key in
+    let p = update_plan s session text accepted in
+    let is_open = refuse_if (is_open session s) refusal.TransactionOpen in
+    let no_row = refuse_if (is_none (row_named s.rows name)) refusal.NoSuchRow in
+    let closed = passed is_open (no_row ∷ []) (late_passed s session text (plan.Plain key values) is accepted) in
+    let stands = passed no_row [] closed.others in
+    let row = some_there (row_named s.rows name) (failed (is_none (row_named s.rows name)) refusal.NoSuchRow stands.first) in
+    record { table = p.table; named = p.named; planned = same_plan s text (plan.Plain key values) p is; row = row.0; found = row.1 }

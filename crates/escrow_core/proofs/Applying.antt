@@ -12,7 +12,7 @@ use Rattle.escrow_num.specs.Reservation.{counted}
 use Rattle.escrow_core.specs.Reservations.{own}
 use Rattle.escrow_checks.proofs.FormLemmas.{length-changed}
 use Rattle.escrow_core.proofs.Changes.{changed_nil}
-use Rattle.escrow_core.proofs.Items.{all_at}
+use Rattle.escrow_num.proofs.Items.{all_at}
 use Rattle.escrow_core.specs.Serving.{HaveAmounts}
 use Rattle.escrow_core.specs.State.{changes_to, row_after, applied}
 use Rattle.escrow_num.specs.Amount.{IsAmount}

@@ -3,7 +3,7 @@ use Rattle.std.specs.Prelude.{◌≡◌, ℤ, ◌+ℤ◌, Bool, true, false, con
 use Rattle.std.proofs.Common.{inl, inr, sym, ap, ap₂, ◌∙◌, refl, arith}
 use Rattle.std.proofs.lemmas.Int.{ints}
 use Rattle.escrow_checks.specs.Form.{changed, all_changed}
-use Rattle.escrow_core.proofs.Items.{Has}
+use Rattle.escrow_num.proofs.Items.{Has}
 use Rattle.escrow_core.proofs.Choices.{IsChoice}
 
 -- no changes change nothing

@@ -4,7 +4,7 @@ use Rattle.std.specs.List.{AllByRecursion}
 use Rattle.std.proofs.Common.{inl, inr, sym, ap, ◌∙◌, subst, refl}
 use Rattle.std.proofs.lemmas.Bool.{cond_both}
 use Rattle.escrow_checks.specs.Sublists.{sublists}
-use Rattle.escrow_core.proofs.Items.{Has}
+use Rattle.escrow_num.proofs.Items.{Has}
 
 -- a list is a choice of another's items, in their order
 abbrev pub IsChoice : {A : Type 0} → List A → List A → Type 0

@@ -8,7 +8,7 @@ use Rattle.escrow_checks.specs.Grant.{Meets, AlwaysMeets, broken}
 use Rattle.escrow_checks.specs.Sublists.{sublists}
 use Rattle.escrow_checks.proofs.LawsLemmas.{granted_where_all_always_met}
 use Rattle.escrow_core.proofs.Choices.{IsChoice, all_choices}
-use Rattle.escrow_core.proofs.Items.{all_has, has_all}
+use Rattle.escrow_num.proofs.Items.{all_has, has_all}
 
 -- where a new reservation breaks nothing of all checks, it and any choice of the others meet all of them
 pub granted_meets : (checks : List Check) (amounts changes : List ℤ) (reservations chosen : List (List ℤ)) → broken checks amounts changes reservations ≡ None

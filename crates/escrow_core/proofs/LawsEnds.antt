@@ -37,7 +37,7 @@ filters_commute {A} p q (x ∷ xs) =
     ∙ sym (filter_kept q (p x) x (filter p xs))
 
 -- a test that asks more keeps what it keeps of the whole list
-filter_within : {A : Type 0} (p q : A → Bool) (xs : List A) → ((x : A) → p x ≡ true → q x ≡ true) → filter p (filter q xs) ≡ filter p xs
+pub filter_within : {A : Type 0} (p q : A → Bool) (xs : List A) → ((x : A) → p x ≡ true → q x ≡ true) → filter p (filter q xs) ≡ filter p xs
 filter_within p q [] within = refl
 filter_within {A} p q (x ∷ xs) within =
     let rest = filter_within p q xs within in

@@ -1,5 +1,5 @@
 -- What an UPDATE that is granted, or refused by a check, says of the choices of the open reservations.
-use Rattle.std.specs.Prelude.{◌≡◌, ℕ, ℤ, ◌==◌, true, not, nat_le, nat_lt, is_none, option_map, option_and_then, List, [], ◌∷◌, ◌++◌, map, length, Contains, Option, Some, None}
+use Rattle.std.specs.Prelude.{◌≡◌, ℕ, ℤ, ◌==◌, true, not, nat_le, nat_lt, is_none, option_map, option_and_then, unwrap_or, List, [], ◌∷◌, ◌++◌, map, length, Contains, Option, Some, None}
 use Rattle.std.specs.List.{AllByRecursion}
 use Rattle.std.proofs.Common.{inl, inr, refl, sym, ap, ◌∙◌, subst}
 use Rattle.std.proofs.lemmas.List.{map_push}
@@ -10,6 +10,7 @@ use Rattle.escrow_num.specs.declared.refusal.Refusal.{Refusal}
 use Rattle.escrow_num.specs.declared.refusal.Refusal.TheVariants as refusal
 use Rattle.escrow_num.specs.declared.reservation.Reservation.{Reservation}
 use Rattle.escrow_num.specs.declared.row.Row.{Row}
+use Rattle.escrow_num.specs.declared.value.Value.{Value}
 use Rattle.escrow_num.specs.Order.{same_row}
 use Rattle.escrow_num.specs.Reservation.{counted}
 use Rattle.escrow_num.specs.Refusal.{refuse_if, first_refusal}
@@ -22,7 +23,10 @@ use Rattle.escrow_checks.specs.Grant.{Meets, broken_by, broken}
 use Rattle.escrow_checks.specs.Laws.{IsReached}
 use Rattle.escrow_checks.specs.Sublists.{sublists}
 use Rattle.escrow_checks.proofs.LawsLemmas.{refused_names_a_choice}
+use Rattle.escrow_schema.specs.declared.plan.Plan.{Plan}
+use Rattle.escrow_schema.specs.declared.plan.Plan.TheVariants as plan
 use Rattle.escrow_schema.specs.declared.table.TableDef.{TableDef}
+use Rattle.escrow_schema.specs.Catalog.{table_named}
 use Rattle.escrow_num.specs.declared.reservation.TheConstants.Reservation.{MAX_ID}
 use Rattle.escrow_core.specs.declared.database.TheConstants.Database.{MAX_RESERVATIONS}
 use Rattle.escrow_core.specs.declared.reply.Reply.{Reply}
@@ -30,22 +34,23 @@ use Rattle.escrow_core.specs.declared.reply.Reply.TheVariants as reply
 use Rattle.escrow_core.specs.Laws.{IsAsked, MeetsWith, IsReachedBreach}
 use Rattle.escrow_core.specs.Reservations.{own, others}
 use Rattle.escrow_core.specs.Serving.{IsAccepted}
-use Rattle.escrow_core.specs.State.{State, table_named, row_named, changes_to, row_after}
+use Rattle.escrow_core.specs.Asked.{plan_of, plan_refusal_of, reservation_from, row_name, reserved_by, reservation_of, breach_of}
+use Rattle.escrow_core.specs.State.{State, row_named, is_open, changes_to, row_after}
 use Rattle.escrow_core.specs.Step.{refusals, step}
-use Rattle.escrow_core.specs.Turn.{turn_of, reservation_of, plan_refusal_of, updated_row, breach_of}
-use Rattle.escrow_core.proofs.Accepted.{update_stands, asked_table}
+use Rattle.escrow_core.specs.Turn.{turn_of, update_refusals, update_reply}
+use Rattle.escrow_core.proofs.Accepted.{reserve_stands}
 use Rattle.escrow_core.proofs.Applying.{changes_own}
 use Rattle.escrow_core.proofs.Changes.{all_changed_push}
 use Rattle.escrow_core.proofs.Choices.{IsChoice, all_choices, choices_all, choice_map, choice_filter}
 use Rattle.escrow_core.proofs.Granted.{granted_meets}
-use Rattle.escrow_core.proofs.Items.{Has, has_all, find_has}
+use Rattle.escrow_num.proofs.Items.{Has, has_all, find_has}
 use Rattle.escrow_core.proofs.LawsSteps.{step_has}
 use Rattle.escrow_core.proofs.Refusals.{if_among, passed_over}
 use Rattle.escrow_core.proofs.Plans.{plan_among}
 use Rattle.escrow_core.proofs.Turns.{is_turn}
 
 -- an item is contained
-has_contains : {A : Type 0} (xs : List A) (x : A) → Has xs x → Contains xs x
+pub has_contains : {A : Type 0} (xs : List A) (x : A) → Has xs x → Contains xs x
 has_contains [] x h = absurd h
 has_contains (y ∷ ys) x (inl e) = subst (Contains (y ∷ ys)) e (Contains-append_left (y ∷ []) ys y (Contains-push [] y))
 has_contains (y ∷ ys) x (inr h) = Contains-append_right (y ∷ []) ys x (has_contains ys x h)
@@ -80,12 +85,42 @@ amounts_with row r chosen same =
 row_is_named : (s : State) (r : Reservation) (row : Row) → row_named s.rows r.row ≡ Some row → same_row row.name r.row ≡ true
 row_is_named s r row found = (find_has (λ (x : Row). same_row x.name r.row) s.rows row found).1
 
--- what is granted has no refusal
+-- what is granted has no refusal, and its plan is to reserve changes
 granted_none : (s : State) (session : ℕ) (text : UpdateText) (id : ℕ) → (step s session (statement.Update text)).0 ≡ reply.Reserved id
-    → IsAccepted s session (statement.Update text)
+    → IsAccepted s session (statement.Update text) × ((turn_of s session (statement.Update text)).reply ≡ reply.Reserved id)
 granted_none s session text id =
-    step_has (λ (p : Reply × State). p.0 ≡ reply.Reserved id → IsAccepted s session (statement.Update text)) s session (statement.Update text)
-    (λ _ _ e. absurd (cc)) (λ accepted _. accepted)
+    step_has (λ (p : Reply × State). p.0 ≡ reply.Reserved id → IsAccepted s session (statement.Update text) × ((turn_of s session (statement.Update text)).reply ≡ reply.Reserved id))
+    s session (statement.Update text) (λ _ _ e. absurd (cc)) (λ accepted e. (accepted, e))
+
+abbrev IsReserve : Option Plan → Type 0
+IsReserve o = (key : Value) × (changes : List (Option ℤ)) × (o ≡ Some (plan.Reserve key changes))
+
+reserve_of_reply : (s : State) (id : ℕ) (o : Option Plan) → unwrap_or (option_map (update_reply s) o) reply.Updated ≡ reply.Reserved id → IsReserve o
+reserve_of_reply s id None e = absurd (cc)
+reserve_of_reply s id (Some (plan.Reserve key changes)) e = (key, changes, refl)
+reserve_of_reply s id (Some (plan.Plain key values)) e = absurd (cc)
+
+granted_plan : (s : State) (session : ℕ) (text : UpdateText) (id : ℕ) → (turn_of s session (statement.Update text)).reply ≡ reply.Reserved id → IsReserve (plan_of s text)
+unfolding turn_of
+granted_plan s session text id e = reserve_of_reply s id (plan_of s text) e
+
+-- the reservation that is granted
+record Granted (s : State) (session : ℕ) (text : UpdateText) : Type 0 where
+  table : TableDef
+  row : Row
+  new : Reservation
+  asked : IsAsked s session text table row new
+  found : row_named s.rows new.row ≡ Some row
+  safe : broken table.checks row.amounts (counted new.changes) (map (changes_to row) s.reservations) ≡ None
+
+granted_one : (s : State) (session : ℕ) (text : UpdateText) (id : ℕ) → (step s session (statement.Update text)).0 ≡ reply.Reserved id → Granted s session text
+granted_one s session text id granted =
+    let accepted = granted_none s session text id granted in
+    let is = granted_plan s session text id accepted.1 in
+    let stands = reserve_stands s session text is.0 is.1 is.2 accepted.0 in
+    let r : Reservation = reservation_from s session (row_name text.table is.0) is.1 in
+    let of_plan : reservation_of s session text ≡ Some r = ap (option_and_then (reserved_by s session text.table)) is.2 in
+    record { table = stands.table; row = stands.row; new = r; asked = (stands.named, of_plan, stands.found); found = stands.found; safe = stands.safe }
 
 -- so its row meets the checks with each choice
 meets_with : (s : State) (table : TableDef) (row : Row) (r : Reservation) → row_named s.rows r.row ≡ Some row
@@ -100,26 +135,21 @@ meets_with s table row r found safe chosen choice =
 pub granted_in_every_choice : (s : State) (session : ℕ) (text : UpdateText) (id : ℕ) → (step s session (statement.Update text)).0 ≡ reply.Reserved id
     → (table : TableDef) × (row : Row) × (new : Reservation) × IsAsked s session text table row new × AllByRecursion (MeetsWith table row new) (sublists s.reservations)
 granted_in_every_choice s session text id granted =
-    let stands = update_stands s session text (granted_none s session text id granted) in (
-      stands.table,
-      stands.row,
-      stands.asked,
-      (stands.named, stands.is_asked, stands.found),
-      choices_all (MeetsWith stands.table stands.row stands.asked) s.reservations (meets_with s stands.table stands.row stands.asked stands.found stands.safe),
-    )
+    let one = granted_one s session text id granted in
+    (one.table, one.row, one.new, one.asked, choices_all (MeetsWith one.table one.row one.new) s.reservations (meets_with s one.table one.row one.new one.found one.safe))
 
 -- with each choice of the others' too
 pub own_increment_not_spent : (s : State) (session : ℕ) (text : UpdateText) (id : ℕ) → (step s session (statement.Update text)).0 ≡ reply.Reserved id
     → (table : TableDef) × (row : Row) × (new : Reservation) × IsAsked s session text table row new
     × AllByRecursion (MeetsWith table row new) (sublists (others session s.reservations))
 own_increment_not_spent s session text id granted =
-    let stands = update_stands s session text (granted_none s session text id granted) in (
-      stands.table,
-      stands.row,
-      stands.asked,
-      (stands.named, stands.is_asked, stands.found),
-      choices_all (MeetsWith stands.table stands.row stands.asked) (others session s.reservations) (λ chosen choice.
-          meets_with s stands.table stands.row stands.asked stands.found stands.safe chosen
+    let one = granted_one s session text id granted in (
+      one.table,
+      one.row,
+      one.new,
+      one.asked,
+      choices_all (MeetsWith one.table one.row one.new) (others session s.reservations) (λ chosen choice.
+          meets_with s one.table one.row one.new one.found one.safe chosen
           (choice_filter (λ (r : Reservation). not (r.session == session)) s.reservations chosen choice)),
     )
 
@@ -135,7 +165,33 @@ last_breach : (o : Option Breach) (breach : Breach) → first_refusal (option_ma
 last_breach None breach e = absurd (cc)
 last_breach (Some other) breach e = cc
 
--- is the breach of its reservation
+-- is the breach of its reservation: a plan of plain values has none
+late_breach : (s : State) (session : ℕ) (text : UpdateText) (o : Option Plan) (breach : Breach)
+    → first_refusal (unwrap_or (option_map (update_refusals s session text.table) o) []) ≡ Some (refusal.Check breach)
+    → option_and_then (breach_of s) (option_and_then (reserved_by s session text.table) o) ≡ Some breach
+late_breach s session text None breach first = absurd (cc)
+late_breach s session text (Some (plan.Reserve key changes)) breach first =
+    let P : Refusal → Type 0 = λ other. ¬ (other ≡ refusal.Check breach) in
+    let name = row_name text.table key in
+    let no_row = refuse_if (is_none (row_named s.rows name)) refusal.NoSuchRow in
+    let many = refuse_if (nat_le MAX_RESERVATIONS (length (own session s.reservations))) refusal.TooManyReservations in
+    let no_ids = refuse_if (nat_lt MAX_ID s.next_id) refusal.NoMoreIds in
+    let o = breach_of s (reservation_from s session name changes) in
+    let last = option_map refusal.Check o in
+    let here = refusal.Check breach in
+    let past_row = passed_over no_row (many ∷ no_ids ∷ last ∷ []) here (if_among P _ _ (λ q. absurd (cc))) first in
+    let past_room = passed_over many (no_ids ∷ last ∷ []) here (if_among P _ _ (λ q. absurd (cc))) past_row in
+    let past_ids = passed_over no_ids (last ∷ []) here (if_among P _ _ (λ q. absurd (cc))) past_room in
+    last_breach o breach past_ids
+late_breach s session text (Some (plan.Plain key values)) breach first =
+    let P : Refusal → Type 0 = λ other. ¬ (other ≡ refusal.Check breach) in
+    let is_open = refuse_if (is_open session s) refusal.TransactionOpen in
+    let no_row = refuse_if (is_none (row_named s.rows (row_name text.table key))) refusal.NoSuchRow in
+    let here = refusal.Check breach in
+    let past_open = passed_over is_open (no_row ∷ []) here (if_among P _ _ (λ q. absurd (cc))) first in
+    let past_row = passed_over no_row [] here (if_among P _ _ (λ q. absurd (cc))) past_open in
+    absurd (cc)
+
 refused_breach : (s : State) (session : ℕ) (text : UpdateText) (breach : Breach)
     → first_refusal (refusals (turn_of s session (statement.Update text))) ≡ Some (refusal.Check breach)
     → option_and_then (breach_of s) (reservation_of s session text) ≡ Some breach
@@ -144,17 +200,11 @@ refused_breach s session text breach first =
     let P : Refusal → Type 0 = λ other. ¬ (other ≡ refusal.Check breach) in
     let unknown = refuse_if (is_none (table_named s.catalog text.table)) refusal.NoSuchTable in
     let unplanned = plan_refusal_of s text in
-    let no_row = refuse_if (is_none (updated_row s session text)) refusal.NoSuchRow in
-    let many = refuse_if (nat_le MAX_RESERVATIONS (length (own session s.reservations))) refusal.TooManyReservations in
-    let no_ids = refuse_if (nat_lt MAX_ID s.next_id) refusal.NoMoreIds in
-    let last = option_map refusal.Check (option_and_then (breach_of s) (reservation_of s session text)) in
+    let late = unwrap_or (option_map (update_refusals s session text.table) (plan_of s text)) [] in
     let here = refusal.Check breach in
-    let past_table = passed_over unknown (unplanned ∷ no_row ∷ many ∷ no_ids ∷ last ∷ []) here (if_among P _ _ (λ q. absurd (cc))) first in
-    let past_plan = passed_over unplanned (no_row ∷ many ∷ no_ids ∷ last ∷ []) here (plan_among P s text (λ q. absurd (cc)) (λ q. absurd (cc)) (λ q. absurd (cc))) past_table in
-    let past_row = passed_over no_row (many ∷ no_ids ∷ last ∷ []) here (if_among P _ _ (λ q. absurd (cc))) past_plan in
-    let past_room = passed_over many (no_ids ∷ last ∷ []) here (if_among P _ _ (λ q. absurd (cc))) past_row in
-    let past_ids = passed_over no_ids (last ∷ []) here (if_among P _ _ (λ q. absurd (cc))) past_room in
-    last_breach (option_and_then (breach_of s) (reservation_of s session text)) breach past_ids
+    let past_table = passed_over unknown (unplanned ∷ late) here (if_among P _ _ (λ q. absurd (cc))) first in
+    let past_plan = passed_over unplanned late here (plan_among P s text (λ q. absurd (cc)) (λ q. absurd (cc)) (λ q. absurd (cc))) past_table in
+    late_breach s session text (plan_of s text) breach past_plan
 
 -- a breach of a list of checks is one of a check in it
 either_broken : (checks : List Check) (amounts changes : List ℤ) (reservations : List (List ℤ)) (breach : Breach) (check : Check) (o : Option Breach)
@@ -197,6 +247,14 @@ breach_reached s table row r breach found e =
       reached_with row r s.reservations check.0.coeffs breach.worst (row_is_named s r row found) known.2,
     )
 
+-- a reservation that is asked is of the table that is named
+asked_table : (s : State) (session : ℕ) (text : UpdateText) (o : Option Plan) (r : Reservation) → option_and_then (reserved_by s session text.table) o ≡ Some r
+    → r.row.table ≡ text.table
+asked_table s session text None r e = absurd (cc)
+asked_table s session text (Some (plan.Reserve key changes)) r e =
+    let same : reservation_from s session (row_name text.table key) changes ≡ r = cc in ap (λ (x : Reservation). x.row.table) (sym same)
+asked_table s session text (Some (plan.Plain key values)) r e = absurd (cc)
+
 pub refused_by_a_choice : (s : State) (session : ℕ) (text : UpdateText) (breach : Breach)
     → (step s session (statement.Update text)).0 ≡ reply.Refused (refusal.Check breach)
     → (table : TableDef) × (row : Row) × (new : Reservation) × IsAsked s session text table row new × IsReachedBreach table row s.reservations new breach
@@ -206,7 +264,7 @@ refused_by_a_choice s session text breach refused =
     option_and_then_some (λ (table : TableDef). option_and_then (broken_in r table) (row_named s.rows r.row)) (table_named s.catalog r.row.table) breach of_reservation
     (λ table named of_table. option_and_then_some (broken_in r table) (row_named s.rows r.row) breach of_table
     (λ row found e.
-    let of_text : table_named s.catalog text.table ≡ Some table = ap (table_named s.catalog) (sym (asked_table s session text r is_asked)) ∙ named in
+    let of_text : table_named s.catalog text.table ≡ Some table = ap (table_named s.catalog) (sym (asked_table s session text (plan_of s text) r is_asked)) ∙ named in
     (table, row, r, (of_text, is_asked, found), breach_reached s table row r breach found e))))
   where
     broken_in : Reservation → TableDef → Row → Option Breach

@@ -6,18 +6,19 @@ use Rattle.escrow_num.specs.declared.reservation.Reservation.{Reservation}
 use Rattle.escrow_num.specs.declared.row.Row.{Row}
 use Rattle.escrow_checks.specs.Grant.{Meets}
 use Rattle.escrow_schema.specs.declared.table.TableDef.{TableDef}
-use Rattle.escrow_schema.specs.Fit.{FitColumns, values_of}
+use Rattle.escrow_schema.specs.Catalog.{table_named}
+use Rattle.escrow_schema.specs.Fit.{FitColumns, IsRowOf, values_of}
 use Rattle.escrow_schema.proofs.LawLemmas.{values_fit}
 use Rattle.escrow_core.specs.declared.event.Event.{Event}
 use Rattle.escrow_core.specs.declared.reply.Reply.{Reply}
 use Rattle.escrow_core.specs.Event.{HasSession}
 use Rattle.escrow_core.specs.Laws.{HasFittingValues}
-use Rattle.escrow_core.specs.State.{State, empty, table_named, applied}
+use Rattle.escrow_core.specs.State.{State, empty, applied}
 use Rattle.escrow_core.specs.Step.{IsRun}
-use Rattle.escrow_core.specs.Valid.{IsValid, HasTable, IsRowOf, MeetsChecks}
+use Rattle.escrow_core.specs.Valid.{IsValid, HasTable, MeetsChecks}
 use Rattle.escrow_core.proofs.Applying.{applied_none}
 use Rattle.escrow_core.proofs.Choices.{all_choices, choice_none}
-use Rattle.escrow_core.proofs.Items.{all_has, has_all}
+use Rattle.escrow_num.proofs.Items.{all_has, has_all}
 use Rattle.escrow_core.proofs.LawsSteps.{run_keeps_valid}
 use Rattle.escrow_core.proofs.Shapes.{is_table_found}
 use Rattle.escrow_core.proofs.ValidEmpty.{empty_valid}
@@ -39,7 +40,7 @@ fitting : (s : State) → IsValid s → (row : Row) (o : Option TableDef) → ta
     → IsSomeAnd o (λ t. AllByRecursion (λ check. Meets check row.amounts) t.checks) → IsSomeAnd o (λ t. FitColumns t.columns (values_of t row))
 fitting s valid row None found of_table met = absurd of_table
 fitting s valid row (Some table) found is_row met =
-    values_fit table is_row.literals is_row.made row (is_table_found s valid row.name.table table found) is_row.fits is_row.name is_row.plain is_row.amounts met
+    values_fit table row (is_table_found s valid row.name.table table found) is_row met
 
 pub committed_values_fit : (s : State) → IsValid s → AllByRecursion (HasFittingValues s.catalog) s.rows
 committed_values_fit s valid =

@@ -1,8 +1,8 @@
 -- What one step of the machine keeps and answers, for all statements at once.
-use Rattle.std.specs.Prelude.{◌≡◌, ℕ, ◌+◌, ◌≤◌, true, is_none, option_map, unwrap_or, MatchOption, IsTrue, Option, Some, None, List, [], ◌∷◌, length}
+use Rattle.std.specs.Prelude.{◌≡◌, ℕ, ◌+◌, ◌≤◌, true, false, is_none, option_map, unwrap_or, MatchOption, IsTrue, Option, Some, None, List, [], ◌∷◌, length}
 use Rattle.std.specs.List.{AllByRecursion}
 use Rattle.std.proofs.Common.{refl, sym, ap, subst, le_refl, ◌∙◌}
-use Rattle.std.proofs.lemmas.Bool.{and_parts}
+use Rattle.std.proofs.lemmas.Bool.{and_parts, false_from_ne_true}
 use Rattle.escrow_num.specs.declared.refusal.Refusal.{Refusal}
 use Rattle.escrow_num.specs.Refusal.{first_refusal}
 use Rattle.escrow_num.specs.Session.{IsSession}
@@ -16,7 +16,7 @@ use Rattle.escrow_core.specs.declared.reply.Failure.{Failure}
 use Rattle.escrow_core.specs.declared.reply.Failure.TheVariants as failure
 use Rattle.escrow_core.specs.Event.{HasSession}
 use Rattle.escrow_core.specs.Reply.{failure_of}
-use Rattle.escrow_core.specs.Laws.{IsSeen}
+use Rattle.escrow_core.specs.Laws.{IsSeen, takes_nothing}
 use Rattle.escrow_core.specs.Reservations.{own}
 use Rattle.escrow_core.specs.State.{State}
 use Rattle.escrow_core.specs.Step.{refusals, step, may_fail, IsStep, StepOrRefusal, IsRun}
@@ -89,22 +89,25 @@ fails s session asked f e =
     let turn = turn_of s session asked in
     (and_parts (is_none (first_refusal turn.early)) (turn.fails_for f) e).1
 
-commit_fails_for : (s : State) (session : ℕ) (f : Failure) → ¬ ((turn_of s session statement.Commit).fails_for f ≡ true)
+fails_for_nothing : (s : State) (session : ℕ) (asked : Statement) (f : Failure) → takes_nothing asked ≡ true → (turn_of s session asked).fails_for f ≡ false
 unfolding turn_of
-commit_fails_for s session f = λ e. absurd (cc)
-
-rollback_fails_for : (s : State) (session : ℕ) (f : Failure) → ¬ ((turn_of s session statement.Rollback).fails_for f ≡ true)
-unfolding turn_of
-rollback_fails_for s session f = λ e. absurd (cc)
+fails_for_nothing s session (statement.Create text) f e = absurd (cc)
+fails_for_nothing s session (statement.Drop name) f e = refl
+fails_for_nothing s session (statement.Insert text) f e = absurd (cc)
+fails_for_nothing s session (statement.Update text) f e = absurd (cc)
+fails_for_nothing s session (statement.Delete text) f e = refl
+fails_for_nothing s session (statement.Select text) f e = absurd (cc)
+fails_for_nothing s session (statement.ShowTable name) f e = absurd (cc)
+fails_for_nothing s session statement.Commit f e = refl
+fails_for_nothing s session statement.Rollback f e = refl
 
 pub fails_for_memory_alone : (s : State) (session : ℕ) (asked : Statement) (answer : Reply) (new : State) (f : Failure)
     → StepOrRefusal s session asked answer new → failure_of answer ≡ Some f
-    → (f ≡ failure.Memory) × (¬ (asked ≡ statement.Commit)) × (¬ (asked ≡ statement.Rollback))
+    → (f ≡ failure.Memory) × (takes_nothing asked ≡ false)
 fails_for_memory_alone s session asked answer new f event failed =
     let for_it = fails s session asked f (failed_with s session asked answer new f event failed).0 in (
       (is_turn s session asked).memory f for_it,
-      λ is. commit_fails_for s session f (subst (λ (a : Statement). (turn_of s session a).fails_for f ≡ true) is for_it),
-      λ is. rollback_fails_for s session f (subst (λ (a : Statement). (turn_of s session a).fails_for f ≡ true) is for_it),
+      false_from_ne_true (takes_nothing asked) (λ t. let none = fails_for_nothing s session asked f t in absurd (cc)),
     )
 
 -- where an early refusal applies nothing fails, and it is the answer
@@ -144,9 +147,12 @@ none_for_commit s session r = λ e. absurd (cc)
 refused_unseen : (s : State) (session : ℕ) (asked : Statement) (r : Refusal) → first_refusal (refusals (turn_of s session asked)) ≡ Some r
     → IsSeen s session asked (reply.Refused r) s.rows
 refused_unseen s session asked r first = record {
+  dropped = λ name answered. absurd (cc);
   inserted = λ text is answered. absurd (cc);
+  updated = λ text is answered. absurd (cc);
+  deleted = λ text is answered. absurd (cc);
   committed = λ is. absurd (none_for_commit s session r (subst (λ (a : Statement). first_refusal (refusals (turn_of s session a)) ≡ Some r) is first));
-  otherwise = λ _ _. refl;
+  otherwise = λ _. refl;
 }
 
 pub queries_see_commits_alone : (s : State) (session : ℕ) (asked : Statement) → IsSeen s session asked (step s session asked).0 (step s session asked).1.rows

@@ -3,12 +3,8 @@ use Rattle.std.specs.Prelude.{◌≡◌, ℕ, zero, suc, ◌+◌, ◌*◌, ◌�
 use Rattle.std.proofs.Common.{inl, inr, ap, ◌∙◌, refl, arith, le_trans, mul-suc}
 use Rattle.std.proofs.lemmas.Bool.{cond_both, not-true, eqb-false, cases_lt}
 use Rattle.std.proofs.lemmas.List.Filters.{length-filter_both}
-use Rattle.escrow_core.proofs.Items.{Has, has_filter}
-
--- the length of a list with an item more where a test holds
-pub length_kept : {A : Type 0} (b : Bool) (x : A) (xs : List A) → length (cond b (x ∷ xs) xs) ≡ length xs + cond b 1 0
-length_kept true x xs = omega arith
-length_kept false x xs = omega arith
+use Rattle.escrow_num.proofs.Items.{Has, has_filter}
+use Rattle.escrow_num.proofs.Put.{length_kept}
 
 -- a test keeps at most as many items of a part as of the whole
 pub length-filter_filter : {A : Type 0} (p q : A → Bool) (xs : List A) → length (filter p (filter q xs)) ≤ length (filter p xs)

@@ -1,78 +1,11 @@
--- An item put into a list in its order, as `with_row` and `with_table` put it.
-use Rattle.std.specs.Prelude.{◌≡◌, ◌⊎◌, ◌+◌, Bool, true, false, cond, List, [], ◌∷◌, filter, find, length, Some, None, IsTrue}
-use Rattle.std.proofs.Common.{inl, inr, ap, subst, refl, arith}
-use Rattle.std.proofs.lemmas.Bool.{cond_both, cond-false}
+-- A row put among the rows in order.
+use Rattle.std.specs.Prelude.{◌≡◌, cond, List, [], ◌∷◌}
+use Rattle.std.proofs.Common.{ap, refl}
 use Rattle.escrow_num.specs.declared.row.Row.{Row}
-use Rattle.escrow_schema.specs.declared.table.TableDef.{TableDef}
-use Rattle.escrow_core.specs.State.{with_table, with_row}
-use Rattle.escrow_core.specs.Valid.{IsAscending, table_before, row_before}
-use Rattle.escrow_core.proofs.Items.{Has, all_has, has_all}
-use Rattle.escrow_core.proofs.Lengths.{length_kept}
-
--- an item put in front of the first one that it is before
-abbrev pub put : {A : Type 0} → (A → A → Bool) → A → List A → List A
-put before x [] = x ∷ []
-put before x (y ∷ ys) = cond (before x y) (x ∷ y ∷ ys) (y ∷ put before x ys)
+use Rattle.escrow_num.proofs.Put.{put}
+use Rattle.escrow_core.specs.State.{with_row}
+use Rattle.escrow_core.specs.Valid.{row_before}
 
 pub with_row_put : (row : Row) (rows : List Row) → with_row row rows ≡ put row_before row rows
 with_row_put row [] = refl
 with_row_put row (other ∷ rest) = ap (λ zs. cond (row_before row other) (row ∷ other ∷ rest) (other ∷ zs)) (with_row_put row rest)
-
-pub with_table_put : (table : TableDef) (catalog : List TableDef) → with_table table catalog ≡ put table_before table catalog
-with_table_put table [] = refl
-with_table_put table (other ∷ rest) = ap (λ zs. cond (table_before table other) (table ∷ other ∷ rest) (other ∷ zs)) (with_table_put table rest)
-
--- the items are the one that is put and the others
-pub has_put : {A : Type 0} (before : A → A → Bool) (x : A) (xs : List A) (y : A) → Has (put before x xs) y → (x ≡ y) ⊎ Has xs y
-has_put before x [] y (inl e) = inl e
-has_put before x [] y (inr h) = absurd h
-has_put {A} before x (z ∷ zs) y h =
-    let later : Has (z ∷ put before x zs) y → (x ≡ y) ⊎ Has (z ∷ zs) y = elim [
-      | inl e ↦ inr (inl e)
-      | inr k ↦ elim (has_put before x zs y k) [ inl e ↦ inl e | inr l ↦ inr (inr l) ]
-    ] in
-    cond_both (before x z) (x ∷ z ∷ zs) (z ∷ put before x zs) (λ ws. Has ws y → (x ≡ y) ⊎ Has (z ∷ zs) y) (λ _ k. k) (λ _. later) h
-
-pub length-put : {A : Type 0} (before : A → A → Bool) (x : A) (xs : List A) → length (put before x xs) ≡ length xs + 1
-length-put before x [] = refl
-length-put before x (z ∷ zs) =
-    cond_both (before x z) (x ∷ z ∷ zs) (z ∷ put before x zs) (λ ws. length ws ≡ length (z ∷ zs) + 1)
-    (λ _. omega arith) (λ _. omega (arith, length-put before x zs))
-
--- one more item passes a test, or none
-pub length-filter_put : {A : Type 0} (before : A → A → Bool) (p : A → Bool) (x : A) (xs : List A)
-    → length (filter p (put before x xs)) ≡ length (filter p xs) + cond (p x) 1 0
-length-filter_put before p x [] = length_kept (p x) x []
-length-filter_put before p x (z ∷ zs) =
-    let in_rest = length-filter_put before p x zs in
-    let in_front = length_kept (p x) x (filter p (z ∷ zs)) in
-    let first = length_kept (p z) z (filter p zs) in
-    let second = length_kept (p z) z (filter p (put before x zs)) in
-    cond_both (before x z) (x ∷ z ∷ zs) (z ∷ put before x zs) (λ ws. length (filter p ws) ≡ length (filter p (z ∷ zs)) + cond (p x) 1 0)
-    (λ _. in_front) (λ _. omega arith)
-
--- an item that fails a test isn't found
-pub find_put : {A : Type 0} (before : A → A → Bool) (p : A → Bool) (x : A) (xs : List A) → p x ≡ false → find p (put before x xs) ≡ find p xs
-find_put before p x [] e = cond-false (p x) (Some x) None e
-find_put before p x (z ∷ zs) e =
-    cond_both (before x z) (x ∷ z ∷ zs) (z ∷ put before x zs) (λ ws. find p ws ≡ find p (z ∷ zs))
-    (λ _. cond-false (p x) (Some x) (find p (z ∷ zs)) e)
-    (λ _. ap (λ o. cond (p z) (Some z) o) (find_put before p x zs e))
-
--- an item put into an ascending list in its order
-pub put_ascending : {A : Type 0} (before : A → A → Bool)
-    → ((x y z : A) → before x y ≡ true → before y z ≡ true → before x z ≡ true)
-    → (x : A) (xs : List A) → ((y : A) → Has xs y → before x y ≡ false → before y x ≡ true)
-    → IsAscending before xs → IsAscending before (put before x xs)
-put_ascending before trans x [] other h = (tt, tt)
-put_ascending before trans x (z ∷ zs) other h =
-    cond_both (before x z) (x ∷ z ∷ zs) (z ∷ put before x zs) (IsAscending before)
-    (λ t. ((t, has_all (λ y. IsTrue (before x y)) zs (λ y k. trans x z y t (all_has (λ y. IsTrue (before z y)) zs h.0 y k))), h))
-    (λ f. (
-      has_all (λ y. IsTrue (before z y)) (put before x zs) (λ y k.
-          elim (has_put before x zs y k) [
-            | inl e ↦ subst (λ w. IsTrue (before z w)) e (other z (inl refl) f)
-            | inr l ↦ all_has (λ y. IsTrue (before z y)) zs h.0 y l
-          ]),
-      put_ascending before trans x zs (λ y k. other y (inr k)) h.1,
-    ))

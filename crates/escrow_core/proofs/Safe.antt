@@ -1,19 +1,20 @@
 -- What a valid state says of each row, and how rows are shown safe.
-use Rattle.std.specs.Prelude.{◌≡◌, true, false, List, Option, Some, None, IsSomeAnd, IsTrue}
+use Rattle.std.specs.Prelude.{◌≡◌, true, false, List, Option, Some, None, option_map, IsSome, IsSomeAnd, IsTrue}
 use Rattle.std.specs.List.{AllByRecursion}
 use Rattle.std.specs.Ordering.{is_lt}
 use Rattle.std.proofs.Common.{inl, inr, sym, ap, ◌∙◌, subst}
 use Rattle.escrow_num.specs.declared.value.RowName.{RowName}
 use Rattle.escrow_num.specs.declared.row.Row.{Row}
 use Rattle.escrow_num.specs.declared.reservation.Reservation.{Reservation}
+use Rattle.escrow_num.specs.Ascending.{IsAscending}
 use Rattle.escrow_num.specs.Order.{same_row, row_cmp}
 use Rattle.escrow_schema.specs.declared.table.TableDef.{TableDef}
 use Rattle.escrow_core.specs.State.{State, row_named, row_after, applied}
-use Rattle.escrow_core.specs.Valid.{IsValid, IsAscending, MeetsChecks, row_before}
-use Rattle.escrow_core.proofs.Items.{Has, all_has, has_all, find_has}
+use Rattle.escrow_core.specs.Valid.{IsValid, MeetsChecks, row_before}
+use Rattle.escrow_num.proofs.Items.{Has, all_has, has_all, find_has}
 use Rattle.escrow_core.proofs.Choices.{IsChoice, all_choices, all_map, map_all}
-use Rattle.escrow_core.proofs.Ascending.{ascending_one}
-use Rattle.escrow_core.proofs.Orders.{by_row, row_total, before_itself, row_same}
+use Rattle.escrow_num.proofs.Ascending.{ascending_one}
+use Rattle.escrow_num.proofs.Orders.{by_row, row_total, before_itself, row_same}
 
 -- what holds of the value that there is
 pub some_at : {A : Type 0} (P : A → Type 0) (o : Option A) (x : A) → o ≡ Some x → IsSomeAnd o P → P x
@@ -25,6 +26,11 @@ some_from P o x e h = subst (λ p. IsSomeAnd p P) (sym e) h
 pub some_weaker : {A : Type 0} (P Q : A → Type 0) (o : Option A) → ((x : A) → P x → Q x) → IsSomeAnd o P → IsSomeAnd o Q
 some_weaker P Q None each h = h
 some_weaker P Q (Some x) each h = each x h
+
+-- what there is is there after a change of it
+pub some_image : {A : Type 0} (f : A → A) (o : Option A) → IsSome o → IsSome (option_map f o)
+some_image f None h = h
+some_image f (Some x) h = h
 
 -- a valid state's rows meet their checks after each choice
 pub safe_row : (s : State) → IsValid s → (chosen : List Reservation) → IsChoice s.reservations chosen → (row : Row) → Has s.rows row

@@ -1,18 +1,20 @@
 -- How a call that served a statement meets the machine's step.
-use Rattle.std.specs.Prelude.{◌≡◌, ℕ, true, is_none, option_map, unwrap_or, MatchOption, IsTrue, Option, Some, None, length}
+use Rattle.std.specs.Prelude.{◌≡◌, ℕ, true, is_none, option_map, unwrap_or, MatchOption, IsTrue, Option, Some, None, List, length}
 use Rattle.std.proofs.Common.{inl, inr, refl, sym, ap, subst}
 use Rattle.std.proofs.lemmas.Bool.{and_from}
 use Rattle.escrow_num.specs.declared.refusal.Refusal.{Refusal}
 use Rattle.escrow_num.specs.declared.refusal.Refusal.TheVariants as refusal
 use Rattle.escrow_num.specs.Refusal.{first_refusal}
-use Rattle.escrow_num.specs.declared.reservation.Reservation.{Reservation}
 use Rattle.escrow_num.specs.declared.row.Row.{Row}
 use Rattle.escrow_sql.specs.declared.statement.Statement.{Statement}
 use Rattle.escrow_sql.specs.declared.statement.Statement.TheVariants as statement
 use Rattle.escrow_sql.specs.declared.statement.CreateText.{CreateText}
 use Rattle.escrow_sql.specs.declared.statement.InsertText.{InsertText}
 use Rattle.escrow_sql.specs.declared.statement.UpdateText.{UpdateText}
+use Rattle.escrow_sql.specs.declared.statement.DeleteText.{DeleteText}
+use Rattle.escrow_schema.specs.declared.plan.Plan.{Plan}
 use Rattle.escrow_schema.specs.declared.table.TableDef.{TableDef}
+use Rattle.escrow_schema.specs.Catalog.{with_table}
 use Rattle.escrow_schema.specs.Definition.{definition_of}
 use Rattle.escrow_core.specs.declared.reply.Reply.{Reply}
 use Rattle.escrow_core.specs.declared.reply.Reply.TheVariants as reply
@@ -21,11 +23,12 @@ use Rattle.escrow_core.specs.declared.reply.Failure.TheVariants as failure
 use Rattle.escrow_core.specs.Reply.{failure_of}
 use Rattle.escrow_core.specs.Serving.{IsAccepted, IsRefusal}
 use Rattle.escrow_core.specs.Reservations.{own}
-use Rattle.escrow_core.specs.State.{State, with_row, with_table}
-use Rattle.escrow_core.specs.Step.{step, may_fail, IsStep, StepOrRefusal}
-use Rattle.escrow_core.specs.Turn.{turn_of, row_of, reservation_of, granted, after_commit, after_rollback}
-use Rattle.escrow_core.proofs.Refusals.{none_in_front}
-use Rattle.escrow_core.proofs.Turns.{is_turn}
+use Rattle.escrow_core.specs.State.{State, with_row}
+use Rattle.escrow_core.specs.Step.{refusals, step, may_fail, IsStep, StepOrRefusal}
+use Rattle.escrow_core.specs.Turn.{turn_of, update_reply, after_update, after_drop, after_delete, after_commit, after_rollback}
+use Rattle.escrow_core.specs.Asked.{row_of, plan_of}
+use Rattle.escrow_core.proofs.Refusals.{none_in_front, first_among}
+use Rattle.escrow_core.proofs.Turns.{IsJudged, is_turn}
 
 -- a reply that is no failure is the step's
 stepped : (s : State) (session : ℕ) (asked : Statement) (answer : Reply) (new : State) → failure_of answer ≡ None
@@ -34,13 +37,18 @@ stepped s session asked answer new succeeds is =
     subst (λ (o : Option Failure). MatchOption o (IsStep s session asked answer new) (λ f. IsTrue (may_fail s session asked f) × (new ≡ s)))
     (sym succeeds) (record { is_step = is })
 
--- a refusal, with the state equal
+-- a refusal, with the state equal: the first that applies
+pub rule_serves : (s : State) (session : ℕ) (asked : Statement) (r : Refusal) → first_refusal (refusals (turn_of s session asked)) ≡ Some r
+    → StepOrRefusal s session asked (reply.Refused r) s
+rule_serves s session asked r first =
+    let turn = turn_of s session asked in
+    stepped s session asked (reply.Refused r) s (first_among IsJudged (refusals turn) (is_turn s session asked).judged r first)
+    (sym (ap (λ (o : Option Refusal). unwrap_or (option_map (λ (q : Refusal). (reply.Refused q, s)) o) (turn.reply, turn.next)) first))
+
+-- or out of memory
 pub refused_serves : (s : State) (session : ℕ) (asked : Statement) (r : Refusal) → IsRefusal s session asked r
     → StepOrRefusal s session asked (reply.Refused r) s
-refused_serves s session asked r (inl by_rule) =
-    let turn = turn_of s session asked in
-    stepped s session asked (reply.Refused r) s by_rule.1
-    (sym (ap (λ (o : Option Refusal). unwrap_or (option_map (λ (q : Refusal). (reply.Refused q, s)) o) (turn.reply, turn.next)) by_rule.0))
+refused_serves s session asked r (inl by_rule) = rule_serves s session asked r by_rule
 refused_serves s session asked r (inr wanting) =
     subst (λ (q : Refusal). StepOrRefusal s session asked (reply.Refused q) s) (sym wanting.0) (wanting.1, refl)
 
@@ -75,12 +83,23 @@ insert_serves s session text row accepted made =
     subst (λ (o : Option Row). StepOrRefusal s session (statement.Insert text) reply.Inserted (record s { rows = unwrap_or (option_map (λ r. with_row r s.rows) o) s.rows }))
     made (accepted_serves s session (statement.Insert text) accepted)
 
-pub update_serves : (s : State) (session : ℕ) (text : UpdateText) (r : Reservation) → IsAccepted s session (statement.Update text) → reservation_of s session text ≡ Some r
-    → StepOrRefusal s session (statement.Update text) (reply.Reserved s.next_id) (granted s r)
+pub update_serves : (s : State) (session : ℕ) (text : UpdateText) (asked : Plan) → IsAccepted s session (statement.Update text) → plan_of s text ≡ Some asked
+    → StepOrRefusal s session (statement.Update text) (update_reply s asked) (after_update s session text.table asked)
 unfolding turn_of
-update_serves s session text r accepted asked =
-    subst (λ (o : Option Reservation). StepOrRefusal s session (statement.Update text) (reply.Reserved s.next_id) (unwrap_or (option_map (granted s) o) s))
-    asked (accepted_serves s session (statement.Update text) accepted)
+update_serves s session text asked accepted is =
+    subst (λ (o : Option Plan). StepOrRefusal s session (statement.Update text) (unwrap_or (option_map (update_reply s) o) reply.Updated) (unwrap_or (option_map (after_update s session text.table) o) s))
+    is (accepted_serves s session (statement.Update text) accepted)
+
+-- DROP TABLE and DELETE
+pub drop_serves : (s : State) (session : ℕ) (name : List ℕ) → IsAccepted s session (statement.Drop name)
+    → StepOrRefusal s session (statement.Drop name) (reply.Dropped name) (after_drop s name)
+unfolding turn_of
+drop_serves s session name accepted = accepted_serves s session (statement.Drop name) accepted
+
+pub delete_serves : (s : State) (session : ℕ) (text : DeleteText) → IsAccepted s session (statement.Delete text)
+    → StepOrRefusal s session (statement.Delete text) reply.Deleted (after_delete s text)
+unfolding turn_of
+delete_serves s session text accepted = accepted_serves s session (statement.Delete text) accepted
 
 pub create_wants : (s : State) (session : ℕ) (text : CreateText) → IsAccepted s session (statement.Create text)
     → StepOrRefusal s session (statement.Create text) (reply.Refused refusal.Memory) s

@@ -4,7 +4,7 @@ use Rattle.std.specs.List.{AllByRecursion}
 use Rattle.std.proofs.Common.{◌∙◌, subst, refl, arith}
 use Rattle.escrow_num.specs.declared.row.Row.{Row}
 use Rattle.escrow_num.specs.declared.value.RowName.{RowName}
-use Rattle.escrow_sql.specs.declared.statement.Literal.{Literal}
+use Rattle.escrow_sql.specs.declared.statement.InsertText.{InsertText}
 use Rattle.escrow_num.specs.declared.reservation.Reservation.{Reservation}
 use Rattle.escrow_num.specs.Amount.{IsAmount}
 use Rattle.escrow_num.specs.Order.{same_row}
@@ -12,9 +12,10 @@ use Rattle.escrow_checks.specs.declared.check.Check.{Check}
 use Rattle.escrow_checks.specs.Form.{IsCovered}
 use Rattle.escrow_checks.specs.Grant.{Meets}
 use Rattle.escrow_schema.specs.declared.table.TableDef.{TableDef}
+use Rattle.escrow_schema.specs.Catalog.{table_named}
 use Rattle.escrow_schema.specs.Column.{reservables}
 use Rattle.escrow_schema.specs.Definition.{IsTable}
-use Rattle.escrow_schema.specs.Fit.{fitted}
+use Rattle.escrow_schema.specs.Fit.{IsRowOf, inserted_row}
 use Rattle.escrow_checks.proofs.FormLemmas.{length-all_changed}
 use Rattle.escrow_schema.proofs.LawLemmas.{checks_keep_amounts, checks_of_whole_row}
 use Rattle.escrow_num.specs.declared.session.TheConstants.Session.{MAX}
@@ -22,12 +23,12 @@ use Rattle.escrow_checks.specs.declared.spread.TheConstants.Spread.{MAX_OPEN}
 use Rattle.escrow_core.specs.declared.database.TheConstants.Database.{MAX_RESERVATIONS}
 use Rattle.escrow_core.specs.Reservations.{own}
 use Rattle.escrow_core.specs.Serving.{IsShort, HaveAmounts}
-use Rattle.escrow_core.specs.State.{State, table_named, row_named, changes_to, row_after, applied}
-use Rattle.escrow_core.specs.Valid.{IsValid, IsReservationIn, IsRowOf, HasTable}
-use Rattle.escrow_core.proofs.Items.{Has, all_has, has_all, find_has}
+use Rattle.escrow_core.specs.State.{State, row_named, changes_to, row_after, applied}
+use Rattle.escrow_core.specs.Valid.{IsValid, IsReservationIn, HasTable}
+use Rattle.escrow_num.proofs.Items.{Has, all_has, has_all, find_has}
 use Rattle.escrow_core.proofs.Choices.{IsChoice, choice_passing, choice_take, map_all}
 use Rattle.escrow_core.proofs.Lengths.{length-by_number}
-use Rattle.escrow_core.proofs.Orders.{row_same}
+use Rattle.escrow_num.proofs.Orders.{row_same}
 use Rattle.escrow_core.proofs.Safe.{some_at, some_weaker, safe_row}
 use Rattle.escrow_schema.proofs.LawLemmas.{rows_of_table, few_reservable}
 
@@ -36,7 +37,7 @@ use Rattle.escrow_schema.proofs.LawLemmas.{rows_of_table, few_reservable}
 -- the table that is found is one
 pub is_table_found : (s : State) → IsValid s → (name : List ℕ) (table : TableDef) → table_named s.catalog name ≡ Some table → IsTable table
 is_table_found s valid name table found =
-    all_has IsTable s.catalog valid.orderly.tables table (find_has (λ (t : TableDef). bytes_eq t.name name) s.catalog table found).0
+    all_has IsTable s.catalog valid.orderly.tables.tables table (find_has (λ (t : TableDef). bytes_eq t.name name) s.catalog table found).0
 
 -- a database has at most 16384 open reservations: 256 of each of 64 sessions
 pub few_reservations : (s : State) → IsValid s → length s.reservations ≤ MAX_OPEN
@@ -63,10 +64,6 @@ short_reservations s valid =
 
 -- ROWS
 
--- a row of a table has an amount for each of its RESERVABLE columns
-length_of_row : (table : TableDef) (row : Row) → IsRowOf table row → length row.amounts ≡ length (reservables table.columns)
-length_of_row table row is_row = is_row.amounts ∙ (rows_of_table table is_row.literals is_row.made is_row.fits).1
-
 -- what meets the checks of its table are amounts
 amounts_if : (s : State) → IsValid s → (row : Row) (o : Option TableDef) → table_named s.catalog row.name.table ≡ o
     → IsSomeAnd o (λ t. length row.amounts ≡ length (reservables t.columns)) → IsSomeAnd o (λ t. AllByRecursion (λ check. Meets check row.amounts) t.checks)
@@ -81,7 +78,7 @@ row_amounts s valid chosen choice row h =
     let after : Row = row_after chosen row in
     let of_table = all_has (HasTable s.catalog) s.rows valid.safe_rows.tables row h in
     let long = some_weaker (λ t. IsRowOf t row) (λ t. length after.amounts ≡ length (reservables t.columns)) (table_named s.catalog row.name.table)
-    (λ t k. length-all_changed row.amounts (map (changes_to row) chosen) ∙ length_of_row t row k) of_table in
+    (λ t k. length-all_changed row.amounts (map (changes_to row) chosen) ∙ k.amounts) of_table in
     amounts_if s valid after (table_named s.catalog row.name.table) refl long (safe_row s valid chosen choice row h)
 
 choice_amounts : (s : State) → IsValid s → (chosen : List Reservation) → IsChoice s.reservations chosen → HaveAmounts (applied s.rows chosen)
@@ -102,7 +99,7 @@ length_found s valid name table row named found =
     let of_row = find_has (λ (r : Row). same_row r.name name) s.rows row found in
     let of_table = all_has (HasTable s.catalog) s.rows valid.safe_rows.tables row of_row.0 in
     let at_name = subst (λ (n : RowName). IsSomeAnd (table_named s.catalog n.table) (λ t. IsRowOf t row)) (row_same row.name name of_row.1) of_table in
-    length_of_row table row (some_at (λ t. IsRowOf t row) (table_named s.catalog name.table) table named at_name)
+    (some_at (λ t. IsRowOf t row) (table_named s.catalog name.table) table named at_name).amounts
 
 -- COVERED CHECKS
 
@@ -120,8 +117,8 @@ pub covered_found : (s : State) → IsValid s → (name : RowName) (table : Tabl
 covered_found s valid name table row named found =
     covered table row (is_table_found s valid name.table table named) (length_found s valid name table row named found)
 
--- so has a row that values make
-pub covered_made : (s : State) → IsValid s → (name : List ℕ) (table : TableDef) (literals : List Literal) (row : Row)
-    → table_named s.catalog name ≡ Some table → fitted table literals ≡ Some row → AllByRecursion (λ check. IsCovered check.coeffs row.amounts) table.checks
-covered_made s valid name table literals row named made =
-    covered table row (is_table_found s valid name table named) (rows_of_table table literals row made).1
+-- so has a row that an INSERT makes
+pub covered_made : (s : State) → IsValid s → (name : List ℕ) (table : TableDef) (text : InsertText) (row : Row)
+    → table_named s.catalog name ≡ Some table → inserted_row table text ≡ Some row → AllByRecursion (λ check. IsCovered check.coeffs row.amounts) table.checks
+covered_made s valid name table text row named made =
+    covered table row (is_table_found s valid name table named) (rows_of_table table text row made).amounts

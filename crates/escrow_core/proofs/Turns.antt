@@ -1,39 +1,52 @@
 -- What each statement's turn is like, one lemma a statement: what the laws of steps rest on.
-use Rattle.std.specs.Prelude.{◌≡◌, ℕ, ◌+◌, ◌<◌, ◌≤◌, bytes_eq, true, option_and_then, IfSome, Some, None, List, length}
+use Rattle.std.specs.Prelude.{◌≡◌, ℕ, ℤ, ◌+◌, ◌<◌, ◌≤◌, bytes_eq, true, false, is_none, unwrap_or, option_map, option_and_then, IfSome, Option, Some, None, List, [], ◌∷◌, length, Ok}
 use Rattle.std.specs.List.{AllByRecursion}
 use Rattle.std.proofs.Common.{refl, sym, ap, subst, arith, le_refl, ◌∙◌}
 use Rattle.escrow_num.specs.declared.refusal.Refusal.{Refusal}
-use Rattle.escrow_num.specs.declared.reservation.Reservation.{Reservation}
+use Rattle.escrow_num.specs.declared.refusal.Refusal.TheVariants as refusal
 use Rattle.escrow_num.specs.declared.row.Row.{Row}
-use Rattle.escrow_num.specs.Refusal.{first_refusal}
+use Rattle.escrow_num.specs.declared.value.Value.{Value}
+use Rattle.escrow_num.specs.Refusal.{first_refusal, refuse_if}
 use Rattle.escrow_num.specs.Session.{IsSession}
+use Rattle.escrow_num.proofs.Items.{find_has}
+use Rattle.escrow_num.proofs.Orders.{name_same}
 use Rattle.escrow_sql.specs.declared.statement.Statement.{Statement}
 use Rattle.escrow_sql.specs.declared.statement.Statement.TheVariants as statement
 use Rattle.escrow_sql.specs.declared.statement.CreateText.{CreateText}
 use Rattle.escrow_sql.specs.declared.statement.InsertText.{InsertText}
 use Rattle.escrow_sql.specs.declared.statement.UpdateText.{UpdateText}
+use Rattle.escrow_sql.specs.declared.statement.DeleteText.{DeleteText}
+use Rattle.escrow_sql.specs.declared.statement.SelectText.{SelectText}
+use Rattle.escrow_schema.specs.declared.plan.Plan.{Plan}
+use Rattle.escrow_schema.specs.declared.plan.Plan.TheVariants as plan
 use Rattle.escrow_schema.specs.declared.table.TableDef.{TableDef}
+use Rattle.escrow_schema.specs.Catalog.{table_named}
+use Rattle.escrow_schema.specs.Column.{names_of}
+use Rattle.escrow_schema.specs.Print.{canonical}
 use Rattle.escrow_core.specs.declared.database.TheConstants.Database.{MAX_ROWS, MAX_RESERVATIONS}
 use Rattle.escrow_core.specs.declared.reply.Reply.{Reply}
 use Rattle.escrow_core.specs.declared.reply.Reply.TheVariants as reply
 use Rattle.escrow_core.specs.declared.reply.Failure.{Failure}
 use Rattle.escrow_core.specs.declared.reply.Failure.TheVariants as failure
-use Rattle.escrow_core.specs.Laws.{IsSeen}
+use Rattle.escrow_core.specs.Asked.{row_of, insert_breach, plan_of, plan_refusal_of, row_name, reservation_from, breach_of, named_by, key_refusal_of, select_refusal_of, select_reply, show_reply}
+use Rattle.escrow_core.specs.Laws.{IsSeen, tells_of_rows}
 use Rattle.escrow_core.specs.Reply.{failure_of, failure_of_refusal}
 use Rattle.escrow_core.specs.Serving.{IsAccepted}
 use Rattle.escrow_core.specs.Reservations.{own}
-use Rattle.escrow_core.specs.State.{State, table_named, rows_of, with_row}
+use Rattle.escrow_core.specs.State.{State, rows_of, with_row, without_row, without_rows_of, with_plain}
 use Rattle.escrow_core.specs.Step.{refusals}
-use Rattle.escrow_core.specs.Turn.{Turn, turn_of, for_memory, row_of, insert_breach, reservation_of, plan_refusal_of, breach_of, granted, after_insert}
+use Rattle.escrow_core.specs.Turn.{Turn, turn_of, for_memory, granted, after_insert, update_refusals, update_reply, after_update}
 use Rattle.escrow_core.specs.Valid.{IsValid}
-use Rattle.escrow_core.proofs.Accepted.{create_stands, insert_stands, update_stands}
-use Rattle.escrow_core.proofs.Items.{find_has}
-use Rattle.escrow_core.proofs.Orders.{name_same}
+use Rattle.escrow_core.proofs.Accepted.{create_stands, insert_stands, drop_stands, delete_stands, plan_there, reserve_stands, plain_stands}
+use Rattle.escrow_core.proofs.Plans.{plan_among, key_among, select_among}
 use Rattle.escrow_core.proofs.Refusals.{if_among, check_among}
-use Rattle.escrow_core.proofs.Plans.{plan_among}
+use Rattle.escrow_schema.proofs.PlanLemmas.{plans_of_whole_row, plain_plans_fit}
 use Rattle.escrow_core.proofs.ValidCreate.{create_valid}
+use Rattle.escrow_core.proofs.ValidDelete.{delete_valid}
+use Rattle.escrow_core.proofs.ValidDrop.{drop_valid}
 use Rattle.escrow_core.proofs.ValidEnds.{commit_valid, rollback_valid}
 use Rattle.escrow_core.proofs.ValidInsert.{insert_valid}
+use Rattle.escrow_core.proofs.ValidPlain.{plain_valid}
 use Rattle.escrow_core.proofs.ValidUpdate.{update_valid}
 
 -- no refusal of a rule is one of memory or the store
@@ -60,14 +73,20 @@ memory_alone : (f : Failure) → for_memory f ≡ true → f ≡ failure.Memory
 memory_alone failure.Memory e = refl
 memory_alone failure.Store e = absurd (cc)
 
--- rows that stay are seen so after what is neither an INSERT that is accepted nor a COMMIT
-unseen : (s : State) (session : ℕ) (asked : Statement) (answer : Reply) → ¬ (answer ≡ reply.Inserted) → ¬ (asked ≡ statement.Commit)
+-- rows that stay are seen so after a reply that tells of no change of them
+unseen : (s : State) (session : ℕ) (asked : Statement) (answer : Reply) → tells_of_rows answer ≡ false → ¬ (asked ≡ statement.Commit)
     → IsSeen s session asked answer s.rows
-unseen s session asked answer other_answer other_asked = record {
-  inserted = λ text is answered. absurd (other_answer answered);
+unseen s session asked answer quiet other_asked = record {
+  dropped = λ name answered. absurd (told (reply.Dropped name) answered refl);
+  inserted = λ text is answered. absurd (told reply.Inserted answered refl);
+  updated = λ text is answered. absurd (told reply.Updated answered refl);
+  deleted = λ text is answered. absurd (told reply.Deleted answered refl);
   committed = λ is. absurd (other_asked is);
-  otherwise = λ _ _. refl;
+  otherwise = λ _. refl;
 }
+  where
+    told : (other : Reply) → answer ≡ other → ¬ (tells_of_rows other ≡ true)
+    told other answered tells = let is : true ≡ false = sym tells ∙ sym (ap tells_of_rows answered) ∙ quiet in absurd (cc)
 
 create_turn : (s : State) (session : ℕ) (text : CreateText) → IsTurn s session (statement.Create text) (turn_of s session (statement.Create text))
 unfolding turn_of
@@ -76,12 +95,32 @@ create_turn s session text = record {
   succeeds = refl;
   judged = (if_among IsJudged _ _ refl, (if_among IsJudged _ _ refl, (if_among IsJudged _ _ refl, (if_among IsJudged _ _ refl, tt))));
   memory = memory_alone;
-  seen = λ _. unseen s session (statement.Create text) (reply.Created text.table) (λ e. absurd (cc)) (λ e. absurd (cc));
+  seen = λ _. unseen s session (statement.Create text) (reply.Created text.table) refl (λ e. absurd (cc));
   ids = λ _. le_refl _;
   next = λ _ id e. absurd (cc);
   valid = λ accepted valid of_session.
       let stands = create_stands s session text accepted in
       rw stands.defines (create_valid s text stands.table valid stands.defines stands.new stands.room);
+}
+
+drop_turn : (s : State) (session : ℕ) (name : List ℕ) → IsTurn s session (statement.Drop name) (turn_of s session (statement.Drop name))
+unfolding turn_of
+drop_turn s session name = record {
+  answers = λ r e. absurd (cc);
+  succeeds = refl;
+  judged = (if_among IsJudged _ _ refl, (if_among IsJudged _ _ refl, (if_among IsJudged _ _ refl, tt)));
+  memory = λ f e. absurd (cc);
+  seen = λ _. record {
+    dropped = λ other answered. let same : name ≡ other = cc in ap (λ (n : List ℕ). without_rows_of n s.rows) same;
+    inserted = λ text is _. absurd (cc);
+    updated = λ text is _. absurd (cc);
+    deleted = λ text is _. absurd (cc);
+    committed = λ is. absurd (cc);
+    otherwise = λ quiet. absurd (cc);
+  };
+  ids = λ _. le_refl _;
+  next = λ _ id e. absurd (cc);
+  valid = λ accepted valid _. drop_valid s name valid (drop_stands s session name accepted).free;
 }
 
 some_same : {A : Type 0} {x y : A} → Some x ≡ Some y → x ≡ y
@@ -97,7 +136,7 @@ inserted_valid s session text row valid accepted made =
     let named : table_named s.catalog stands.table.name ≡ Some stands.table = subst (λ (n : List ℕ). table_named s.catalog n ≡ Some stands.table) (sym name) stands.named in
     let room : length (rows_of s.rows stands.table.name) < MAX_ROWS = subst (λ (n : List ℕ). length (rows_of s.rows n) < MAX_ROWS) (sym name) stands.room in
     subst (λ (r : Row). IsValid (record s { rows = with_row r s.rows })) same
-    (insert_valid s stands.table text.values stands.row valid named stands.fits stands.new room stands.safe)
+    (insert_valid s stands.table text stands.row valid named stands.fits stands.new room stands.safe)
 
 insert_turn : (s : State) (session : ℕ) (text : InsertText) → IsTurn s session (statement.Insert text) (turn_of s session (statement.Insert text))
 unfolding turn_of
@@ -119,11 +158,14 @@ insert_turn s session text = record {
       let stands = insert_stands s session text accepted in
       let rows : (after_insert s text).rows ≡ with_row stands.row s.rows = rw stands.made refl in
       record {
+        dropped = λ name answered. absurd (cc);
         inserted = λ other is _.
             let same : text ≡ other = cc in
             (stands.row, subst (λ (t : InsertText). row_of s t ≡ Some stands.row) same stands.made, rows);
+        updated = λ other is _. absurd (cc);
+        deleted = λ other is _. absurd (cc);
         committed = λ is. absurd (cc);
-        otherwise = λ answered _. absurd (answered refl);
+        otherwise = λ quiet. absurd (cc);
       };
   ids = λ _. le_refl _;
   next = λ _ id e. absurd (cc);
@@ -132,60 +174,179 @@ insert_turn s session text = record {
       rw stands.made (inserted_valid s session text stands.row valid accepted stands.made);
 }
 
+-- the turn of an UPDATE, by its plan
+abbrev update_by : State → ℕ → UpdateText → Option Plan → Turn
+update_by s session text o = record {
+  early = refuse_if (is_none (table_named s.catalog text.table)) refusal.NoSuchTable ∷ plan_refusal_of s text ∷ [];
+  late = unwrap_or (option_map (update_refusals s session text.table) o) [];
+  reply = unwrap_or (option_map (update_reply s) o) reply.Updated;
+  next = unwrap_or (option_map (after_update s session text.table) o) s;
+  fails_for = for_memory;
+}
+
 -- a reservation that is granted leaves the state valid
-pub granted_valid : (s : State) (session : ℕ) (text : UpdateText) (r : Reservation) → IsValid s → IsSession session → IsAccepted s session (statement.Update text)
-    → reservation_of s session text ≡ Some r → IsValid (granted s r)
-granted_valid s session text r valid of_session accepted is_asked =
-    let stands = update_stands s session text accepted in
-    let asked = stands.asked in
-    let same : asked ≡ r = some_same (sym stands.is_asked ∙ is_asked) in
-    let named : table_named s.catalog asked.row.table ≡ Some stands.table = ap (table_named s.catalog) stands.asks.of_table ∙ stands.named in
-    let of_this : IsSession asked.session = subst IsSession (sym stands.asks.of_session) of_session in
-    let room : length (own asked.session s.reservations) < MAX_RESERVATIONS = subst (λ (n : ℕ). length (own n s.reservations) < MAX_RESERVATIONS) (sym stands.asks.of_session) stands.room in
-    subst (λ (x : Reservation). IsValid (granted s x)) same
-    (update_valid s stands.table stands.row asked valid named stands.found of_this stands.asks.id stands.more_ids stands.asks.whole room stands.safe)
+pub reserved_valid : (s : State) (session : ℕ) (text : UpdateText) (key : Value) (changes : List (Option ℤ)) → IsValid s → IsSession session
+    → plan_of s text ≡ Some (plan.Reserve key changes) → IsAccepted s session (statement.Update text)
+    → IsValid (granted s (reservation_from s session (row_name text.table key) changes))
+reserved_valid s session text key changes valid of_session is accepted =
+    let stands = reserve_stands s session text key changes is accepted in
+    update_valid s stands.table stands.row (reservation_from s session (row_name text.table key) changes) valid stands.named stands.found of_session refl stands.more_ids
+    (plans_of_whole_row stands.table text key changes stands.planned) stands.room stands.safe
+
+-- and so do plain values that are replaced
+pub replaced_valid : (s : State) (session : ℕ) (text : UpdateText) (key : Value) (values : List (Option Value)) → IsValid s
+    → plan_of s text ≡ Some (plan.Plain key values) → IsAccepted s session (statement.Update text)
+    → IsValid (record s { rows = with_plain (row_name text.table key) values s.rows })
+replaced_valid s session text key values valid is accepted =
+    let stands = plain_stands s session text key values is accepted in
+    plain_valid s stands.table (row_name text.table key) values valid stands.named (plain_plans_fit stands.table text key values stands.planned)
+
+more : (n : ℕ) → n ≤ n + 1
+more n = omega arith
+
+-- an UPDATE without a plan is refused
+no_plan : (s : State) (text : UpdateText) (late : List (Option Refusal)) → plan_of s text ≡ None
+    → ¬ (first_refusal (refuse_if (is_none (table_named s.catalog text.table)) refusal.NoSuchTable ∷ plan_refusal_of s text ∷ late) ≡ None)
+no_plan s text late none = λ accepted. let p = plan_there s text late accepted in let is : Some p.plan ≡ None = sym p.is ∙ none in absurd (cc)
+
+update_turn_by : (s : State) (session : ℕ) (text : UpdateText) (o : Option Plan) → plan_of s text ≡ o
+    → (first_refusal (refusals (update_by s session text o)) ≡ None → IsAccepted s session (statement.Update text))
+    → IsTurn s session (statement.Update text) (update_by s session text o)
+update_turn_by s session text None is accepts = record {
+  answers = λ r e. absurd (cc);
+  succeeds = refl;
+  judged = (if_among IsJudged _ _ refl, (plan_among IsJudged s text refl refl refl, tt));
+  memory = memory_alone;
+  seen = λ accepted. absurd (no_plan s text [] is accepted);
+  ids = λ _. le_refl _;
+  next = λ _ id e. absurd (cc);
+  valid = λ _ valid _. valid;
+}
+update_turn_by s session text (Some (plan.Reserve key changes)) is accepts = record {
+  answers = λ r e. absurd (cc);
+  succeeds = refl;
+  judged = (
+    if_among IsJudged _ _ refl,
+    (
+      plan_among IsJudged s text refl refl refl,
+      (
+        if_among IsJudged _ _ refl,
+        (
+          if_among IsJudged _ _ refl,
+          (if_among IsJudged _ _ refl, (check_among IsJudged (breach_of s (reservation_from s session (row_name text.table key) changes)) (λ _. refl), tt)),
+        ),
+      ),
+    ),
+  );
+  memory = memory_alone;
+  seen = λ _. unseen s session (statement.Update text) (reply.Reserved s.next_id) refl (λ e. absurd (cc));
+  ids = λ _. more s.next_id;
+  next = λ _ id answered. let same : id ≡ s.next_id = cc in (same, refl);
+  valid = λ accepted valid of_session. reserved_valid s session text key changes valid of_session is (accepts accepted);
+}
+update_turn_by s session text (Some (plan.Plain key values)) is accepts = record {
+  answers = λ r e. absurd (cc);
+  succeeds = refl;
+  judged = (
+    if_among IsJudged _ _ refl,
+    (plan_among IsJudged s text refl refl refl, (if_among IsJudged _ _ refl, (if_among IsJudged _ _ refl, tt))),
+  );
+  memory = memory_alone;
+  seen = λ _. record {
+    dropped = λ name answered. absurd (cc);
+    inserted = λ other asked _. absurd (cc);
+    updated = λ other asked _.
+        let same : text ≡ other = cc in
+        subst (λ (t : UpdateText). (k : Value) × (vs : List (Option Value)) × (plan_of s t ≡ Some (plan.Plain k vs)) × (with_plain (row_name text.table key) values s.rows ≡ with_plain (row_name t.table k) vs s.rows))
+        same (key, values, is, refl);
+    deleted = λ other asked _. absurd (cc);
+    committed = λ asked. absurd (cc);
+    otherwise = λ quiet. absurd (cc);
+  };
+  ids = λ _. le_refl _;
+  next = λ _ id e. absurd (cc);
+  valid = λ accepted valid _. replaced_valid s session text key values valid is (accepts accepted);
+}
 
 update_turn : (s : State) (session : ℕ) (text : UpdateText) → IsTurn s session (statement.Update text) (turn_of s session (statement.Update text))
 unfolding turn_of
-update_turn s session text =
-    let judged_plan : IfSome (plan_refusal_of s text) IsJudged = plan_among IsJudged s text refl refl refl in
+update_turn s session text = update_turn_by s session text (plan_of s text) refl (λ accepted. accepted)
+
+delete_turn : (s : State) (session : ℕ) (text : DeleteText) → IsTurn s session (statement.Delete text) (turn_of s session (statement.Delete text))
+unfolding turn_of
+delete_turn s session text = record {
+  answers = λ r e. absurd (cc);
+  succeeds = refl;
+  judged = (
+    if_among IsJudged _ _ refl,
+    (
+      if_among IsJudged _ _ refl,
+      (key_among IsJudged s text.table text.row refl refl, (if_among IsJudged _ _ refl, (if_among IsJudged _ _ refl, tt))),
+    ),
+  );
+  memory = λ f e. absurd (cc);
+  seen = λ _. record {
+    dropped = λ name answered. absurd (cc);
+    inserted = λ other asked _. absurd (cc);
+    updated = λ other asked _. absurd (cc);
+    deleted = λ other asked _. let same : text ≡ other = cc in ap (λ (t : DeleteText). without_row (named_by t.table t.row) s.rows) same;
+    committed = λ asked. absurd (cc);
+    otherwise = λ quiet. absurd (cc);
+  };
+  ids = λ _. le_refl _;
+  next = λ _ id e. absurd (cc);
+  valid = λ accepted valid _. delete_valid s (named_by text.table text.row) valid (delete_stands s session text accepted).free;
+}
+
+-- what is shown is the reply to a query, whatever table there is
+shown_as : (P : Reply → Type 0) (f : TableDef → Reply) (o : Option TableDef) (none : Reply) → P none → ((table : TableDef) → P (f table))
+    → P (unwrap_or (option_map f o) none)
+shown_as P f None none at_none each = at_none
+shown_as P f (Some table) none at_none each = each table
+
+-- a reply that shows something is no refusal, no failure and no reservation, and tells of no change
+abbrev IsShow : Reply → Type 0
+IsShow answer = ((r : Refusal) → ¬ (answer ≡ reply.Refused r)) × (failure_of answer ≡ None) × (tells_of_rows answer ≡ false) × ((id : ℕ) → ¬ (answer ≡ reply.Reserved id))
+
+select_shows : (s : State) (text : SelectText) → IsShow (select_reply s text)
+select_shows s text =
+    shown_as IsShow _ (table_named s.catalog text.table) (reply.Rows [] [])
+    (λ r e. absurd (cc), refl, refl, λ id e. absurd (cc)) (λ table. (λ r e. absurd (cc), refl, refl, λ id e. absurd (cc)))
+
+table_shows : (s : State) (name : List ℕ) → IsShow (show_reply s name)
+table_shows s name =
+    shown_as IsShow _ (table_named s.catalog name) (reply.Table [])
+    (λ r e. absurd (cc), refl, refl, λ id e. absurd (cc)) (λ table. (λ r e. absurd (cc), refl, refl, λ id e. absurd (cc)))
+
+select_turn : (s : State) (session : ℕ) (text : SelectText) → IsTurn s session (statement.Select text) (turn_of s session (statement.Select text))
+unfolding turn_of
+select_turn s session text =
+    let shows = select_shows s text in
     record {
-      answers = λ r e. absurd (cc);
-      succeeds = refl;
-      judged = (
-        if_among IsJudged _ _ refl,
-        (
-          judged_plan,
-          (
-            if_among IsJudged _ _ refl,
-            (
-              if_among IsJudged _ _ refl,
-              (
-                if_among IsJudged _ _ refl,
-                (check_among IsJudged (option_and_then (breach_of s) (reservation_of s session text)) (λ _. refl), tt),
-              ),
-            ),
-          ),
-        ),
-      );
+      answers = shows.0;
+      succeeds = shows.1;
+      judged = (if_among IsJudged _ _ refl, (select_among IsJudged s text refl refl, tt));
       memory = memory_alone;
-      seen = λ accepted.
-          let stands = update_stands s session text accepted in
-          rw stands.is_asked (unseen s session (statement.Update text) (reply.Reserved s.next_id) (λ e. absurd (cc)) (λ e. absurd (cc)));
-      ids = λ accepted.
-          let stands = update_stands s session text accepted in
-          rw stands.is_asked (more s.next_id);
-      next = λ accepted id answered.
-          let stands = update_stands s session text accepted in
-          let same : id ≡ s.next_id = cc in
-          (same, rw stands.is_asked refl);
-      valid = λ accepted valid of_session.
-          let stands = update_stands s session text accepted in
-          rw stands.is_asked (granted_valid s session text stands.asked valid of_session accepted stands.is_asked);
+      seen = λ _. unseen s session (statement.Select text) (select_reply s text) shows.2 (λ e. absurd (cc));
+      ids = λ _. le_refl _;
+      next = λ _ id e. absurd (shows.3 id e);
+      valid = λ _ valid _. valid;
     }
-  where
-    more : (n : ℕ) → n ≤ n + 1
-    more n = omega arith
+
+show_turn : (s : State) (session : ℕ) (name : List ℕ) → IsTurn s session (statement.ShowTable name) (turn_of s session (statement.ShowTable name))
+unfolding turn_of
+show_turn s session name =
+    let shows = table_shows s name in
+    record {
+      answers = shows.0;
+      succeeds = shows.1;
+      judged = (if_among IsJudged _ _ refl, tt);
+      memory = memory_alone;
+      seen = λ _. unseen s session (statement.ShowTable name) (show_reply s name) shows.2 (λ e. absurd (cc));
+      ids = λ _. le_refl _;
+      next = λ _ id e. absurd (shows.3 id e);
+      valid = λ _ valid _. valid;
+    }
 
 commit_turn : (s : State) (session : ℕ) → IsTurn s session statement.Commit (turn_of s session statement.Commit)
 unfolding turn_of
@@ -194,7 +355,14 @@ commit_turn s session = record {
   succeeds = refl;
   judged = tt;
   memory = λ f e. absurd (cc);
-  seen = λ _. record { inserted = λ text e. absurd (cc); committed = λ _. refl; otherwise = λ _ other. absurd (other refl) };
+  seen = λ _. record {
+    dropped = λ name e. absurd (cc);
+    inserted = λ text e. absurd (cc);
+    updated = λ text e. absurd (cc);
+    deleted = λ text e. absurd (cc);
+    committed = λ _. refl;
+    otherwise = λ quiet. absurd (cc);
+  };
   ids = λ _. le_refl _;
   next = λ _ id e. absurd (cc);
   valid = λ _ valid _. commit_valid s session valid;
@@ -207,7 +375,7 @@ rollback_turn s session = record {
   succeeds = refl;
   judged = tt;
   memory = λ f e. absurd (cc);
-  seen = λ _. unseen s session statement.Rollback (reply.RolledBack (length (own session s.reservations))) (λ e. absurd (cc)) (λ e. absurd (cc));
+  seen = λ _. unseen s session statement.Rollback (reply.RolledBack (length (own session s.reservations))) refl (λ e. absurd (cc));
   ids = λ _. le_refl _;
   next = λ _ id e. absurd (cc);
   valid = λ _ valid _. rollback_valid s session valid;
@@ -216,7 +384,11 @@ rollback_turn s session = record {
 -- THE TURNS
 pub is_turn : (s : State) (session : ℕ) (asked : Statement) → IsTurn s session asked (turn_of s session asked)
 is_turn s session (statement.Create text) = create_turn s session text
+is_turn s session (statement.Drop name) = drop_turn s session name
 is_turn s session (statement.Insert text) = insert_turn s session text
 is_turn s session (statement.Update text) = update_turn s session text
+is_turn s session (statement.Delete text) = delete_turn s session text
+is_turn s session (statement.Select text) = select_turn s session text
+is_turn s session (statement.ShowTable name) = show_turn s session name
 is_turn s session statement.Commit = commit_turn s session
 is_turn s session statement.Rollback = rollback_turn s session

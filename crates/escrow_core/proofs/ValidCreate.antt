@@ -1,24 +1,26 @@
 -- CREATE TABLE: the tables that stand are found as before.
 use Rattle.std.specs.Prelude.{◌≡◌, ◌<◌, ℕ, true, false, List, Some, None, length, bytes_eq, IsSomeAnd}
 use Rattle.std.specs.List.{AllByRecursion}
-use Rattle.std.specs.declared.cmp.Ordering.TheVariants.{Equal}
-use Rattle.std.proofs.Common.{inl, inr, sym, ap, ◌∙◌, subst, arith}
+use Rattle.std.proofs.Common.{inl, inr, sym, ap, ◌∙◌, subst}
 use Rattle.std.proofs.lemmas.Bool.{cases_Bool}
 use Rattle.escrow_num.specs.declared.row.Row.{Row}
 use Rattle.escrow_num.specs.declared.reservation.Reservation.{Reservation}
+use Rattle.escrow_num.proofs.Items.{Has, all_has, has_all}
+use Rattle.escrow_num.proofs.Orders.{name_same}
+use Rattle.escrow_num.proofs.Put.{find_put}
 use Rattle.escrow_sql.specs.declared.statement.CreateText.{CreateText}
 use Rattle.escrow_checks.specs.Grant.{Meets}
+use Rattle.escrow_schema.specs.declared.catalog.TheConstants.Catalog.{MAX_TABLES}
 use Rattle.escrow_schema.specs.declared.table.TableDef.{TableDef}
+use Rattle.escrow_schema.specs.Catalog.{table_before, table_named, with_table}
 use Rattle.escrow_schema.specs.Column.{reservables}
-use Rattle.escrow_schema.specs.Definition.{definition_of, IsTable}
-use Rattle.escrow_core.specs.declared.database.TheConstants.Database.{MAX_TABLES}
-use Rattle.escrow_core.specs.State.{State, table_named, row_after, applied, with_table}
-use Rattle.escrow_core.specs.Valid.{IsValid, IsAscending, IsReservationIn, IsRowOf, HasTable, MeetsChecks, table_before}
-use Rattle.escrow_core.proofs.Items.{Has, all_has, has_all, find_none}
+use Rattle.escrow_schema.specs.Definition.{definition_of}
+use Rattle.escrow_schema.specs.Fit.{IsRowOf}
+use Rattle.escrow_core.specs.State.{State, row_after, applied}
+use Rattle.escrow_core.specs.Valid.{IsValid, IsReservationIn, HasTable, MeetsChecks}
 use Rattle.escrow_core.proofs.Choices.{IsChoice, choices_all}
-use Rattle.escrow_core.proofs.Orders.{by_name, table_total, table_tied, before_trans, not_before, name_same, same_name}
-use Rattle.escrow_core.proofs.Put.{with_table_put, has_put, length-put, find_put, put_ascending}
 use Rattle.escrow_core.proofs.Safe.{safe_row, safe_rows}
+use Rattle.escrow_schema.proofs.CatalogLemmas.{with_new, with_table_put}
 use Rattle.escrow_schema.proofs.LawLemmas.{name_of_table}
 
 -- a table that is found is found with a new one beside it
@@ -31,18 +33,6 @@ still_named catalog table name P new h =
           (subst (λ o. IsSomeAnd o P) (sym (find_put table_before (λ t. bytes_eq t.name name) table catalog f)) h)
     ]
 
--- a new table stands in its order
-in_order : (catalog : List TableDef) (table : TableDef) → table_named catalog table.name ≡ None → IsAscending table_before catalog
-    → IsAscending table_before (with_table table catalog)
-in_order catalog table new ascending =
-    let differs : (y : TableDef) → Has catalog y → ¬ (by_name table y ≡ Equal) = λ y h e.
-    let other : bytes_eq y.name table.name ≡ false = find_none (λ t. bytes_eq t.name table.name) catalog new y h in
-    let same : bytes_eq y.name table.name ≡ true = subst (λ n. bytes_eq y.name n ≡ true) (sym (table_tied table y e)) (same_name y.name) in
-    absurd (cc) in
-    subst (IsAscending table_before) (sym (with_table_put table catalog))
-    (put_ascending table_before (before_trans by_name table_total) table catalog
-    (λ y h f. not_before by_name table_total table y f (differs y h)) ascending)
-
 -- CREATE TABLE keeps a valid state valid
 pub create_valid : (s : State) (text : CreateText) (table : TableDef) → IsValid s → definition_of text ≡ Some table
     → table_named s.catalog text.table ≡ None → length s.catalog < MAX_TABLES
@@ -51,11 +41,6 @@ create_valid s text table valid made new room =
     let free : table_named s.catalog table.name ≡ None = subst (λ n. table_named s.catalog n ≡ None) (sym (name_of_table text table made)) new in
     let catalog : List TableDef = with_table table s.catalog in
     let Safe : List Reservation → Type 0 = λ c. AllByRecursion (MeetsChecks catalog) (applied s.rows c) in
-    let is_table : (t : TableDef) → Has catalog t → IsTable t = λ t h.
-    elim (has_put table_before table s.catalog t (subst (λ c. Has c t) (with_table_put table s.catalog) h)) [
-      | inl e ↦ subst IsTable e (text, made)
-      | inr k ↦ all_has IsTable s.catalog valid.orderly.tables t k
-    ] in
     let still_in : (r : Reservation) → Has s.reservations r → IsReservationIn catalog s.next_id r = λ r h.
     let was = all_has (IsReservationIn s.catalog s.next_id) s.reservations valid.orderly.reservations_in r h in
     record {
@@ -68,9 +53,7 @@ create_valid s text table valid made new room =
     still_named s.catalog table row.name.table (λ t. AllByRecursion (λ check. Meets check (row_after c row).amounts) t.checks) free (safe_row s valid c choice row h) in
     record {
       orderly = record {
-        tables = has_all IsTable catalog is_table;
-        catalog_order = in_order s.catalog table free valid.orderly.catalog_order;
-        few_tables = omega (arith, ap (λ (c : List TableDef). length c) (with_table_put table s.catalog), length-put table_before table s.catalog);
+        tables = with_new s.catalog table valid.orderly.tables (text, made) free room;
         reservations_in = has_all (IsReservationIn catalog s.next_id) s.reservations still_in;
         reservation_order = valid.orderly.reservation_order;
         few_reservations = valid.orderly.few_reservations;

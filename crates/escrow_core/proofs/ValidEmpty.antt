@@ -7,9 +7,7 @@ use Rattle.escrow_core.specs.Valid.{IsValid}
 pub empty_valid : IsValid empty
 empty_valid = record {
   orderly = record {
-    tables = tt;
-    catalog_order = tt;
-    few_tables = omega arith;
+    tables = record { tables = tt; order = tt; few = omega arith };
     reservations_in = tt;
     reservation_order = tt;
     few_reservations = λ session. omega arith;

@@ -8,18 +8,20 @@ use Rattle.escrow_num.specs.declared.reservation.Reservation.{Reservation}
 use Rattle.escrow_num.specs.declared.row.Row.{Row}
 use Rattle.escrow_num.specs.Order.{same_row}
 use Rattle.escrow_schema.specs.declared.table.TableDef.{TableDef}
+use Rattle.escrow_schema.specs.Catalog.{table_named}
+use Rattle.escrow_schema.specs.Fit.{IsRowOf}
 use Rattle.escrow_checks.proofs.FormLemmas.{length-all_changed}
 use Rattle.escrow_core.specs.declared.database.TheConstants.Database.{MAX_ROWS}
 use Rattle.escrow_core.specs.Reservations.{own, others, other_savepoints, reservation_before, savepoint_before}
-use Rattle.escrow_core.specs.State.{State, table_named, row_named, changes_to, row_after, applied}
+use Rattle.escrow_core.specs.State.{State, row_named, changes_to, row_after, applied}
 use Rattle.escrow_core.specs.Turn.{after_commit, after_rollback}
-use Rattle.escrow_core.specs.Valid.{IsValid, IsOrderly, IsReservationIn, IsSavepointIn, IsRowOf, HasTable, HasRow, MeetsChecks, row_before}
-use Rattle.escrow_core.proofs.Items.{Has, all_has, has_all, has_filter, has_map, all_filter}
+use Rattle.escrow_core.specs.Valid.{IsValid, IsOrderly, IsReservationIn, IsSavepointIn, HasTable, HasRow, MeetsChecks, row_before}
+use Rattle.escrow_num.proofs.Items.{Has, all_has, has_all, has_filter, has_map, all_filter}
 use Rattle.escrow_core.proofs.Choices.{IsChoice, all_choices, choices_all, choice_filter, map_all}
 use Rattle.escrow_core.proofs.Changes.{IsMerged, merge_choice}
-use Rattle.escrow_core.proofs.Ascending.{ascending_filter, ascending_map}
+use Rattle.escrow_num.proofs.Ascending.{ascending_filter, ascending_map}
 use Rattle.escrow_core.proofs.Lengths.{length-filter_filter, length-filter_map, find_map}
-use Rattle.escrow_core.proofs.Safe.{some_weaker, safe_row, safe_rows}
+use Rattle.escrow_core.proofs.Safe.{some_weaker, some_image, safe_row, safe_rows}
 
 -- what is in order stays so where a session's transaction is over
 ended_orderly : (catalog : List TableDef) (reservations : List Reservation) (savepoints : List Savepoint) (next_id session : ℕ)
@@ -30,8 +32,6 @@ ended_orderly catalog reservations savepoints next_id session orderly =
     let other_savepoint : Savepoint → Bool = λ p. not (p.session == session) in
     record {
       tables = orderly.tables;
-      catalog_order = orderly.catalog_order;
-      few_tables = orderly.few_tables;
       reservations_in = all_filter (IsReservationIn catalog next_id) other reservations orderly.reservations_in;
       reservation_order = ascending_filter reservation_before other reservations orderly.reservation_order;
       few_reservations = λ k. le_trans (length-filter_filter (λ r. r.session == k) other reservations) (orderly.few_reservations k);
@@ -61,10 +61,8 @@ rollback_valid s session valid =
 -- a row with changes added is one of the same table
 still_row_of : (table : TableDef) (row : Row) (chosen : List Reservation) → IsRowOf table row → IsRowOf table (row_after chosen row)
 still_row_of table row chosen is_row = record {
-  literals = is_row.literals;
-  made = is_row.made;
-  fits = is_row.fits;
-  name = is_row.name;
+  table_name = is_row.table_name;
+  key = is_row.key;
   plain = is_row.plain;
   amounts = length-all_changed row.amounts (map (changes_to row) chosen) ∙ is_row.amounts;
 }
@@ -74,10 +72,6 @@ still_has_table catalog row chosen h =
     some_weaker (λ t. IsRowOf t row) (λ t. IsRowOf t (row_after chosen row)) (table_named catalog row.name.table) (λ t. still_row_of t row chosen) h
 
 -- a reservation's row still stands
-some_image : {A : Type 0} (f : A → A) (o : Option A) → IsSome o → IsSome (option_map f o)
-some_image f None h = h
-some_image f (Some x) h = h
-
 still_stands : (rows : List Row) (chosen : List Reservation) (r : Reservation) → HasRow rows r → HasRow (applied rows chosen) r
 still_stands rows chosen r h =
     let same_found : row_named (applied rows chosen) r.row ≡ option_map (row_after chosen) (row_named rows r.row) =

@@ -6,23 +6,26 @@ use Rattle.std.proofs.Common.{inl, inr, sym, ap, ◌∙◌, subst, refl, arith}
 use Rattle.std.proofs.lemmas.Bool.{cond_both, cond-false, false_from_ne_true}
 use Rattle.escrow_num.specs.declared.row.Row.{Row}
 use Rattle.escrow_num.specs.declared.value.RowName.{RowName}
-use Rattle.escrow_sql.specs.declared.statement.Literal.{Literal}
+use Rattle.escrow_sql.specs.declared.statement.InsertText.{InsertText}
 use Rattle.escrow_num.specs.declared.reservation.Reservation.{Reservation}
 use Rattle.escrow_num.specs.Order.{same_row}
 use Rattle.escrow_num.specs.Reservation.{counted}
 use Rattle.escrow_checks.specs.Form.{changed, all_changed}
 use Rattle.escrow_checks.specs.Grant.{Meets, broken}
 use Rattle.escrow_schema.specs.declared.table.TableDef.{TableDef}
-use Rattle.escrow_schema.specs.Fit.{fitted}
+use Rattle.escrow_schema.specs.Catalog.{table_named}
+use Rattle.escrow_schema.specs.Fit.{IsRowOf, inserted_row}
 use Rattle.escrow_core.specs.declared.database.TheConstants.Database.{MAX_ROWS}
-use Rattle.escrow_core.specs.State.{State, table_named, row_named, rows_of, changes_to, row_after, applied, with_row}
-use Rattle.escrow_core.specs.Valid.{IsValid, IsAscending, IsRowOf, HasTable, HasRow, MeetsChecks, row_before}
-use Rattle.escrow_core.proofs.Items.{Has, all_has, has_all, find_none}
+use Rattle.escrow_core.specs.State.{State, row_named, rows_of, changes_to, row_after, applied, with_row}
+use Rattle.escrow_core.specs.Valid.{IsValid, HasTable, HasRow, MeetsChecks, row_before}
+use Rattle.escrow_num.proofs.Items.{Has, all_has, has_all, find_none}
 use Rattle.escrow_core.proofs.Choices.{IsChoice, choices_all, choice_has}
 use Rattle.escrow_core.proofs.Changes.{changed_nil, all_changed_none}
 use Rattle.escrow_core.proofs.Granted.{granted_meets}
-use Rattle.escrow_core.proofs.Orders.{by_row, row_total, row_tied, before_trans, not_before, row_same, same_row_itself, name_same}
-use Rattle.escrow_core.proofs.Put.{with_row_put, has_put, length-filter_put, find_put, put_ascending}
+use Rattle.escrow_num.proofs.Orders.{by_row, row_total, row_tied, before_trans, not_before, row_same, same_row_itself, name_same}
+use Rattle.escrow_num.specs.Ascending.{IsAscending}
+use Rattle.escrow_num.proofs.Put.{has_put, length-filter_put, find_put, put_ascending}
+use Rattle.escrow_core.proofs.Put.{with_row_put}
 use Rattle.escrow_core.proofs.Safe.{some_from, safe_row, safe_rows}
 use Rattle.escrow_schema.proofs.LawLemmas.{rows_of_table}
 
@@ -77,16 +80,16 @@ few_with rows row table few room =
     (λ f e. omega arith) parts
 
 -- INSERT keeps a valid state valid
-pub insert_valid : (s : State) (table : TableDef) (literals : List Literal) (row : Row) → IsValid s
-    → table_named s.catalog table.name ≡ Some table → fitted table literals ≡ Some row
+pub insert_valid : (s : State) (table : TableDef) (text : InsertText) (row : Row) → IsValid s
+    → table_named s.catalog table.name ≡ Some table → inserted_row table text ≡ Some row
     → row_named s.rows row.name ≡ None → length (rows_of s.rows table.name) < MAX_ROWS
     → broken table.checks row.amounts [] [] ≡ None
     → IsValid (record s { rows = with_row row s.rows })
-insert_valid s table literals row valid named made new room granted =
-    let name : table.name ≡ row.name.table = sym (rows_of_table table literals row made).0 in
+insert_valid s table text row valid named made new room granted =
+    let itself : IsRowOf table row = rows_of_table table text row made in
+    let name : table.name ≡ row.name.table = sym itself.table_name in
     let of_table : table_named s.catalog row.name.table ≡ Some table = subst (λ n. table_named s.catalog n ≡ Some table) name named in
     let rows : List Row = with_row row s.rows in
-    let itself : IsRowOf table row = record { literals = literals; made = row; fits = made; name = refl; plain = refl; amounts = refl } in
     let is_row : HasTable s.catalog row = some_from (λ t. IsRowOf t row) (table_named s.catalog row.name.table) table of_table itself in
     let cases : (P : Row → Type 0) → P row → ((r : Row) → Has s.rows r → P r) → (r : Row) → Has rows r → P r = λ P first others r h.
     elim (has_put row_before row s.rows r (subst (λ rs. Has rs r) (with_row_put row s.rows) h)) [ inl e ↦ subst P e first | inr k ↦ others r k ] in

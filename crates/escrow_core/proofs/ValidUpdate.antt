@@ -15,19 +15,20 @@ use Rattle.escrow_num.specs.Session.{IsSession}
 use Rattle.escrow_checks.specs.Form.{changed, all_changed}
 use Rattle.escrow_checks.specs.Grant.{Meets, broken}
 use Rattle.escrow_schema.specs.declared.table.TableDef.{TableDef}
+use Rattle.escrow_schema.specs.Catalog.{table_named}
 use Rattle.escrow_schema.specs.Column.{reservables}
 use Rattle.escrow_num.specs.declared.reservation.TheConstants.Reservation.{MAX_ID}
 use Rattle.escrow_core.specs.declared.database.TheConstants.Database.{MAX_RESERVATIONS}
 use Rattle.escrow_core.specs.Reservations.{own, reservation_before}
-use Rattle.escrow_core.specs.State.{State, table_named, row_named, changes_to, row_after, applied}
+use Rattle.escrow_core.specs.State.{State, row_named, changes_to, row_after, applied}
 use Rattle.escrow_core.specs.Turn.{granted}
 use Rattle.escrow_core.specs.Valid.{IsValid, IsOrderly, IsReservationIn, IsSavepointIn, HasRow, MeetsChecks}
-use Rattle.escrow_core.proofs.Items.{Has, all_has, has_all, has_push, find_has}
+use Rattle.escrow_num.proofs.Items.{Has, all_has, has_all, has_push, find_has}
 use Rattle.escrow_core.proofs.Choices.{IsChoice, all_choices, choices_all, choice_push, choice_map}
 use Rattle.escrow_core.proofs.Changes.{changed_nil, all_changed_push}
 use Rattle.escrow_core.proofs.Granted.{granted_meets}
-use Rattle.escrow_core.proofs.Ascending.{ascending_push}
-use Rattle.escrow_core.proofs.Orders.{row_same}
+use Rattle.escrow_num.proofs.Ascending.{ascending_push}
+use Rattle.escrow_num.proofs.Orders.{row_same}
 use Rattle.escrow_core.proofs.Safe.{some_from, safe_row, safe_rows, row_unique}
 
 -- a row's amounts after a choice of reservations
@@ -123,8 +124,6 @@ granted_orderly s table r valid named of_session next more_ids long room =
     record { session = was.session; first = was.first; within = omega arith } in
     record {
       tables = valid.orderly.tables;
-      catalog_order = valid.orderly.catalog_order;
-      few_tables = valid.orderly.few_tables;
       reservations_in = has_all (IsReservationIn s.catalog (s.next_id + 1)) (s.reservations ++ r ∷ []) each_in;
       reservation_order = ascending_push reservation_before s.reservations r valid.orderly.reservation_order in_order;
       few_reservations = λ session. few_own s.reservations r session (valid.orderly.few_reservations session) room;

@@ -5,7 +5,7 @@ use Rattle.escrow_core.specs.State.{State}
 -- the state that a database's fields hold
 abbrev pub state_of : Inside → State
 state_of d = record {
-  catalog = d.catalog.items;
+  catalog = d.catalog;
   rows = d.rows.items;
   reservations = d.reservations.items;
   savepoints = d.savepoints.items;

@@ -1,26 +1,37 @@
 -- Believed: the statements of the laws in src/laws.rt.
-use Rattle.std.specs.Prelude.{◌≡◌, ℕ, ◌+◌, ◌≤◌, Some, None, IsSomeAnd, List, [], ◌∷◌, ◌++◌, length, take, Contains}
+use Rattle.std.specs.Prelude.{◌≡◌, ◌↔◌, ℕ, ℤ, ◌+◌, ◌≤◌, Bool, true, false, Option, Some, None, IsSome, IsSomeAnd, List, [], ◌∷◌, ◌++◌, length, map, take, Contains}
 use Rattle.std.specs.List.{AllByRecursion}
 use Rattle.escrow_num.specs.declared.refusal.Breach.{Breach}
 use Rattle.escrow_num.specs.declared.refusal.Refusal.{Refusal}
 use Rattle.escrow_num.specs.declared.refusal.Refusal.TheVariants as refusal
 use Rattle.escrow_num.specs.declared.reservation.Reservation.{Reservation}
+use Rattle.escrow_num.specs.declared.reservation.Savepoint.{Savepoint}
 use Rattle.escrow_num.specs.declared.row.Row.{Row}
+use Rattle.escrow_num.specs.declared.value.RowName.{RowName}
+use Rattle.escrow_num.specs.declared.value.Value.{Value}
 use Rattle.escrow_num.specs.declared.session.End.{End}
 use Rattle.escrow_num.specs.declared.session.End.TheVariants as end
+use Rattle.escrow_num.specs.Ascending.{IsAscending}
 use Rattle.escrow_num.specs.Refusal.{first_refusal}
 use Rattle.escrow_num.specs.Session.{IsSession}
 use Rattle.escrow_sql.specs.declared.statement.Statement.{Statement}
 use Rattle.escrow_sql.specs.declared.statement.Statement.TheVariants as statement
 use Rattle.escrow_sql.specs.declared.statement.UpdateText.{UpdateText}
 use Rattle.escrow_sql.specs.declared.statement.InsertText.{InsertText}
+use Rattle.escrow_sql.specs.declared.statement.DeleteText.{DeleteText}
+use Rattle.escrow_sql.specs.declared.statement.SelectText.{SelectText}
+use Rattle.escrow_sql.specs.declared.statement.WhereText.{WhereText}
 use Rattle.escrow_checks.specs.declared.check.Check.{Check}
 use Rattle.escrow_checks.specs.Form.{form}
 use Rattle.escrow_checks.specs.Grant.{Meets}
 use Rattle.escrow_checks.specs.Laws.{IsBeyond}
 use Rattle.escrow_checks.specs.Sublists.{sublists}
 use Rattle.escrow_schema.specs.declared.table.TableDef.{TableDef}
+use Rattle.escrow_schema.specs.declared.plan.Plan.TheVariants as plan
+use Rattle.escrow_schema.specs.Catalog.{table_named}
+use Rattle.escrow_schema.specs.Column.{names_of, value_of}
 use Rattle.escrow_schema.specs.Fit.{FitColumns, values_of}
+use Rattle.escrow_schema.specs.Print.{canonical}
 use Rattle.escrow_core.specs.declared.event.Event.{Event}
 use Rattle.escrow_core.specs.declared.reply.Failure.{Failure}
 use Rattle.escrow_core.specs.declared.reply.Failure.TheVariants as failure
@@ -29,10 +40,11 @@ use Rattle.escrow_core.specs.declared.reply.Reply.TheVariants as reply
 use Rattle.escrow_core.specs.Event.{HasSession}
 use Rattle.escrow_core.specs.Reply.{failure_of}
 use Rattle.escrow_core.specs.Reservations.{own, others}
-use Rattle.escrow_core.specs.State.{State, empty, table_named, row_named, row_after, applied, with_row}
+use Rattle.escrow_core.specs.Asked.{row_of, plan_of, row_name, named_by, reservation_of}
+use Rattle.escrow_core.specs.State.{State, empty, row_named, rows_of, row_after, applied, with_row, without_row, without_rows_of, with_plain}
 use Rattle.escrow_core.specs.Step.{step, StepOrRefusal, IsRun}
-use Rattle.escrow_core.specs.Turn.{turn_of, row_of, reservation_of}
-use Rattle.escrow_core.specs.Valid.{IsValid, MeetsChecks}
+use Rattle.escrow_core.specs.Turn.{turn_of}
+use Rattle.escrow_core.specs.Valid.{IsValid, MeetsChecks, row_before}
 
 -- VALIDITY
 
@@ -73,11 +85,19 @@ RefusedChangesNothing = (s : State) (session : ℕ) (asked : Statement) (r : Ref
 abbrev pub MachineNeverFails : Type 0
 MachineNeverFails = (s : State) (session : ℕ) (asked : Statement) → failure_of (step s session asked).0 ≡ None
 
--- what fails is out of memory, and is no COMMIT and no ROLLBACK
+-- a statement takes no memory: COMMIT, ROLLBACK, DELETE and DROP TABLE
+abbrev pub takes_nothing : Statement → Bool
+takes_nothing (statement.Drop name) = true
+takes_nothing (statement.Delete text) = true
+takes_nothing statement.Commit = true
+takes_nothing statement.Rollback = true
+takes_nothing _ = false
+
+-- what fails is out of memory, and is no statement that takes none
 abbrev pub FailsForMemoryAlone : Type 0
 FailsForMemoryAlone = (s : State) (session : ℕ) (asked : Statement) (answer : Reply) (new : State) (f : Failure)
     → StepOrRefusal s session asked answer new → failure_of answer ≡ Some f
-    → (f ≡ failure.Memory) × (¬ (asked ≡ statement.Commit)) × (¬ (asked ≡ statement.Rollback))
+    → (f ≡ failure.Memory) × (takes_nothing asked ≡ false)
 
 -- where an early refusal applies, the first of them is the answer, whatever memory there is
 abbrev pub EarlyRefusalsStand : Type 0
@@ -95,15 +115,29 @@ RollbackIsNeverRefused = (s : State) (session : ℕ) → (step s session stateme
 
 -- WHAT A STATEMENT CHANGES
 
--- the committed rows after a statement and its answer: with its row put among them where an INSERT is
--- accepted, with the changes of its session added at COMMIT, and as they were after anything else
+-- a reply that tells that committed rows change
+abbrev pub tells_of_rows : Reply → Bool
+tells_of_rows (reply.Dropped name) = true
+tells_of_rows reply.Inserted = true
+tells_of_rows reply.Deleted = true
+tells_of_rows reply.Updated = true
+tells_of_rows (reply.Committed count) = true
+tells_of_rows _ = false
+
+-- the committed rows after a statement and its answer: with the row of an accepted INSERT put among
+-- them, without that of a DELETE or those of a DROP TABLE, with the plain values of an UPDATE, with the
+-- changes of the session added at COMMIT, and as they were after anything else
 pub record IsSeen (s : State) (session : ℕ) (asked : Statement) (answer : Reply) (rows : List Row) : Type 0 where
+  pub dropped : (name : List ℕ) → answer ≡ reply.Dropped name → rows ≡ without_rows_of name s.rows
   pub inserted : (text : InsertText) → asked ≡ statement.Insert text → answer ≡ reply.Inserted
       → (row : Row) × (row_of s text ≡ Some row) × (rows ≡ with_row row s.rows)
+  pub updated : (text : UpdateText) → asked ≡ statement.Update text → answer ≡ reply.Updated
+      → (key : Value) × (values : List (Option Value)) × (plan_of s text ≡ Some (plan.Plain key values)) × (rows ≡ with_plain (row_name text.table key) values s.rows)
+  pub deleted : (text : DeleteText) → asked ≡ statement.Delete text → answer ≡ reply.Deleted → rows ≡ without_row (named_by text.table text.row) s.rows
   pub committed : asked ≡ statement.Commit → rows ≡ applied s.rows (own session s.reservations)
-  pub otherwise : ¬ (answer ≡ reply.Inserted) → ¬ (asked ≡ statement.Commit) → rows ≡ s.rows
+  pub otherwise : tells_of_rows answer ≡ false → rows ≡ s.rows
 
--- the rows that a query shows are what commits and accepted INSERTs made them, whatever is open
+-- the rows that a query shows are what commits and accepted writes made them, whatever is open
 abbrev pub QueriesSeeCommitsAlone : Type 0
 QueriesSeeCommitsAlone = (s : State) (session : ℕ) (asked : Statement) → IsSeen s session asked (step s session asked).0 (step s session asked).1.rows
 
@@ -115,6 +149,77 @@ ReservedTakesTheNextId = (s : State) (session : ℕ) (asked : Statement) (id : �
 -- no step lowers the next id
 abbrev pub IdsNeverFall : Type 0
 IdsNeverFall = (s : State) (session : ℕ) (asked : Statement) → s.next_id ≤ (step s session asked).1.next_id
+
+-- an accepted DROP TABLE takes out just the table and its rows; what else there is stays
+abbrev pub DropsOneTable : Type 0
+DropsOneTable = (s : State) (session : ℕ) (name : List ℕ) → let after = step s session (statement.Drop name) in after.0 ≡ reply.Dropped name
+    → (after.1 ≡ record s { catalog = after.1.catalog; rows = after.1.rows })
+    × (table_named after.1.catalog name ≡ None) × (rows_of after.1.rows name ≡ [])
+    × ((other : List ℕ) → ¬ (other ≡ name)
+    → (table_named after.1.catalog other ≡ table_named s.catalog other) × (rows_of after.1.rows other ≡ rows_of s.rows other))
+
+-- an accepted DELETE takes out just the row that it names
+abbrev pub DeletesOneRow : Type 0
+DeletesOneRow = (s : State) (session : ℕ) (text : DeleteText) → let after = step s session (statement.Delete text) in after.0 ≡ reply.Deleted
+    → (after.1 ≡ record s { rows = after.1.rows })
+    × IsSome (row_named s.rows (named_by text.table text.row)) × (row_named after.1.rows (named_by text.table text.row) ≡ None)
+    × ((other : RowName) → ¬ (other ≡ named_by text.table text.row) → row_named after.1.rows other ≡ row_named s.rows other)
+
+-- the names and the amounts of rows, in order
+abbrev pub names_and_amounts : List Row → List (RowName × List ℤ)
+names_and_amounts rows = map (λ row. (row.name, row.amounts)) rows
+
+-- an accepted UPDATE of plain values changes nothing but plain values of the row that it names: no key
+-- and no amount, and no reservation
+abbrev pub PlainUpdatesKeepAmounts : Type 0
+PlainUpdatesKeepAmounts = (s : State) (session : ℕ) (text : UpdateText) → let after = step s session (statement.Update text) in after.0 ≡ reply.Updated
+    → (after.1 ≡ record s { rows = after.1.rows })
+    × (names_and_amounts after.1.rows ≡ names_and_amounts s.rows)
+    × ((other : RowName) → ¬ (other ≡ named_by text.table text.row) → row_named after.1.rows other ≡ row_named s.rows other)
+
+-- after a step from a valid state the row of each open reservation stands, and so does its table
+abbrev pub ReservationsKeepRows : Type 0
+ReservationsKeepRows = (s : State) (session : ℕ) (asked : Statement) → IsValid s → IsSession session
+    → let new = (step s session asked).1 in AllByRecursion (λ r. IsSome (row_named new.rows r.row) × IsSome (table_named new.catalog r.row.table)) new.reservations
+
+-- WHAT A QUERY SHOWS
+
+-- a row is one that a WHERE, if there is one, names by its key
+abbrev pub IsKeyed : Option WhereText → Row → Type 0
+IsKeyed None row = Unit {0}
+IsKeyed (Some where_text) row = row.name.key ≡ value_of where_text.literal
+
+-- a SELECT shows the column names of its table and, in order of key, the values of just these
+-- committed rows: those of its table, and with a WHERE that of its key
+pub record IsSelected (s : State) (text : SelectText) (names : List (List ℕ)) (values : List (List Value)) : Type 0 where
+  pub table : TableDef
+  pub named : table_named s.catalog text.table ≡ Some table
+  pub columns : names ≡ names_of table.columns
+  pub rows : List Row
+  pub shown : values ≡ map (values_of table) rows
+  pub each : (row : Row) → Contains rows row ↔ (Contains s.rows row × (row.name.table ≡ text.table) × IsKeyed text.row row)
+  pub order : IsAscending row_before s.rows → IsAscending row_before rows
+
+-- what a SELECT shows, from which nothing changes
+abbrev pub SelectsShowRows : Type 0
+SelectsShowRows = (s : State) (session : ℕ) (text : SelectText) (names : List (List ℕ)) (values : List (List Value))
+    → let after = step s session (statement.Select text) in after.0 ≡ reply.Rows names values → IsSelected s text names values × (after.1 ≡ s)
+
+-- what a SHOW TABLE shows is its table's text, and nothing changes
+abbrev pub ShowsTheTable : Type 0
+ShowsTheTable = (s : State) (session : ℕ) (name shown : List ℕ)
+    → let after = step s session (statement.ShowTable name) in after.0 ≡ reply.Table shown
+    → ((table : TableDef) × (table_named s.catalog name ≡ Some table) × (shown ≡ canonical table)) × (after.1 ≡ s)
+
+-- a query is answered alike whichever reservations and savepoints are open, and whoever asks
+abbrev pub IsQuery : Statement → Type 0
+IsQuery (statement.Select text) = Unit {0}
+IsQuery (statement.ShowTable name) = Unit {0}
+IsQuery _ = ⊥
+
+abbrev pub QueriesIgnoreWhatIsOpen : Type 0
+QueriesIgnoreWhatIsOpen = (s : State) (session other : ℕ) (asked : Statement) (reservations : List Reservation) (savepoints : List Savepoint) → IsQuery asked
+    → (step (record s { reservations = reservations; savepoints = savepoints }) other asked).0 ≡ (step s session asked).0
 
 -- ENDS OF TRANSACTIONS
 

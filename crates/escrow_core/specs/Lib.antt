@@ -1,3 +1,4 @@
+pub mod Asked
 pub mod Event
 pub mod Inside
 pub mod Laws

@@ -1,5 +1,5 @@
--- Believed: which replies are failures.
-use Rattle.std.specs.Prelude.{Option, Some, None}
+-- Believed: which replies are failures, and which hold memory.
+use Rattle.std.specs.Prelude.{Bool, true, false, Option, Some, None}
 use Rattle.escrow_num.specs.declared.refusal.Refusal.{Refusal}
 use Rattle.escrow_num.specs.declared.refusal.Refusal.TheVariants as refusal
 use Rattle.escrow_core.specs.declared.reply.Reply.{Reply}
@@ -17,3 +17,9 @@ failure_of_refusal _ = None
 abbrev pub failure_of : Reply → Option Failure
 failure_of (reply.Refused r) = failure_of_refusal r
 failure_of _ = None
+
+-- a reply holds memory, which a copy of it takes too: the lists and the text of what is shown do
+abbrev pub holds_memory : Reply → Bool
+holds_memory (reply.Rows columns rows) = true
+holds_memory (reply.Table text) = true
+holds_memory _ = false

@@ -10,7 +10,6 @@ use Rattle.escrow_num.specs.Refusal.{first_refusal}
 use Rattle.escrow_sql.specs.declared.statement.Statement.{Statement}
 use Rattle.escrow_checks.specs.declared.coefficients.TheConstants.Coefficients.{MAX_LEN}
 use Rattle.escrow_core.specs.declared.reply.Failure.TheVariants as failure
-use Rattle.escrow_core.specs.Reply.{failure_of_refusal}
 use Rattle.escrow_core.specs.State.{State}
 use Rattle.escrow_core.specs.Step.{refusals, may_fail}
 use Rattle.escrow_core.specs.Turn.{turn_of}
@@ -22,7 +21,7 @@ IsAccepted s session asked = first_refusal (refusals (turn_of s session asked)) 
 -- a refusal is the first of a statement that applies, or out of memory, where it may fail so
 abbrev pub IsRefusal : State → ℕ → Statement → Refusal → Type 0
 IsRefusal s session asked r =
-    ((first_refusal (refusals (turn_of s session asked)) ≡ Some r) × (failure_of_refusal r ≡ None))
+    (first_refusal (refusals (turn_of s session asked)) ≡ Some r)
     ⊎ ((r ≡ refusal.Memory) × IsTrue (may_fail s session asked failure.Memory))
 
 -- a reservation has changes for at most as many columns as a check has coefficients

@@ -1,8 +1,9 @@
 -- Believed: the state of a database, and what is read from it.
-use Rattle.std.specs.Prelude.{ℕ, ℤ, Bool, ◌||◌, nat_lt, if◌then◌else◌, Option, List, [], ◌∷◌, length, map, filter, find, bytes_eq}
-use Rattle.std.specs.Ordering.{nat_cmp, is_lt}
-use Rattle.std.specs.Cmp.Lexicographic.{slice_cmp}
+use Rattle.std.specs.Prelude.{ℕ, ℤ, Bool, ◌||◌, not, nat_lt, if◌then◌else◌, Option, unwrap_or, List, [], ◌∷◌, length, map, filter, find, bytes_eq}
+use Rattle.std.specs.List.{list_any}
+use Rattle.std.specs.Ordering.{is_lt}
 use Rattle.escrow_num.specs.declared.value.RowName.{RowName}
+use Rattle.escrow_num.specs.declared.value.Value.{Value}
 use Rattle.escrow_num.specs.declared.row.Row.{Row}
 use Rattle.escrow_num.specs.declared.reservation.Reservation.{Reservation}
 use Rattle.escrow_num.specs.declared.reservation.Savepoint.{Savepoint}
@@ -26,10 +27,6 @@ pub record State : Type 0 where
 -- a database without tables, in which nothing is open and the next id is 1
 abbrev pub empty : State
 empty = record { catalog = []; rows = []; reservations = []; savepoints = []; next_id = 1 }
-
--- the table of a name
-abbrev pub table_named : List TableDef → List ℕ → Option TableDef
-table_named catalog name = find (λ table. bytes_eq table.name name) catalog
 
 -- the row of a name
 abbrev pub row_named : List Row → RowName → Option Row
@@ -55,13 +52,37 @@ row_after chosen row = record row { amounts = all_changed row.amounts (map (chan
 abbrev pub applied : List Row → List Reservation → List Row
 applied rows chosen = map (row_after chosen) rows
 
--- a table put into the catalog, in order of name
-abbrev pub with_table : TableDef → List TableDef → List TableDef
-with_table table [] = table ∷ []
-with_table table (other ∷ rest) =
-    if is_lt (slice_cmp nat_cmp table.name other.name) then table ∷ other ∷ rest else other ∷ with_table table rest
-
 -- a row put among the rows, in their order
 abbrev pub with_row : Row → List Row → List Row
 with_row row [] = row ∷ []
 with_row row (other ∷ rest) = if is_lt (row_cmp row.name other.name) then row ∷ other ∷ rest else other ∷ with_row row rest
+
+-- the rows without the one of a name
+abbrev pub without_row : RowName → List Row → List Row
+without_row name rows = filter (λ row. not (same_row row.name name)) rows
+
+-- the rows without those of a table
+abbrev pub without_rows_of : List ℕ → List Row → List Row
+without_rows_of table rows = filter (λ row. not (bytes_eq row.name.table table)) rows
+
+-- the values, each replaced by the one beside it where there is one
+abbrev pub replaced : List (Option Value) → List Value → List Value
+replaced [] values = values
+replaced (new ∷ news) [] = []
+replaced (new ∷ news) (v ∷ values) = unwrap_or new v ∷ replaced news values
+
+-- a row with its plain values replaced where it is the one of a name, else as it is
+abbrev pub with_values : RowName → List (Option Value) → Row → Row
+with_values name values row = if same_row row.name name then record row { plain = replaced values row.plain } else row
+
+-- the rows with the plain values of one of them replaced
+abbrev pub with_plain : RowName → List (Option Value) → List Row → List Row
+with_plain name values rows = map (with_values name values) rows
+
+-- an open reservation, of any session, is of the row
+abbrev pub is_reserved : State → RowName → Bool
+is_reserved s name = list_any (λ r. same_row r.row name) s.reservations
+
+-- an open reservation, of any session, is of a row of the table
+abbrev pub is_table_reserved : State → List ℕ → Bool
+is_table_reserved s table = list_any (λ r. bytes_eq r.row.table table) s.reservations

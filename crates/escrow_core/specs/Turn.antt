@@ -1,32 +1,28 @@
 -- Believed: the table of statements.
-use Rattle.std.specs.Prelude.{ℕ, ◌+◌, Bool, true, false, nat_lt, nat_le, Option, is_some, is_none, option_map, option_and_then, unwrap_or, List, [], ◌∷◌, ◌++◌, length, map}
-use Rattle.std.specs.Result.{result_ok, result_err}
+use Rattle.std.specs.Prelude.{ℕ, ◌+◌, Bool, true, false, nat_lt, nat_le, Option, is_some, is_none, option_map, option_and_then, unwrap_or, List, [], ◌∷◌, ◌++◌, length}
 use Rattle.escrow_num.specs.declared.refusal.Refusal.{Refusal}
 use Rattle.escrow_num.specs.declared.refusal.Refusal.TheVariants as refusal
-use Rattle.escrow_num.specs.declared.refusal.Breach.{Breach}
-use Rattle.escrow_num.specs.declared.row.Row.{Row}
 use Rattle.escrow_num.specs.declared.reservation.Reservation.{Reservation}
+use Rattle.escrow_num.specs.declared.reservation.TheConstants.Reservation.{MAX_ID}
 use Rattle.escrow_num.specs.Refusal.{refuse_if}
-use Rattle.escrow_num.specs.Reservation.{counted}
 use Rattle.escrow_sql.specs.declared.statement.Statement.{Statement}
 use Rattle.escrow_sql.specs.declared.statement.Statement.TheVariants as statement
 use Rattle.escrow_sql.specs.declared.statement.CreateText.{CreateText}
 use Rattle.escrow_sql.specs.declared.statement.InsertText.{InsertText}
-use Rattle.escrow_sql.specs.declared.statement.UpdateText.{UpdateText}
-use Rattle.escrow_checks.specs.Grant.{broken}
+use Rattle.escrow_sql.specs.declared.statement.DeleteText.{DeleteText}
+use Rattle.escrow_schema.specs.declared.catalog.TheConstants.Catalog.{MAX_TABLES}
 use Rattle.escrow_schema.specs.declared.plan.Plan.{Plan}
 use Rattle.escrow_schema.specs.declared.plan.Plan.TheVariants as plan
+use Rattle.escrow_schema.specs.Catalog.{table_named, with_table, without_table}
 use Rattle.escrow_schema.specs.Definition.{definition_of}
-use Rattle.escrow_schema.specs.Fit.{fitted}
-use Rattle.escrow_schema.specs.Plan.{planned}
-use Rattle.escrow_num.specs.declared.reservation.TheConstants.Reservation.{MAX_ID}
-use Rattle.escrow_core.specs.declared.database.TheConstants.Database.{MAX_TABLES, MAX_ROWS, MAX_RESERVATIONS}
+use Rattle.escrow_core.specs.declared.database.TheConstants.Database.{MAX_ROWS, MAX_RESERVATIONS}
 use Rattle.escrow_core.specs.declared.reply.Reply.{Reply}
 use Rattle.escrow_core.specs.declared.reply.Reply.TheVariants as reply
 use Rattle.escrow_core.specs.declared.reply.Failure.{Failure}
 use Rattle.escrow_core.specs.declared.reply.Failure.TheVariants as failure
+use Rattle.escrow_core.specs.Asked.{row_of, insert_breach, plan_of, plan_refusal_of, row_name, reservation_from, breach_of, named_by, key_refusal_of, select_refusal_of, select_reply, show_reply}
 use Rattle.escrow_core.specs.Reservations.{own, others, other_savepoints}
-use Rattle.escrow_core.specs.State.{State, table_named, row_named, rows_of, is_open, changes_to, applied, with_table, with_row}
+use Rattle.escrow_core.specs.State.{State, row_named, rows_of, is_open, applied, with_row, without_row, without_rows_of, with_plain, is_reserved, is_table_reserved}
 
 -- How the machine takes a statement of a session: its refusals in their order, first those that are
 -- answered whatever memory there is; the reply and the next state where none of them applies; and what
@@ -47,58 +43,48 @@ for_memory failure.Store = false
 abbrev pub for_nothing : Failure → Bool
 for_nothing f = false
 
--- the row that an INSERT's literals make, in the table of that name
-abbrev pub row_of : State → InsertText → Option Row
-row_of s text = option_and_then (λ table. fitted table text.values) (table_named s.catalog text.table)
-
--- what a new row breaks of its table's checks, judged with no open reservation and no change
-abbrev pub insert_breach : State → InsertText → Option Breach
-insert_breach s text =
-    option_and_then (λ table. option_and_then (λ row. broken table.checks row.amounts [] []) (row_of s text)) (table_named s.catalog text.table)
-
--- the reservation that a plan makes of a row of a table, with the next id
-abbrev pub reservation_from : State → ℕ → List ℕ → Plan → Reservation
-reservation_from s session table (plan.Reserve key changes) = record {
-  id = s.next_id;
-  session = session;
-  row = record { table = table; key = key };
-  changes = changes;
-}
-
--- the reservation that an UPDATE asks
-abbrev pub reservation_of : State → ℕ → UpdateText → Option Reservation
-reservation_of s session text =
-    option_map (reservation_from s session text.table) (option_and_then (λ table. result_ok (planned table text)) (table_named s.catalog text.table))
-
--- why an UPDATE has no plan
-abbrev pub plan_refusal_of : State → UpdateText → Option Refusal
-plan_refusal_of s text = option_and_then (λ table. result_err (planned table text)) (table_named s.catalog text.table)
-
--- the row that an UPDATE names
-abbrev pub updated_row : State → ℕ → UpdateText → Option Row
-updated_row s session text = option_and_then (λ r. row_named s.rows r.row) (reservation_of s session text)
-
--- what a reservation breaks of its table's checks, over every choice of the open ones that holds it
-abbrev pub breach_of : State → Reservation → Option Breach
-breach_of s r =
-    option_and_then (λ table. option_and_then (λ row. broken table.checks row.amounts (counted r.changes) (map (changes_to row) s.reservations))
-    (row_named s.rows r.row)) (table_named s.catalog r.row.table)
-
 -- the state with the table that a text defines in its catalog
 abbrev pub after_create : State → CreateText → State
 after_create s text = record s { catalog = unwrap_or (option_map (λ table. with_table table s.catalog) (definition_of text)) s.catalog }
+
+-- the state without a table and its rows
+abbrev pub after_drop : State → List ℕ → State
+after_drop s name = record s { catalog = without_table name s.catalog; rows = without_rows_of name s.rows }
 
 -- the state with the row that an INSERT makes among its rows
 abbrev pub after_insert : State → InsertText → State
 after_insert s text = record s { rows = unwrap_or (option_map (λ row. with_row row s.rows) (row_of s text)) s.rows }
 
+-- the state without the row that a DELETE names
+abbrev pub after_delete : State → DeleteText → State
+after_delete s text = record s { rows = without_row (named_by text.table text.row) s.rows }
+
 -- the state with one more reservation, which is the last of the open ones and takes the next id
 abbrev pub granted : State → Reservation → State
 granted s r = record s { reservations = s.reservations ++ r ∷ []; next_id = s.next_id + 1 }
 
--- the state with the reservation that an UPDATE asks
-abbrev pub after_update : State → ℕ → UpdateText → State
-after_update s session text = unwrap_or (option_map (granted s) (reservation_of s session text)) s
+-- the late refusals of an UPDATE, by its plan: to reserve changes, or to replace plain values
+abbrev pub update_refusals : State → ℕ → List ℕ → Plan → List (Option Refusal)
+update_refusals s session table (plan.Reserve key changes) =
+    refuse_if (is_none (row_named s.rows (row_name table key))) refusal.NoSuchRow
+    ∷ refuse_if (nat_le MAX_RESERVATIONS (length (own session s.reservations))) refusal.TooManyReservations
+    ∷ refuse_if (nat_lt MAX_ID s.next_id) refusal.NoMoreIds
+    ∷ option_map refusal.Check (breach_of s (reservation_from s session (row_name table key) changes))
+    ∷ []
+update_refusals s session table (plan.Plain key values) =
+    refuse_if (is_open session s) refusal.TransactionOpen
+    ∷ refuse_if (is_none (row_named s.rows (row_name table key))) refusal.NoSuchRow
+    ∷ []
+
+-- the reply to an UPDATE, by its plan
+abbrev pub update_reply : State → Plan → Reply
+update_reply s (plan.Reserve key changes) = reply.Reserved s.next_id
+update_reply s (plan.Plain key values) = reply.Updated
+
+-- the state after an UPDATE, by its plan: with a reservation more, or with other plain values in the row
+abbrev pub after_update : State → ℕ → List ℕ → Plan → State
+after_update s session table (plan.Reserve key changes) = granted s (reservation_from s session (row_name table key) changes)
+after_update s session table (plan.Plain key values) = record s { rows = with_plain (row_name table key) values s.rows }
 
 -- the session's reservations are applied to the committed rows, and its transaction is over
 abbrev pub after_commit : State → ℕ → State
@@ -125,6 +111,16 @@ turn_of s session (statement.Create text) = record {
   next = after_create s text;
   fails_for = for_memory;
 }
+turn_of s session (statement.Drop name) = record {
+  early = refuse_if (is_open session s) refusal.TransactionOpen
+      ∷ refuse_if (is_none (table_named s.catalog name)) refusal.NoSuchTable
+      ∷ refuse_if (is_table_reserved s name) refusal.TableReserved
+      ∷ [];
+  late = [];
+  reply = reply.Dropped name;
+  next = after_drop s name;
+  fails_for = for_nothing;
+}
 turn_of s session (statement.Insert text) = record {
   early = refuse_if (is_open session s) refusal.TransactionOpen
       ∷ refuse_if (is_none (table_named s.catalog text.table)) refusal.NoSuchTable
@@ -138,17 +134,43 @@ turn_of s session (statement.Insert text) = record {
   next = after_insert s text;
   fails_for = for_memory;
 }
+-- an UPDATE without a plan is refused early
 turn_of s session (statement.Update text) = record {
   early = refuse_if (is_none (table_named s.catalog text.table)) refusal.NoSuchTable
       ∷ plan_refusal_of s text
       ∷ [];
-  late = refuse_if (is_none (updated_row s session text)) refusal.NoSuchRow
-      ∷ refuse_if (nat_le MAX_RESERVATIONS (length (own session s.reservations))) refusal.TooManyReservations
-      ∷ refuse_if (nat_lt MAX_ID s.next_id) refusal.NoMoreIds
-      ∷ option_map refusal.Check (option_and_then (breach_of s) (reservation_of s session text))
+  late = unwrap_or (option_map (update_refusals s session text.table) (plan_of s text)) [];
+  reply = unwrap_or (option_map (update_reply s) (plan_of s text)) reply.Updated;
+  next = unwrap_or (option_map (after_update s session text.table) (plan_of s text)) s;
+  fails_for = for_memory;
+}
+turn_of s session (statement.Delete text) = record {
+  early = refuse_if (is_open session s) refusal.TransactionOpen
+      ∷ refuse_if (is_none (table_named s.catalog text.table)) refusal.NoSuchTable
+      ∷ key_refusal_of s text.table text.row
+      ∷ refuse_if (is_none (row_named s.rows (named_by text.table text.row))) refusal.NoSuchRow
+      ∷ refuse_if (is_reserved s (named_by text.table text.row)) refusal.RowReserved
       ∷ [];
-  reply = reply.Reserved s.next_id;
-  next = after_update s session text;
+  late = [];
+  reply = reply.Deleted;
+  next = after_delete s text;
+  fails_for = for_nothing;
+}
+turn_of s session (statement.Select text) = record {
+  early = refuse_if (is_none (table_named s.catalog text.table)) refusal.NoSuchTable
+      ∷ select_refusal_of s text
+      ∷ [];
+  late = [];
+  reply = select_reply s text;
+  next = s;
+  fails_for = for_memory;
+}
+turn_of s session (statement.ShowTable name) = record {
+  early = refuse_if (is_none (table_named s.catalog name)) refusal.NoSuchTable
+      ∷ [];
+  late = [];
+  reply = show_reply s name;
+  next = s;
   fails_for = for_memory;
 }
 turn_of s session statement.Commit = record {

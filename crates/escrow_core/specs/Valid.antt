@@ -1,33 +1,23 @@
 -- Believed: what every statement keeps of a state.
-use Rattle.std.specs.Prelude.{◌≡◌, ℕ, ◌+◌, ◌<◌, ◌≤◌, Bool, Some, IsSome, List, length, IsSomeAnd, IsTrue, [], ◌∷◌}
-use Rattle.std.specs.Ordering.{nat_cmp, is_lt}
-use Rattle.std.specs.Cmp.Lexicographic.{slice_cmp}
+use Rattle.std.specs.Prelude.{◌≡◌, ℕ, ◌+◌, ◌<◌, ◌≤◌, Bool, IsSome, List, length, IsSomeAnd}
+use Rattle.std.specs.Ordering.{is_lt}
 use Rattle.std.specs.List.{AllByRecursion}
 use Rattle.escrow_num.specs.declared.row.Row.{Row}
 use Rattle.escrow_num.specs.declared.reservation.Reservation.{Reservation}
 use Rattle.escrow_num.specs.declared.reservation.Savepoint.{Savepoint}
+use Rattle.escrow_num.specs.declared.reservation.TheConstants.Reservation.{MAX_ID}
+use Rattle.escrow_num.specs.Ascending.{IsAscending}
 use Rattle.escrow_num.specs.Session.{IsSession}
 use Rattle.escrow_num.specs.Order.{row_cmp}
-use Rattle.escrow_sql.specs.declared.statement.Literal.{Literal}
 use Rattle.escrow_checks.specs.Sublists.{sublists}
 use Rattle.escrow_checks.specs.Grant.{Meets}
 use Rattle.escrow_schema.specs.declared.table.TableDef.{TableDef}
+use Rattle.escrow_schema.specs.Catalog.{IsCatalog, table_named}
 use Rattle.escrow_schema.specs.Column.{reservables}
-use Rattle.escrow_schema.specs.Definition.{IsTable}
-use Rattle.escrow_schema.specs.Fit.{fitted}
-use Rattle.escrow_num.specs.declared.reservation.TheConstants.Reservation.{MAX_ID}
-use Rattle.escrow_core.specs.declared.database.TheConstants.Database.{MAX_TABLES, MAX_ROWS, MAX_RESERVATIONS, MAX_SAVEPOINTS}
+use Rattle.escrow_schema.specs.Fit.{IsRowOf}
+use Rattle.escrow_core.specs.declared.database.TheConstants.Database.{MAX_ROWS, MAX_RESERVATIONS, MAX_SAVEPOINTS}
 use Rattle.escrow_core.specs.Reservations.{own, own_savepoints, reservation_before, savepoint_before}
-use Rattle.escrow_core.specs.State.{State, table_named, row_named, rows_of, applied}
-
--- each item stands in order before every later one
-abbrev pub IsAscending : {A : Type 0} → (A → A → Bool) → List A → Type 0
-IsAscending before [] = Unit {0}
-IsAscending before (x ∷ xs) = AllByRecursion (λ y. IsTrue (before x y)) xs × IsAscending before xs
-
--- tables are in order of name, no two of one name
-abbrev pub table_before : TableDef → TableDef → Bool
-table_before a b = is_lt (slice_cmp nat_cmp a.name b.name)
+use Rattle.escrow_core.specs.State.{State, row_named, rows_of, applied}
 
 -- rows are in order of table and key, no two of one table and key
 abbrev pub row_before : Row → Row → Bool
@@ -49,9 +39,7 @@ pub record IsSavepointIn (next_id : ℕ) (p : Savepoint) : Type 0 where
 
 -- what holds of the catalog, the reservations, the savepoints and the next id, whatever the rows
 pub record IsOrderly (catalog : List TableDef) (reservations : List Reservation) (savepoints : List Savepoint) (next_id : ℕ) : Type 0 where
-  pub tables : AllByRecursion IsTable catalog
-  pub catalog_order : IsAscending table_before catalog
-  pub few_tables : length catalog ≤ MAX_TABLES
+  pub tables : IsCatalog catalog
   pub reservations_in : AllByRecursion (IsReservationIn catalog next_id) reservations
   pub reservation_order : IsAscending reservation_before reservations
   pub few_reservations : (session : ℕ) → length (own session reservations) ≤ MAX_RESERVATIONS
@@ -60,15 +48,6 @@ pub record IsOrderly (catalog : List TableDef) (reservations : List Reservation)
   pub few_savepoints : (session : ℕ) → length (own_savepoints session savepoints) ≤ MAX_SAVEPOINTS
   pub first_id : 1 ≤ next_id
   pub last_id : next_id ≤ MAX_ID + 1
-
--- a row is one that literals make in a table, but for its amounts, which commits have changed since
-pub record IsRowOf (table : TableDef) (row : Row) : Type 0 where
-  pub literals : List Literal
-  pub made : Row
-  pub fits : fitted table literals ≡ Some made
-  pub name : row.name ≡ made.name
-  pub plain : row.plain ≡ made.plain
-  pub amounts : length row.amounts ≡ length made.amounts
 
 -- a row is one of a table in the catalog
 abbrev pub HasTable : List TableDef → Row → Type 0

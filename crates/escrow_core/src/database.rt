@@ -1,13 +1,17 @@
 mod create;
+mod delete;
+mod drop;
 mod finish;
 mod insert;
 mod run;
+mod select;
+mod show;
 mod update;
 
 use crate::reply::Reply;
 use crate::reservations::{count_own, count_savepoints};
 use escrow_num::{Reservation, Row, Savepoint, Session};
-use escrow_schema::TableDef;
+use escrow_schema::Catalog;
 use escrow_sql::Statement;
 use std::alloc::{AllocError, Global};
 use std::marker::Model;
@@ -16,7 +20,7 @@ use std::marker::Model;
 /// sessions, and the id that the next reservation takes.
 #[derive(Debug, Drop)]
 pub struct Database {
-    catalog: Vec<TableDef>,
+    catalog: Catalog,
     rows: Vec<Row>,
     reservations: Vec<Reservation>,
     savepoints: Vec<Savepoint>,
@@ -42,9 +46,6 @@ impl Database {
     ghost use Rattle.escrow_core.specs.Valid.{IsValid};
     ghost use Rattle.escrow_core.specs.Step.{StepOrRefusal};
 
-    /// The most tables.
-    pub const MAX_TABLES: usize = 32;
-
     /// The most rows of a table.
     pub const MAX_ROWS: usize = 65_536;
 
@@ -60,7 +61,7 @@ impl Database {
         ensures { IfOk result (λ d. d.state ≡ empty) }
     {
         Ok(Database {
-            catalog: Vec::new(alloc),
+            catalog: Catalog::new(alloc),
             rows: Vec::new(alloc),
             reservations: Vec::new(alloc),
             savepoints: Vec::new(alloc),
@@ -93,8 +94,12 @@ impl Database {
     {
         match statement {
             Statement::Create(text) => self.create(alloc, session, text),
+            Statement::Drop(name) => self.drop_table(session, *name),
             Statement::Insert(text) => self.insert(alloc, session, text),
             Statement::Update(text) => self.update(alloc, session, text),
+            Statement::Delete(text) => self.delete(session, text),
+            Statement::Select(text) => self.select(alloc, session, text),
+            Statement::ShowTable(name) => self.show_table(alloc, session, *name),
             Statement::Commit => Reply::Committed {
                 count: self.commit(session),
             },

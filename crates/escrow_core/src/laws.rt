@@ -4,6 +4,7 @@
 ghost use Rattle.escrow_core.specs.Laws.{StepKeepsValid, RunKeepsValid, CommittedRowsMeetChecks, CommittedValuesFit, EveryRunIsSafe};
 ghost use Rattle.escrow_core.specs.Laws.{RefusedChangesNothing, MachineNeverFails, FailsForMemoryAlone, EarlyRefusalsStand, CommitIsNeverRefused, RollbackIsNeverRefused};
 ghost use Rattle.escrow_core.specs.Laws.{QueriesSeeCommitsAlone, ReservedTakesTheNextId, IdsNeverFall, TransactionsCommute, AnyOrderOfEnds};
+ghost use Rattle.escrow_core.specs.Laws.{DropsOneTable, DeletesOneRow, PlainUpdatesKeepAmounts, ReservationsKeepRows, SelectsShowRows, ShowsTheTable, QueriesIgnoreWhatIsOpen};
 ghost use Rattle.escrow_core.specs.Laws.{GrantedInEveryChoice, OwnIncrementNotSpent, RefusedByAChoice};
 
 /// Whatever a session asks in a valid state, the state after it is valid: whichever of the open
@@ -64,6 +65,44 @@ pub fn reserved_takes_the_next_id()
 /// No statement lowers the next id.
 pub fn ids_never_fall()
     ensures { IdsNeverFall }
+{}
+
+/// DROP TABLE takes out just the table and its rows.
+pub fn drops_one_table()
+    ensures { DropsOneTable }
+{}
+
+/// DELETE takes out just the row that it names.
+pub fn deletes_one_row()
+    ensures { DeletesOneRow }
+{}
+
+/// UPDATE of plain values changes nothing but plain values of the row that it names: no key, no
+/// amount, and no reservation.
+pub fn plain_updates_keep_amounts()
+    ensures { PlainUpdatesKeepAmounts }
+{}
+
+/// No open reservation loses its row or its table.
+pub fn reservations_keep_rows()
+    ensures { ReservationsKeepRows }
+{}
+
+/// What a SELECT shows are the committed rows of its table, and with a WHERE that of its key, each of
+/// them and no other, in order of key; nothing changes by it.
+pub fn selects_show_rows()
+    ensures { SelectsShowRows }
+{}
+
+/// What a SHOW TABLE shows is the text that defines its table; nothing changes by it.
+pub fn shows_the_table()
+    ensures { ShowsTheTable }
+{}
+
+/// A query is answered alike whatever is open, and whoever asks: no reservation shows in it, not even
+/// to the session that holds it.
+pub fn queries_ignore_what_is_open()
+    ensures { QueriesIgnoreWhatIsOpen }
 {}
 
 /// The ends of two sessions' transactions, each a commit or a rollback, lead to equal states in

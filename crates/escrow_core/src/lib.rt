@@ -7,7 +7,7 @@
 #![tactic(auto)]
 
 mod apply;
-mod catalog;
+mod copies;
 mod database;
 mod event;
 mod grant;
@@ -15,6 +15,7 @@ pub mod laws;
 mod reply;
 mod reservations;
 mod rows;
+mod shown;
 
 pub use database::Database;
 pub use event::Event;

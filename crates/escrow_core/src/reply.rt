@@ -1,6 +1,8 @@
-ghost use Rattle.std.specs.Prelude.{◌≡◌, ◌↔◌, IsTrue};
+ghost use Rattle.std.specs.Prelude.{◌≡◌, ◌↔◌, IfOk, IsOk, IsTrue, false};
 
-use escrow_num::{Name, Refusal};
+use crate::copies::{are_same, copy_all};
+use escrow_num::{Name, Refusal, Seq, Text, Value};
+use std::alloc::{AllocError, Global};
 
 /// What a statement is answered.
 #[derive(Debug, Drop)]
@@ -9,14 +11,35 @@ pub enum Reply {
     Refused(Refusal),
     /// A table was created, of this name.
     Created(Name),
+    /// A table was dropped, of this name.
+    Dropped(Name),
     /// A row was inserted.
     Inserted,
+    /// A row was deleted.
+    Deleted,
+    /// Plain values of a row were replaced.
+    Updated,
     /// A reservation was granted, of this number.
-    Reserved { id: u64 },
+    Reserved {
+        id: u64,
+    },
+    /// Rows of a table are shown.
+    Rows {
+        /// The names of the table's columns, in order.
+        columns: Seq<Name>,
+        /// Each row's values, in column order. The rows are in order of key.
+        rows: Seq<Seq<Value>>,
+    },
+    /// A table is shown: the text that defines it.
+    Table(Text),
     /// The transaction was committed, and this many reservations applied.
-    Committed { count: u32 },
+    Committed {
+        count: u32,
+    },
     /// The transaction was rolled back, and this many reservations released.
-    RolledBack { count: u32 },
+    RolledBack {
+        count: u32,
+    },
 }
 
 /// What may come in place of a reply, with nothing changed.
@@ -29,7 +52,7 @@ pub enum Failure {
 }
 
 impl Reply {
-    ghost use Rattle.escrow_core.specs.Reply.{failure_of};
+    ghost use Rattle.escrow_core.specs.Reply.{failure_of, holds_memory};
 
     /// The failure that the reply is, if it is one.
     pub fn failure(&self) -> Option<Failure>
@@ -42,16 +65,52 @@ impl Reply {
         }
     }
 
-    /// Whether two replies are the same: what was done, and the number, the name or the refusal
-    /// that comes with it.
+    /// A copy of the reply. Only the replies to queries take memory.
+    pub fn copy(&self, alloc: Global) -> Result<Reply, AllocError>
+        ensures same { IfOk result (λ r. r ≡ self.now) }
+        ensures succeeds { holds_memory self.now ≡ false → IsOk result }
+    {
+        Ok(match self {
+            Reply::Refused(refusal) => Reply::Refused(*refusal),
+            Reply::Created(name) => Reply::Created(*name),
+            Reply::Dropped(name) => Reply::Dropped(*name),
+            Reply::Inserted => Reply::Inserted,
+            Reply::Deleted => Reply::Deleted,
+            Reply::Updated => Reply::Updated,
+            Reply::Reserved { id } => Reply::Reserved { id: *id },
+            Reply::Rows { columns, rows } => Reply::Rows {
+                columns: copy_all(alloc, columns.as_slice())?,
+                rows: copy_all(alloc, rows.as_slice())?,
+            },
+            Reply::Table(text) => Reply::Table(text.copy(alloc)?),
+            Reply::Committed { count } => Reply::Committed { count: *count },
+            Reply::RolledBack { count } => Reply::RolledBack { count: *count },
+        })
+    }
+
+    /// Whether two replies are the same: what was done, and what comes with it.
     pub fn is_same(&self, other: &Reply) -> bool
         ensures { IsTrue result ↔ (self.now ≡ other.now) }
     {
         match (self, other) {
             (Reply::Refused(a), Reply::Refused(b)) => a.is_same(b),
             (Reply::Created(a), Reply::Created(b)) => *a == *b,
+            (Reply::Dropped(a), Reply::Dropped(b)) => *a == *b,
             (Reply::Inserted, Reply::Inserted) => true,
+            (Reply::Deleted, Reply::Deleted) => true,
+            (Reply::Updated, Reply::Updated) => true,
             (Reply::Reserved { id: a }, Reply::Reserved { id: b }) => *a == *b,
+            (
+                Reply::Rows {
+                    columns: a,
+                    rows: x,
+                },
+                Reply::Rows {
+                    columns: b,
+                    rows: y,
+                },
+            ) => are_same(a.as_slice(), b.as_slice()) && are_same(x.as_slice(), y.as_slice()),
+            (Reply::Table(a), Reply::Table(b)) => a.is_same(b),
             (Reply::Committed { count: a }, Reply::Committed { count: b }) => *a == *b,
             (Reply::RolledBack { count: a }, Reply::RolledBack { count: b }) => *a == *b,
             _ => false,

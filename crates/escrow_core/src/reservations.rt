@@ -1,8 +1,13 @@
-ghost use Rattle.std.specs.Prelude.{◌≡◌, length};
+ghost use Rattle.std.specs.Prelude.{◌≡◌, length, bytes_eq};
+ghost use Rattle.std.specs.List.{list_any};
+ghost use Rattle.escrow_num.specs.Order.{same_row};
 ghost use Rattle.escrow_num.specs.Session.{IsSession};
+ghost use Rattle.escrow_core.specs.Asked.{named_by};
 ghost use Rattle.escrow_core.specs.Reservations.{own, others, own_savepoints, other_savepoints};
 
-use escrow_num::{Reservation, Savepoint, Session};
+use crate::rows::is_named_by;
+use escrow_num::{Name, Reservation, Savepoint, Session};
+use escrow_sql::WhereText;
 
 /// The number of open reservations of a session.
 pub(crate) fn count_own(reservations: &[Reservation], session: Session) -> usize
@@ -21,6 +26,20 @@ pub(crate) fn count_savepoints(savepoints: &[Savepoint], session: Session) -> us
     ensures { result ≡ length (own_savepoints session savepoints.now) }
 {
     savepoints.iter().filter(|p| p.session == session).count()
+}
+
+/// Whether one of the reservations, of any session, is of the row that a WHERE names in a table.
+pub(crate) fn is_reserved(reservations: &[Reservation], table: Name, row: &WhereText) -> bool
+    ensures { result ≡ list_any (λ r. same_row r.row (named_by table row.now)) reservations.now }
+{
+    reservations.iter().any(|r| is_named_by(&r.row, table, row))
+}
+
+/// Whether one of the reservations, of any session, is of a row of a table.
+pub(crate) fn is_table_reserved(reservations: &[Reservation], table: Name) -> bool
+    ensures { result ≡ list_any (λ r. bytes_eq r.row.table table) reservations.now }
+{
+    reservations.iter().any(|r| r.row.table == table)
 }
 
 /// Drops the reservations of a session, and keeps the others in order.

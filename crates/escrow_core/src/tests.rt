@@ -1,12 +1,17 @@
 use crate::{Database, Event, Reply};
-use escrow_num::{Breach, Name, Refusal, Session, Side, Wide};
+use escrow_num::{Amount, Breach, Name, Refusal, Seq, Session, Side, Text, Value, Wide};
 use escrow_sql::{Request, Statement, parse};
-use std::alloc::Global;
+use std::alloc::{AllocError, Global};
 use std::process::Abort;
 use std::test::Fail;
 
 const ACCOUNT: &str = "CREATE TABLE ACCOUNT (ID NUMBER PRIMARY KEY, BALANCE NUMBER RESERVABLE \
     CONSTRAINT MINIMUM_BALANCE CHECK (BALANCE >= 50))";
+
+const SHOP: &str = "CREATE TABLE SHOP (CODE VARCHAR2(4) PRIMARY KEY, TITLE VARCHAR2(10), \
+    STOCK NUMBER(3) RESERVABLE)";
+
+const TAKE_30: &str = "UPDATE ACCOUNT SET BALANCE = BALANCE - 30 WHERE ID = 1";
 
 fn session(rt: &impl Abort, number: u8) -> Session {
     Session::new(number).expect(rt, "a session")
@@ -27,7 +32,7 @@ fn event(rt: &impl Abort, alloc: Global, number: u8, text: &str) -> Event {
 /// The reply that names the least balance, which would come to this worst value.
 fn too_low(rt: &impl Abort, worst: i128) -> Reply {
     Reply::Refused(Refusal::Check(Breach {
-        check: Name::new("MINIMUM_BALANCE".as_bytes()).expect(rt, "a name"),
+        check: name(rt, "MINIMUM_BALANCE"),
         side: Side::Low,
         worst: Wide::new(worst).expect(rt, "a sum"),
         limit: Wide::new(50).expect(rt, "a sum"),
@@ -50,28 +55,89 @@ fn serve(
 /// A database with the table ACCOUNT, and in it a row 1 with a balance of 100.
 fn account(rt: &impl Abort, alloc: Global) -> Result<Database, Fail> {
     let mut database = Database::empty(alloc)?;
-    let name = Name::new("ACCOUNT".as_bytes()).expect(rt, "a name");
-    serve(rt, alloc, &mut database, 1, ACCOUNT, &Reply::Created(name));
+    let created = Reply::Created(name(rt, "ACCOUNT"));
+    serve(rt, alloc, &mut database, 1, ACCOUNT, &created);
     let row = "INSERT INTO ACCOUNT VALUES (1, 100)";
     serve(rt, alloc, &mut database, 1, row, &Reply::Inserted);
     Ok(database)
+}
+
+/// A name.
+fn name(rt: &impl Abort, text: &str) -> Name {
+    Name::new(text.as_bytes()).expect(rt, "a name")
+}
+
+/// A number, as a value.
+fn number(rt: &impl Abort, number: i64) -> Value {
+    Value::Number(Amount::new(number).expect(rt, "a number"))
+}
+
+/// A text, as a value.
+fn text(alloc: Global, text: &str) -> Result<Value, AllocError> {
+    Ok(Value::Text(Text::from_string(String::from_str(alloc, text)?)))
+}
+
+/// The names of columns.
+fn names(rt: &impl Abort, alloc: Global, texts: &[&str]) -> Result<Seq<Name>, AllocError> {
+    let mut names = Seq::new(alloc);
+    for text in texts {
+        names.push(name(rt, *text))?;
+    }
+    Ok(names)
+}
+
+/// Rows of ACCOUNT, by their keys and balances.
+fn accounts(rt: &impl Abort, alloc: Global, rows: &[(i64, i64)]) -> Result<Reply, AllocError> {
+    let mut shown = Seq::new(alloc);
+    for (id, balance) in rows {
+        let mut values = Seq::new(alloc);
+        values.push(number(rt, *id))?;
+        values.push(number(rt, *balance))?;
+        shown.push(values)?;
+    }
+    Ok(Reply::Rows {
+        columns: names(rt, alloc, &["ID", "BALANCE"])?,
+        rows: shown,
+    })
+}
+
+/// Rows of SHOP, by their codes, titles and stocks.
+fn shops(rt: &impl Abort, alloc: Global, rows: &[(&str, &str, i64)]) -> Result<Reply, AllocError> {
+    let mut shown = Seq::new(alloc);
+    for (code, title, stock) in rows {
+        let mut values = Seq::new(alloc);
+        values.push(text(alloc, *code)?)?;
+        values.push(text(alloc, *title)?)?;
+        values.push(number(rt, *stock))?;
+        shown.push(values)?;
+    }
+    Ok(Reply::Rows {
+        columns: names(rt, alloc, &["CODE", "TITLE", "STOCK"])?,
+        rows: shown,
+    })
+}
+
+/// Serves statements of sessions, one after another, which have to be answered so.
+fn serve_all(rt: &impl Abort, alloc: Global, database: &mut Database, cases: &[(u8, &str, Reply)]) {
+    for (number, text, want) in cases {
+        serve(rt, alloc, database, *number, *text, want);
+    }
 }
 
 #[test]
 fn grants_over_every_choice(rt: HostRuntime) -> Result<(), Fail> {
     let alloc = rt.alloc();
     let mut database = account(&rt, alloc)?;
-    let take_30 = "UPDATE ACCOUNT SET BALANCE = BALANCE - 30 WHERE ID = 1";
     let add_7 = "UPDATE ACCOUNT SET BALANCE = BALANCE + 7 WHERE ID = 1";
     serve(
         &rt,
         alloc,
         &mut database,
         1,
-        take_30,
+        TAKE_30,
         &Reply::Reserved { id: 1 },
     );
-    serve(&rt, alloc, &mut database, 2, take_30, &too_low(&rt, 40));
+    serve(&rt, alloc, &mut database, 2, TAKE_30, &too_low(&rt, 40));
     serve(
         &rt,
         alloc,
@@ -168,5 +234,152 @@ fn runs_a_list(rt: HostRuntime) -> Result<(), Fail> {
         assert!(rt; reply.is_same(want));
     }
     assert!(rt; replies[0].failure().is_none());
+    Ok(())
+}
+
+#[test]
+fn shows_committed_rows_in_order(rt: HostRuntime) -> Result<(), Fail> {
+    let alloc = rt.alloc();
+    let mut database = account(&rt, alloc)?;
+    let four = accounts(&rt, alloc, &[(-2, 50), (-1, 70), (1, 100), (10, 60)])?;
+    let one = accounts(&rt, alloc, &[(1, 100)])?;
+    let cases = [
+        (1, "INSERT INTO ACCOUNT VALUES (10, 60)", Reply::Inserted),
+        (1, "INSERT INTO ACCOUNT VALUES (-2, 50)", Reply::Inserted),
+        (
+            1,
+            "INSERT INTO ACCOUNT (BALANCE, ID) VALUES (70, -1)",
+            Reply::Inserted,
+        ),
+        (2, TAKE_30, Reply::Reserved { id: 1 }),
+        (1, "SELECT * FROM ACCOUNT", four),
+        (2, "SELECT * FROM ACCOUNT WHERE ID = 1", one),
+        (
+            2,
+            "SELECT * FROM ACCOUNT WHERE ID = 3",
+            accounts(&rt, alloc, &[])?,
+        ),
+        (2, "COMMIT", Reply::Committed { count: 1 }),
+        (
+            1,
+            "SELECT * FROM ACCOUNT WHERE ID = 1",
+            accounts(&rt, alloc, &[(1, 70)])?,
+        ),
+    ];
+    serve_all(&rt, alloc, &mut database, &cases);
+    Ok(())
+}
+
+#[test]
+fn replaces_plain_values(rt: HostRuntime) -> Result<(), Fail> {
+    let alloc = rt.alloc();
+    let mut database = Database::empty(alloc)?;
+    let rows = shops(&rt, alloc, &[("a", "Mug", 9), ("ab", "Tea", 7)])?;
+    let cases = [
+        (1, SHOP, Reply::Created(name(&rt, "SHOP"))),
+        (
+            1,
+            "INSERT INTO SHOP (STOCK, CODE, TITLE) VALUES (7, 'ab', 'Tea')",
+            Reply::Inserted,
+        ),
+        (
+            1,
+            "INSERT INTO SHOP VALUES ('a', 'Cup', 9)",
+            Reply::Inserted,
+        ),
+        (
+            2,
+            "UPDATE SHOP SET STOCK = STOCK - 1 WHERE CODE = 'a'",
+            Reply::Reserved { id: 1 },
+        ),
+        (
+            2,
+            "UPDATE SHOP SET TITLE = 'Jar' WHERE CODE = 'ab'",
+            Reply::Refused(Refusal::TransactionOpen),
+        ),
+        (
+            1,
+            "UPDATE SHOP SET TITLE = 'Jar' WHERE CODE = 'b'",
+            Reply::Refused(Refusal::NoSuchRow),
+        ),
+        (
+            1,
+            "UPDATE SHOP SET TITLE = 'Mug' WHERE CODE = 'a'",
+            Reply::Updated,
+        ),
+        (1, "SELECT * FROM SHOP", rows),
+        (2, "COMMIT", Reply::Committed { count: 1 }),
+        (
+            1,
+            "SELECT * FROM SHOP WHERE CODE = 'a'",
+            shops(&rt, alloc, &[("a", "Mug", 8)])?,
+        ),
+    ];
+    serve_all(&rt, alloc, &mut database, &cases);
+    Ok(())
+}
+
+#[test]
+fn keeps_what_is_reserved(rt: HostRuntime) -> Result<(), Fail> {
+    let alloc = rt.alloc();
+    let mut database = account(&rt, alloc)?;
+    let delete = "DELETE FROM ACCOUNT WHERE ID = 1";
+    let drop_table = "DROP TABLE ACCOUNT";
+    let cases = [
+        (2, TAKE_30, Reply::Reserved { id: 1 }),
+        (1, delete, Reply::Refused(Refusal::RowReserved)),
+        (1, drop_table, Reply::Refused(Refusal::TableReserved)),
+        (2, delete, Reply::Refused(Refusal::TransactionOpen)),
+        (2, drop_table, Reply::Refused(Refusal::TransactionOpen)),
+        (2, "ROLLBACK", Reply::RolledBack { count: 1 }),
+        (
+            1,
+            "DELETE FROM ACCOUNT WHERE ID = 2",
+            Reply::Refused(Refusal::NoSuchRow),
+        ),
+        (1, delete, Reply::Deleted),
+        (1, delete, Reply::Refused(Refusal::NoSuchRow)),
+    ];
+    serve_all(&rt, alloc, &mut database, &cases);
+    Ok(())
+}
+
+#[test]
+fn begins_anew_after_drop(rt: HostRuntime) -> Result<(), Fail> {
+    let alloc = rt.alloc();
+    let mut database = account(&rt, alloc)?;
+    let account = name(&rt, "ACCOUNT");
+    let cases = [
+        (1, TAKE_30, Reply::Reserved { id: 1 }),
+        (1, "COMMIT", Reply::Committed { count: 1 }),
+        (1, "DROP TABLE ACCOUNT", Reply::Dropped(account)),
+        (
+            1,
+            "SELECT * FROM ACCOUNT",
+            Reply::Refused(Refusal::NoSuchTable),
+        ),
+        (1, ACCOUNT, Reply::Created(account)),
+        (1, "SELECT * FROM ACCOUNT", accounts(&rt, alloc, &[])?),
+        (1, "INSERT INTO ACCOUNT VALUES (1, 100)", Reply::Inserted),
+        (1, TAKE_30, Reply::Reserved { id: 2 }),
+    ];
+    serve_all(&rt, alloc, &mut database, &cases);
+    Ok(())
+}
+
+#[test]
+fn shows_a_table(rt: HostRuntime) -> Result<(), Fail> {
+    let alloc = rt.alloc();
+    let mut database = account(&rt, alloc)?;
+    let shown = "CREATE TABLE ACCOUNT (ID NUMBER(15) PRIMARY KEY, BALANCE NUMBER(15) RESERVABLE, \
+        CONSTRAINT MINIMUM_BALANCE CHECK (BALANCE >= 50))";
+    let table = Reply::Table(Text::from_string(String::from_str(alloc, shown)?));
+    serve(&rt, alloc, &mut database, 1, "SHOW TABLE ACCOUNT", &table);
+    let unknown = Reply::Refused(Refusal::NoSuchTable);
+    serve(&rt, alloc, &mut database, 1, "SHOW TABLE OTHER", &unknown);
+    assert!(rt; table.copy(alloc)?.is_same(&table));
+    let rows = accounts(&rt, alloc, &[(1, 100)])?;
+    assert!(rt; rows.copy(alloc)?.is_same(&rows));
+    assert!(rt; !rows.is_same(&table));
     Ok(())
 }

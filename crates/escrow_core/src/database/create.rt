@@ -1,4 +1,3 @@
-use crate::catalog::{find_table, table_place};
 use crate::database::Database;
 use crate::reply::Reply;
 use escrow_num::{Refusal, Session};
@@ -7,9 +6,11 @@ use escrow_sql::{CreateText, Statement};
 use std::alloc::Global;
 
 impl Database {
-    ghost use Rattle.std.specs.Prelude.{◌≡◌, Some, IfOk, IfErr};
+    ghost use Rattle.std.specs.Prelude.{◌≡◌, None, Some, IfOk, IfErr, OnOk, false};
+    ghost use Rattle.escrow_schema.specs.Catalog.{table_named};
     ghost use Rattle.escrow_schema.specs.Definition.{definition_of};
-    ghost use Rattle.escrow_core.specs.Serving.{IsAccepted, IsRefusal};
+    ghost use Rattle.escrow_core.specs.Serving.{IsRefusal};
+    ghost use Rattle.escrow_core.specs.State.{is_open};
     ghost use Rattle.escrow_core.specs.Step.{StepOrRefusal};
 
     /// CREATE TABLE: the table that the text defines is put into the catalog.
@@ -20,14 +21,13 @@ impl Database {
             Ok(table) => table,
             Err(refusal) => return Reply::Refused(refusal),
         };
-        let place = table_place(&self.catalog, table.name);
-        match self.catalog.insert(place, table) {
+        match self.catalog.add(table) {
             Ok(()) => Reply::Created(text.table),
-            Err(_) => Reply::Refused(Refusal::Memory),
+            Err(refusal) => Reply::Refused(refusal),
         }
     }
 
-    /// The table that a CREATE TABLE makes, or why it makes none.
+    /// The table that a CREATE TABLE makes, where the catalog may take it, or why it makes none.
     #[tactic(auto, unfolding(crate::specs::Turn::turn_of))]
     fn plan_create(
         &self,
@@ -36,19 +36,16 @@ impl Database {
         text: &CreateText,
     ) -> Result<TableDef, Refusal>
         ensures table { IfOk result (λ table. definition_of text.now ≡ Some table) }
-        ensures accepted { IfOk result (λ _. IsAccepted self.now.state session (Statement.Create text.now)) }
+        ensures closed { OnOk result (is_open session self.now.state ≡ false) }
+        ensures new { OnOk result (table_named self.now.state.catalog text.now.table ≡ None) }
         ensures refused { IfErr result (IsRefusal self.now.state session (Statement.Create text.now)) }
     {
         if self.is_open(session) {
             return Err(Refusal::TransactionOpen);
         }
-        if find_table(&self.catalog, text.table).is_some() {
+        if self.catalog.find(text.table).is_some() {
             return Err(Refusal::TableExists);
         }
-        let table = define(alloc, text)?;
-        if self.catalog.len() >= Self::MAX_TABLES {
-            return Err(Refusal::TooManyTables);
-        }
-        Ok(table)
+        define(alloc, text)
     }
 }

@@ -1,4 +1,3 @@
-use crate::catalog::find_table;
 use crate::database::Database;
 use crate::grant::first_breach;
 use crate::reply::Reply;
@@ -17,7 +16,7 @@ impl Database {
     ghost use Rattle.escrow_core.specs.Serving.{IsAccepted, IsRefusal};
     ghost use Rattle.escrow_core.specs.State.{row_named, rows_of};
     ghost use Rattle.escrow_core.specs.Step.{StepOrRefusal};
-    ghost use Rattle.escrow_core.specs.Turn.{row_of};
+    ghost use Rattle.escrow_core.specs.Asked.{row_of};
     ghost use Rattle.escrow_core.specs.declared.database.TheConstants.Database.{MAX_ROWS};
 
     /// INSERT: the row that the values make is put among the committed rows.
@@ -50,10 +49,10 @@ impl Database {
         if self.is_open(session) {
             return Err(Refusal::TransactionOpen);
         }
-        let Some(table) = find_table(&self.catalog, text.table) else {
+        let Some(table) = self.catalog.find(text.table) else {
             return Err(Refusal::NoSuchTable);
         };
-        let row = fit_row(alloc, table, text.values.as_slice())?;
+        let row = fit_row(alloc, table, text)?;
         match self.row_refusal(text, table, &row) {
             Some(refusal) => Err(refusal),
             None => Ok(row),

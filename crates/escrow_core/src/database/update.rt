@@ -1,39 +1,71 @@
-use crate::catalog::find_table;
 use crate::database::Database;
 use crate::grant::breach_of;
 use crate::reply::Reply;
 use crate::reservations::count_own;
-use crate::rows::find_row;
-use escrow_num::{Name, Refusal, Reservation, RowName, Session};
-use escrow_schema::{Plan, TableDef, plan_update};
+use crate::rows::{find_row, replace_plain};
+use escrow_num::{Amount, Refusal, Reservation, RowName, Seq, Session, Value};
+use escrow_schema::{Plan, plan_update};
 use escrow_sql::{Statement, UpdateText};
 use std::alloc::Global;
 
 impl Database {
-    ghost use Rattle.std.specs.Prelude.{◌≡◌, [], None, Some, IfSome, IfOk, IfErr, OnOk, ◌∷◌, is_none, nat_le, nat_lt, length, option_map, option_and_then, map};
+    ghost use Rattle.std.specs.Prelude.{◌≡◌, None, Some, IfOk, IfErr, [], ◌∷◌, is_none};
     ghost use Rattle.escrow_num.specs.Refusal.{first_refusal, refuse_if};
-    ghost use Rattle.escrow_num.specs.Reservation.{counted};
     ghost use Rattle.escrow_num.specs.Session.{IsSession};
-    ghost use Rattle.escrow_num.specs.declared.reservation.TheConstants.Reservation.{MAX_ID};
-    ghost use Rattle.escrow_checks.specs.Grant.{broken};
-    ghost use Rattle.escrow_core.specs.Reply.{failure_of_refusal};
-    ghost use Rattle.escrow_core.specs.Reservations.{own};
-    ghost use Rattle.escrow_core.specs.Serving.{IsAccepted, IsRefusal, IsShort};
-    ghost use Rattle.escrow_core.specs.State.{table_named, row_named, changes_to};
+    ghost use Rattle.escrow_core.specs.Asked.{plan_of};
+    ghost use Rattle.escrow_core.specs.Serving.{IsRefusal, IsShort};
+    ghost use Rattle.escrow_core.specs.State.{row_named, is_open};
     ghost use Rattle.escrow_core.specs.Step.{StepOrRefusal};
-    ghost use Rattle.escrow_core.specs.Turn.{reservation_from, reservation_of};
-    ghost use Rattle.escrow_core.specs.declared.database.TheConstants.Database.{MAX_RESERVATIONS};
+    ghost use Rattle.escrow_core.specs.Turn.{update_refusals};
 
-    /// UPDATE of RESERVABLE columns: a reservation of the changes is granted, and the committed row
-    /// stays as it is.
+    /// UPDATE, of RESERVABLE columns or of plain ones, by its plan.
     pub(crate) fn update(&mut self, alloc: Global, session: Session, text: &UpdateText) -> Reply
         ensures { StepOrRefusal self.old.state session (Statement.Update text.now) result self.new.state }
     {
-        let asked = match self.plan_reservation(alloc, session, text) {
-            Ok(asked) => asked,
-            Err(refusal) => return Reply::Refused(refusal),
+        match self.plan(alloc, session, text) {
+            Ok(Plan::Reserve { key, changes }) => self.reserve(session, text, key, changes),
+            Ok(Plan::Plain { key, values }) => self.replace(session, text, key, values),
+            Err(refusal) => Reply::Refused(refusal),
+        }
+    }
+
+    /// What an UPDATE asks of a row, or why it can't be planned.
+    #[tactic(auto, unfolding(crate::specs::Turn::turn_of))]
+    fn plan(&self, alloc: Global, session: Session, text: &UpdateText) -> Result<Plan, Refusal>
+        ensures plan { IfOk result (λ plan. plan_of self.now.state text.now ≡ Some plan) }
+        ensures refused { IfErr result (IsRefusal self.now.state session (Statement.Update text.now)) }
+    {
+        let Some(table) = self.catalog.find(text.table) else {
+            return Err(Refusal::NoSuchTable);
         };
+        plan_update(alloc, table, text)
+    }
+
+    /// A reservation of changes is granted, and the committed row stays as it is.
+    fn reserve(
+        &mut self,
+        session: Session,
+        text: &UpdateText,
+        key: Value,
+        changes: Seq<Option<Amount>>,
+    ) -> Reply
+        requires { plan_of self.old.state text.now ≡ Some (Plan.Reserve key changes) }
+        ensures { StepOrRefusal self.old.state session (Statement.Update text.now) result self.new.state }
+    {
         let id = self.next_id;
+        let row = RowName {
+            table: text.table,
+            key,
+        };
+        let asked = Reservation {
+            id,
+            session,
+            row,
+            changes,
+        };
+        if let Some(refusal) = self.grant_refusal(&asked) {
+            return Reply::Refused(refusal);
+        }
         match self.reservations.push(asked) {
             Ok(()) => {
                 self.next_id += 1;
@@ -43,55 +75,12 @@ impl Database {
         }
     }
 
-    /// The reservation that an UPDATE asks, where it is granted, or why it isn't.
-    #[tactic(auto, unfolding(crate::specs::Turn::turn_of))]
-    fn plan_reservation(
-        &self,
-        alloc: Global,
-        session: Session,
-        text: &UpdateText,
-    ) -> Result<Reservation, Refusal>
-        ensures asked { IfOk result (λ r. reservation_of self.now.state session text.now ≡ Some r) }
-        ensures session { OnOk result (IsSession session) }
-        ensures accepted { IfOk result (λ _. IsAccepted self.now.state session (Statement.Update text.now)) }
-        ensures refused { IfErr result (IsRefusal self.now.state session (Statement.Update text.now)) }
-    {
-        let Some(table) = find_table(&self.catalog, text.table) else {
-            return Err(Refusal::NoSuchTable);
-        };
-        let plan = plan_update(alloc, table, text)?;
-        let asked = self.reservation_from(session, text.table, plan);
-        match self.grant_refusal(table, &asked) {
-            Some(refusal) => Err(refusal),
-            None => Ok(asked),
-        }
-    }
-
-    /// The reservation that a plan makes of a row of a table, with the next id.
-    fn reservation_from(&self, session: Session, table: Name, plan: Plan) -> Reservation
-        ensures { result ≡ reservation_from self.now.state session table plan }
-    {
-        let Plan::Reserve { key, changes } = plan;
-        Reservation {
-            id: self.next_id,
-            session,
-            row: RowName { table, key },
-            changes,
-        }
-    }
-
-    /// Why a reservation that can be planned isn't granted: no such row, as many reservations of
-    /// the session as it may have, no more ids, or the first check that it could break.
-    fn grant_refusal(&self, table: &TableDef, asked: &Reservation) -> Option<Refusal>
-        requires short { IsShort asked.now }
-        requires named { table_named self.now.state.catalog asked.now.row.table ≡ Some table.now }
-        ensures judged { IfSome result (λ r. failure_of_refusal r ≡ None) }
-        ensures first { result ≡ first_refusal (
-            refuse_if (is_none (row_named self.now.state.rows asked.now.row)) Refusal.NoSuchRow
-            ∷ refuse_if (nat_le MAX_RESERVATIONS (length (own asked.now.session self.now.state.reservations))) Refusal.TooManyReservations
-            ∷ refuse_if (nat_lt MAX_ID self.now.state.next_id) Refusal.NoMoreIds
-            ∷ option_map Refusal.Check (option_and_then (λ row. broken table.now.checks row.amounts (counted asked.now.changes) (map (changes_to row) self.now.state.reservations)) (row_named self.now.state.rows asked.now.row))
-            ∷ []) }
+    /// Why a reservation isn't granted: no such row, as many reservations of the session as it may
+    /// have, no more ids, or the first check that it could break.
+    fn grant_refusal(&self, asked: &Reservation) -> Option<Refusal>
+        requires { IsShort asked.now }
+        ensures first { result ≡ first_refusal (update_refusals self.now.state asked.now.session asked.now.row.table (Plan.Reserve asked.now.row.key asked.now.changes)) }
+        ensures session { result ≡ None → IsSession asked.now.session }
     {
         let Some(row) = find_row(&self.rows, &asked.row) else {
             return Some(Refusal::NoSuchRow);
@@ -102,6 +91,46 @@ impl Database {
         if self.next_id > Reservation::MAX_ID {
             return Some(Refusal::NoMoreIds);
         }
+        let table = self.catalog.find(asked.row.table)?;
         breach_of(table.checks.as_slice(), row, asked, &self.reservations).map(Refusal::Check)
+    }
+
+    /// Plain values of a row are replaced. Its amounts stay, and so do the reservations of it.
+    fn replace(
+        &mut self,
+        session: Session,
+        text: &UpdateText,
+        key: Value,
+        values: Seq<Option<Value>>,
+    ) -> Reply
+        requires { plan_of self.old.state text.now ≡ Some (Plan.Plain key values) }
+        ensures { StepOrRefusal self.old.state session (Statement.Update text.now) result self.new.state }
+    {
+        let name = RowName {
+            table: text.table,
+            key,
+        };
+        if let Some(refusal) = self.replace_refusal(session, &name) {
+            return Reply::Refused(refusal);
+        }
+        replace_plain(&mut self.rows, &name, values);
+        Reply::Updated
+    }
+
+    /// Why plain values of a row aren't replaced: the session's transaction is open, or there is no
+    /// such row. Reservations of the row don't matter.
+    fn replace_refusal(&self, session: Session, name: &RowName) -> Option<Refusal>
+        ensures { result ≡ first_refusal (
+            refuse_if (is_open session self.now.state) Refusal.TransactionOpen
+            ∷ refuse_if (is_none (row_named self.now.state.rows name.now)) Refusal.NoSuchRow
+            ∷ []) }
+    {
+        if self.is_open(session) {
+            return Some(Refusal::TransactionOpen);
+        }
+        if find_row(&self.rows, name).is_none() {
+            return Some(Refusal::NoSuchRow);
+        }
+        None
     }
 }

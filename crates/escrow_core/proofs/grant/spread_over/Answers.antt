@@ -6,7 +6,7 @@ use Rattle.escrow_checks.specs.Spread.{IsSpread}
 use Rattle.escrow_checks.proofs.SpreadLemmas.{adds_nothing}
 use Rattle.escrow_core.specs.State.{changes_to}
 use Rattle.escrow_core.proofs.Applying.{changes_more, changes_own, changes_other}
-use Rattle.escrow_core.proofs.Items.{all_at}
+use Rattle.escrow_num.proofs.Items.{all_at}
 use Rattle.escrow_core.proofs.grant.spread_over.Goals as goal
 use Rattle.escrow_core.proofs.grant.spread_over.Goals.{then-is_same, else-is_same}
 

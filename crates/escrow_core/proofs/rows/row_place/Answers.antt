@@ -2,7 +2,7 @@ use Rattle.std.proofs.Common.{refl}
 use Rattle.std.specs.Ordering.{is_lt}
 use Rattle.escrow_num.specs.Order.{row_cmp}
 use Rattle.escrow_core.specs.State.{with_row}
-use Rattle.escrow_core.proofs.Places.{put_at_place}
+use Rattle.escrow_num.proofs.Places.{put_at_place}
 use Rattle.escrow_core.proofs.rows.row_place.Goals as goal
 
 pub returns-clause-place : goal.returns-clause-place

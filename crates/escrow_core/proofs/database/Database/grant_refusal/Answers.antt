@@ -1,7 +1,7 @@
-use Rattle.std.proofs.Common.{◌≡◌, Some, sym, ap, subst}
+use Rattle.std.proofs.Common.{◌≡◌, Some, sym}
+use Rattle.escrow_schema.specs.Catalog.{table_named}
 use Rattle.escrow_core.specs.Inside.{state_of}
-use Rattle.escrow_core.specs.Seen.{Seen}
-use Rattle.escrow_core.specs.State.{State, table_named, row_named}
+use Rattle.escrow_core.specs.State.{State, row_named}
 use Rattle.escrow_core.proofs.Shapes.{few_reservations, short_reservations, covered_found}
 use Rattle.escrow_core.proofs.database.Database.grant_refusal.Goals as goal
 
@@ -19,7 +19,6 @@ pub breach_of-requires-clause-covered : goal.breach_of-requires-clause-covered
 breach_of-requires-clause-covered c =
     let s : State = state_of c.self.inside in
     let name = c.args.asked.now.row in
-    let same : s ≡ c.args.self.now.state = ap (λ (v : Seen). v.state) c.self.view_is in
-    let named : table_named s.catalog name.table ≡ Some c.args.table.now = subst (λ (t : State). table_named t.catalog name.table ≡ Some c.args.table.now) (sym same) c.requires.named in
+    let named : table_named s.catalog name.table ≡ Some c.in_ok-table.table.now = sym c.in_ok-table.ensures.found in
     let found : row_named s.rows name ≡ Some c.in-Some.row.now = rw (← c.deref.ensures.value) (sym c.in-Some.ensures) in
-    rw c.as_slice.ensures (covered_found s c.self.invariant name c.args.table.now c.in-Some.row.now named found)
+    rw c.as_slice.ensures (covered_found s c.self.invariant name c.in_ok-table.table.now c.in-Some.row.now named found)

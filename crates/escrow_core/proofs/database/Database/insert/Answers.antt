@@ -5,8 +5,8 @@ use Rattle.escrow_core.specs.Inside.{state_of}
 use Rattle.escrow_core.specs.Seen.{Seen}
 use Rattle.escrow_core.specs.Serving.{IsAccepted}
 use Rattle.escrow_core.specs.State.{State, with_row}
-use Rattle.escrow_core.specs.Turn.{row_of}
-use Rattle.escrow_core.proofs.Served.{insert_serves, insert_wants}
+use Rattle.escrow_core.specs.Asked.{row_of}
+use Rattle.escrow_core.proofs.Served.{refused_serves, insert_serves, insert_wants}
 use Rattle.escrow_core.proofs.Turns.{inserted_valid}
 use Rattle.escrow_core.proofs.database.Database.insert.Goals as goal
 use Rattle.escrow_core.proofs.database.Database.insert.Goals.{in-Ok-insert, in-Err-insert}
@@ -42,3 +42,6 @@ returns c =
       | in-Ok-insert w ↦ rw (← same, w.result-is, c.insert.ensures.items, w.in-Ok-insert.is, placed) (insert_serves s session text row accepted made)
       | in-Err-insert w ↦ rw (← same, w.result-is, c.insert.ensures.items, w.in-Err-insert.is) (insert_wants s session text accepted)
     ]
+
+pub returns-in-Err : goal.returns-in-Err
+returns-in-Err c = refused_serves c.args.self.now.state c.args.session (statement.Insert c.args.text.now) c.in-Err.refusal c.in-Err.ensures.refused

@@ -1,0 +1,89 @@
+-- UPDATE: what follows for its turn from the plan, or from why there is none.
+use Rattle.std.specs.Prelude.{◌≡◌, ◌⊎◌, ◌≤◌, ℕ, ℤ, Option, Some, None, Result, Ok, Err, IfErr, IsErrOf, IsOk, List, length, option_and_then}
+use Rattle.std.specs.Result.{result_ok}
+use Rattle.std.proofs.Common.{inl, inr, refl, sym, ap, subst, arith, ◌∙◌}
+use Rattle.std.proofs.lemmas.Option.{option_and_then_some}
+use Rattle.escrow_num.specs.declared.refusal.Refusal.{Refusal}
+use Rattle.escrow_num.specs.declared.refusal.Refusal.TheVariants as refusal
+use Rattle.escrow_num.specs.declared.value.Value.{Value}
+use Rattle.escrow_num.specs.Refusal.{first_refusal}
+use Rattle.escrow_sql.specs.declared.statement.UpdateText.{UpdateText}
+use Rattle.escrow_sql.specs.declared.statement.Statement.TheVariants as statement
+use Rattle.escrow_checks.specs.declared.coefficients.TheConstants.Coefficients.{MAX_LEN}
+use Rattle.escrow_schema.specs.declared.plan.Plan.{Plan}
+use Rattle.escrow_schema.specs.declared.plan.Plan.TheVariants as plan
+use Rattle.escrow_schema.specs.declared.table.TableDef.{TableDef}
+use Rattle.escrow_schema.specs.Catalog.{table_named}
+use Rattle.escrow_schema.specs.Plan.{planned}
+use Rattle.escrow_core.specs.declared.reply.Reply.TheVariants as reply
+use Rattle.escrow_core.specs.Asked.{plan_of}
+use Rattle.escrow_core.specs.Serving.{IsAccepted, IsRefusal}
+use Rattle.escrow_core.specs.State.{State}
+use Rattle.escrow_core.specs.Step.{refusals, StepOrRefusal}
+use Rattle.escrow_core.specs.Turn.{turn_of, update_refusals}
+use Rattle.escrow_core.specs.Valid.{IsValid}
+use Rattle.escrow_core.proofs.Served.{rule_serves}
+use Rattle.escrow_core.proofs.Shapes.{is_table_found}
+use Rattle.escrow_schema.proofs.LawLemmas.{few_reservable}
+use Rattle.escrow_schema.proofs.PlanLemmas.{plans_of_whole_row}
+
+ok_there : {A E : Type 0} (r : Result A E) (x : A) → result_ok r ≡ Some x → r ≡ Ok x
+ok_there (Ok y) x e = let same : y ≡ x = cc in ap (λ z. Ok z) same
+ok_there (Err y) x e = absurd (cc)
+
+-- the table of a plan
+pub planned_in : {C : Type 0} (s : State) (text : UpdateText) (asked : Plan) → plan_of s text ≡ Some asked
+    → ((table : TableDef) → table_named s.catalog text.table ≡ Some table → planned table text ≡ Ok asked → C) → C
+planned_in s text asked is then =
+    option_and_then_some (λ (table : TableDef). result_ok (planned table text)) (table_named s.catalog text.table) asked is
+    (λ table named found. then table named (ok_there (planned table text) asked found))
+
+-- what is planned has a change for at most as many columns as a check has coefficients
+pub short_plan : (s : State) (text : UpdateText) (key : Value) (changes : List (Option ℤ)) → IsValid s → plan_of s text ≡ Some (plan.Reserve key changes)
+    → length changes ≤ MAX_LEN
+short_plan s text key changes valid is =
+    planned_in s text (plan.Reserve key changes) is (λ table named at.
+    let whole = plans_of_whole_row table text key changes at in
+    let few = (few_reservable table (is_table_found s valid text.table table named)).1 in
+    omega arith)
+
+-- where there is a plan its refusals are those of the statement
+late_alone : (s : State) (session : ℕ) (text : UpdateText) (asked : Plan) (table : TableDef) → table_named s.catalog text.table ≡ Some table → planned table text ≡ Ok asked
+    → first_refusal (refusals (turn_of s session (statement.Update text))) ≡ first_refusal (update_refusals s session text.table asked)
+unfolding turn_of
+late_alone s session text asked table named at = rw (named, at) refl
+
+pub left_to_plan : (s : State) (session : ℕ) (text : UpdateText) (asked : Plan) → plan_of s text ≡ Some asked
+    → first_refusal (refusals (turn_of s session (statement.Update text))) ≡ first_refusal (update_refusals s session text.table asked)
+left_to_plan s session text asked is = planned_in s text asked is (late_alone s session text asked)
+
+pub plan_refuses : (s : State) (session : ℕ) (text : UpdateText) (asked : Plan) (r : Refusal) → plan_of s text ≡ Some asked
+    → first_refusal (update_refusals s session text.table asked) ≡ Some r → StepOrRefusal s session (statement.Update text) (reply.Refused r) s
+plan_refuses s session text asked r is first = rule_serves s session (statement.Update text) r (left_to_plan s session text asked is ∙ first)
+
+-- a refusal to plan is one of the statement
+early_refuses : (s : State) (session : ℕ) (text : UpdateText) (table : TableDef) (r : Refusal) → table_named s.catalog text.table ≡ Some table → planned table text ≡ Err r
+    → IsRefusal s session (statement.Update text) r
+unfolding turn_of
+early_refuses s session text table r named at = inl (rw (named, at) refl)
+
+plan_wants : (s : State) (session : ℕ) (text : UpdateText) (table : TableDef) (asked : Plan) → table_named s.catalog text.table ≡ Some table → planned table text ≡ Ok asked
+    → IsRefusal s session (statement.Update text) refusal.Memory
+unfolding turn_of
+plan_wants s session text table asked named at = inr (refl, rw (named, at) refl)
+
+wanting : (s : State) (session : ℕ) (text : UpdateText) (table : TableDef) (asked : Result Plan Refusal) → table_named s.catalog text.table ≡ Some table → planned table text ≡ asked
+    → IsOk asked → IsRefusal s session (statement.Update text) refusal.Memory
+wanting s session text table (Ok p) named at ok = plan_wants s session text table p named at
+wanting s session text table (Err e) named at ok = absurd (cc)
+
+pub unplanned : (s : State) (session : ℕ) (text : UpdateText) (table : TableDef) (result : Result Plan Refusal) → table_named s.catalog text.table ≡ Some table
+    → IfErr result (λ e. (planned table text ≡ Err e) ⊎ (e ≡ refusal.Memory)) → (IsErrOf result refusal.Memory → IsOk (planned table text))
+    → IfErr result (IsRefusal s session (statement.Update text))
+unplanned s session text table (Ok p) named only memory = tt
+unplanned s session text table (Err r) named only memory =
+    elim only [
+      | inl e ↦ early_refuses s session text table r named e
+      | inr e ↦ subst (IsRefusal s session (statement.Update text)) (sym e)
+          (wanting s session text table (planned table text) named refl (memory (ap (λ (q : Refusal). Err q) e)))
+    ]
