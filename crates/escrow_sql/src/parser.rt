@@ -9,6 +9,7 @@ ghost use Rattle.escrow_sql.specs.declared.statement.Request.{Request};
 ghost use Rattle.escrow_sql.specs.declared.fault.ParseFault.TheVariants.{Memory};
 
 mod change;
+mod check;
 mod create;
 mod part;
 mod rows;

@@ -1,91 +1,20 @@
 ghost use Rattle.std.specs.Prelude.{◌≡◌};
 ghost use Rattle.escrow_sql.specs.Predictive.{run, starts, first};
 ghost use Rattle.escrow_sql.specs.Cursor.{Advances};
-ghost use Rattle.escrow_sql.specs.Statement.{comparison, condition, constraint, check, mark, digits, type_text, column, item, create, drop};
+ghost use Rattle.escrow_sql.specs.Statement.{mark, digits, type_text, column, item, create, drop, name, number, in_parentheses, word, ◌then◌};
+ghost use Rattle.escrow_sql.specs.declared.word.Word.TheVariants as words;
 
 use crate::cursor::Cursor;
 use crate::halt::Halt;
 use crate::parser::part;
 use crate::parser::part::{Part, Repeated};
-use crate::statement::{
-    CheckText, ColumnMark, ColumnText, Comparison, Condition, CreateText, Item, TypeText,
-};
+use crate::statement::{ColumnMark, ColumnText, CreateText, Item, TypeText};
 use crate::token::Symbol;
 use crate::word::Word;
 use escrow_num::{Amount, Name};
 use std::alloc::Global;
 
 impl Cursor<'_> {
-    /// `"<" | "<=" | ">" | ">="`
-    #[tactic(auto, unfolding(crate::specs::Statement::comparison))]
-    fn comparison(&mut self) -> Result<Comparison, Halt>
-        ensures { Advances self.new.tokens.now result (run comparison self.old.tokens.now) }
-    {
-        if self.is_at_symbol(Symbol::Below) {
-            self.symbol(Symbol::Below)?;
-            return Ok(Comparison::Below);
-        }
-        if self.is_at_symbol(Symbol::AtMost) {
-            self.symbol(Symbol::AtMost)?;
-            return Ok(Comparison::AtMost);
-        }
-        if self.is_at_symbol(Symbol::Above) {
-            self.symbol(Symbol::Above)?;
-            return Ok(Comparison::Above);
-        }
-        self.symbol(Symbol::AtLeast)?;
-        Ok(Comparison::AtLeast)
-    }
-
-    /// `name comparison signed_number`
-    #[tactic(auto, unfolding(crate::specs::Statement::condition))]
-    fn condition(&mut self) -> Result<Condition, Halt>
-        ensures { Advances self.new.tokens.now result (run condition self.old.tokens.now) }
-    {
-        let column = self.name()?;
-        let comparison = self.comparison()?;
-        let limit = self.signed_number()?;
-        Ok(Condition {
-            column,
-            comparison,
-            limit,
-        })
-    }
-
-    /// `[ CONSTRAINT name ]`
-    #[tactic(auto, unfolding(crate::specs::Statement::constraint))]
-    fn constraint(&mut self) -> Result<Option<Name>, Halt>
-        ensures { Advances self.new.tokens.now result (run constraint self.old.tokens.now) }
-    {
-        if !self.is_at_word(Word::Constraint) {
-            return Ok(None);
-        }
-        self.word(Word::Constraint)?;
-        let name = self.name()?;
-        Ok(Some(name))
-    }
-
-    /// `constraint CHECK "(" condition ")"`
-    #[tactic(auto, unfolding(crate::specs::Statement::check))]
-    fn check(&mut self) -> Result<CheckText, Halt>
-        ensures { Advances self.new.tokens.now result (run check self.old.tokens.now) }
-    {
-        let name = self.constraint()?;
-        self.word(Word::Check)?;
-        self.symbol(Symbol::Open)?;
-        let condition = self.condition()?;
-        self.symbol(Symbol::Close)?;
-        Ok(CheckText { name, condition })
-    }
-
-    /// Whether a CHECK comes next.
-    #[tactic(auto, unfolding(crate::specs::Statement::check, crate::specs::Statement::constraint))]
-    fn is_at_check(&self) -> bool
-        ensures { result ≡ starts (first check) self.now.tokens.now }
-    {
-        self.is_at_word(Word::Constraint) || self.is_at_word(Word::Check)
-    }
-
     /// Whether a mark comes next.
     #[tactic(auto, unfolding(crate::specs::Statement::mark, crate::specs::Statement::check, crate::specs::Statement::constraint))]
     fn is_at_mark(&self) -> bool
@@ -120,6 +49,16 @@ impl Cursor<'_> {
         Ok(ColumnMark::Check(check))
     }
 
+    /// `"(" number ")"`
+    fn number_in_parentheses(&mut self) -> Result<Amount, Halt>
+        ensures { Advances self.new.tokens.now result (run (in_parentheses number) self.old.tokens.now) }
+    {
+        self.symbol(Symbol::Open)?;
+        let number = self.number()?;
+        self.symbol(Symbol::Close)?;
+        Ok(number)
+    }
+
     /// `[ "(" number ")" ]`
     #[tactic(auto, unfolding(crate::specs::Statement::digits))]
     fn digits(&mut self) -> Result<Option<Amount>, Halt>
@@ -128,9 +67,7 @@ impl Cursor<'_> {
         if !self.is_at_symbol(Symbol::Open) {
             return Ok(None);
         }
-        self.symbol(Symbol::Open)?;
-        let number = self.number()?;
-        self.symbol(Symbol::Close)?;
+        let number = self.number_in_parentheses()?;
         Ok(Some(number))
     }
 
@@ -149,9 +86,7 @@ impl Cursor<'_> {
             return Ok(TypeText::Number(digits));
         }
         self.word(Word::Varchar2)?;
-        self.symbol(Symbol::Open)?;
-        let size = self.number()?;
-        self.symbol(Symbol::Close)?;
+        let size = self.number_in_parentheses()?;
         Ok(TypeText::Varchar2(size))
     }
 
@@ -164,6 +99,18 @@ impl Cursor<'_> {
         let kind = self.type_text()?;
         let marks = part::read_all(alloc, self)?;
         Ok(ColumnText { name, kind, marks })
+    }
+
+    /// `PRIMARY KEY "(" name ")"`
+    fn key(&mut self) -> Result<Name, Halt>
+        ensures { Advances self.new.tokens.now result (run (word words.Primary then word words.Key then in_parentheses name) self.old.tokens.now) }
+    {
+        self.word(Word::Primary)?;
+        self.word(Word::Key)?;
+        self.symbol(Symbol::Open)?;
+        let column = self.name()?;
+        self.symbol(Symbol::Close)?;
+        Ok(column)
     }
 
     /// `column | check | PRIMARY KEY "(" name ")"`
@@ -179,11 +126,7 @@ impl Cursor<'_> {
             let check = self.check()?;
             return Ok(Item::Check(check));
         }
-        self.word(Word::Primary)?;
-        self.word(Word::Key)?;
-        self.symbol(Symbol::Open)?;
-        let key = self.name()?;
-        self.symbol(Symbol::Close)?;
+        let key = self.key()?;
         Ok(Item::PrimaryKey(key))
     }
 
@@ -195,9 +138,7 @@ impl Cursor<'_> {
         self.word(Word::Create)?;
         self.word(Word::Table)?;
         let table = self.name()?;
-        self.symbol(Symbol::Open)?;
-        let items = part::read_list(alloc, self)?;
-        self.symbol(Symbol::Close)?;
+        let items = part::read_listed(alloc, self)?;
         Ok(CreateText { table, items })
     }
 

@@ -2,7 +2,7 @@ ghost use Rattle.std.specs.Prelude.{◌≡◌, false};
 ghost use Rattle.escrow_sql.specs.Grammar.{Grammar, many};
 ghost use Rattle.escrow_sql.specs.Predictive.{run, starts, first, may_be_empty};
 ghost use Rattle.escrow_sql.specs.Cursor.{Advances};
-ghost use Rattle.escrow_sql.specs.Statement.{list};
+ghost use Rattle.escrow_sql.specs.Statement.{list, in_parentheses};
 
 use crate::cursor::Cursor;
 use crate::halt::Halt;
@@ -40,6 +40,16 @@ pub(crate) fn read_list<P: Part>(alloc: Global, cursor: &mut Cursor) -> Result<S
             return Ok(parts);
         }
     }
+}
+
+/// Reads one or more parts in parentheses, with a comma between two.
+pub(crate) fn read_listed<P: Part>(alloc: Global, cursor: &mut Cursor) -> Result<Seq<P>, Halt>
+    ensures { Advances cursor.new.tokens.now result (run (in_parentheses (list P.grammar)) cursor.old.tokens.now) }
+{
+    cursor.symbol(Symbol::Open)?;
+    let parts = read_list(alloc, cursor)?;
+    cursor.symbol(Symbol::Close)?;
+    Ok(parts)
 }
 
 /// Reads as many parts as there are.

@@ -22,9 +22,7 @@ impl Cursor<'_> {
         if !self.is_at_symbol(Symbol::Open) {
             return Ok(None);
         }
-        self.symbol(Symbol::Open)?;
-        let names = part::read_list(alloc, self)?;
-        self.symbol(Symbol::Close)?;
+        let names = part::read_listed(alloc, self)?;
         Ok(Some(names))
     }
 
@@ -38,9 +36,7 @@ impl Cursor<'_> {
         let table = self.name()?;
         let columns = self.columns(alloc)?;
         self.word(Word::Values)?;
-        self.symbol(Symbol::Open)?;
-        let values = part::read_list(alloc, self)?;
-        self.symbol(Symbol::Close)?;
+        let values = part::read_listed(alloc, self)?;
         Ok(InsertText {
             table,
             columns,
