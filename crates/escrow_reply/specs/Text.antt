@@ -1,15 +1,43 @@
 -- Believed: a reply's lines, to the byte.
-use Rattle.std.specs.Prelude.{ℕ, List, [], ◌∷◌, ◌++◌, codes, decimal}
+use Rattle.std.specs.Prelude.{ℕ, List, [], ◌∷◌, ◌++◌, length, map, codes, decimal}
 use Rattle.std.specs.Fmt.{signed_decimal}
-use Rattle.std.specs.List.{flat_map}
+use Rattle.std.specs.List.{flat_map, join_by}
 use Rattle.escrow_num.specs.declared.span.Side.{Side}
 use Rattle.escrow_num.specs.declared.span.Side.TheVariants as side
 use Rattle.escrow_num.specs.declared.refusal.Breach.{Breach}
 use Rattle.escrow_num.specs.declared.refusal.Refusal.{Refusal}
 use Rattle.escrow_num.specs.declared.refusal.Refusal.TheVariants as refusal
 use Rattle.escrow_num.specs.Refusal.{number_of}
+use Rattle.escrow_num.specs.declared.value.Value.{Value}
+use Rattle.escrow_num.specs.declared.value.Value.TheVariants as value
+use Rattle.escrow_sql.specs.Lex.{doubled}
 use Rattle.escrow_core.specs.declared.reply.Reply.{Reply}
 use Rattle.escrow_core.specs.declared.reply.Reply.TheVariants as reply
+
+-- VALUES, AND WHAT IS SHOWN OF A ROW
+
+-- a text in quotes, each quote in it twice
+abbrev pub quoted : List ℕ → List ℕ
+quoted text = codes "'" ++ doubled text ++ codes "'"
+
+-- a value: a number in decimal with a minus where it is negative, or a text in quotes
+abbrev pub value_text : Value → List ℕ
+value_text (value.Number number) = signed_decimal number
+value_text (value.Text text) = quoted text
+
+-- what stands between two columns
+abbrev pub bar : List ℕ
+bar = codes " | "
+
+-- the values of a row
+abbrev pub row_text : List Value → List ℕ
+row_text values = join_by value_text bar values
+
+-- the names of columns
+abbrev pub header_text : List (List ℕ) → List ℕ
+header_text names = join_by (λ name. name) bar names
+
+-- REFUSALS
 
 -- the word for a side
 abbrev pub side_text : Side → List ℕ
@@ -48,18 +76,31 @@ refusal_text refusal.Store = codes "store"
 refusal_text refusal.ForeignStore = codes "foreign store"
 refusal_text refusal.UnknownVersion = codes "unknown version"
 
--- the words of a reply of one line
+-- REPLIES
+
+-- the words of a reply's last line
 abbrev pub reply_text : Reply → List ℕ
 reply_text (reply.Refused r) = codes "ERR " ++ decimal (number_of r) ++ codes " " ++ refusal_text r
 reply_text (reply.Created name) = codes "OK created " ++ name
+reply_text (reply.Dropped name) = codes "OK dropped " ++ name
 reply_text reply.Inserted = codes "OK inserted"
+reply_text reply.Deleted = codes "OK deleted"
+reply_text reply.Updated = codes "OK updated"
 reply_text (reply.Reserved id) = codes "OK reserved " ++ decimal id
 reply_text (reply.Committed count) = codes "OK committed " ++ decimal count
 reply_text (reply.RolledBack count) = codes "OK rolled back " ++ decimal count
+reply_text (reply.Rows columns rows) = codes "OK rows " ++ decimal (length rows)
+reply_text (reply.Table text) = codes "OK table"
 
--- the lines of a reply: so far each has one
+-- the lines before the last one: the columns' names and each row, or a table's text
+abbrev pub shown_lines : Reply → List (List ℕ)
+shown_lines (reply.Rows columns rows) = header_text columns ∷ map row_text rows
+shown_lines (reply.Table text) = text ∷ []
+shown_lines _ = []
+
+-- the lines of a reply
 abbrev pub reply_lines : Reply → List (List ℕ)
-reply_lines answer = reply_text answer ∷ []
+reply_lines answer = shown_lines answer ++ reply_text answer ∷ []
 
 -- lines, each with a prefix before it and a line feed after it
 abbrev pub with_prefix : List ℕ → List (List ℕ) → List ℕ

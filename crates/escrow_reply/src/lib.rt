@@ -6,6 +6,10 @@
 
 mod lines;
 mod push;
+mod values;
 mod words;
 
 pub use lines::{render, render_lines};
+
+#[cfg(test)]
+mod tests;

@@ -1,10 +1,11 @@
-ghost use Rattle.std.specs.Prelude.{◌≡◌, IfOk};
-ghost use Rattle.escrow_reply.specs.Text.{rendered, prefix_of, with_prefix, reply_lines};
+ghost use Rattle.std.specs.Prelude.{◌≡◌, ◌++◌, ◌∷◌, [], map, IfOk, OnOk};
+ghost use Rattle.escrow_reply.specs.Text.{rendered, prefix_of, with_prefix, reply_lines, shown_lines, header_text, row_text};
 
 use crate::push::{push_bytes, push_number, push_text};
+use crate::values::{push_header, push_row};
 use crate::words::push_words;
 use escrow_core::Reply;
-use escrow_num::Session;
+use escrow_num::{Name, Seq, Session, Value};
 use std::alloc::{AllocError, Global};
 
 /// The lines that answer a statement, each behind the database and the session that they are for, and
@@ -45,8 +46,75 @@ fn with_prefix(alloc: Global, prefix: &[u8], reply: &Reply) -> Result<Vec<u8>, A
     ensures { IfOk result (λ bytes. bytes.items ≡ with_prefix prefix.now (reply_lines reply.now)) }
 {
     let mut lines = Vec::new(alloc);
+    push_shown(alloc, &mut lines, prefix, reply)?;
     push_bytes(&mut lines, prefix)?;
     push_words(alloc, &mut lines, reply)?;
     push_text(&mut lines, "\n")?;
     Ok(lines)
+}
+
+/// The lines before the last one, for what is shown.
+fn push_shown(
+    alloc: Global,
+    lines: &mut Vec<u8>,
+    prefix: &[u8],
+    reply: &Reply,
+) -> Result<(), AllocError>
+    ensures { OnOk result (lines.new.items ≡ lines.old.items ++ with_prefix prefix.now (shown_lines reply.now)) }
+{
+    match reply {
+        Reply::Rows { columns, rows } => {
+            push_header_line(lines, prefix, columns.as_slice())?;
+            push_row_lines(alloc, lines, prefix, rows.as_slice())
+        }
+        Reply::Table(text) => push_line(lines, prefix, text.as_str()),
+        _ => Ok(()),
+    }
+}
+
+/// A line of a text.
+fn push_line(lines: &mut Vec<u8>, prefix: &[u8], text: &str) -> Result<(), AllocError>
+    ensures { OnOk result (lines.new.items ≡ lines.old.items ++ with_prefix prefix.now (text.now ∷ [])) }
+{
+    push_bytes(lines, prefix)?;
+    push_text(lines, text)?;
+    push_text(lines, "\n")
+}
+
+/// A line of the columns' names.
+fn push_header_line(lines: &mut Vec<u8>, prefix: &[u8], names: &[Name]) -> Result<(), AllocError>
+    ensures { OnOk result (lines.new.items ≡ lines.old.items ++ with_prefix prefix.now (header_text names.now ∷ [])) }
+{
+    push_bytes(lines, prefix)?;
+    push_header(lines, names)?;
+    push_text(lines, "\n")
+}
+
+/// A line for each row.
+fn push_row_lines(
+    alloc: Global,
+    lines: &mut Vec<u8>,
+    prefix: &[u8],
+    rows: &[Seq<Value>],
+) -> Result<(), AllocError>
+    ensures { OnOk result (lines.new.items ≡ lines.old.items ++ with_prefix prefix.now (map row_text rows.now)) }
+{
+    for row in rows {
+        push_row_line(alloc, lines, prefix, row.as_slice())?;
+    }
+    Ok(())
+}
+
+/// A line of a row's values.
+fn push_row_line(
+    alloc: Global,
+    lines: &mut Vec<u8>,
+    prefix: &[u8],
+    values: &[Value],
+) -> Result<(), AllocError>
+    ensures { OnOk result (lines.new.items ≡ lines.old.items ++ with_prefix prefix.now (row_text values.now ∷ [])) }
+{
+    push_bytes(lines, prefix)?;
+    push_row(alloc, lines, values)?;
+    push_text(lines, "\n")
 }

@@ -6,7 +6,7 @@ use escrow_core::Reply;
 use escrow_num::{Breach, Refusal, Side};
 use std::alloc::{AllocError, Global};
 
-/// The words of a reply of one line.
+/// The words of a reply's last line.
 pub(crate) fn push_words(alloc: Global, line: &mut Vec<u8>, reply: &Reply) -> Result<(), AllocError>
     ensures { OnOk result (line.new.items ≡ line.old.items ++ reply_text reply.now) }
 {
@@ -16,7 +16,13 @@ pub(crate) fn push_words(alloc: Global, line: &mut Vec<u8>, reply: &Reply) -> Re
             push_text(line, "OK created ")?;
             push_bytes(line, name.as_bytes())
         }
+        Reply::Dropped(name) => {
+            push_text(line, "OK dropped ")?;
+            push_bytes(line, name.as_bytes())
+        }
         Reply::Inserted => push_text(line, "OK inserted"),
+        Reply::Deleted => push_text(line, "OK deleted"),
+        Reply::Updated => push_text(line, "OK updated"),
         Reply::Reserved { id } => push_counted(alloc, line, "OK reserved ", *id),
         Reply::Committed { count } => push_counted(alloc, line, "OK committed ", u64::from(*count)),
         Reply::RolledBack { count } => push_counted(
@@ -25,6 +31,8 @@ pub(crate) fn push_words(alloc: Global, line: &mut Vec<u8>, reply: &Reply) -> Re
             "OK rolled back ",
             u64::from(*count),
         ),
+        Reply::Rows { rows, .. } => push_counted(alloc, line, "OK rows ", rows.len() as u64),
+        Reply::Table(_) => push_text(line, "OK table"),
     }
 }
 

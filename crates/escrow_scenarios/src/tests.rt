@@ -1,11 +1,15 @@
 //! The tests.
 ghost use Rattle.std.specs.Prelude.{◌≡◌, ◌≤◌, vec_len, IfOk};
 
+mod changes;
 mod databases;
 mod lines;
+mod queries;
 mod reservations;
+mod schemas;
 mod streams;
 mod tables;
+mod texts;
 
 use escrow_core::Database;
 use escrow_server::{ServeFault, serve_script};

@@ -66,3 +66,50 @@ fn are_apart(rt: HostRuntime) -> Result<(), Fail> {
                    bank3.1> ERR 41 CHECK_1 low 9 limit 10\n";
     assert_replies(&rt, 3, script.as_bytes(), replies)
 }
+
+/// Two tables of one name in two databases: what one shows, deletes and drops is its own.
+#[test]
+fn tables_of_one_name(rt: HostRuntime) -> Result<(), Fail> {
+    let script = "bank.1: CREATE TABLE T (ID INTEGER PRIMARY KEY, A INTEGER RESERVABLE)\n\
+                  bank2.1: CREATE TABLE T (K VARCHAR2(9) PRIMARY KEY, A NUMBER(3) RESERVABLE)\n\
+                  bank.1: INSERT INTO T VALUES (1, 20)\n\
+                  bank2.1: INSERT INTO T VALUES (1, 20)\n\
+                  bank2.1: INSERT INTO T VALUES ('one', 30)\n\
+                  bank2.2: UPDATE T SET A = A + 1 WHERE K = 'one'\n\
+                  bank.1: SELECT * FROM T\n\
+                  bank2.1: SELECT * FROM T\n\
+                  bank2.1: SHOW TABLE T\n\
+                  bank2.1: DROP TABLE T\n\
+                  bank.1: DELETE FROM T WHERE ID = 1\n\
+                  bank.1: DROP TABLE T\n\
+                  bank.1: SHOW TABLE T\n\
+                  bank2.2: COMMIT\n\
+                  bank2.1: SELECT * FROM T\n\
+                  bank2.1: DROP TABLE T\n\
+                  bank2.1: SELECT * FROM T\n";
+    let replies = "bank.1> OK created T\n\
+                   bank2.1> OK created T\n\
+                   bank.1> OK inserted\n\
+                   bank2.1> ERR 23 bad value\n\
+                   bank2.1> OK inserted\n\
+                   bank2.2> OK reserved 1\n\
+                   bank.1> ID | A\n\
+                   bank.1> 1 | 20\n\
+                   bank.1> OK rows 1\n\
+                   bank2.1> K | A\n\
+                   bank2.1> 'one' | 30\n\
+                   bank2.1> OK rows 1\n\
+                   bank2.1> CREATE TABLE T (K VARCHAR2(9) PRIMARY KEY, A NUMBER(3) RESERVABLE)\n\
+                   bank2.1> OK table\n\
+                   bank2.1> ERR 33 table reserved\n\
+                   bank.1> OK deleted\n\
+                   bank.1> OK dropped T\n\
+                   bank.1> ERR 21 no such table\n\
+                   bank2.2> OK committed 1\n\
+                   bank2.1> K | A\n\
+                   bank2.1> 'one' | 31\n\
+                   bank2.1> OK rows 1\n\
+                   bank2.1> OK dropped T\n\
+                   bank2.1> ERR 21 no such table\n";
+    assert_replies(&rt, 2, script.as_bytes(), replies)
+}

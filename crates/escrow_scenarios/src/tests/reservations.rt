@@ -170,7 +170,7 @@ fn scripts(rt: HostRuntime) -> Result<(), Fail> {
     assert_each(&rt, OTHERS.as_slice())
 }
 
-/// A session holds at most 256 reservations.
+/// A session holds at most 256 reservations: one more is refused before its checks, and behind its row.
 #[test]
 fn many_of_a_session(rt: HostRuntime) -> Result<(), Fail> {
     let alloc = rt.alloc();
@@ -182,14 +182,22 @@ fn many_of_a_session(rt: HostRuntime) -> Result<(), Fail> {
     }
     script.push_str(
         "bank.1: UPDATE ACCOUNT SET BALANCE = BALANCE + 1 WHERE ID = 1\n\
+         bank.1: UPDATE ACCOUNT SET BALANCE = BALANCE - 99 WHERE ID = 1\n\
+         bank.1: UPDATE ACCOUNT SET BALANCE = BALANCE + 1 WHERE ID = 2\n\
          bank.2: UPDATE ACCOUNT SET BALANCE = BALANCE + 1 WHERE ID = 1\n\
          bank.1: COMMIT\n\
+         bank.1: SELECT * FROM ACCOUNT\n\
          bank.1: UPDATE ACCOUNT SET BALANCE = BALANCE - 307 WHERE ID = 1\n",
     )?;
     replies.push_str(
         "bank.1> ERR 42 too many reservations\n\
+         bank.1> ERR 42 too many reservations\n\
+         bank.1> ERR 31 no such row\n\
          bank.2> OK reserved 257\n\
          bank.1> OK committed 256\n\
+         bank.1> ID | BALANCE\n\
+         bank.1> 1 | 356\n\
+         bank.1> OK rows 1\n\
          bank.1> ERR 41 MINIMUM_BALANCE low 49 limit 50\n",
     )?;
     assert_replies(&rt, 1, script.as_bytes(), replies.as_str())

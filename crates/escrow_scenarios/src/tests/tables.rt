@@ -175,7 +175,7 @@ fn each_check_counts(rt: HostRuntime) -> Result<(), Fail> {
     assert_replies(&rt, 1, script.as_bytes(), replies)
 }
 
-/// A database has at most 32 tables.
+/// A database has at most 32 tables; one that is dropped makes room for another.
 #[test]
 fn most_tables(rt: HostRuntime) -> Result<(), Fail> {
     let alloc = rt.alloc();
@@ -191,11 +191,17 @@ fn most_tables(rt: HostRuntime) -> Result<(), Fail> {
     script.push_str(
         "bank.1: CREATE TABLE T1 (ID INTEGER PRIMARY KEY)\n\
          bank.1: CREATE TABLE T33 (ID INTEGER PRIMARY KEY)\n\
-         bank.1: CREATE TABLE T33 (ID INTEGER PRIMARY KEY, A INTEGER RESERVABLE)\n",
+         bank.1: CREATE TABLE T33 (ID INTEGER PRIMARY KEY, A INTEGER RESERVABLE)\n\
+         bank.1: DROP TABLE T17\n\
+         bank.1: CREATE TABLE T33 (ID INTEGER PRIMARY KEY, A INTEGER RESERVABLE)\n\
+         bank.1: CREATE TABLE T17 (ID INTEGER PRIMARY KEY, A INTEGER RESERVABLE)\n",
     )?;
     replies.push_str(
         "bank.1> ERR 20 table exists\n\
          bank.1> ERR 22 bad definition\n\
+         bank.1> ERR 35 too many tables\n\
+         bank.1> OK dropped T17\n\
+         bank.1> OK created T33\n\
          bank.1> ERR 35 too many tables\n",
     )?;
     assert_replies(&rt, 1, script.as_bytes(), replies.as_str())
