@@ -101,19 +101,18 @@ fn replace(plain: &mut Seq<Value>, values: Seq<Option<Value>>)
 {
     let mut values = values.into_vec();
     while let Some(value) = values.pop() {
-        let i = values.len();
-        if i < plain.len() {
-            put(plain, i, value);
-        }
+        put(plain, values.len(), value);
     }
 }
 
-/// Puts a value, if there is one, in the place of the one at an index.
+/// Puts a value, if there is one, in the place of the one at an index, if that is there.
 fn put(plain: &mut Seq<Value>, i: usize, value: Option<Value>)
-    requires { i < length plain.old }
-    ensures { plain.new ≡ unwrap_or (option_map (λ v. slice_set plain.old i v) value) plain.old }
+    ensures within { i < length plain.old → plain.new ≡ unwrap_or (option_map (λ v. slice_set plain.old i v) value) plain.old }
+    ensures past { length plain.old ≤ i → plain.new ≡ plain.old }
 {
-    if let Some(value) = value {
+    if i < plain.len()
+        && let Some(value) = value
+    {
         plain.set(i, value);
     }
 }
