@@ -23,7 +23,8 @@ use Rattle.escrow_core.specs.Step.{refusals, step, may_fail, IsStep, StepOrRefus
 use Rattle.escrow_core.specs.Turn.{turn_of}
 use Rattle.escrow_core.specs.Valid.{IsValid}
 use Rattle.escrow_core.proofs.Refusals.{first_among, first_in_front}
-use Rattle.escrow_core.proofs.Turns.{IsJudged, is_turn}
+use Rattle.escrow_core.proofs.TurnWords.{IsJudged}
+use Rattle.escrow_core.proofs.Turns.{is_turn}
 
 -- what holds of a refusal with an equal state, and of the reply with the new state where nothing is
 -- refused, holds of reply and state

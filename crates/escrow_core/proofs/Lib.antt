@@ -22,6 +22,8 @@ pub mod Running
 pub mod Safe
 pub mod Served
 pub mod Shapes
+pub mod TurnUpdate
+pub mod TurnWords
 pub mod Turns
 pub mod ValidCreate
 pub mod ValidDelete

@@ -28,7 +28,8 @@ use Rattle.escrow_core.specs.Step.{refusals, step, may_fail, IsStep, StepOrRefus
 use Rattle.escrow_core.specs.Turn.{turn_of, update_reply, after_update, after_drop, after_delete, after_commit, after_rollback}
 use Rattle.escrow_core.specs.Asked.{row_of, plan_of}
 use Rattle.escrow_core.proofs.Refusals.{none_in_front, first_among}
-use Rattle.escrow_core.proofs.Turns.{IsJudged, is_turn}
+use Rattle.escrow_core.proofs.TurnWords.{IsJudged}
+use Rattle.escrow_core.proofs.Turns.{is_turn}
 
 -- a reply that is no failure is the step's
 stepped : (s : State) (session : ℕ) (asked : Statement) (answer : Reply) (new : State) → failure_of answer ≡ None

@@ -1,92 +1,43 @@
 -- What each statement's turn is like, one lemma a statement: what the laws of steps rest on.
-use Rattle.std.specs.Prelude.{◌≡◌, ℕ, ℤ, ◌+◌, ◌<◌, ◌≤◌, bytes_eq, true, false, is_none, unwrap_or, option_map, option_and_then, IfSome, Option, Some, None, List, [], ◌∷◌, length, Ok}
-use Rattle.std.specs.List.{AllByRecursion}
-use Rattle.std.proofs.Common.{refl, sym, ap, subst, arith, le_refl, ◌∙◌}
+use Rattle.std.specs.Prelude.{◌≡◌, ℕ, ◌<◌, bytes_eq, false, unwrap_or, option_map, Option, Some, None, List, [], length}
+use Rattle.std.proofs.Common.{refl, sym, ap, subst, le_refl, ◌∙◌}
 use Rattle.escrow_num.specs.declared.refusal.Refusal.{Refusal}
-use Rattle.escrow_num.specs.declared.refusal.Refusal.TheVariants as refusal
 use Rattle.escrow_num.specs.declared.row.Row.{Row}
-use Rattle.escrow_num.specs.declared.value.Value.{Value}
-use Rattle.escrow_num.specs.Refusal.{first_refusal, refuse_if}
-use Rattle.escrow_num.specs.Session.{IsSession}
 use Rattle.escrow_num.proofs.Items.{find_has}
 use Rattle.escrow_num.proofs.Orders.{name_same}
 use Rattle.escrow_sql.specs.declared.statement.Statement.{Statement}
 use Rattle.escrow_sql.specs.declared.statement.Statement.TheVariants as statement
 use Rattle.escrow_sql.specs.declared.statement.CreateText.{CreateText}
 use Rattle.escrow_sql.specs.declared.statement.InsertText.{InsertText}
-use Rattle.escrow_sql.specs.declared.statement.UpdateText.{UpdateText}
 use Rattle.escrow_sql.specs.declared.statement.DeleteText.{DeleteText}
 use Rattle.escrow_sql.specs.declared.statement.SelectText.{SelectText}
-use Rattle.escrow_schema.specs.declared.plan.Plan.{Plan}
-use Rattle.escrow_schema.specs.declared.plan.Plan.TheVariants as plan
 use Rattle.escrow_schema.specs.declared.table.TableDef.{TableDef}
 use Rattle.escrow_schema.specs.Catalog.{table_named}
-use Rattle.escrow_schema.specs.Column.{names_of}
-use Rattle.escrow_schema.specs.Print.{canonical}
-use Rattle.escrow_core.specs.declared.database.TheConstants.Database.{MAX_ROWS, MAX_RESERVATIONS}
+use Rattle.escrow_core.specs.declared.database.TheConstants.Database.{MAX_ROWS}
 use Rattle.escrow_core.specs.declared.reply.Reply.{Reply}
 use Rattle.escrow_core.specs.declared.reply.Reply.TheVariants as reply
-use Rattle.escrow_core.specs.declared.reply.Failure.{Failure}
-use Rattle.escrow_core.specs.declared.reply.Failure.TheVariants as failure
-use Rattle.escrow_core.specs.Asked.{row_of, insert_breach, plan_of, plan_refusal_of, row_name, reservation_from, breach_of, named_by, key_refusal_of, select_refusal_of, select_reply, show_reply}
-use Rattle.escrow_core.specs.Laws.{IsSeen, tells_of_rows}
-use Rattle.escrow_core.specs.Reply.{failure_of, failure_of_refusal}
+use Rattle.escrow_core.specs.Asked.{row_of, insert_breach, named_by, select_reply, show_reply}
+use Rattle.escrow_core.specs.Laws.{tells_of_rows}
+use Rattle.escrow_core.specs.Reply.{failure_of}
 use Rattle.escrow_core.specs.Serving.{IsAccepted}
 use Rattle.escrow_core.specs.Reservations.{own}
-use Rattle.escrow_core.specs.State.{State, rows_of, with_row, without_row, without_rows_of, with_plain}
-use Rattle.escrow_core.specs.Step.{refusals}
-use Rattle.escrow_core.specs.Turn.{Turn, turn_of, for_memory, granted, after_insert, update_refusals, update_reply, after_update}
+use Rattle.escrow_core.specs.State.{State, rows_of, with_row, without_row, without_rows_of}
+use Rattle.escrow_core.specs.Turn.{turn_of, after_insert}
 use Rattle.escrow_core.specs.Valid.{IsValid}
-use Rattle.escrow_core.proofs.Accepted.{create_stands, insert_stands, drop_stands, delete_stands, plan_there, reserve_stands, plain_stands}
-use Rattle.escrow_core.proofs.Plans.{plan_among, key_among, select_among}
+use Rattle.escrow_core.proofs.Accepted.{create_stands, insert_stands, drop_stands, delete_stands}
+use Rattle.escrow_core.proofs.Plans.{key_among, select_among}
 use Rattle.escrow_core.proofs.Refusals.{if_among, check_among}
-use Rattle.escrow_schema.proofs.PlanLemmas.{plans_of_whole_row, plain_plans_fit}
 use Rattle.escrow_core.proofs.ValidCreate.{create_valid}
 use Rattle.escrow_core.proofs.ValidDelete.{delete_valid}
 use Rattle.escrow_core.proofs.ValidDrop.{drop_valid}
 use Rattle.escrow_core.proofs.ValidEnds.{commit_valid, rollback_valid}
 use Rattle.escrow_core.proofs.ValidInsert.{insert_valid}
-use Rattle.escrow_core.proofs.ValidPlain.{plain_valid}
-use Rattle.escrow_core.proofs.ValidUpdate.{update_valid}
-
--- no refusal of a rule is one of memory or the store
-abbrev pub IsJudged : Refusal → Type 0
-IsJudged r = failure_of_refusal r ≡ None
-
--- what laws need of a turn: its reply is no refusal, its refusals are no failures, it fails for memory
--- alone; and where it is accepted, what its next state keeps and changes
-pub record IsTurn (s : State) (session : ℕ) (asked : Statement) (turn : Turn) : Type 0 where
-  pub answers : (r : Refusal) → ¬ (turn.reply ≡ reply.Refused r)
-  pub succeeds : failure_of turn.reply ≡ None
-  pub judged : AllByRecursion (λ o. IfSome o IsJudged) (refusals turn)
-  pub memory : (f : Failure) → turn.fails_for f ≡ true → f ≡ failure.Memory
-  pub seen : first_refusal (refusals turn) ≡ None → IsSeen s session asked turn.reply turn.next.rows
-  pub ids : first_refusal (refusals turn) ≡ None → s.next_id ≤ turn.next.next_id
-  pub next : first_refusal (refusals turn) ≡ None → (id : ℕ) → turn.reply ≡ reply.Reserved id → (id ≡ s.next_id) × (turn.next.next_id ≡ s.next_id + 1)
-  pub valid : first_refusal (refusals turn) ≡ None → IsValid s → IsSession session → IsValid turn.next
+use Rattle.escrow_core.proofs.TurnWords.{IsJudged, IsTurn, memory_alone, unseen}
+use Rattle.escrow_core.proofs.TurnUpdate.{update_turn}
 
 -- a table that is found has the name that was looked for
 name_found : (catalog : List TableDef) (name : List ℕ) (table : TableDef) → table_named catalog name ≡ Some table → table.name ≡ name
 name_found catalog name table named = name_same table.name name (find_has (λ (t : TableDef). bytes_eq t.name name) catalog table named).1
-
-memory_alone : (f : Failure) → for_memory f ≡ true → f ≡ failure.Memory
-memory_alone failure.Memory e = refl
-memory_alone failure.Store e = absurd (cc)
-
--- rows that stay are seen so after a reply that tells of no change of them
-unseen : (s : State) (session : ℕ) (asked : Statement) (answer : Reply) → tells_of_rows answer ≡ false → ¬ (asked ≡ statement.Commit)
-    → IsSeen s session asked answer s.rows
-unseen s session asked answer quiet other_asked = record {
-  dropped = λ name answered. absurd (told (reply.Dropped name) answered refl);
-  inserted = λ text is answered. absurd (told reply.Inserted answered refl);
-  updated = λ text is answered. absurd (told reply.Updated answered refl);
-  deleted = λ text is answered. absurd (told reply.Deleted answered refl);
-  committed = λ is. absurd (other_asked is);
-  otherwise = λ _. refl;
-}
-  where
-    told : (other : Reply) → answer ≡ other → ¬ (tells_of_rows other ≡ true)
-    told other answered tells = let is : true ≡ false = sym tells ∙ sym (ap tells_of_rows answered) ∙ quiet in absurd (cc)
 
 create_turn : (s : State) (session : ℕ) (text : CreateText) → IsTurn s session (statement.Create text) (turn_of s session (statement.Create text))
 unfolding turn_of
@@ -173,104 +124,6 @@ insert_turn s session text = record {
       let stands = insert_stands s session text accepted in
       rw stands.made (inserted_valid s session text stands.row valid accepted stands.made);
 }
-
--- the turn of an UPDATE, by its plan
-abbrev update_by : State → ℕ → UpdateText → Option Plan → Turn
-update_by s session text o = record {
-  early = refuse_if (is_none (table_named s.catalog text.table)) refusal.NoSuchTable ∷ plan_refusal_of s text ∷ [];
-  late = unwrap_or (option_map (update_refusals s session text.table) o) [];
-  reply = unwrap_or (option_map (update_reply s) o) reply.Updated;
-  next = unwrap_or (option_map (after_update s session text.table) o) s;
-  fails_for = for_memory;
-}
-
--- a reservation that is granted leaves the state valid
-pub reserved_valid : (s : State) (session : ℕ) (text : UpdateText) (key : Value) (changes : List (Option ℤ)) → IsValid s → IsSession session
-    → plan_of s text ≡ Some (plan.Reserve key changes) → IsAccepted s session (statement.Update text)
-    → IsValid (granted s (reservation_from s session (row_name text.table key) changes))
-reserved_valid s session text key changes valid of_session is accepted =
-    let stands = reserve_stands s session text key changes is accepted in
-    update_valid s stands.table stands.row (reservation_from s session (row_name text.table key) changes) valid stands.named stands.found of_session refl stands.more_ids
-    (plans_of_whole_row stands.table text key changes stands.planned) stands.room stands.safe
-
--- and so do plain values that are replaced
-pub replaced_valid : (s : State) (session : ℕ) (text : UpdateText) (key : Value) (values : List (Option Value)) → IsValid s
-    → plan_of s text ≡ Some (plan.Plain key values) → IsAccepted s session (statement.Update text)
-    → IsValid (record s { rows = with_plain (row_name text.table key) values s.rows })
-replaced_valid s session text key values valid is accepted =
-    let stands = plain_stands s session text key values is accepted in
-    plain_valid s stands.table (row_name text.table key) values valid stands.named (plain_plans_fit stands.table text key values stands.planned)
-
-more : (n : ℕ) → n ≤ n + 1
-more n = omega arith
-
--- an UPDATE without a plan is refused
-no_plan : (s : State) (text : UpdateText) (late : List (Option Refusal)) → plan_of s text ≡ None
-    → ¬ (first_refusal (refuse_if (is_none (table_named s.catalog text.table)) refusal.NoSuchTable ∷ plan_refusal_of s text ∷ late) ≡ None)
-no_plan s text late none = λ accepted. let p = plan_there s text late accepted in let is : Some p.plan ≡ None = sym p.is ∙ none in absurd (cc)
-
-update_turn_by : (s : State) (session : ℕ) (text : UpdateText) (o : Option Plan) → plan_of s text ≡ o
-    → (first_refusal (refusals (update_by s session text o)) ≡ None → IsAccepted s session (statement.Update text))
-    → IsTurn s session (statement.Update text) (update_by s session text o)
-update_turn_by s session text None is accepts = record {
-  answers = λ r e. absurd (cc);
-  succeeds = refl;
-  judged = (if_among IsJudged _ _ refl, (plan_among IsJudged s text refl refl refl, tt));
-  memory = memory_alone;
-  seen = λ accepted. absurd (no_plan s text [] is accepted);
-  ids = λ _. le_refl _;
-  next = λ _ id e. absurd (cc);
-  valid = λ _ valid _. valid;
-}
-update_turn_by s session text (Some (plan.Reserve key changes)) is accepts = record {
-  answers = λ r e. absurd (cc);
-  succeeds = refl;
-  judged = (
-    if_among IsJudged _ _ refl,
-    (
-      plan_among IsJudged s text refl refl refl,
-      (
-        if_among IsJudged _ _ refl,
-        (
-          if_among IsJudged _ _ refl,
-          (if_among IsJudged _ _ refl, (check_among IsJudged (breach_of s (reservation_from s session (row_name text.table key) changes)) (λ _. refl), tt)),
-        ),
-      ),
-    ),
-  );
-  memory = memory_alone;
-  seen = λ _. unseen s session (statement.Update text) (reply.Reserved s.next_id) refl (λ e. absurd (cc));
-  ids = λ _. more s.next_id;
-  next = λ _ id answered. let same : id ≡ s.next_id = cc in (same, refl);
-  valid = λ accepted valid of_session. reserved_valid s session text key changes valid of_session is (accepts accepted);
-}
-update_turn_by s session text (Some (plan.Plain key values)) is accepts = record {
-  answers = λ r e. absurd (cc);
-  succeeds = refl;
-  judged = (
-    if_among IsJudged _ _ refl,
-    (plan_among IsJudged s text refl refl refl, (if_among IsJudged _ _ refl, (if_among IsJudged _ _ refl, tt))),
-  );
-  memory = memory_alone;
-  seen = λ _. record {
-    dropped = λ name answered. absurd (cc);
-    inserted = λ other asked _. absurd (cc);
-    updated = λ other asked _.
-        let same : text ≡ other = cc in
-        subst (λ (t : UpdateText). (k : Value) × (vs : List (Option Value)) × (plan_of s t ≡ Some (plan.Plain k vs)) × (with_plain (row_name text.table key) values s.rows ≡ with_plain (row_name t.table k) vs s.rows))
-        same (key, values, is, refl);
-    deleted = λ other asked _. absurd (cc);
-    committed = λ asked. absurd (cc);
-    otherwise = λ quiet. absurd (cc);
-  };
-  ids = λ _. le_refl _;
-  next = λ _ id e. absurd (cc);
-  valid = λ accepted valid _. replaced_valid s session text key values valid is (accepts accepted);
-}
-
-update_turn : (s : State) (session : ℕ) (text : UpdateText) → IsTurn s session (statement.Update text) (turn_of s session (statement.Update text))
-unfolding turn_of
-update_turn s session text = update_turn_by s session text (plan_of s text) refl (λ accepted. accepted)
 
 delete_turn : (s : State) (session : ℕ) (text : DeleteText) → IsTurn s session (statement.Delete text) (turn_of s session (statement.Delete text))
 unfolding turn_of

@@ -29,13 +29,14 @@ pub fn machine_never_fails()
     ensures { MachineNeverFails }
 {}
 
-/// What fails is out of memory, and is neither COMMIT nor ROLLBACK, which never fail.
+/// What fails is out of memory, and is no COMMIT, ROLLBACK, DELETE or DROP TABLE: these never fail.
 pub fn fails_for_memory_alone()
     ensures { FailsForMemoryAlone }
 {}
 
 /// A refusal that needs no memory is answered whatever memory there is: an open transaction, a table
-/// that is there or isn't, a bad value of an INSERT, and what an UPDATE asks that it can't.
+/// that is there or isn't, a bad value of an INSERT, what an UPDATE asks that it can't, a WHERE that
+/// names no key, and each refusal of DROP TABLE and DELETE.
 pub fn early_refusals_stand()
     ensures { EarlyRefusalsStand }
 {}
@@ -52,7 +53,8 @@ pub fn rollback_is_never_refused()
 {}
 
 /// What a query shows is what was committed: a reservation shows in no row, not even to its own
-/// session, until its COMMIT adds its changes, and a ROLLBACK leaves no trace of it.
+/// session, until its COMMIT adds its changes, and a ROLLBACK leaves no trace of it. INSERT, DELETE,
+/// DROP TABLE and UPDATE of plain values commit what they change at once.
 pub fn queries_see_commits_alone()
     ensures { QueriesSeeCommitsAlone }
 {}

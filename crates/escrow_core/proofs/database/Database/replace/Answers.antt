@@ -8,7 +8,7 @@ use Rattle.escrow_core.specs.Serving.{IsAccepted}
 use Rattle.escrow_core.specs.State.{State}
 use Rattle.escrow_core.proofs.Planned.{left_to_plan, plan_refuses}
 use Rattle.escrow_core.proofs.Served.{update_serves}
-use Rattle.escrow_core.proofs.Turns.{replaced_valid}
+use Rattle.escrow_core.proofs.TurnUpdate.{replaced_valid}
 use Rattle.escrow_core.proofs.database.Database.replace.Goals as goal
 
 pub returns-in-Some : goal.returns-in-Some

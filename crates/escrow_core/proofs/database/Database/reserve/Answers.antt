@@ -9,7 +9,7 @@ use Rattle.escrow_core.specs.Serving.{IsAccepted}
 use Rattle.escrow_core.specs.State.{State}
 use Rattle.escrow_core.proofs.Planned.{short_plan, left_to_plan, plan_refuses}
 use Rattle.escrow_core.proofs.Served.{update_serves, update_wants}
-use Rattle.escrow_core.proofs.Turns.{reserved_valid}
+use Rattle.escrow_core.proofs.TurnUpdate.{reserved_valid}
 use Rattle.escrow_core.proofs.database.Database.reserve.Goals as goal
 use Rattle.escrow_core.proofs.database.Database.reserve.Goals.{in-Ok, in-Err}
 
