@@ -1,15 +1,49 @@
 -- Believed: which checks the CHECKs of a table declare, by name, coefficients and limits.
-use Rattle.std.specs.Prelude.{ℕ, ℤ, pos, ◌+◌, ◌+ℤ◌, ◌-ℤ◌, Bool, true, ◌&&◌, nat_le, if◌then◌else◌, Option, Some, None, unwrap_or, option_and_then, option_map, List, [], ◌∷◌, ◌++◌, length, map, codes, bytes_eq}
-use Rattle.std.specs.List.{list_any}
+use Rattle.std.specs.Prelude.{ℕ, ℤ, pos, neg_ℤ, ◌+◌, ◌==◌, ◌+ℤ◌, ◌-ℤ◌, Bool, true, not, ◌&&◌, nat_le, int_le, if◌then◌else◌, Option, Some, None, option_and_then, option_map, List, [], ◌∷◌, ◌++◌, length, map, codes, bytes_eq}
+use Rattle.std.specs.List.{list_any, list_all, flat_map}
+use Rattle.std.specs.Ordering.{int_eq}
 use Rattle.std.specs.Fmt.{decimal}
 use Rattle.escrow_num.specs.Amount.{is_amount}
 use Rattle.escrow_num.specs.declared.span.Span.{Span}
 use Rattle.escrow_sql.specs.declared.statement.Comparison.{Comparison}
-use Rattle.escrow_sql.specs.declared.statement.Comparison.TheVariants.{Below, AtMost, Above, AtLeast}
+use Rattle.escrow_sql.specs.declared.statement.Comparison.TheVariants.{Below, AtMost, Above, AtLeast, Equal}
 use Rattle.escrow_sql.specs.declared.statement.CheckText.{CheckText}
+use Rattle.escrow_sql.specs.declared.statement.Condition.{Condition}
+use Rattle.escrow_sql.specs.declared.statement.Term.{Term}
+use Rattle.escrow_sql.specs.declared.statement.Term.TheVariants as term
+use Rattle.escrow_sql.specs.declared.statement.Test.{Test}
+use Rattle.escrow_sql.specs.declared.statement.Test.TheVariants.{Compare, Between}
 use Rattle.escrow_checks.specs.declared.check.Check.{Check}
-use Rattle.escrow_checks.specs.declared.condition.TheConstants.{MAX_CHECKS}
+use Rattle.escrow_checks.specs.declared.condition.TheConstants.{MAX_CHECKS, MAX_COEFFICIENT}
+use Rattle.escrow_checks.specs.Condition.{total}
 use Rattle.escrow_checks.specs.WrittenName.{is_written_name}
+
+-- COEFFICIENTS
+
+-- what a term adds to the coefficient of a column
+abbrev pub coefficient_in : List ℕ → Term → ℤ
+coefficient_in name (term.Number n) = pos 0
+coefficient_in name (term.Column coefficient column) = if bytes_eq column name then coefficient else pos 0
+
+-- what stands on the right of a condition: BETWEEN has its two numbers there, and no sum
+abbrev pub right_of : Test → List Term
+right_of (Compare comparison sum) = sum
+right_of (Between low high) = []
+
+-- a column's coefficient: the sum of those on the left less the sum of those on the right
+abbrev pub coefficient_of : Condition → List ℕ → ℤ
+coefficient_of condition name = total (coefficient_in name) condition.sum -ℤ total (coefficient_in name) (right_of condition.test)
+
+-- the coefficients of one column: 1 at its place, 0 at the others
+abbrev pub unit_of : List (List ℕ) → List ℕ → List ℤ
+unit_of columns name = map (λ column. if bytes_eq column name then pos 1 else pos 0) columns
+
+-- LIMITS
+
+-- what a term adds to the numbers of a sum
+abbrev pub number_in : Term → ℤ
+number_in (term.Number n) = n
+number_in (term.Column coefficient column) = pos 0
 
 -- the limits that a comparison with n sets; `<` and `>` move n by one
 abbrev pub span_of : Comparison → ℤ → Span
@@ -17,36 +51,84 @@ span_of Below n = record { lo = None; hi = Some (n -ℤ pos 1) }
 span_of AtMost n = record { lo = None; hi = Some n }
 span_of Above n = record { lo = Some (n +ℤ pos 1); hi = None }
 span_of AtLeast n = record { lo = Some n; hi = None }
+span_of Equal n = record { lo = Some n; hi = Some n }
+
+-- the limits that a test sets where the numbers on its left add up to so much: each less that much
+abbrev pub limits_of : Test → ℤ → Span
+limits_of (Compare comparison sum) left = span_of comparison (total number_in sum -ℤ left)
+limits_of (Between low high) left = record { lo = Some (low -ℤ left); hi = Some (high -ℤ left) }
+
+-- the limits of a condition
+abbrev pub condition_limits : Condition → Span
+condition_limits condition = limits_of condition.test (total number_in condition.sum)
+
+-- RULES
+
+-- the column that a term names
+abbrev pub columns_in : Term → List (List ℕ)
+columns_in (term.Number n) = []
+columns_in (term.Column coefficient column) = column ∷ []
+
+-- each column that a condition names, whatever its coefficient, is one of these
+abbrev pub names_columns : List (List ℕ) → Condition → Bool
+names_columns columns condition =
+    list_all (λ name. list_any (λ column. bytes_eq column name) columns) (flat_map columns_in (condition.sum ++ right_of condition.test))
+
+-- coefficients have a magnitude of at most 1,000,000, and not all are zero
+abbrev pub are_good_coefficients : List ℤ → Bool
+are_good_coefficients coeffs =
+    list_all (λ c. int_le (neg_ℤ MAX_COEFFICIENT) c && int_le c MAX_COEFFICIENT) coeffs && list_any (λ c. not (int_eq c (pos 0))) coeffs
 
 -- a limit is an amount, also after it was moved; one that isn't there is good
 abbrev pub is_limit : Option ℤ → Bool
 is_limit None = true
 is_limit (Some z) = is_amount z
 
--- the coefficients of one column: 1 at its place, 0 at the others
-abbrev pub unit_of : List (List ℕ) → List ℕ → List ℤ
-unit_of columns name = map (λ column. if bytes_eq column name then pos 1 else pos 0) columns
+-- the low limit isn't greater than the high one
+abbrev pub in_order : Option ℤ → Option ℤ → Bool
+in_order (Some lo) (Some hi) = int_le lo hi
+in_order (Some lo) None = true
+in_order None hi = true
 
--- a check is called as it is written, or CHECK_ and its place among the declared checks
-abbrev pub check_name : CheckText → ℕ → List ℕ
-check_name text place = unwrap_or text.name (codes "CHECK_" ++ decimal place)
+abbrev pub is_good_span : Span → Bool
+is_good_span span = is_limit span.lo && is_limit span.hi && in_order span.lo span.hi
 
--- the check that a CHECK declares at its place among the declared ones, where its column is one of
--- the RESERVABLE ones, its limit is good, and its name is one that a statement can write
-abbrev pub check_of : List (List ℕ) → CheckText → ℕ → Option Check
-check_of columns text place =
-    let name = check_name text place in
-    let span = span_of text.condition.comparison text.condition.limit in
-    if list_any (λ column. bytes_eq column text.condition.column) columns && (is_limit span.lo && is_limit span.hi) && is_written_name name
-    then Some (record { name = name; coeffs = unit_of columns text.condition.column; span = span })
+-- NAMES
+
+-- a CHECK's k-th condition, the n-th of the table's, is called as the CHECK is, from the second on
+-- with _ and k behind it; where the CHECK has no name, it is called CHECK_ and n
+abbrev pub check_name : Option (List ℕ) → ℕ → ℕ → List ℕ
+check_name None k n = codes "CHECK_" ++ decimal n
+check_name (Some name) k n = if k == 1 then name else name ++ codes "_" ++ decimal k
+
+-- CHECKS
+
+-- the check of a condition under a name, where the condition names RESERVABLE columns alone, its
+-- coefficients and its limits are good, and a statement can write the name
+abbrev pub check_of : List (List ℕ) → List ℕ → Condition → Option Check
+check_of columns name condition =
+    let coeffs = map (coefficient_of condition) columns in
+    let span = condition_limits condition in
+    if names_columns columns condition && are_good_coefficients coeffs && is_good_span span && is_written_name name
+    then Some (record { name = name; coeffs = coeffs; span = span })
     else None
 
--- the checks that CHECKs declare from a place on, in order, or nothing where one of them breaks a rule
+-- the checks of a CHECK's conditions, of which the first is its k-th and the n-th of the table's, or
+-- nothing where one of them breaks a rule
+abbrev pub checks_of_conditions : List (List ℕ) → Option (List ℕ) → ℕ → ℕ → List Condition → Option (List Check)
+checks_of_conditions columns name k n [] = Some []
+checks_of_conditions columns name k n (condition ∷ conditions) =
+    option_and_then (λ check. option_map (λ checks. check ∷ checks) (checks_of_conditions columns name (k + 1) (n + 1) conditions))
+    (check_of columns (check_name name k n) condition)
+
+-- the checks of CHECKs, of which the first condition is the n-th of the table's
 abbrev pub checks_from : List (List ℕ) → List CheckText → ℕ → Option (List Check)
-checks_from columns [] place = Some []
-checks_from columns (text ∷ texts) place =
-    option_and_then (λ check. option_map (λ checks. check ∷ checks) (checks_from columns texts (place + 1))) (check_of columns text place)
+checks_from columns [] n = Some []
+checks_from columns (text ∷ texts) n =
+    option_and_then (λ first. option_map (λ others. first ++ others) (checks_from columns texts (n + length text.conditions)))
+    (checks_of_conditions columns text.name 1 n text.conditions)
 
 -- the checks that the CHECKs of a table declare, in order: at most 32
 abbrev pub checks_of : List (List ℕ) → List CheckText → Option (List Check)
-checks_of columns texts = if nat_le (length texts) MAX_CHECKS then checks_from columns texts 1 else None
+checks_of columns texts =
+    option_and_then (λ checks. if nat_le (length checks) MAX_CHECKS then Some checks else None) (checks_from columns texts 1)

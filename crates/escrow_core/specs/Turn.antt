@@ -9,7 +9,7 @@ use Rattle.escrow_sql.specs.declared.statement.Statement.{Statement}
 use Rattle.escrow_sql.specs.declared.statement.Statement.TheVariants as statement
 use Rattle.escrow_sql.specs.declared.statement.CreateText.{CreateText}
 use Rattle.escrow_sql.specs.declared.statement.InsertText.{InsertText}
-use Rattle.escrow_sql.specs.declared.statement.DeleteText.{DeleteText}
+use Rattle.escrow_sql.specs.declared.statement.RowText.{RowText}
 use Rattle.escrow_schema.specs.declared.catalog.TheConstants.Catalog.{MAX_TABLES}
 use Rattle.escrow_schema.specs.declared.plan.Plan.{Plan}
 use Rattle.escrow_schema.specs.declared.plan.Plan.TheVariants as plan
@@ -20,7 +20,7 @@ use Rattle.escrow_core.specs.declared.reply.Reply.{Reply}
 use Rattle.escrow_core.specs.declared.reply.Reply.TheVariants as reply
 use Rattle.escrow_core.specs.declared.reply.Failure.{Failure}
 use Rattle.escrow_core.specs.declared.reply.Failure.TheVariants as failure
-use Rattle.escrow_core.specs.Asked.{row_of, insert_breach, plan_of, plan_refusal_of, row_name, reservation_from, breach_of, named_by, key_refusal_of, select_refusal_of, select_reply, show_reply}
+use Rattle.escrow_core.specs.Asked.{row_of, insert_breach, plan_of, plan_refusal_of, row_name, reservation_from, breach_of, named_by, key_refusal_of, select_refusal_of, select_reply, show_reply, bounds_reply}
 use Rattle.escrow_core.specs.Reservations.{own, others, other_savepoints}
 use Rattle.escrow_core.specs.State.{State, row_named, rows_of, is_open, applied, with_row, without_row, without_rows_of, with_plain, is_reserved, is_table_reserved}
 
@@ -56,7 +56,7 @@ abbrev pub after_insert : State → InsertText → State
 after_insert s text = record s { rows = unwrap_or (option_map (λ row. with_row row s.rows) (row_of s text)) s.rows }
 
 -- the state without the row that a DELETE names
-abbrev pub after_delete : State → DeleteText → State
+abbrev pub after_delete : State → RowText → State
 after_delete s text = record s { rows = without_row (named_by text.table text.row) s.rows }
 
 -- the state with one more reservation, which is the last of the open ones and takes the next id
@@ -170,6 +170,16 @@ turn_of s session (statement.ShowTable name) = record {
       ∷ [];
   late = [];
   reply = show_reply s name;
+  next = s;
+  fails_for = for_memory;
+}
+turn_of s session (statement.ShowBounds text) = record {
+  early = refuse_if (is_none (table_named s.catalog text.table)) refusal.NoSuchTable
+      ∷ key_refusal_of s text.table text.row
+      ∷ refuse_if (is_none (row_named s.rows (named_by text.table text.row))) refusal.NoSuchRow
+      ∷ [];
+  late = [];
+  reply = bounds_reply s text;
   next = s;
   fails_for = for_memory;
 }

@@ -1,7 +1,7 @@
 ghost use Rattle.std.specs.Prelude.{◌≡◌, ◌↔◌, IfOk, IsOk, IsTrue, false};
 
 use crate::copies::{are_same, copy_all};
-use escrow_num::{Name, Refusal, Seq, Text, Value};
+use escrow_num::{Amount, Name, Refusal, Seq, Span, Text, Value, Wide};
 use std::alloc::{AllocError, Global};
 
 /// What a statement is answered.
@@ -32,6 +32,13 @@ pub enum Reply {
     },
     /// A table is shown: the text that defines it.
     Table(Text),
+    /// The bounds of a row are shown, over every choice of the open reservations.
+    Bounds {
+        /// Those of each RESERVABLE column, in column order.
+        columns: Seq<ColumnBounds>,
+        /// Those of each declared check, in order.
+        checks: Seq<CheckBounds>,
+    },
     /// The transaction was committed, and this many reservations applied.
     Committed {
         count: u32,
@@ -40,6 +47,32 @@ pub enum Reply {
     RolledBack {
         count: u32,
     },
+}
+
+/// The bounds of a RESERVABLE column of a row: O'Neil's `inf` and `sup` (1986).
+#[derive(Clone, Copy, Debug)]
+pub struct ColumnBounds {
+    /// The column's name.
+    pub column: Name,
+    /// Its committed amount.
+    pub value: Amount,
+    /// The least that it can come to, whichever of the open reservations are applied.
+    pub inf: Wide,
+    /// The greatest that it can come to.
+    pub sup: Wide,
+}
+
+/// The bounds of a check of a row.
+#[derive(Clone, Copy, Debug)]
+pub struct CheckBounds {
+    /// The check's name.
+    pub check: Name,
+    /// The least value that its form can come to, whichever of the open reservations are applied.
+    pub least: Wide,
+    /// The greatest value that its form can come to.
+    pub greatest: Wide,
+    /// Its limits.
+    pub limits: Span,
 }
 
 /// What may come in place of a reply, with nothing changed.

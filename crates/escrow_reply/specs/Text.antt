@@ -1,5 +1,5 @@
 -- Believed: a reply's lines, to the byte.
-use Rattle.std.specs.Prelude.{ℕ, List, [], ◌∷◌, ◌++◌, length, map, codes, decimal}
+use Rattle.std.specs.Prelude.{ℕ, ℤ, Option, Some, None, List, [], ◌∷◌, ◌++◌, length, map, codes, decimal}
 use Rattle.std.specs.Fmt.{signed_decimal}
 use Rattle.std.specs.List.{flat_map, join_by}
 use Rattle.escrow_num.specs.declared.span.Side.{Side}
@@ -11,6 +11,8 @@ use Rattle.escrow_num.specs.Refusal.{number_of}
 use Rattle.escrow_num.specs.declared.value.Value.{Value}
 use Rattle.escrow_num.specs.declared.value.Value.TheVariants as value
 use Rattle.escrow_sql.specs.Lex.{doubled}
+use Rattle.escrow_core.specs.declared.reply.CheckBounds.{CheckBounds}
+use Rattle.escrow_core.specs.declared.reply.ColumnBounds.{ColumnBounds}
 use Rattle.escrow_core.specs.declared.reply.Reply.{Reply}
 use Rattle.escrow_core.specs.declared.reply.Reply.TheVariants as reply
 
@@ -76,6 +78,23 @@ refusal_text refusal.Store = codes "store"
 refusal_text refusal.ForeignStore = codes "foreign store"
 refusal_text refusal.UnknownVersion = codes "unknown version"
 
+-- BOUNDS
+
+-- a column's bounds: its committed value, the least and the greatest that it can come to
+abbrev pub column_text : ColumnBounds → List ℕ
+column_text b = b.column ++ codes " value " ++ signed_decimal b.value ++ codes " inf " ++ signed_decimal b.inf ++ codes " sup " ++ signed_decimal b.sup
+
+-- a limit, if there is one
+abbrev pub limit_text : Option ℤ → List ℕ
+limit_text None = codes "none"
+limit_text (Some limit) = signed_decimal limit
+
+-- a check's bounds: the least and the greatest value of its form, and its limits
+abbrev pub check_text : CheckBounds → List ℕ
+check_text b =
+    codes "CHECK " ++ b.check ++ codes " least " ++ signed_decimal b.least ++ codes " greatest " ++ signed_decimal b.greatest
+    ++ codes " low " ++ limit_text b.limits.lo ++ codes " high " ++ limit_text b.limits.hi
+
 -- REPLIES
 
 -- the words of a reply's last line
@@ -91,11 +110,14 @@ reply_text (reply.Committed count) = codes "OK committed " ++ decimal count
 reply_text (reply.RolledBack count) = codes "OK rolled back " ++ decimal count
 reply_text (reply.Rows columns rows) = codes "OK rows " ++ decimal (length rows)
 reply_text (reply.Table text) = codes "OK table"
+reply_text (reply.Bounds columns checks) = codes "OK bounds"
 
--- the lines before the last one: the columns' names and each row, or a table's text
+-- the lines before the last one: the columns' names and each row, or a table's text, or the bounds of
+-- each column and each check
 abbrev pub shown_lines : Reply → List (List ℕ)
 shown_lines (reply.Rows columns rows) = header_text columns ∷ map row_text rows
 shown_lines (reply.Table text) = text ∷ []
+shown_lines (reply.Bounds columns checks) = map column_text columns ++ map check_text checks
 shown_lines _ = []
 
 -- the lines of a reply

@@ -55,11 +55,9 @@ is_literal (assigned.Change source change) = false
 abbrev pub is_replacement : TableDef → Assign → Bool
 is_replacement table assign = has_column (plains table.columns 0 table.key) assign.column && is_literal assign.value
 
--- assignments change RESERVABLE columns: there is exactly one, and it does
+-- assignments change RESERVABLE columns: each does, and no two are of one column
 abbrev pub are_changes : List Column → List Assign → Bool
-are_changes columns [] = false
-are_changes columns (assign ∷ []) = is_change columns assign
-are_changes columns (assign ∷ other ∷ assigns) = false
+are_changes columns assigns = are_distinct (map (λ assign. assign.column) assigns) && list_all (is_change columns) assigns
 
 -- assignments replace plain values: each does, and no two are of one column
 abbrev pub are_replacements : TableDef → List Assign → Bool

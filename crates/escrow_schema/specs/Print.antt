@@ -1,6 +1,7 @@
 -- Believed: the canonical text of a table, to the byte, and that it is read back as that table.
-use Rattle.std.specs.Prelude.{◌≡◌, ℕ, ℤ, pos, ◌+◌, ◌-◌, ◌==◌, Bool, if◌then◌else◌, Option, Some, None, List, [], ◌∷◌, ◌++◌, length, take, map, codes, decimal}
+use Rattle.std.specs.Prelude.{◌≡◌, ℕ, ℤ, pos, negsuc, ◌+◌, ◌-◌, ◌==◌, Bool, true, false, if◌then◌else◌, Option, Some, None, List, [], ◌∷◌, ◌++◌, length, take, map, codes, decimal}
 use Rattle.std.specs.Fmt.{signed_decimal}
+use Rattle.std.specs.Int.RustNames.{unsigned_abs}
 use Rattle.std.specs.Ordering.{int_eq}
 use Rattle.escrow_sql.specs.Joined.{joined}
 use Rattle.escrow_sql.specs.Parser.{Asks}
@@ -33,23 +34,39 @@ abbrev pub columns_words : List Column → ℕ → ℕ → List (List ℕ)
 columns_words [] place key = []
 columns_words (column ∷ columns) place key = column_words (place == key) column ∷ columns_words columns (place + 1) key
 
--- the column that a form is of: the first, among the RESERVABLE ones, with a coefficient other than
--- zero; so far no check has a second one
-abbrev pub column_with : List (List ℕ) → List ℤ → List ℕ
-column_with [] coeffs = []
-column_with (name ∷ names) [] = []
-column_with (name ∷ names) (c ∷ coeffs) = if int_eq c (pos 0) then column_with names coeffs else name
+-- the sign of a term: the first one shows a minus alone
+abbrev pub sign_words : Bool → ℤ → List ℕ
+sign_words true (pos n) = []
+sign_words true (negsuc n) = codes "-"
+sign_words false (pos n) = codes " + "
+sign_words false (negsuc n) = codes " - "
 
--- the limits of a form: the low one, or else the high one; so far no declared check has both
+-- so many times a column
+abbrev pub times_words : ℕ → List ℕ → List ℕ
+times_words magnitude name = if magnitude == 1 then name else decimal magnitude ++ (codes " * " ++ name)
+
+-- a form, of which the next term is the first one or isn't: each column with a coefficient other than
+-- zero, in column order
+abbrev pub form_words : Bool → List (List ℕ) → List ℤ → List ℕ
+form_words is_first [] coeffs = []
+form_words is_first (name ∷ names) [] = []
+form_words is_first (name ∷ names) (c ∷ coeffs) =
+    if int_eq c (pos 0) then form_words is_first names coeffs
+    else (sign_words is_first c ++ times_words (unsigned_abs c) name) ++ form_words false names coeffs
+
+-- the limits of a form
 abbrev pub limit_words : Option ℤ → Option ℤ → List ℕ
-limit_words (Some lo) hi = codes " >= " ++ signed_decimal lo
+limit_words (Some lo) (Some hi) =
+    if int_eq lo hi then codes " = " ++ signed_decimal lo
+    else codes " BETWEEN " ++ (signed_decimal lo ++ (codes " AND " ++ signed_decimal hi))
+limit_words (Some lo) None = codes " >= " ++ signed_decimal lo
 limit_words None (Some hi) = codes " <= " ++ signed_decimal hi
 limit_words None None = []
 
 -- a declared check, over the RESERVABLE columns of these names
 unfoldable pub check_words : List (List ℕ) → Check → List ℕ
 check_words names check =
-    (codes "CONSTRAINT " ++ check.name) ++ (codes " CHECK (" ++ ((column_with names check.coeffs ++ limit_words check.span.lo check.span.hi) ++ codes ")"))
+    (codes "CONSTRAINT " ++ check.name) ++ (codes " CHECK (" ++ ((form_words true names check.coeffs ++ limit_words check.span.lo check.span.hi) ++ codes ")"))
 
 -- the checks that a table's text declared: those before the ranges of its RESERVABLE columns
 abbrev pub declared_checks : TableDef → List Check

@@ -25,5 +25,6 @@ holds_memory (statement.Update text) = true
 holds_memory (statement.Delete text) = literal_holds_memory text.row.literal
 holds_memory (statement.Select text) = row_holds_memory text.row
 holds_memory (statement.ShowTable table) = false
+holds_memory (statement.ShowBounds text) = literal_holds_memory text.row.literal
 holds_memory statement.Commit = false
 holds_memory statement.Rollback = false

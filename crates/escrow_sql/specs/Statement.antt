@@ -18,7 +18,6 @@ use Rattle.escrow_sql.specs.declared.statement.Comparison.{Comparison}
 use Rattle.escrow_sql.specs.declared.statement.Comparison.TheVariants as comparisons
 use Rattle.escrow_sql.specs.declared.statement.Condition.{Condition}
 use Rattle.escrow_sql.specs.declared.statement.CreateText.{CreateText}
-use Rattle.escrow_sql.specs.declared.statement.DeleteText.{DeleteText}
 use Rattle.escrow_sql.specs.declared.statement.InsertText.{InsertText}
 use Rattle.escrow_sql.specs.declared.statement.Item.{Item}
 use Rattle.escrow_sql.specs.declared.statement.Item.TheVariants as items
@@ -26,9 +25,14 @@ use Rattle.escrow_sql.specs.declared.statement.Literal.{Literal}
 use Rattle.escrow_sql.specs.declared.statement.Literal.TheVariants as literals
 use Rattle.escrow_sql.specs.declared.statement.Request.{Request}
 use Rattle.escrow_sql.specs.declared.statement.Request.TheVariants as requests
+use Rattle.escrow_sql.specs.declared.statement.RowText.{RowText}
 use Rattle.escrow_sql.specs.declared.statement.SelectText.{SelectText}
 use Rattle.escrow_sql.specs.declared.statement.Statement.{Statement}
 use Rattle.escrow_sql.specs.declared.statement.Statement.TheVariants as statements
+use Rattle.escrow_sql.specs.declared.statement.Term.{Term}
+use Rattle.escrow_sql.specs.declared.statement.Term.TheVariants as terms
+use Rattle.escrow_sql.specs.declared.statement.Test.{Test}
+use Rattle.escrow_sql.specs.declared.statement.Test.TheVariants as tests
 use Rattle.escrow_sql.specs.declared.statement.TypeText.{TypeText}
 use Rattle.escrow_sql.specs.declared.statement.TypeText.TheVariants as types
 use Rattle.escrow_sql.specs.declared.statement.UpdateText.{UpdateText}
@@ -67,9 +71,13 @@ optional d a = either a (nothing d)
 abbrev pub meaning : {A V : Type 0} → (A → V) → Grammar A → Grammar V
 meaning f a = sequence a (nothing (tt {0})) (λ x y. f x)
 
--- ( a { "," a } )
+-- one or more of a, with a separator between two
+abbrev pub separated : {V : Type 0} → Grammar (Unit {0}) → Grammar V → Grammar (List V)
+separated separator a = sequence a (many (separator then a) (λ xs. xs)) (λ x xs. x ∷ xs)
+
+-- a { "," a }
 abbrev pub list : {V : Type 0} → Grammar V → Grammar (List V)
-list a = sequence a (many (symbol symbols.Comma then a) (λ xs. xs)) (λ x xs. x ∷ xs)
+list a = separated (symbol symbols.Comma) a
 
 abbrev pub in_parentheses : {V : Type 0} → Grammar V → Grammar V
 in_parentheses a = symbol symbols.Open then before a (symbol symbols.Close)
@@ -140,33 +148,68 @@ columns = optional None (meaning (λ ns. Some ns) (in_parentheses (list name)))
 unfoldable pub insert : Grammar InsertText
 insert = word words.Insert then word words.Into then sequence (both name columns) (word words.Values then in_parentheses (list literal)) (λ p vs. record { table = p.0; columns = p.1; values = vs })
 
--- delete = DELETE FROM name where
-unfoldable pub delete : Grammar DeleteText
-delete = word words.Delete then word words.From then sequence name where_part (λ t w. record { table = t; row = w })
+-- row = name where
+unfoldable pub row : Grammar RowText
+row = sequence name where_part (λ t w. record { table = t; row = w })
+
+-- delete = DELETE FROM row
+unfoldable pub delete : Grammar RowText
+delete = word words.Delete then word words.From then row
 
 -- select = SELECT "*" FROM name [ where ]
 unfoldable pub select : Grammar SelectText
 select = word words.Select then symbol symbols.Star then word words.From then sequence name (optional None (meaning (λ w. Some w) where_part)) (λ t w. record { table = t; row = w })
 
--- comparison = "<" | "<=" | ">" | ">="
+-- comparison = "<" | "<=" | ">" | ">=" | "="
 unfoldable pub comparison : Grammar Comparison
 comparison =
     meaning (λ s. comparisons.Below) (symbol symbols.Below)
     or meaning (λ s. comparisons.AtMost) (symbol symbols.AtMost)
     or meaning (λ s. comparisons.Above) (symbol symbols.Above)
     or meaning (λ s. comparisons.AtLeast) (symbol symbols.AtLeast)
+    or meaning (λ s. comparisons.Equal) (symbol symbols.Equal)
 
--- condition = name comparison snum
+-- a number by itself, or times the column behind it
+abbrev pub times : ℤ → Option (List ℕ) → Term
+times n None = terms.Number n
+times n (Some column) = terms.Column n column
+
+-- term = number [ "*" name ] | name [ "*" number ]
+unfoldable pub term : Grammar Term
+term =
+    sequence number (optional None (meaning (λ c. Some c) (symbol symbols.Star then name))) times
+    or sequence name (optional (pos 1) (symbol symbols.Star then number)) (λ c n. terms.Column n c)
+
+-- a minus makes a term's number negative
+abbrev pub signed : Bool → Term → Term
+signed minus (terms.Number n) = terms.Number (with_sign minus n)
+signed minus (terms.Column n column) = terms.Column (with_sign minus n) column
+
+-- signed_term = sign term
+unfoldable pub signed_term : Grammar Term
+signed_term = sequence sign term signed
+
+-- sum = [ sign ] term { sign term }
+unfoldable pub sum : Grammar (List Term)
+sum = sequence (sequence (optional false sign) term signed) (many signed_term (λ ts. ts)) (λ t ts. t ∷ ts)
+
+-- test = comparison sum | BETWEEN snum AND snum
+unfoldable pub test : Grammar Test
+test =
+    sequence comparison sum (λ c s. tests.Compare c s)
+    or word words.Between then sequence signed_number (word words.And then signed_number) (λ l h. tests.Between l h)
+
+-- condition = sum test
 unfoldable pub condition : Grammar Condition
-condition = sequence (both name comparison) signed_number (λ p n. record { column = p.0; comparison = p.1; limit = n })
+condition = sequence sum test (λ s t. record { sum = s; test = t })
 
 -- constraint = [ CONSTRAINT name ]
 unfoldable pub constraint : Grammar (Option (List ℕ))
 constraint = optional None (meaning (λ n. Some n) (word words.Constraint then name))
 
--- check = constraint CHECK "(" condition ")"
+-- check = constraint CHECK "(" condition { AND condition } ")"
 unfoldable pub check : Grammar CheckText
-check = sequence constraint (word words.Check then in_parentheses condition) (λ n c. record { name = n; condition = c })
+check = sequence constraint (word words.Check then in_parentheses (separated (word words.And) condition)) (λ n cs. record { name = n; conditions = cs })
 
 -- mark = PRIMARY KEY | RESERVABLE | NOT NULL | check
 unfoldable pub mark : Grammar ColumnMark
@@ -206,26 +249,37 @@ create = word words.Create then word words.Table then sequence name (in_parenthe
 unfoldable pub drop : Grammar (List ℕ)
 drop = word words.Drop then word words.Table then name
 
--- show = SHOW TABLE name
-unfoldable pub show : Grammar (List ℕ)
-show = word words.Show then word words.Table then name
+-- table_statement = create | drop
+unfoldable pub table_statement : Grammar Statement
+table_statement = meaning statements.Create create or meaning statements.Drop drop
+
+-- row_statement = insert | update | delete | select
+unfoldable pub row_statement : Grammar Statement
+row_statement =
+    meaning statements.Insert insert
+    or meaning statements.Update update
+    or meaning statements.Delete delete
+    or meaning statements.Select select
 
 -- work = [ WORK ]
 unfoldable pub work : Grammar (Unit {0})
 work = optional tt (word words.Work)
 
--- body = create | drop | insert | update | delete | select | COMMIT work | ROLLBACK work | show
-unfoldable pub body : Grammar Statement
-body =
-    meaning statements.Create create
-    or meaning statements.Drop drop
-    or meaning statements.Insert insert
-    or meaning statements.Update update
-    or meaning statements.Delete delete
-    or meaning statements.Select select
-    or meaning (λ k. statements.Commit) (word words.Commit then work)
+-- ending = COMMIT work | ROLLBACK work
+unfoldable pub ending : Grammar Statement
+ending =
+    meaning (λ k. statements.Commit) (word words.Commit then work)
     or meaning (λ k. statements.Rollback) (word words.Rollback then work)
-    or meaning statements.ShowTable show
+
+-- show = SHOW TABLE name | SHOW BOUNDS row
+unfoldable pub show : Grammar Statement
+show =
+    word words.Show then meaning statements.ShowTable (word words.Table then name)
+    or word words.Show then meaning statements.ShowBounds (word words.Bounds then row)
+
+-- body = table_statement | row_statement | ending | show
+unfoldable pub body : Grammar Statement
+body = table_statement or row_statement or ending or show
 
 -- request = body [ ";" ]
 unfoldable pub request : Grammar Request

@@ -19,11 +19,13 @@ pub enum Statement {
     /// `UPDATE name SET .. WHERE ..`
     Update(UpdateText),
     /// `DELETE FROM name WHERE ..`
-    Delete(DeleteText),
+    Delete(RowText),
     /// `SELECT * FROM name [WHERE ..]`
     Select(SelectText),
     /// `SHOW TABLE name`, with the table's name.
     ShowTable(Name),
+    /// `SHOW BOUNDS name WHERE ..`
+    ShowBounds(RowText),
     /// `COMMIT [WORK]`
     Commit,
     /// `ROLLBACK [WORK]`
@@ -90,19 +92,50 @@ pub enum ColumnMark {
 pub struct CheckText {
     /// The name that is written behind CONSTRAINT, if one is.
     pub name: Option<Name>,
-    /// The condition in its parentheses.
-    pub condition: Condition,
+    /// The conditions in its parentheses, in order, with AND between two.
+    pub conditions: Seq<Condition>,
 }
 
-/// A condition of a CHECK: a column compared with a number.
-#[derive(Clone, Copy, Debug, PartialEq, Eq)]
+/// A condition of a CHECK.
+#[derive(Debug, Drop)]
 pub struct Condition {
-    /// The column on the left.
-    pub column: Name,
-    /// How it is compared.
-    pub comparison: Comparison,
-    /// The number on the right.
-    pub limit: Amount,
+    /// The terms of the sum on its left, in order.
+    pub sum: Seq<Term>,
+    /// What it asks of that sum.
+    pub test: Test,
+}
+
+/// What a condition asks of a sum.
+#[derive(Debug, Drop)]
+pub enum Test {
+    /// `comparison sum`: that it compares so with another sum.
+    Compare {
+        /// How they are compared.
+        comparison: Comparison,
+        /// The terms of the sum on the right, in order.
+        sum: Seq<Term>,
+    },
+    /// `BETWEEN low AND high`: that it is one of the numbers from the one to the other.
+    Between {
+        /// The least number.
+        low: Amount,
+        /// The greatest number.
+        high: Amount,
+    },
+}
+
+/// A term of a sum, where a minus before it makes its number negative.
+#[derive(Clone, Copy, Debug, PartialEq, Eq)]
+pub enum Term {
+    /// A number by itself.
+    Number(Amount),
+    /// A number times a column; a column by itself is taken once.
+    Column {
+        /// The number.
+        coefficient: Amount,
+        /// The column.
+        column: Name,
+    },
 }
 
 /// A comparison of a condition.
@@ -116,6 +149,8 @@ pub enum Comparison {
     Above,
     /// `>=`
     AtLeast,
+    /// `=`
+    Equal,
 }
 
 /// The text of an INSERT.
@@ -163,9 +198,9 @@ pub enum Assigned {
     },
 }
 
-/// The text of a DELETE.
+/// The text that names a row of a table, in a DELETE and a SHOW BOUNDS.
 #[derive(Debug, Drop)]
-pub struct DeleteText {
+pub struct RowText {
     /// The table's name.
     pub table: Name,
     /// What stands behind WHERE.
