@@ -8,6 +8,7 @@ use Rattle.escrow_sql.specs.declared.statement.Request.{Request}
 use Rattle.escrow_sql.specs.declared.token.Token.{Token}
 use Rattle.escrow_sql.specs.Grammar.{Grammar, Sentence, Begins, IsFirstFault}
 use Rattle.escrow_sql.specs.Lex.{IsLexed}
+use Rattle.escrow_sql.specs.Factored.{factored_request}
 use Rattle.escrow_sql.specs.Parser.{Asks, IsFaultColumn}
 use Rattle.escrow_sql.specs.Predictive.{run_whole}
 use Rattle.escrow_sql.specs.Statement.{request}
@@ -19,13 +20,13 @@ same_tokens text a b h k = let both : ◌≡◌ {A = Result (List Token) ℕ} (O
 not_both_lexed : (text : List ℕ) (column : ℕ) (tokens : List Token) → IsLexed text (Err column) → IsLexed text (Ok tokens) → ⊥
 not_both_lexed text column tokens h k = let both : ◌≡◌ {A = Result (List Token) ℕ} (Err column) (Ok tokens) = lexed_once text (Err column) (Ok tokens) h k in cc
 
-answer_read : (text : List ℕ) (tokens : List Token) → IsLexed text (Ok tokens) → (read : Result Request (List Token)) → run_whole request tokens ≡ read
+answer_read : (text : List ℕ) (tokens : List Token) → IsLexed text (Ok tokens) → (read : Result Request (List Token)) → run_whole factored_request tokens ≡ read
     → ((r : Request) × Asks text r) ⊎ ((column : ℕ) × IsFaultColumn text column)
 answer_read text tokens l (Ok r) e = inl (r, asked text tokens tokens r l refl e)
 answer_read text tokens l (Err rest) e = inr (column_at rest (length text), fault_column text tokens tokens rest l refl e)
 
 answer_lexed : (text : List ℕ) (lexed : Result (List Token) ℕ) → IsLexed text lexed → ((r : Request) × Asks text r) ⊎ ((column : ℕ) × IsFaultColumn text column)
-answer_lexed text (Ok tokens) l = answer_read text tokens l (run_whole request tokens) refl
+answer_lexed text (Ok tokens) l = answer_read text tokens l (run_whole factored_request tokens) refl
 answer_lexed text (Err column) l = inr (column, inl l)
 
 -- each text asks something or has a fault

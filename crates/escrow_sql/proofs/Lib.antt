@@ -1,5 +1,6 @@
 pub mod Answered
 pub mod ClassLemmas
+pub mod Factoring
 pub mod Faults
 pub mod Fronts
 pub mod Heads

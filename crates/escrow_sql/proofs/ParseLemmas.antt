@@ -8,10 +8,12 @@ use Rattle.escrow_sql.specs.Lex.{IsLexed}
 use Rattle.escrow_sql.specs.Grammar.{Grammar, Sentence}
 use Rattle.escrow_sql.specs.Predictive.{run_whole}
 use Rattle.escrow_sql.specs.Statement.{request}
+use Rattle.escrow_sql.specs.Factored.{factored_request}
 use Rattle.escrow_sql.specs.Parser.{Asks, IsFaultColumn}
+use Rattle.escrow_sql.proofs.Factoring.{factored, factored_back, fault_kept}
 use Rattle.escrow_sql.proofs.Faults.{read_sentence, sentence_read, first_fault}
 use Rattle.escrow_sql.proofs.Pieces.{only_lexed, lexed_once, lexed_short}
-use Rattle.escrow_sql.proofs.Predictive.{request-is_predictive}
+use Rattle.escrow_sql.proofs.Predictive.{factored-is_predictive}
 use Rattle.escrow_sql.proofs.Reading.{run_whole-leaves}
 use Rattle.escrow_sql.proofs.TokenLemmas.{tokens_in_order, in_order-rest, column_at-small}
 
@@ -26,35 +28,35 @@ column_fits g text tokens read rest h e fault =
     column_at-small rest near.0 (length text) short near.1
 
 -- what was read is what the text asks
-pub asked : (text : List ℕ) (tokens read : List Token) (r : Request) → IsLexed text (Ok tokens) → read ≡ tokens → run_whole request read ≡ Ok r → Asks text r
-asked text tokens read r h e ok = (tokens, h, read_sentence request request-is_predictive tokens r (ap (run_whole request) (sym e) ∙ ok))
+pub asked : (text : List ℕ) (tokens read : List Token) (r : Request) → IsLexed text (Ok tokens) → read ≡ tokens → run_whole factored_request read ≡ Ok r → Asks text r
+asked text tokens read r h e ok = (tokens, h, factored_back.kept tokens r (read_sentence factored_request factored-is_predictive tokens r (ap (run_whole factored_request) (sym e) ∙ ok)))
 
 -- what the text asks is what reading gives
-pub answered : (text : List ℕ) (tokens : List Token) (r : Request) → IsLexed text (Ok tokens) → Asks text r → run_whole request tokens ≡ Ok r
+pub answered : (text : List ℕ) (tokens : List Token) (r : Request) → IsLexed text (Ok tokens) → Asks text r → run_whole factored_request tokens ≡ Ok r
 answered text tokens r h a =
     let both : ◌≡◌ {A = Result (List Token) ℕ} (Ok a.0) (Ok tokens) = lexed_once text (Ok a.0) (Ok tokens) a.1 h in
     let same : a.0 ≡ tokens = cc in
-    sentence_read request request-is_predictive tokens r (subst (λ (ts : List Token). Sentence request ts r) same a.2)
+    sentence_read factored_request factored-is_predictive tokens r (factored.kept tokens r (subst (λ (ts : List Token). Sentence request ts r) same a.2))
 
 -- where reading stops is the first fault of a text without a lexing fault
-pub fault_column : (text : List ℕ) (tokens read rest : List Token) → IsLexed text (Ok tokens) → read ≡ tokens → run_whole request read ≡ Err rest
+pub fault_column : (text : List ℕ) (tokens read rest : List Token) → IsLexed text (Ok tokens) → read ≡ tokens → run_whole factored_request read ≡ Err rest
     → IsFaultColumn text (column_at rest (length text))
 fault_column text tokens read rest h e fault =
-    let f = first_fault request request-is_predictive tokens rest (ap (run_whole request) (sym e) ∙ fault) in
-    inr (tokens, f.0, h, f.1, ap (λ (ts : List Token). column_at ts (length text)) f.2)
+    let f = first_fault factored_request factored-is_predictive tokens rest (ap (run_whole factored_request) (sym e) ∙ fault) in
+    inr (tokens, f.0, h, fault_kept factored_back factored tokens f.0 f.1, ap (λ (ts : List Token). column_at ts (length text)) f.2)
 
 -- a text that asks something has no fault where reading stops, and no lexing fault
-pub not_asked : (text : List ℕ) (tokens read rest : List Token) (r : Request) → IsLexed text (Ok tokens) → read ≡ tokens → run_whole request read ≡ Err rest → Asks text r → ⊥
+pub not_asked : (text : List ℕ) (tokens read rest : List Token) (r : Request) → IsLexed text (Ok tokens) → read ≡ tokens → run_whole factored_request read ≡ Err rest → Asks text r → ⊥
 not_asked text tokens read rest r h e fault a =
-    let both : ◌≡◌ {A = Result Request (List Token)} (Err rest) (Ok r) = sym fault ∙ (ap (run_whole request) e ∙ answered text tokens r h a) in cc
+    let both : ◌≡◌ {A = Result Request (List Token)} (Err rest) (Ok r) = sym fault ∙ (ap (run_whole factored_request) e ∙ answered text tokens r h a) in cc
 
 pub not_lexed : (text : List ℕ) (column : ℕ) (r : Request) → IsLexed text (Err column) → Asks text r → ⊥
 not_lexed text column r h a = let both : ◌≡◌ {A = Result (List Token) ℕ} (Err column) (Ok a.0) = lexed_once text (Err column) (Ok a.0) h a.1 in cc
 
 -- two requests that a text asks are the same
-pub asked_same : (text : List ℕ) (tokens read : List Token) (r q : Request) → IsLexed text (Ok tokens) → read ≡ tokens → run_whole request read ≡ Ok r → Asks text q → r ≡ q
+pub asked_same : (text : List ℕ) (tokens read : List Token) (r q : Request) → IsLexed text (Ok tokens) → read ≡ tokens → run_whole factored_request read ≡ Ok r → Asks text q → r ≡ q
 asked_same text tokens read r q h e ok a =
-    let both : ◌≡◌ {A = Result Request (List Token)} (Ok r) (Ok q) = sym ok ∙ (ap (run_whole request) e ∙ answered text tokens q h a) in cc
+    let both : ◌≡◌ {A = Result Request (List Token)} (Ok r) (Ok q) = sym ok ∙ (ap (run_whole factored_request) e ∙ answered text tokens q h a) in cc
 
 pub asks_once : (text : List ℕ) (r q : Request) → Asks text r → Asks text q → r ≡ q
 asks_once text r q a b =

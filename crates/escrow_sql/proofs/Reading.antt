@@ -3,12 +3,12 @@ use Rattle.std.proofs.Common.{◌≡◌, ℕ, zero, suc, ◌+◌, ◌≤◌, ◌
 use Rattle.std.specs.Prelude.{◌&&◌, ◌||◌, ◌==◌, if◌then◌else◌}
 use Rattle.std.proofs.lemmas.Bool.{cond_both}
 use Rattle.escrow_sql.specs.declared.token.Token.{Token}
-use Rattle.escrow_sql.specs.declared.token.Symbol.TheVariants as symbols
-use Rattle.escrow_sql.specs.declared.token.Kind.TheVariants as kind
+use Rattle.escrow_sql.specs.declared.token.Kind.{Kind}
 use Rattle.escrow_sql.specs.Classes.{class_number}
 use Rattle.escrow_sql.specs.Grammar.{Grammar, token, nothing, sequence, either, many}
 use Rattle.escrow_sql.specs.Predictive.{run, run_many, and_then, starts, first, may_be_empty, ended, whole_of, run_whole}
-use Rattle.escrow_sql.specs.Statement.{list, symbol, ◌then◌}
+use Rattle.escrow_sql.specs.Cursor.{bare}
+use Rattle.escrow_sql.specs.Statement.{separated, ◌then◌}
 
 -- what reading gives: a value and what is left, or what is left from the fault on
 abbrev pub Read : Type 0 → Type 0
@@ -163,52 +163,68 @@ pub all-more : {A : Type 0} (g : Grammar A) → may_be_empty g ≡ false → (ts
     → all g ts ≡ with_front (x ∷ []) (all g rest)
 all-more {A} g e ts rest x s h = all-unrolled g e ts s ∙ (ap (λ (r : Read A). and_then r (λ x rest. onto x (all g rest))) h ∙ front_one x (all g rest))
 
--- one more of any number
-pub all-kept : {A : Type 0} (g : Grammar A) → may_be_empty g ≡ false → (front : List A) (ts rest : List Token) (x : A) (whole : Read (List A)) → starts (first g) ts ≡ true
+all-kept : {A : Type 0} (g : Grammar A) → may_be_empty g ≡ false → (front : List A) (ts rest : List Token) (x : A) (whole : Read (List A)) → starts (first g) ts ≡ true
     → run g ts ≡ Ok (x, rest) → with_front front (all g ts) ≡ whole → with_front (front ++ x ∷ []) (all g rest) ≡ whole
 all-kept g e front ts rest x whole s h same = sym (front_again front x (all g rest)) ∙ (sym (ap (with_front front) (all-more g e ts rest x s h)) ∙ same)
 
--- what is read behind a comma
-abbrev behind_comma : {A : Type 0} → Grammar A → Grammar A
-behind_comma g = symbol symbols.Comma then g
+read_behind : {A : Type 0} (front : List A) (r : Read (List A)) → and_then r (λ xs end. Ok (front ++ xs, end)) ≡ with_front front (and_then r (λ xs end. Ok (xs, end)))
+read_behind front (Ok read) = refl
+read_behind front (Err rest) = refl
 
-list-starts : (ts after : List Token) → run (symbol symbols.Comma) ts ≡ Ok (tt, after) → starts (class_number (kind.Symbol symbols.Comma) ∷ []) ts ≡ true
-list-starts [] after h = absurd (cc)
-list-starts (t ∷ ts) after h =
-    cond_both (class_number t.kind == class_number (kind.Symbol symbols.Comma)) (Ok (tt, ts)) (Err (t ∷ ts)) (λ (q : Read (Unit {0})). q ≡ Ok (tt, after) → starts (class_number (kind.Symbol symbols.Comma) ∷ []) (t ∷ ts) ≡ true)
+-- any number behind some
+abbrev pub more_behind : {A : Type 0} → Grammar A → List A → List Token → Read (List A)
+more_behind g front ts = run (many g (λ xs. front ++ xs)) ts
+
+pub more-kept : {A : Type 0} (g : Grammar A) → may_be_empty g ≡ false → (front : List A) (ts rest : List Token) (x : A) (whole : Read (List A)) → starts (first g) ts ≡ true
+    → run g ts ≡ Ok (x, rest) → more_behind g front ts ≡ whole → more_behind g (front ++ x ∷ []) rest ≡ whole
+more-kept g e front ts rest x whole s h same =
+    read_behind (front ++ x ∷ []) (items g rest) ∙ all-kept g e front ts rest x whole s h (sym (read_behind front (items g ts)) ∙ same)
+
+-- what is read behind a separator
+abbrev behind : {A : Type 0} → Kind → Grammar A → Grammar A
+behind k g = bare k then g
+
+-- one or more, with a separator of the kind between two
+abbrev pub parted : {A : Type 0} → Kind → Grammar A → Grammar (List A)
+parted k g = separated (bare k) g
+
+separator-starts : (k : Kind) (ts after : List Token) → run (bare k) ts ≡ Ok (tt, after) → starts (class_number k ∷ []) ts ≡ true
+separator-starts k [] after h = absurd (cc)
+separator-starts k (t ∷ ts) after h =
+    cond_both (class_number t.kind == class_number k) (Ok (tt, ts)) (Err (t ∷ ts)) (λ (q : Read (Unit {0})). q ≡ Ok (tt, after) → starts (class_number k ∷ []) (t ∷ ts) ≡ true)
     (λ s q. rw s refl) (λ s q. absurd (cc)) h
 
-pub list-last : {A : Type 0} (g : Grammar A) (ts rest : List Token) (x : A) → run g ts ≡ Ok (x, rest) → starts (class_number (kind.Symbol symbols.Comma) ∷ []) rest ≡ false
-    → run (list g) ts ≡ Ok (x ∷ [], rest)
-list-last {A} g ts rest x h s =
-    ap (λ (r : Read A). and_then r (λ x rest. onto x (all (behind_comma g) rest))) h ∙ ap (onto x) (all-none (behind_comma g) rest s)
+pub parted-last : {A : Type 0} (k : Kind) (g : Grammar A) (ts rest : List Token) (x : A) → run g ts ≡ Ok (x, rest) → starts (class_number k ∷ []) rest ≡ false
+    → run (parted k g) ts ≡ Ok (x ∷ [], rest)
+parted-last {A} k g ts rest x h s =
+    ap (λ (r : Read A). and_then r (λ x rest. onto x (all (behind k g) rest))) h ∙ ap (onto x) (all-none (behind k g) rest s)
 
-pub list-fault : {A : Type 0} (g : Grammar A) (ts rest : List Token) → run g ts ≡ Err rest → run (list g) ts ≡ Err rest
-list-fault {A} g ts rest h = ap (λ (r : Read A). and_then r (λ x rest. onto x (all (behind_comma g) rest))) h
+pub parted-fault : {A : Type 0} (k : Kind) (g : Grammar A) (ts rest : List Token) → run g ts ≡ Err rest → run (parted k g) ts ≡ Err rest
+parted-fault {A} k g ts rest h = ap (λ (r : Read A). and_then r (λ x rest. onto x (all (behind k g) rest))) h
 
-list-comma : {A : Type 0} (g : Grammar A) (ts after : List Token) → run (symbol symbols.Comma) ts ≡ Ok (tt, after) → run (behind_comma g) ts ≡ run g after
-list-comma {A} g ts after h = ap (λ (r : Read (Unit {0})). and_then r (λ u rest. and_then (run g rest) (λ y end. Ok (y, end)))) h ∙ same_again (run g after)
+separator-read : {A : Type 0} (k : Kind) (g : Grammar A) (ts after : List Token) → run (bare k) ts ≡ Ok (tt, after) → run (behind k g) ts ≡ run g after
+separator-read {A} k g ts after h = ap (λ (r : Read (Unit {0})). and_then r (λ u rest. and_then (run g rest) (λ y end. Ok (y, end)))) h ∙ same_again (run g after)
 
-pub list-more : {A : Type 0} (g : Grammar A) (ts rest after : List Token) (x : A) → run g ts ≡ Ok (x, rest) → run (symbol symbols.Comma) rest ≡ Ok (tt, after)
-    → run (list g) ts ≡ with_front (x ∷ []) (run (list g) after)
-list-more {A} g ts rest after x h c =
-    let s = list-starts rest after c in
-    let u : all (behind_comma g) rest ≡ run (list g) after =
-    all-unrolled (behind_comma g) refl rest s ∙ ap (λ (r : Read A). and_then r (λ x rest. onto x (all (behind_comma g) rest))) (list-comma g rest after c) in
-    ap (λ (r : Read A). and_then r (λ x rest. onto x (all (behind_comma g) rest))) h ∙ (ap (onto x) u ∙ front_one x (run (list g) after))
+parted-more : {A : Type 0} (k : Kind) (g : Grammar A) (ts rest after : List Token) (x : A) → run g ts ≡ Ok (x, rest) → run (bare k) rest ≡ Ok (tt, after)
+    → run (parted k g) ts ≡ with_front (x ∷ []) (run (parted k g) after)
+parted-more {A} k g ts rest after x h c =
+    let s = separator-starts k rest after c in
+    let u : all (behind k g) rest ≡ run (parted k g) after =
+    all-unrolled (behind k g) refl rest s ∙ ap (λ (r : Read A). and_then r (λ x rest. onto x (all (behind k g) rest))) (separator-read k g rest after c) in
+    ap (λ (r : Read A). and_then r (λ x rest. onto x (all (behind k g) rest))) h ∙ (ap (onto x) u ∙ front_one x (run (parted k g) after))
 
--- one more of a list, and a comma
-pub list-kept : {A : Type 0} (g : Grammar A) (front : List A) (ts rest after : List Token) (x : A) (whole : Read (List A))
-    → run g ts ≡ Ok (x, rest) → run (symbol symbols.Comma) rest ≡ Ok (tt, after)
-    → with_front front (run (list g) ts) ≡ whole → with_front (front ++ x ∷ []) (run (list g) after) ≡ whole
-list-kept g front ts rest after x whole h c same =
-    sym (front_again front x (run (list g) after)) ∙ (sym (ap (with_front front) (list-more g ts rest after x h c)) ∙ same)
+-- one more, and a separator
+pub parted-kept : {A : Type 0} (k : Kind) (g : Grammar A) (front : List A) (ts rest after : List Token) (x : A) (whole : Read (List A))
+    → run g ts ≡ Ok (x, rest) → run (bare k) rest ≡ Ok (tt, after)
+    → with_front front (run (parted k g) ts) ≡ whole → with_front (front ++ x ∷ []) (run (parted k g) after) ≡ whole
+parted-kept k g front ts rest after x whole h c same =
+    sym (front_again front x (run (parted k g) after)) ∙ (sym (ap (with_front front) (parted-more k g ts rest after x h c)) ∙ same)
 
--- the last of a list
-pub list-ended : {A : Type 0} (g : Grammar A) (front : List A) (ts rest : List Token) (x : A) (whole : Read (List A))
-    → run g ts ≡ Ok (x, rest) → starts (class_number (kind.Symbol symbols.Comma) ∷ []) rest ≡ false
-    → with_front front (run (list g) ts) ≡ whole → whole ≡ Ok (front ++ x ∷ [], rest)
-list-ended g front ts rest x whole h s same = sym same ∙ ap (with_front front) (list-last g ts rest x h s)
+-- the last one
+pub parted-ended : {A : Type 0} (k : Kind) (g : Grammar A) (front : List A) (ts rest : List Token) (x : A) (whole : Read (List A))
+    → run g ts ≡ Ok (x, rest) → starts (class_number k ∷ []) rest ≡ false
+    → with_front front (run (parted k g) ts) ≡ whole → whole ≡ Ok (front ++ x ∷ [], rest)
+parted-ended k g front ts rest x whole h s same = sym same ∙ ap (with_front front) (parted-last k g ts rest x h s)
 
 -- the tokens end with these
 abbrev pub EndsWith : List Token → List Token → Type 0

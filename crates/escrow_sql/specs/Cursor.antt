@@ -1,8 +1,14 @@
 -- Helps: what a cursor answers of the tokens that it stands before.
 use Rattle.std.specs.Prelude.{◌≡◌, Result, Ok, Err, List}
+use Rattle.escrow_sql.specs.Grammar.{Grammar, token}
 use Rattle.escrow_sql.specs.declared.halt.Halt.{Halt}
 use Rattle.escrow_sql.specs.declared.halt.Halt.TheVariants as halt
+use Rattle.escrow_sql.specs.declared.token.Kind.{Kind}
 use Rattle.escrow_sql.specs.declared.token.Token.{Token}
+
+-- a token that means nothing by itself
+abbrev pub bare : Kind → Grammar (Unit {0})
+bare like = token like (λ k. tt)
 
 -- what a cursor that halted stands at: at a fault, what reading gives from there on
 abbrev pub Halts : {V : Type 0} → List Token → Halt → Result (V × List Token) (List Token) → Type 0

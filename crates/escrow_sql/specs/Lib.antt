@@ -1,6 +1,7 @@
 pub mod Classes
 pub mod Copies
 pub mod Cursor
+pub mod Factored
 pub mod Grammar
 pub mod Joined
 pub mod Laws

@@ -1,7 +1,7 @@
 -- Helps: what a list of a statement is made of is never nothing.
 use Rattle.std.specs.Prelude.{◌≡◌, refl, false}
 use Rattle.escrow_sql.specs.Predictive.{may_be_empty}
-use Rattle.escrow_sql.specs.Statement.{name, sign, signed_number, literal, assign, constraint, check, mark, column, item}
+use Rattle.escrow_sql.specs.Statement.{name, sign, signed_number, literal, assign, constraint, check, signed_term, term, sum, condition, mark, column, item}
 
 pub name-not_empty : may_be_empty name ≡ false
 name-not_empty = refl
@@ -21,3 +21,11 @@ mark-not_empty = refl
 pub item-not_empty : may_be_empty item ≡ false
 unfolding item column check constraint
 item-not_empty = refl
+
+pub signed_term-not_empty : may_be_empty signed_term ≡ false
+unfolding signed_term sign
+signed_term-not_empty = refl
+
+pub condition-not_empty : may_be_empty condition ≡ false
+unfolding condition sum sign term
+condition-not_empty = refl

@@ -2,8 +2,8 @@ ghost use Rattle.std.specs.Prelude.{◌≡◌, ◌↔◌, IsTrue, IsOk, IfOk, fa
 ghost use Rattle.escrow_sql.specs.Copies.{holds_memory, literal_holds_memory, row_holds_memory};
 
 use crate::statement::{
-    Assign, Assigned, CheckText, ColumnMark, ColumnText, CreateText, DeleteText, InsertText, Item,
-    Literal, SelectText, Statement, UpdateText, WhereText,
+    Assign, Assigned, CheckText, ColumnMark, ColumnText, Condition, CreateText, InsertText, Item,
+    Literal, RowText, SelectText, Statement, Term, Test, UpdateText, WhereText,
 };
 use escrow_num::{Name, Seq};
 use std::alloc::{AllocError, Global};
@@ -83,16 +83,74 @@ impl Copied for Literal {
     }
 }
 
+impl Copied for Term {
+    fn copy(&self, _: Global) -> Result<Term, AllocError> {
+        Ok(*self)
+    }
+
+    fn is_same(&self, other: &Term) -> bool {
+        *self == *other
+    }
+}
+
+impl Copied for Test {
+    fn copy(&self, alloc: Global) -> Result<Test, AllocError> {
+        match self {
+            Test::Compare { comparison, sum } => Ok(Test::Compare {
+                comparison: *comparison,
+                sum: copy_all(alloc, sum.as_slice())?,
+            }),
+            Test::Between { low, high } => Ok(Test::Between {
+                low: *low,
+                high: *high,
+            }),
+        }
+    }
+
+    fn is_same(&self, other: &Test) -> bool {
+        match (self, other) {
+            (
+                Test::Compare { comparison, sum },
+                Test::Compare {
+                    comparison: other_comparison,
+                    sum: other_sum,
+                },
+            ) => *comparison == *other_comparison && are_same(sum.as_slice(), other_sum.as_slice()),
+            (
+                Test::Between { low, high },
+                Test::Between {
+                    low: other_low,
+                    high: other_high,
+                },
+            ) => *low == *other_low && *high == *other_high,
+            _ => false,
+        }
+    }
+}
+
+impl Copied for Condition {
+    fn copy(&self, alloc: Global) -> Result<Condition, AllocError> {
+        Ok(Condition {
+            sum: copy_all(alloc, self.sum.as_slice())?,
+            test: self.test.copy(alloc)?,
+        })
+    }
+
+    fn is_same(&self, other: &Condition) -> bool {
+        are_same(self.sum.as_slice(), other.sum.as_slice()) && self.test.is_same(&other.test)
+    }
+}
+
 impl Copied for CheckText {
-    fn copy(&self, _: Global) -> Result<CheckText, AllocError> {
+    fn copy(&self, alloc: Global) -> Result<CheckText, AllocError> {
         Ok(CheckText {
             name: self.name,
-            condition: self.condition,
+            conditions: copy_all(alloc, self.conditions.as_slice())?,
         })
     }
 
     fn is_same(&self, other: &CheckText) -> bool {
-        self.name == other.name && self.condition == other.condition
+        self.name == other.name && are_same(self.conditions.as_slice(), other.conditions.as_slice())
     }
 }
 
@@ -277,20 +335,20 @@ impl Copied for UpdateText {
     }
 }
 
-impl DeleteText {
-    /// A copy of the DELETE. Only a text in its WHERE takes memory.
-    fn copy(&self, alloc: Global) -> Result<DeleteText, AllocError>
+impl RowText {
+    /// A copy of the row's text. Only a text in its WHERE takes memory.
+    fn copy(&self, alloc: Global) -> Result<RowText, AllocError>
         ensures same { IfOk result (λ t. t ≡ self.now) }
         ensures succeeds { literal_holds_memory self.now.row.literal ≡ false → IsOk result }
     {
-        Ok(DeleteText {
+        Ok(RowText {
             table: self.table,
             row: self.row.copy(alloc)?,
         })
     }
 
-    /// Whether two DELETEs are the same.
-    fn is_same(&self, other: &DeleteText) -> bool
+    /// Whether two name the same row.
+    fn is_same(&self, other: &RowText) -> bool
         ensures { IsTrue result ↔ (self.now ≡ other.now) }
     {
         self.table == other.table && self.row.is_same(&other.row)
@@ -343,6 +401,7 @@ impl Statement {
             Statement::Delete(text) => Ok(Statement::Delete(text.copy(alloc)?)),
             Statement::Select(text) => Ok(Statement::Select(text.copy(alloc)?)),
             Statement::ShowTable(table) => Ok(Statement::ShowTable(*table)),
+            Statement::ShowBounds(text) => Ok(Statement::ShowBounds(text.copy(alloc)?)),
             Statement::Commit => Ok(Statement::Commit),
             Statement::Rollback => Ok(Statement::Rollback),
         }
@@ -361,6 +420,7 @@ impl Statement {
             (Statement::Delete(a), Statement::Delete(b)) => a.is_same(b),
             (Statement::Select(a), Statement::Select(b)) => a.is_same(b),
             (Statement::ShowTable(a), Statement::ShowTable(b)) => *a == *b,
+            (Statement::ShowBounds(a), Statement::ShowBounds(b)) => a.is_same(b),
             (Statement::Commit, Statement::Commit) => true,
             (Statement::Rollback, Statement::Rollback) => true,
             _ => false,

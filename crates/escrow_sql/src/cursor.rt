@@ -1,6 +1,6 @@
 ghost use Rattle.std.specs.Prelude.{◌≡◌, [], ◌∷◌, pos, false, Ok, MatchBool};
 ghost use Rattle.escrow_sql.specs.Predictive.{run, starts};
-ghost use Rattle.escrow_sql.specs.Cursor.{Advances};
+ghost use Rattle.escrow_sql.specs.Cursor.{Advances, bare};
 ghost use Rattle.escrow_sql.specs.Classes.{class_number};
 ghost use Rattle.escrow_sql.specs.Statement.{word, symbol, name, number, text};
 ghost use Rattle.escrow_sql.specs.declared.token.Kind.TheVariants as kind;
@@ -70,13 +70,13 @@ impl Cursor<'_> {
         }
     }
 
-    /// Passes over a symbol if it comes next, and says whether it did.
-    pub(crate) fn takes_symbol(&mut self, expected: Symbol) -> bool
-        ensures { MatchBool result (run (symbol expected) self.old.tokens.now ≡ Ok (tt, self.new.tokens.now))
-            ((starts (class_number (kind.Symbol expected) ∷ []) self.old.tokens.now ≡ false) × (self.new.tokens.now ≡ self.old.tokens.now)) }
+    /// Passes over a token of the class of `expected` if one comes next, and says whether it did.
+    pub(crate) fn takes(&mut self, expected: &Kind) -> bool
+        ensures { MatchBool result (run (bare expected.now) self.old.tokens.now ≡ Ok (tt, self.new.tokens.now))
+            ((starts (class_number expected.now ∷ []) self.old.tokens.now ≡ false) × (self.new.tokens.now ≡ self.old.tokens.now)) }
     {
         match self.tokens {
-            [token, rest @ ..] if token.kind.class() == Kind::Symbol(expected).class() => {
+            [token, rest @ ..] if token.kind.class() == expected.class() => {
                 self.tokens = rest;
                 true
             }

@@ -1,8 +1,9 @@
 ghost use Rattle.std.specs.Prelude.{◌≡◌, ◌≤◌, ◌+◌, IfOk, IfErr, MatchResult};
 ghost use Rattle.escrow_sql.specs.Token.{column_at};
-ghost use Rattle.escrow_sql.specs.Predictive.{run, run_whole};
+ghost use Rattle.escrow_sql.specs.Predictive.{run, run_whole, starts, first};
 ghost use Rattle.escrow_sql.specs.Cursor.{Advances, Ends};
-ghost use Rattle.escrow_sql.specs.Statement.{show, work, body, request};
+ghost use Rattle.escrow_sql.specs.Statement.{work, table_statement, row_statement, ending};
+ghost use Rattle.escrow_sql.specs.Factored.{factored_show, factored_body, factored_request};
 ghost use Rattle.escrow_sql.specs.Parser.{Asks, IsFaultIn};
 ghost use Rattle.escrow_sql.specs.declared.lexer.TheConstants.{MAX_TEXT};
 ghost use Rattle.escrow_sql.specs.declared.statement.Request.{Request};
@@ -19,9 +20,8 @@ use crate::fault::ParseFault;
 use crate::halt::Halt;
 use crate::lexer;
 use crate::statement::{Request, Statement};
-use crate::token::{Symbol, Token};
+use crate::token::{Kind, Symbol, Token};
 use crate::word::Word;
-use escrow_num::Name;
 use std::alloc::Global;
 
 impl Cursor<'_> {
@@ -36,27 +36,30 @@ impl Cursor<'_> {
         Ok(())
     }
 
-    /// `SHOW TABLE name`
-    #[tactic(auto, unfolding(crate::specs::Statement::show))]
-    fn show_table(&mut self) -> Result<Name, Halt>
-        ensures { Advances self.new.tokens.now result (run show self.old.tokens.now) }
-    {
-        self.word(Word::Show)?;
-        self.word(Word::Table)?;
-        self.name()
-    }
-
-    /// `create | drop | insert | update | delete | select | COMMIT work | ROLLBACK work | show`
-    #[tactic(auto, unfolding(crate::specs::Statement::body, crate::specs::Statement::create, crate::specs::Statement::drop, crate::specs::Statement::insert, crate::specs::Statement::update, crate::specs::Statement::delete, crate::specs::Statement::select))]
-    fn body(&mut self, alloc: Global) -> Result<Statement, Halt>
-        ensures { Advances self.new.tokens.now result (run body self.old.tokens.now) }
+    /// `create | drop`
+    #[tactic(auto, unfolding(crate::specs::Statement::table_statement, crate::specs::Statement::create))]
+    fn table_statement(&mut self, alloc: Global) -> Result<Statement, Halt>
+        ensures { Advances self.new.tokens.now result (run table_statement self.old.tokens.now) }
     {
         if self.is_at_word(Word::Create) {
             return Ok(Statement::Create(self.create(alloc)?));
         }
-        if self.is_at_word(Word::Drop) {
-            return Ok(Statement::Drop(self.drop_table()?));
-        }
+        Ok(Statement::Drop(self.drop_table()?))
+    }
+
+    /// Whether a statement of a whole table comes next.
+    #[tactic(auto, unfolding(crate::specs::Statement::table_statement, crate::specs::Statement::create, crate::specs::Statement::drop))]
+    fn is_at_table_statement(&self) -> bool
+        ensures { result ≡ starts (first table_statement) self.now.tokens.now }
+    {
+        self.is_at_word(Word::Create) || self.is_at_word(Word::Drop)
+    }
+
+    /// `insert | update | delete | select`
+    #[tactic(auto, unfolding(crate::specs::Statement::row_statement, crate::specs::Statement::insert, crate::specs::Statement::update, crate::specs::Statement::delete))]
+    fn row_statement(&mut self, alloc: Global) -> Result<Statement, Halt>
+        ensures { Advances self.new.tokens.now result (run row_statement self.old.tokens.now) }
+    {
         if self.is_at_word(Word::Insert) {
             return Ok(Statement::Insert(self.insert(alloc)?));
         }
@@ -66,35 +69,87 @@ impl Cursor<'_> {
         if self.is_at_word(Word::Delete) {
             return Ok(Statement::Delete(self.delete(alloc)?));
         }
-        if self.is_at_word(Word::Select) {
-            return Ok(Statement::Select(self.select(alloc)?));
-        }
+        Ok(Statement::Select(self.select(alloc)?))
+    }
+
+    /// Whether a statement of rows comes next.
+    #[tactic(auto, unfolding(crate::specs::Statement::row_statement, crate::specs::Statement::insert, crate::specs::Statement::update, crate::specs::Statement::delete, crate::specs::Statement::select))]
+    fn is_at_row_statement(&self) -> bool
+        ensures { result ≡ starts (first row_statement) self.now.tokens.now }
+    {
+        self.is_at_word(Word::Insert)
+            || self.is_at_word(Word::Update)
+            || self.is_at_word(Word::Delete)
+            || self.is_at_word(Word::Select)
+    }
+
+    /// `COMMIT work | ROLLBACK work`
+    #[tactic(auto, unfolding(crate::specs::Statement::ending))]
+    fn ending(&mut self) -> Result<Statement, Halt>
+        ensures { Advances self.new.tokens.now result (run ending self.old.tokens.now) }
+    {
         if self.is_at_word(Word::Commit) {
             self.word(Word::Commit)?;
             self.work()?;
             return Ok(Statement::Commit);
         }
-        if self.is_at_word(Word::Rollback) {
-            self.word(Word::Rollback)?;
-            self.work()?;
-            return Ok(Statement::Rollback);
+        self.word(Word::Rollback)?;
+        self.work()?;
+        Ok(Statement::Rollback)
+    }
+
+    /// Whether a statement that ends a transaction comes next.
+    #[tactic(auto, unfolding(crate::specs::Statement::ending))]
+    fn is_at_ending(&self) -> bool
+        ensures { result ≡ starts (first ending) self.now.tokens.now }
+    {
+        self.is_at_word(Word::Commit) || self.is_at_word(Word::Rollback)
+    }
+
+    /// `SHOW ( TABLE name | BOUNDS row )`
+    #[tactic(auto, unfolding(crate::specs::Factored::factored_show))]
+    fn show(&mut self, alloc: Global) -> Result<Statement, Halt>
+        ensures { Advances self.new.tokens.now result (run factored_show self.old.tokens.now) }
+    {
+        self.word(Word::Show)?;
+        if self.is_at_word(Word::Table) {
+            self.word(Word::Table)?;
+            return Ok(Statement::ShowTable(self.name()?));
         }
-        Ok(Statement::ShowTable(self.show_table()?))
+        self.word(Word::Bounds)?;
+        Ok(Statement::ShowBounds(self.row(alloc)?))
+    }
+
+    /// `table_statement | row_statement | ending | show`
+    #[tactic(auto, unfolding(crate::specs::Factored::factored_body))]
+    fn body(&mut self, alloc: Global) -> Result<Statement, Halt>
+        ensures { Advances self.new.tokens.now result (run factored_body self.old.tokens.now) }
+    {
+        if self.is_at_table_statement() {
+            return self.table_statement(alloc);
+        }
+        if self.is_at_row_statement() {
+            return self.row_statement(alloc);
+        }
+        if self.is_at_ending() {
+            return self.ending();
+        }
+        self.show(alloc)
     }
 
     /// `body [ ";" ]`
-    #[tactic(auto, unfolding(crate::specs::Statement::request))]
+    #[tactic(auto, unfolding(crate::specs::Factored::factored_request))]
     fn request(&mut self, alloc: Global) -> Result<Request, Halt>
-        ensures { Advances self.new.tokens.now result (run request self.old.tokens.now) }
+        ensures { Advances self.new.tokens.now result (run factored_request self.old.tokens.now) }
     {
         let body = self.body(alloc)?;
-        let _ended = self.takes_symbol(Symbol::Semicolon);
+        let _ended = self.takes(&Kind::Symbol(Symbol::Semicolon));
         Ok(Request::Statement(body))
     }
 
     /// A request, and nothing behind it.
     fn whole(&mut self, alloc: Global) -> Result<Request, Halt>
-        ensures { Ends self.new.tokens.now result (run_whole request self.old.tokens.now) }
+        ensures { Ends self.new.tokens.now result (run_whole factored_request self.old.tokens.now) }
     {
         let request = self.request(alloc)?;
         match self.tokens {

@@ -15,7 +15,7 @@ use escrow_num::Amount;
 use std::alloc::Global;
 
 /// The number, made negative by a minus.
-fn apply_sign(minus: bool, number: Amount) -> Amount
+pub(super) fn apply_sign(minus: bool, number: Amount) -> Amount
     ensures { result ≡ with_sign minus number }
 {
     if minus {
@@ -28,7 +28,7 @@ fn apply_sign(minus: bool, number: Amount) -> Amount
 impl Cursor<'_> {
     /// Whether a sign comes next.
     #[tactic(auto, unfolding(crate::specs::Statement::sign))]
-    fn is_at_sign(&self) -> bool
+    pub(super) fn is_at_sign(&self) -> bool
         ensures { result ≡ starts (first sign) self.now.tokens.now }
     {
         self.is_at_symbol(Symbol::Plus) || self.is_at_symbol(Symbol::Minus)
@@ -36,7 +36,7 @@ impl Cursor<'_> {
 
     /// `"+" | "-"`: whether it is a minus.
     #[tactic(auto, unfolding(crate::specs::Statement::sign))]
-    fn sign(&mut self) -> Result<bool, Halt>
+    pub(super) fn sign(&mut self) -> Result<bool, Halt>
         ensures { Advances self.new.tokens.now result (run sign self.old.tokens.now) }
     {
         if self.is_at_symbol(Symbol::Plus) {
@@ -48,7 +48,7 @@ impl Cursor<'_> {
     }
 
     /// `[ sign ]`
-    fn optional_sign(&mut self) -> Result<bool, Halt>
+    pub(super) fn optional_sign(&mut self) -> Result<bool, Halt>
         ensures { Advances self.new.tokens.now result (run (optional false sign) self.old.tokens.now) }
     {
         if self.is_at_sign() {

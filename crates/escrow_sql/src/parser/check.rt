@@ -1,17 +1,129 @@
-ghost use Rattle.std.specs.Prelude.{◌≡◌};
+ghost use Rattle.std.specs.Prelude.{◌≡◌, pos, false, Some, None};
+ghost use Rattle.escrow_sql.specs.Grammar.{sequence};
 ghost use Rattle.escrow_sql.specs.Predictive.{run, starts, first};
 ghost use Rattle.escrow_sql.specs.Cursor.{Advances};
-ghost use Rattle.escrow_sql.specs.Statement.{comparison, condition, constraint, check};
+ghost use Rattle.escrow_sql.specs.Statement.{optional, meaning, ◌then◌, word, symbol, name, number, sign, signed, signed_number, times, term, signed_term, sum, test, comparison, condition, constraint, check};
+ghost use Rattle.escrow_sql.specs.declared.statement.Term.TheVariants as terms;
+ghost use Rattle.escrow_sql.specs.declared.statement.Test.TheVariants as tests;
+ghost use Rattle.escrow_sql.specs.declared.token.Symbol.TheVariants as symbols;
+ghost use Rattle.escrow_sql.specs.declared.word.Word.TheVariants as words;
 
 use crate::cursor::Cursor;
 use crate::halt::Halt;
-use crate::statement::{CheckText, Comparison, Condition};
-use crate::token::Symbol;
+use crate::parser::part::{Part, Repeated};
+use crate::parser::{change, part};
+use crate::statement::{CheckText, Comparison, Condition, Term, Test};
+use crate::token::{Kind, Symbol};
 use crate::word::Word;
-use escrow_num::Name;
+use escrow_num::{Amount, Name, Seq};
+use std::alloc::Global;
+
+/// The term, its number made negative by a minus.
+fn apply_sign(minus: bool, term: Term) -> Term
+    ensures { result ≡ signed minus term }
+{
+    match term {
+        Term::Number(number) => Term::Number(change::apply_sign(minus, number)),
+        Term::Column {
+            coefficient,
+            column,
+        } => Term::Column {
+            coefficient: change::apply_sign(minus, coefficient),
+            column,
+        },
+    }
+}
 
 impl Cursor<'_> {
-    /// `"<" | "<=" | ">" | ">="`
+    /// `number [ "*" name ]`
+    fn number_term(&mut self) -> Result<Term, Halt>
+        ensures { Advances self.new.tokens.now result (run (sequence number (optional None (meaning (λ c. Some c) (symbol symbols.Star then name))) times) self.old.tokens.now) }
+    {
+        let number = self.number()?;
+        if !self.is_at_symbol(Symbol::Star) {
+            return Ok(Term::Number(number));
+        }
+        self.symbol(Symbol::Star)?;
+        let column = self.name()?;
+        Ok(Term::Column {
+            coefficient: number,
+            column,
+        })
+    }
+
+    /// `name [ "*" number ]`
+    fn column_term(&mut self) -> Result<Term, Halt>
+        ensures { Advances self.new.tokens.now result (run (sequence name (optional (pos 1) (symbol symbols.Star then number)) (λ c n. terms.Column n c)) self.old.tokens.now) }
+    {
+        let column = self.name()?;
+        if !self.is_at_symbol(Symbol::Star) {
+            return Ok(Term::Column {
+                coefficient: Amount::new(1).unwrap(),
+                column,
+            });
+        }
+        self.symbol(Symbol::Star)?;
+        let coefficient = self.number()?;
+        Ok(Term::Column {
+            coefficient,
+            column,
+        })
+    }
+
+    /// `number [ "*" name ] | name [ "*" number ]`
+    #[tactic(auto, unfolding(crate::specs::Statement::term))]
+    fn term(&mut self) -> Result<Term, Halt>
+        ensures { Advances self.new.tokens.now result (run term self.old.tokens.now) }
+    {
+        if self.is_at_number() {
+            return self.number_term();
+        }
+        self.column_term()
+    }
+
+    /// `sign term`
+    #[tactic(auto, unfolding(crate::specs::Statement::signed_term))]
+    fn signed_term(&mut self) -> Result<Term, Halt>
+        ensures { Advances self.new.tokens.now result (run signed_term self.old.tokens.now) }
+    {
+        let minus = self.sign()?;
+        let term = self.term()?;
+        Ok(apply_sign(minus, term))
+    }
+
+    /// `[ sign ] term`
+    fn first_term(&mut self) -> Result<Term, Halt>
+        ensures { Advances self.new.tokens.now result (run (sequence (optional false sign) term signed) self.old.tokens.now) }
+    {
+        let minus = self.optional_sign()?;
+        let term = self.term()?;
+        Ok(apply_sign(minus, term))
+    }
+
+    /// `[ sign ] term { sign term }`
+    #[tactic(auto, unfolding(crate::specs::Statement::sum))]
+    fn sum(&mut self, alloc: Global) -> Result<Seq<Term>, Halt>
+        ensures { Advances self.new.tokens.now result (run sum self.old.tokens.now) }
+    {
+        let term = self.first_term()?;
+        let mut terms = Seq::new(alloc);
+        terms.push(term)?;
+        part::read_more(alloc, self, terms)
+    }
+
+    /// Whether a comparison comes next.
+    #[tactic(auto, unfolding(crate::specs::Statement::comparison))]
+    fn is_at_comparison(&self) -> bool
+        ensures { result ≡ starts (first comparison) self.now.tokens.now }
+    {
+        self.is_at_symbol(Symbol::Below)
+            || self.is_at_symbol(Symbol::AtMost)
+            || self.is_at_symbol(Symbol::Above)
+            || self.is_at_symbol(Symbol::AtLeast)
+            || self.is_at_symbol(Symbol::Equal)
+    }
+
+    /// `"<" | "<=" | ">" | ">=" | "="`
     #[tactic(auto, unfolding(crate::specs::Statement::comparison))]
     fn comparison(&mut self) -> Result<Comparison, Halt>
         ensures { Advances self.new.tokens.now result (run comparison self.old.tokens.now) }
@@ -28,23 +140,46 @@ impl Cursor<'_> {
             self.symbol(Symbol::Above)?;
             return Ok(Comparison::Above);
         }
-        self.symbol(Symbol::AtLeast)?;
-        Ok(Comparison::AtLeast)
+        if self.is_at_symbol(Symbol::AtLeast) {
+            self.symbol(Symbol::AtLeast)?;
+            return Ok(Comparison::AtLeast);
+        }
+        self.symbol(Symbol::Equal)?;
+        Ok(Comparison::Equal)
     }
 
-    /// `name comparison signed_number`
+    /// `BETWEEN signed_number AND signed_number`
+    fn between(&mut self) -> Result<Test, Halt>
+        ensures { Advances self.new.tokens.now result (run (word words.Between then sequence signed_number (word words.And then signed_number) (λ l h. tests.Between l h)) self.old.tokens.now) }
+    {
+        self.word(Word::Between)?;
+        let low = self.signed_number()?;
+        self.word(Word::And)?;
+        let high = self.signed_number()?;
+        Ok(Test::Between { low, high })
+    }
+
+    /// `comparison sum | BETWEEN signed_number AND signed_number`
+    #[tactic(auto, unfolding(crate::specs::Statement::test, crate::specs::Statement::comparison))]
+    fn test(&mut self, alloc: Global) -> Result<Test, Halt>
+        ensures { Advances self.new.tokens.now result (run test self.old.tokens.now) }
+    {
+        if !self.is_at_comparison() {
+            return self.between();
+        }
+        let comparison = self.comparison()?;
+        let sum = self.sum(alloc)?;
+        Ok(Test::Compare { comparison, sum })
+    }
+
+    /// `sum test`
     #[tactic(auto, unfolding(crate::specs::Statement::condition))]
-    fn condition(&mut self) -> Result<Condition, Halt>
+    fn condition(&mut self, alloc: Global) -> Result<Condition, Halt>
         ensures { Advances self.new.tokens.now result (run condition self.old.tokens.now) }
     {
-        let column = self.name()?;
-        let comparison = self.comparison()?;
-        let limit = self.signed_number()?;
-        Ok(Condition {
-            column,
-            comparison,
-            limit,
-        })
+        let sum = self.sum(alloc)?;
+        let test = self.test(alloc)?;
+        Ok(Condition { sum, test })
     }
 
     /// `[ CONSTRAINT name ]`
@@ -60,17 +195,17 @@ impl Cursor<'_> {
         Ok(Some(name))
     }
 
-    /// `constraint CHECK "(" condition ")"`
+    /// `constraint CHECK "(" condition { AND condition } ")"`
     #[tactic(auto, unfolding(crate::specs::Statement::check))]
-    pub(super) fn check(&mut self) -> Result<CheckText, Halt>
+    pub(super) fn check(&mut self, alloc: Global) -> Result<CheckText, Halt>
         ensures { Advances self.new.tokens.now result (run check self.old.tokens.now) }
     {
         let name = self.constraint()?;
         self.word(Word::Check)?;
         self.symbol(Symbol::Open)?;
-        let condition = self.condition()?;
+        let conditions = part::read_separated(alloc, self, &Kind::Word(Word::And))?;
         self.symbol(Symbol::Close)?;
-        Ok(CheckText { name, condition })
+        Ok(CheckText { name, conditions })
     }
 
     /// Whether a CHECK comes next.
@@ -79,5 +214,38 @@ impl Cursor<'_> {
         ensures { result ≡ starts (first check) self.now.tokens.now }
     {
         self.is_at_word(Word::Constraint) || self.is_at_word(Word::Check)
+    }
+}
+
+impl Part for Term {
+    ghost use Rattle.escrow_sql.specs.Statement.{signed_term};
+    ghost use Rattle.escrow_sql.specs.Parts.{signed_term-not_empty};
+
+    ghost grammar = { signed_term };
+
+    ghost not_empty = { signed_term-not_empty };
+
+    fn read(_alloc: Global, cursor: &mut Cursor) -> Result<Term, Halt> {
+        cursor.signed_term()
+    }
+}
+
+impl Repeated for Term {
+    #[tactic(auto, unfolding(crate::specs::Statement::signed_term, crate::specs::Statement::sign))]
+    fn is_next(cursor: &Cursor) -> bool {
+        cursor.is_at_sign()
+    }
+}
+
+impl Part for Condition {
+    ghost use Rattle.escrow_sql.specs.Statement.{condition};
+    ghost use Rattle.escrow_sql.specs.Parts.{condition-not_empty};
+
+    ghost grammar = { condition };
+
+    ghost not_empty = { condition-not_empty };
+
+    fn read(alloc: Global, cursor: &mut Cursor) -> Result<Condition, Halt> {
+        cursor.condition(alloc)
     }
 }

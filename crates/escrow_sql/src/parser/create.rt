@@ -28,7 +28,7 @@ impl Cursor<'_> {
 
     /// `PRIMARY KEY | RESERVABLE | NOT NULL | check`
     #[tactic(auto, unfolding(crate::specs::Statement::mark))]
-    fn mark(&mut self) -> Result<ColumnMark, Halt>
+    fn mark(&mut self, alloc: Global) -> Result<ColumnMark, Halt>
         ensures { Advances self.new.tokens.now result (run mark self.old.tokens.now) }
     {
         if self.is_at_word(Word::Primary) {
@@ -45,7 +45,7 @@ impl Cursor<'_> {
             self.word(Word::Null)?;
             return Ok(ColumnMark::NotNull);
         }
-        let check = self.check()?;
+        let check = self.check(alloc)?;
         Ok(ColumnMark::Check(check))
     }
 
@@ -123,7 +123,7 @@ impl Cursor<'_> {
             return Ok(Item::Column(column));
         }
         if self.is_at_check() {
-            let check = self.check()?;
+            let check = self.check(alloc)?;
             return Ok(Item::Check(check));
         }
         let key = self.key()?;
@@ -161,8 +161,8 @@ impl Part for ColumnMark {
 
     ghost not_empty = { mark-not_empty };
 
-    fn read(_alloc: Global, cursor: &mut Cursor) -> Result<ColumnMark, Halt> {
-        cursor.mark()
+    fn read(alloc: Global, cursor: &mut Cursor) -> Result<ColumnMark, Halt> {
+        cursor.mark(alloc)
     }
 }
 

@@ -1,12 +1,12 @@
-ghost use Rattle.std.specs.Prelude.{◌≡◌, false};
+ghost use Rattle.std.specs.Prelude.{◌≡◌, ◌++◌, false};
 ghost use Rattle.escrow_sql.specs.Grammar.{Grammar, many};
 ghost use Rattle.escrow_sql.specs.Predictive.{run, starts, first, may_be_empty};
-ghost use Rattle.escrow_sql.specs.Cursor.{Advances};
-ghost use Rattle.escrow_sql.specs.Statement.{list, in_parentheses};
+ghost use Rattle.escrow_sql.specs.Cursor.{Advances, bare};
+ghost use Rattle.escrow_sql.specs.Statement.{separated, list, in_parentheses};
 
 use crate::cursor::Cursor;
 use crate::halt::Halt;
-use crate::token::Symbol;
+use crate::token::{Kind, Symbol};
 use escrow_num::Seq;
 use std::alloc::Global;
 
@@ -28,18 +28,29 @@ pub(crate) trait Repeated: Part {
         ensures { result ≡ starts (first Self.grammar) cursor.now.tokens.now };
 }
 
-/// Reads one or more parts, with a comma between two.
-pub(crate) fn read_list<P: Part>(alloc: Global, cursor: &mut Cursor) -> Result<Seq<P>, Halt>
-    ensures { Advances cursor.new.tokens.now result (run (list P.grammar) cursor.old.tokens.now) }
+/// Reads one or more parts, with a separator between two: a token of its class.
+pub(crate) fn read_separated<P: Part>(
+    alloc: Global,
+    cursor: &mut Cursor,
+    separator: &Kind,
+) -> Result<Seq<P>, Halt>
+    ensures { Advances cursor.new.tokens.now result (run (separated (bare separator.now) P.grammar) cursor.old.tokens.now) }
 {
     let mut parts = Seq::new(alloc);
     'parts: loop {
         let part = P::read(alloc, cursor)?;
         parts.push(part)?;
-        if !cursor.takes_symbol(Symbol::Comma) {
+        if !cursor.takes(separator) {
             return Ok(parts);
         }
     }
+}
+
+/// Reads one or more parts, with a comma between two.
+pub(crate) fn read_list<P: Part>(alloc: Global, cursor: &mut Cursor) -> Result<Seq<P>, Halt>
+    ensures { Advances cursor.new.tokens.now result (run (list P.grammar) cursor.old.tokens.now) }
+{
+    read_separated(alloc, cursor, &Kind::Symbol(Symbol::Comma))
 }
 
 /// Reads one or more parts in parentheses, with a comma between two.
@@ -52,14 +63,24 @@ pub(crate) fn read_listed<P: Part>(alloc: Global, cursor: &mut Cursor) -> Result
     Ok(parts)
 }
 
-/// Reads as many parts as there are.
-pub(crate) fn read_all<P: Repeated>(alloc: Global, cursor: &mut Cursor) -> Result<Seq<P>, Halt>
-    ensures { Advances cursor.new.tokens.now result (run (many P.grammar (λ xs. xs)) cursor.old.tokens.now) }
+/// Reads as many parts as there are, behind those that are given.
+pub(crate) fn read_more<P: Repeated>(
+    alloc: Global,
+    cursor: &mut Cursor,
+    mut parts: Seq<P>,
+) -> Result<Seq<P>, Halt>
+    ensures { Advances cursor.new.tokens.now result (run (many P.grammar (λ xs. parts ++ xs)) cursor.old.tokens.now) }
 {
-    let mut parts = Seq::new(alloc);
     'parts: while P::is_next(cursor) {
         let part = P::read(alloc, cursor)?;
         parts.push(part)?;
     }
     Ok(parts)
+}
+
+/// Reads as many parts as there are.
+pub(crate) fn read_all<P: Repeated>(alloc: Global, cursor: &mut Cursor) -> Result<Seq<P>, Halt>
+    ensures { Advances cursor.new.tokens.now result (run (many P.grammar (λ xs. xs)) cursor.old.tokens.now) }
+{
+    read_more(alloc, cursor, Seq::new(alloc))
 }

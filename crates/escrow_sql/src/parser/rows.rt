@@ -1,13 +1,13 @@
 ghost use Rattle.escrow_sql.specs.Predictive.{run};
 ghost use Rattle.escrow_sql.specs.Cursor.{Advances};
 ghost use Rattle.std.specs.Prelude.{Some, None};
-ghost use Rattle.escrow_sql.specs.Statement.{optional, meaning, where_part, columns, insert, delete, select};
+ghost use Rattle.escrow_sql.specs.Statement.{optional, meaning, where_part, columns, insert, row, delete, select};
 
 use crate::cursor::Cursor;
 use crate::halt::Halt;
 use crate::parser::part;
 use crate::parser::part::Part;
-use crate::statement::{DeleteText, InsertText, SelectText, WhereText};
+use crate::statement::{InsertText, RowText, SelectText, WhereText};
 use crate::token::Symbol;
 use crate::word::Word;
 use escrow_num::{Name, Seq};
@@ -44,16 +44,24 @@ impl Cursor<'_> {
         })
     }
 
-    /// `DELETE FROM name where_part`
+    /// `name where_part`
+    #[tactic(auto, unfolding(crate::specs::Statement::row))]
+    pub(super) fn row(&mut self, alloc: Global) -> Result<RowText, Halt>
+        ensures { Advances self.new.tokens.now result (run row self.old.tokens.now) }
+    {
+        let table = self.name()?;
+        let row = self.where_part(alloc)?;
+        Ok(RowText { table, row })
+    }
+
+    /// `DELETE FROM row`
     #[tactic(auto, unfolding(crate::specs::Statement::delete))]
-    pub(super) fn delete(&mut self, alloc: Global) -> Result<DeleteText, Halt>
+    pub(super) fn delete(&mut self, alloc: Global) -> Result<RowText, Halt>
         ensures { Advances self.new.tokens.now result (run delete self.old.tokens.now) }
     {
         self.word(Word::Delete)?;
         self.word(Word::From)?;
-        let table = self.name()?;
-        let row = self.where_part(alloc)?;
-        Ok(DeleteText { table, row })
+        self.row(alloc)
     }
 
     /// `[ where_part ]`

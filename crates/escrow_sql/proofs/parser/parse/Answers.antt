@@ -1,12 +1,12 @@
 use Rattle.std.proofs.Common.{subst, sym}
 use Rattle.escrow_sql.specs.Parser.{IsFaultColumn}
-use Rattle.escrow_sql.specs.Statement.{request}
+use Rattle.escrow_sql.specs.Factored.{factored_request}
 use Rattle.escrow_sql.proofs.ParseLemmas.{column_fits, asked, asked_same, not_asked, fault_column}
 use Rattle.escrow_sql.proofs.parser.parse.Goals as goal
 
 pub column_of-requires : goal.column_of-requires
 column_of-requires c =
-    column_fits request c.args.text.now c.in_ok-tokens.tokens c.as_slice.result.now c.whole.new.self.tokens.now c.in_ok-tokens.ensures.found c.as_slice.ensures
+    column_fits factored_request c.args.text.now c.in_ok-tokens.tokens c.as_slice.result.now c.whole.new.self.tokens.now c.in_ok-tokens.ensures.found c.as_slice.ensures
     (rw c.in-Err-Syntax.field-0-is at c.in-Err-Syntax.ensures)
 
 pub returns-in-Ok-clause-found : goal.returns-in-Ok-clause-found

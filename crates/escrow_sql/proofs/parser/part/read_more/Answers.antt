@@ -1,6 +1,6 @@
 use Rattle.std.proofs.Common.{arith, sym}
-use Rattle.escrow_sql.proofs.Reading.{run-shorter, all-kept}
-use Rattle.escrow_sql.proofs.parser.part.read_all.Goals as goal
+use Rattle.escrow_sql.proofs.Reading.{run-shorter, more-kept}
+use Rattle.escrow_sql.proofs.parser.part.read_more.Goals as goal
 
 pub parts-smaller : goal.parts-smaller
 parts-smaller g c =
@@ -9,5 +9,5 @@ parts-smaller g c =
 
 pub parts-preserved : goal.parts-preserved
 parts-preserved g c =
-    rw c.in_ok-push.ensures.ok (all-kept g.P.Part.grammar g.met.P.Part.not_empty c.parts.parts c.parts.cursor.tokens.now c.read.new.cursor.tokens.now c.in_ok-part.part _
+    rw c.in_ok-push.ensures.ok (more-kept g.P.Part.grammar g.met.P.Part.not_empty c.parts.parts c.parts.cursor.tokens.now c.read.new.cursor.tokens.now c.in_ok-part.part _
     (sym c.parts-test.ensures) c.in_ok-part.ensures c.parts.invariant)
