@@ -18,4 +18,5 @@ pub mod TextLemmas
 pub mod TokenLemmas
 pub mod Writing
 pub mod WritingLists
+pub mod WritingSums
 pub mod WritingTokens

@@ -53,7 +53,7 @@ writes_listed a [] (v ∷ vs) long h = absurd h
 writes_listed a (t ∷ ts) [] long h = absurd h
 
 -- digits begin with no minus
-digits_no_minus : (ds rest : List ℕ) → 0 < length ds → 48 < get_or ds 0 0 → no_minus (ds ++ rest) ≡ true
+pub digits_no_minus : (ds rest : List ℕ) → 0 < length ds → 48 < get_or ds 0 0 → no_minus (ds ++ rest) ≡ true
 digits_no_minus [] rest long first = absurd (omega arith)
 digits_no_minus (c ∷ cs) rest long first = grind (arith, nat_tests)
 

@@ -1,9 +1,12 @@
 -- Believed: what laws say of texts.
-use Rattle.std.specs.Prelude.{◌≡◌, ℕ, ◌⊎◌, Result, List}
+use Rattle.std.specs.Prelude.{◌≡◌, ℕ, ◌⊎◌, ◌↔◌, Result, List}
 use Rattle.escrow_sql.specs.declared.statement.Request.{Request}
 use Rattle.escrow_sql.specs.declared.token.Token.{Token}
+use Rattle.escrow_sql.specs.Factored.{factored_request}
+use Rattle.escrow_sql.specs.Grammar.{Sentence, IsFirstFault}
 use Rattle.escrow_sql.specs.Lex.{IsLexed}
 use Rattle.escrow_sql.specs.Parser.{Asks, IsFaultColumn}
+use Rattle.escrow_sql.specs.Statement.{request}
 
 -- each text has tokens or a lexing fault, and never two answers
 pub record EachIsLexedOnce : Type 0 where
@@ -16,3 +19,9 @@ pub record EachIsAnsweredOnce : Type 0 where
   pub one_request : (text : List ℕ) (r q : Request) → Asks text r → Asks text q → r ≡ q
   pub one_column : (text : List ℕ) (c d : ℕ) → IsFaultColumn text c → IsFaultColumn text d → c ≡ d
   pub not_both : (text : List ℕ) (r : Request) (column : ℕ) → Asks text r → IsFaultColumn text column → ⊥
+
+-- the grammar that is read, with SHOW taken out, has the sentences of the grammar of requests, with the
+-- same meanings, and the same first faults
+pub record FactoringKeepsSentences : Type 0 where
+  pub sentences : (tokens : List Token) (r : Request) → Sentence request tokens r ↔ Sentence factored_request tokens r
+  pub faults : (tokens : List Token) (k : ℕ) → IsFirstFault request tokens k ↔ IsFirstFault factored_request tokens k

@@ -1,6 +1,6 @@
 //! Laws of the definitions: facts about them, each the contract of a function that does nothing.
 
-ghost use Rattle.escrow_sql.specs.Laws.{EachIsAnsweredOnce, EachIsLexedOnce};
+ghost use Rattle.escrow_sql.specs.Laws.{EachIsAnsweredOnce, EachIsLexedOnce, FactoringKeepsSentences};
 
 /// What is lexed of a text stands fast: tokens, or the column of a fault, and never two answers.
 pub fn each_is_lexed_once()
@@ -11,4 +11,10 @@ pub fn each_is_lexed_once()
 /// never both.
 pub fn each_is_answered_once()
     ensures { EachIsAnsweredOnce }
+{}
+
+/// The parser reads a grammar in which SHOW stands once, before what may follow it. Its sentences are
+/// those of the grammar of requests and mean the same, and where one goes wrong the other does.
+pub fn factoring_keeps_sentences()
+    ensures { FactoringKeepsSentences }
 {}
