@@ -1,13 +1,17 @@
 -- Coefficients in their place, with zeros behind them.
 use Rattle.std.proofs.Common.{◌≡◌, ℕ, suc, ◌+◌, ◌-◌, ◌≤◌, ◌<◌, ℤ, pos, List, [], ◌∷◌, ◌++◌, length, take, drop, set, get_or, replicate, refl, ap, ap₂, ◌∙◌, sym, subst, arith, append_assoc, length-append}
-use Rattle.std.specs.Prelude.{slice_set, All, bytes_eq, if◌then◌else◌, Bool, true, false}
+use Rattle.std.specs.Prelude.{slice_set, All, bytes_eq, if◌then◌else◌, Bool, true, false, ◌&&◌, int_le, neg_ℤ, map}
+use Rattle.std.specs.List.{list_all}
 use Rattle.std.proofs.lemmas.Int.{ints}
+use Rattle.std.proofs.lemmas.Bool.{and_parts}
+use Rattle.std.proofs.lemmas.List.Folds.{list_all-map, list_all_at, list_all_more}
 use Rattle.std.proofs.lemmas.List.{drop-replicate, length-map, length-replicate, length-set, length-take-le, map-append, replicate-append-replicate, set-append_left, take_more, take_all}
 use Rattle.std.proofs.lemmas.List.Elements.{All-set, All-replicate, All-nil, All-cons}
 use Rattle.std.proofs.Math.Seq.{set-append_seam, take-append_seam}
-use Rattle.escrow_checks.specs.Checks.{unit_of}
+use Rattle.escrow_checks.specs.Checks.{unit_of, is_coefficient}
 use Rattle.escrow_checks.specs.Coefficients.{IsCoefficient, AreCoefficients}
 use Rattle.escrow_checks.specs.Padded.{padded}
+use Rattle.escrow_checks.specs.declared.condition.TheConstants.{MAX_COEFFICIENT}
 use Rattle.escrow_checks.specs.declared.coefficients.TheConstants.Coefficients.{MAX_LEN}
 
 -- what a place of these coefficients keeps, and shows
@@ -62,21 +66,62 @@ padded-more coeffs c room =
     ∙ set-append_seam coeffs (pos 0) rest c
     ∙ sym (ap (λ n. (coeffs ++ c ∷ []) ++ replicate (MAX_LEN - n) (pos 0)) (length-append coeffs (c ∷ [])) ∙ append_assoc coeffs (c ∷ []) rest)
 
-pub unit_of-more : (columns : List (List ℕ)) (name column : List ℕ) (i : ℕ) → i < length columns → length columns ≤ MAX_LEN → column ≡ get_or columns i column
-    → set (padded (unit_of (take i columns) name)) i (if bytes_eq column name then pos 1 else pos 0) ≡ padded (unit_of (take (i + 1) columns) name)
-unit_of-more columns name column i below few is =
-    let front = unit_of (take i columns) name in
-    let c : ℤ = if bytes_eq column name then pos 1 else pos 0 in
-    let at : length front ≡ i = length-unit_of (take i columns) name ∙ length-take-le i columns (omega arith) in
-    let more : unit_of (take (i + 1) columns) name ≡ front ++ c ∷ [] = ap (λ zs. unit_of zs name) (take_more columns i column below ∙ ap (λ x. take i columns ++ x ∷ []) (sym is)) ∙ map-append _ (take i columns) (column ∷ []) in
+-- one more coefficient in its place, where each is given by its column
+pub mapped-more : (f : List ℕ → ℤ) (columns : List (List ℕ)) (column : List ℕ) (i : ℕ) (c : ℤ) → i < length columns → length columns ≤ MAX_LEN → column ≡ get_or columns i column → c ≡ f column
+    → set (padded (map f (take i columns))) i c ≡ padded (map f (take (i + 1) columns))
+mapped-more f columns column i c below few is same =
+    let front = map f (take i columns) in
+    let at : length front ≡ i = length-map (take i columns) f ∙ length-take-le i columns (omega arith) in
+    let more : map f (take (i + 1) columns) ≡ front ++ c ∷ [] =
+    ap (map f) (take_more columns i column below ∙ ap (λ x. take i columns ++ x ∷ []) (sym is)) ∙ map-append f (take i columns) (column ∷ []) ∙ ap (λ z. front ++ z ∷ []) (sym same) in
     ap (λ n. set (padded front) n c) (sym at) ∙ padded-more front c (omega (arith, at)) ∙ ap padded (sym more)
+
+mapped_kept : (f : List ℕ → ℤ) (columns : List (List ℕ)) (values : List ℤ) (i : ℕ) → i ≡ length columns → length columns ≤ MAX_LEN → All IsCoefficient (map f columns) → values ≡ padded (map f (take i columns))
+    → Keeps (map f columns) values (length columns)
+mapped_kept f columns values i is few all whole =
+    let as_long = length-map columns f in
+    kept (map f columns) values (length columns) (sym as_long) (omega (arith, as_long), all)
+    (whole ∙ ap (λ (names : List (List ℕ)). padded (map f names)) (take_all i columns (omega arith)))
 
 pub unit_of_kept : (columns : List (List ℕ)) (name : List ℕ) (values : List ℤ) (i : ℕ) → i ≡ length columns → length columns ≤ MAX_LEN → values ≡ padded (unit_of (take i columns) name)
     → Keeps (unit_of columns name) values (length columns)
 unit_of_kept columns name values i is few whole =
-    let as_long = length-unit_of columns name in
-    kept (unit_of columns name) values (length columns) (sym as_long) (omega (arith, as_long), All-unit_of columns name)
-    (whole ∙ ap (λ (names : List (List ℕ)). padded (unit_of names name)) (take_all i columns (omega arith)))
+    mapped_kept (λ column. if bytes_eq column name then pos 1 else pos 0) columns values i is few (All-unit_of columns name) whole
+
+-- ---- summed coefficients, which are within the greatest magnitude
+
+-- one more that is
+pub small-more : (f : List ℕ → ℤ) (columns : List (List ℕ)) (column : List ℕ) (i : ℕ) → i < length columns → column ≡ get_or columns i column
+    → list_all is_coefficient (map f (take i columns)) ≡ true → is_coefficient (f column) ≡ true → list_all is_coefficient (map f (take (i + 1) columns)) ≡ true
+small-more f columns column i below is before here =
+    list_all-map is_coefficient f (take (i + 1) columns)
+    ∙ list_all_more (λ name. is_coefficient (f name)) columns i column below
+    ∙ ap₂ (λ (a b : Bool). a && b) (sym (list_all-map is_coefficient f (take i columns)) ∙ before) (ap (λ name. is_coefficient (f name)) (sym is) ∙ here)
+
+-- one that isn't
+pub small-not : (f : List ℕ → ℤ) (columns : List (List ℕ)) (column : List ℕ) (i : ℕ) → i < length columns → column ≡ get_or columns i column
+    → is_coefficient (f column) ≡ false → list_all is_coefficient (map f columns) ≡ false
+small-not f columns column i below is past =
+    list_all-map is_coefficient f columns
+    ∙ list_all_at (λ name. is_coefficient (f name)) columns i column below (ap (λ name. is_coefficient (f name)) (sym is) ∙ past)
+
+-- a summed coefficient is within the greatest magnitude of all
+small_is : (c : ℤ) → is_coefficient c ≡ true → IsCoefficient c
+small_is c small =
+    let parts = and_parts (int_le (neg_ℤ MAX_COEFFICIENT) c) (int_le c MAX_COEFFICIENT) small in
+    (grind (arith, ints, parts.0), grind (arith, ints, parts.1))
+
+All-small : (coeffs : List ℤ) → list_all is_coefficient coeffs ≡ true → All IsCoefficient coeffs
+All-small [] small = All-nil IsCoefficient
+All-small (c ∷ cs) small =
+    let parts = and_parts (is_coefficient c) (list_all is_coefficient cs) small in
+    All-cons IsCoefficient c cs (small_is c parts.0) (All-small cs parts.1)
+
+pub summed_kept : (f : List ℕ → ℤ) (columns : List (List ℕ)) (values : List ℤ) (i : ℕ) → i ≡ length columns → length columns ≤ MAX_LEN → list_all is_coefficient (map f (take i columns)) ≡ true → values ≡ padded (map f (take i columns))
+    → Keeps (map f columns) values (length columns) × (list_all is_coefficient (map f columns) ≡ true)
+summed_kept f columns values i is few small whole =
+    let all : list_all is_coefficient (map f columns) ≡ true = sym (ap (λ (names : List (List ℕ)). list_all is_coefficient (map f names)) (take_all i columns (omega arith))) ∙ small in
+    (mapped_kept f columns values i is few (All-small (map f columns) all) whole, all)
 
 -- ---- a list of coefficients in front of zeros
 

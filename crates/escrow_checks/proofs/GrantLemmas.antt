@@ -1,17 +1,18 @@
 -- What the grant rule grants, and what it refuses.
-use Rattle.std.proofs.Common.{◌≡◌, ℤ, pos, ◌+ℤ◌, ◌≤ℤ◌, ◌<ℤ◌, ◌↔◌, ◌⊎◌, inl, inr, List, [], ◌∷◌, ◌++◌, Option, Some, None, refl, ◌∙◌, sym, arith}
+use Rattle.std.proofs.Common.{◌≡◌, ℤ, pos, ◌+ℤ◌, ◌≤ℤ◌, ◌<ℤ◌, ◌↔◌, ◌⊎◌, inl, inr, List, [], ◌∷◌, ◌++◌, Option, Some, None, refl, ◌∙◌, sym, subst, arith}
 use Rattle.std.specs.Prelude.{All, IfSome, int_lt, option_map}
 use Rattle.std.specs.Int.{int_min, int_max}
 use Rattle.std.proofs.lemmas.Int.{ints, clamps}
-use Rattle.std.proofs.lemmas.List.Elements.{All-nil, All-cons, All-head, All-tail}
+use Rattle.std.proofs.lemmas.List.Elements.{All-nil, All-cons, All-head, All-tail, All-contains}
 use Rattle.std.proofs.lemmas.Option.{cond_some}
-use Rattle.escrow_num.specs.Span.{low_broken, high_broken, first_of_two, first_broken_of}
+use Rattle.escrow_num.specs.Span.{Holds, low_broken, high_broken, first_of_two, first_broken_of}
 use Rattle.escrow_num.specs.declared.span.Span.{Span}
 use Rattle.escrow_num.specs.declared.span.Side.{Side}
 use Rattle.escrow_num.specs.declared.span.Side.TheVariants.{Low, High}
 use Rattle.escrow_num.specs.declared.refusal.Breach.{Breach}
 use Rattle.escrow_checks.specs.declared.check.Check.{Check}
-use Rattle.escrow_checks.specs.Form.{form, IsCovered, changed}
+use Rattle.escrow_checks.specs.Form.{form, IsCovered, changed, all_changed}
+use Rattle.escrow_checks.specs.Sublists.{sublists}
 use Rattle.escrow_checks.specs.Extremes.{least, greatest}
 use Rattle.escrow_checks.specs.Spread.{falls, rises}
 use Rattle.escrow_checks.specs.Grant.{AlwaysMeets, broken_by, broken}
@@ -19,8 +20,8 @@ use Rattle.escrow_checks.specs.Laws.{IsReached, IsBeyond}
 use Rattle.escrow_checks.proofs.FormLemmas.{form-changed, length-changed}
 use Rattle.escrow_checks.proofs.SpreadLemmas.{falls-push, rises-push}
 use Rattle.escrow_checks.proofs.ExtremesLemmas.{least_is, greatest_is}
-use Rattle.escrow_checks.proofs.ReachedLemmas.{least_reached, greatest_reached}
-use Rattle.escrow_checks.proofs.InsideLemmas.{Inside, always_from_inside, inside_from_always, always_from_sums, sums_from_always}
+use Rattle.escrow_checks.proofs.ReachedLemmas.{greatest_above, least_reached, greatest_reached}
+use Rattle.escrow_checks.proofs.InsideLemmas.{Inside, raise_low, lower_high, always_from_inside, inside_from_always, always_from_sums, sums_from_always}
 
 unbroken_low : (o : Option ℤ) (low : ℤ) → low_broken o low ≡ None → IfSome o (λ lo. lo ≤ℤ low)
 unbroken_low None low e = tt
@@ -83,6 +84,38 @@ granted_where_all_always_met (check ∷ checks) amounts changes reservations =
           All-cons Met check checks (first.0 both.0) (rest.0 both.1),
       λ all. rw (first.1 (All-head Met check checks all), rest.1 (All-tail Met check checks all)) refl,
     )
+
+-- ---- what a new reservation adds moves both extremes
+
+-- the least isn't above the greatest
+least_first : (coeffs amounts : List ℤ) (reservations : List (List ℤ)) → least coeffs amounts reservations ≤ℤ greatest coeffs amounts reservations
+least_first coeffs amounts reservations =
+    let reached = least_reached coeffs amounts reservations in
+    let above = All-contains (λ chosen. form coeffs (all_changed amounts chosen) ≤ℤ greatest coeffs amounts reservations) (sublists reservations) reached.0 (greatest_above coeffs amounts reservations) reached.1 in
+    omega (arith, ints, above, reached.2)
+
+both_from_inside : (span : Span) (low high : ℤ) → low ≤ℤ high → Inside span low high → Holds span low × Holds span high
+both_from_inside span low high h inside =
+    ((inside.0, lower_high span.hi high low h inside.1), (raise_low span.lo low high h inside.0, inside.1))
+
+pub bounds_decide : (check : Check) (amounts changes : List ℤ) (reservations : List (List ℤ)) → IsCovered check.coeffs amounts
+    → (least check.coeffs (changed amounts changes) reservations ≡ least check.coeffs amounts reservations +ℤ form check.coeffs changes)
+    × (greatest check.coeffs (changed amounts changes) reservations ≡ greatest check.coeffs amounts reservations +ℤ form check.coeffs changes)
+    × ((broken_by check amounts changes reservations ≡ None) ↔ (Holds check.span (least check.coeffs amounts reservations +ℤ form check.coeffs changes) × Holds check.span (greatest check.coeffs amounts reservations +ℤ form check.coeffs changes)))
+bounds_decide check amounts changes reservations covered =
+    let coeffs : List ℤ = check.coeffs in
+    let with_new : List ℤ = changed amounts changes in
+    let covered_new : IsCovered coeffs with_new = omega (arith, length-changed amounts changes, covered) in
+    let moved = form-changed coeffs amounts changes covered in
+    let low : least coeffs with_new reservations ≡ least coeffs amounts reservations +ℤ form coeffs changes = omega (arith, ints, least_is coeffs with_new reservations covered_new, least_is coeffs amounts reservations covered, moved) in
+    let high : greatest coeffs with_new reservations ≡ greatest coeffs amounts reservations +ℤ form coeffs changes = omega (arith, ints, greatest_is coeffs with_new reservations covered_new, greatest_is coeffs amounts reservations covered, moved) in
+    let Both : ℤ → ℤ → Type 0 = λ l h. (broken_by check amounts changes reservations ≡ None) ↔ (Holds check.span l × Holds check.span h) in
+    let always = granted_where_always_met check amounts changes reservations in
+    let both : Both (least coeffs with_new reservations) (greatest coeffs with_new reservations) = (
+      λ granted. both_from_inside check.span _ _ (least_first coeffs with_new reservations) (inside_if_granted check amounts changes reservations granted),
+      λ held. always.1 (always_from_inside check with_new reservations (held.0.0, held.1.1)),
+    ) in
+    (low, high, subst (λ (h : ℤ). Both (least coeffs amounts reservations +ℤ form coeffs changes) h) high (subst (λ (l : ℤ). Both l (greatest coeffs with_new reservations)) low both))
 
 -- limits that hold with the new reservation, and without it, hold in every case
 inside_both : (o p : Option ℤ) (f d falls rises : ℤ)

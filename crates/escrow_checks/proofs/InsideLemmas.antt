@@ -17,11 +17,11 @@ use Rattle.escrow_checks.proofs.ReachedLemmas.{least_below, greatest_above, leas
 abbrev pub Inside : Span → ℤ → ℤ → Type 0
 Inside span low high = IfSome span.lo (λ lo. lo ≤ℤ low) × IfSome span.hi (λ hi. high ≤ℤ hi)
 
-raise_low : (o : Option ℤ) (x y : ℤ) → x ≤ℤ y → IfSome o (λ lo. lo ≤ℤ x) → IfSome o (λ lo. lo ≤ℤ y)
+pub raise_low : (o : Option ℤ) (x y : ℤ) → x ≤ℤ y → IfSome o (λ lo. lo ≤ℤ x) → IfSome o (λ lo. lo ≤ℤ y)
 raise_low None x y h k = tt
 raise_low (Some lo) x y h k = omega (arith, ints)
 
-lower_high : (o : Option ℤ) (x y : ℤ) → y ≤ℤ x → IfSome o (λ hi. x ≤ℤ hi) → IfSome o (λ hi. y ≤ℤ hi)
+pub lower_high : (o : Option ℤ) (x y : ℤ) → y ≤ℤ x → IfSome o (λ hi. x ≤ℤ hi) → IfSome o (λ hi. y ≤ℤ hi)
 lower_high None x y h k = tt
 lower_high (Some hi) x y h k = omega (arith, ints)
 

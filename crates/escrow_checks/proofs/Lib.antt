@@ -3,10 +3,14 @@ pub mod ConditionLemmas
 pub mod EndsLemmas
 pub mod ExtremesLemmas
 pub mod FormLemmas
+pub mod FoundLemmas
 pub mod GrantLemmas
 pub mod InsideLemmas
 pub mod LawsLemmas
+pub mod LinearLemmas
+pub mod NameLemmas
 pub mod Products
 pub mod ReachedLemmas
 pub mod SlowLemmas
 pub mod SpreadLemmas
+pub mod TermLemmas

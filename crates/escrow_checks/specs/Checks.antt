@@ -74,10 +74,13 @@ abbrev pub names_columns : List (List ℕ) → Condition → Bool
 names_columns columns condition =
     list_all (λ name. list_any (λ column. bytes_eq column name) columns) (flat_map columns_in (condition.sum ++ right_of condition.test))
 
--- coefficients have a magnitude of at most 1,000,000, and not all are zero
+-- a coefficient has a magnitude of at most 1,000,000
+abbrev pub is_coefficient : ℤ → Bool
+is_coefficient c = int_le (neg_ℤ MAX_COEFFICIENT) c && int_le c MAX_COEFFICIENT
+
+-- all are such coefficients, and not all are zero
 abbrev pub are_good_coefficients : List ℤ → Bool
-are_good_coefficients coeffs =
-    list_all (λ c. int_le (neg_ℤ MAX_COEFFICIENT) c && int_le c MAX_COEFFICIENT) coeffs && list_any (λ c. not (int_eq c (pos 0))) coeffs
+are_good_coefficients coeffs = list_all is_coefficient coeffs && list_any (λ c. not (int_eq c (pos 0))) coeffs
 
 -- a limit is an amount, also after it was moved; one that isn't there is good
 abbrev pub is_limit : Option ℤ → Bool

@@ -1,6 +1,7 @@
 -- Believed: the statements of the laws in src/laws.rt.
-use Rattle.std.specs.Prelude.{◌≡◌, ℕ, ℤ, ◌≤◌, ◌≤ℤ◌, ◌<ℤ◌, ◌↔◌, Bool, true, not, List, [], ◌∷◌, ◌++◌, length, map, filter, All, Contains, Some, None, bytes_eq}
-use Rattle.std.specs.List.{list_any, IsDistinct}
+use Rattle.std.specs.Prelude.{◌≡◌, ℕ, ℤ, ◌≤◌, ◌+ℤ◌, ◌≤ℤ◌, ◌<ℤ◌, ◌↔◌, Bool, not, List, [], ◌∷◌, ◌++◌, length, map, filter, All, Contains, Some, None, bytes_eq}
+use Rattle.std.specs.List.{IsDistinct, flat_map}
+use Rattle.escrow_num.specs.Span.{Holds}
 use Rattle.escrow_num.specs.declared.span.Span.{Span}
 use Rattle.escrow_num.specs.declared.span.Side.{Side}
 use Rattle.escrow_num.specs.declared.span.Side.TheVariants.{Low, High}
@@ -10,6 +11,7 @@ use Rattle.escrow_checks.specs.declared.check.Check.{Check}
 use Rattle.escrow_checks.specs.declared.condition.TheConstants.{MAX_CHECKS}
 use Rattle.escrow_checks.specs.Checks.{checks_of, unit_of}
 use Rattle.escrow_checks.specs.Condition.{amount_of}
+use Rattle.escrow_checks.specs.DeclaredCheck.{IsDeclared}
 use Rattle.escrow_checks.specs.Meaning.{MeanTheSame}
 use Rattle.escrow_checks.specs.Form.{form, IsCovered, changed, all_changed}
 use Rattle.escrow_checks.specs.Sublists.{sublists}
@@ -22,16 +24,20 @@ use Rattle.escrow_checks.specs.Grant.{AlwaysMeets, broken_by, broken}
 abbrev pub ChecksMeanTheirTexts : Type 0
 ChecksMeanTheirTexts = (columns : List (List ℕ)) (texts : List CheckText) (checks : List Check) → checks_of columns texts ≡ Some checks → MeanTheSame columns texts checks
 
--- there is one check for each CHECK, at most 32, each with a coefficient for each column
+-- there is one check for each condition of the CHECKs, at most 32, each with a coefficient for each column
 abbrev pub ChecksAreWhole : Type 0
 ChecksAreWhole = (columns : List (List ℕ)) (texts : List CheckText) (checks : List Check) → checks_of columns texts ≡ Some checks
-    → (length checks ≡ length texts) × (length checks ≤ MAX_CHECKS) × All (λ check. length check.coeffs ≡ length columns) checks
+    → (length checks ≡ length (flat_map (λ text. text.conditions) texts)) × (length checks ≤ MAX_CHECKS) × All (λ check. length check.coeffs ≡ length columns) checks
+
+-- the coefficients, the limits and the name of each are as the rules of CHECKs ask
+abbrev pub ChecksAreDeclared : Type 0
+ChecksAreDeclared = (columns : List (List ℕ)) (texts : List CheckText) (checks : List Check) → checks_of columns texts ≡ Some checks
+    → All (λ check. IsDeclared columns check) checks
 
 -- of columns with names of their own, the form of one column's coefficients is its amount
 abbrev pub UnitGivesTheAmount : Type 0
-UnitGivesTheAmount = (columns : List (List ℕ)) (amounts : List ℤ) (name : List ℕ)
-    → IsDistinct bytes_eq columns → length amounts ≡ length columns → list_any (λ column. bytes_eq column name) columns ≡ true
-    → amount_of columns amounts name ≡ Some (form (unit_of columns name) amounts)
+UnitGivesTheAmount = (columns : List (List ℕ)) (amounts : List ℤ) (name : List ℕ) → IsDistinct bytes_eq columns
+    → amount_of columns amounts name ≡ form (unit_of columns name) amounts
 
 -- ---- of extremes and grants
 
@@ -56,6 +62,15 @@ GrantedWhereAlwaysMet = (check : Check) (amounts changes : List ℤ) (reservatio
 abbrev pub GrantedWhereAllAlwaysMet : Type 0
 GrantedWhereAllAlwaysMet = (checks : List Check) (amounts changes : List ℤ) (reservations : List (List ℤ))
     → (broken checks amounts changes reservations ≡ None) ↔ All (λ check. AlwaysMeets check (changed amounts changes) reservations) checks
+
+-- a new reservation moves the least and the greatest by what it adds to the form, and breaks nothing
+-- of a check exactly where both are then within the limits
+abbrev pub BoundsDecide : Type 0
+BoundsDecide = (check : Check) (amounts changes : List ℤ) (reservations : List (List ℤ)) → IsCovered check.coeffs amounts
+    → let low = least check.coeffs amounts reservations +ℤ form check.coeffs changes in
+    let high = greatest check.coeffs amounts reservations +ℤ form check.coeffs changes in
+    (least check.coeffs (changed amounts changes) reservations ≡ low) × (greatest check.coeffs (changed amounts changes) reservations ≡ high)
+    × ((broken_by check amounts changes reservations ≡ None) ↔ (Holds check.span low × Holds check.span high))
 
 -- what is granted leaves a row that always meets a check a row that always meets it
 abbrev pub GrantedStaysSafe : Type 0

@@ -2,8 +2,10 @@ pub mod Checks
 pub mod Coefficients
 pub mod Condition
 pub mod Contribution
+pub mod DeclaredCheck
 pub mod Extremes
 pub mod Form
+pub mod Found
 pub mod Grant
 pub mod Laws
 pub mod Meaning

@@ -1,7 +1,11 @@
-ghost use Rattle.std.specs.Prelude.{◌≡◌, pos, ◌<◌, ◌≤◌, length, replicate, slice_set, bytes_eq, if◌then◌else◌};
+ghost use Rattle.std.specs.Prelude.{◌≡◌, pos, ◌<◌, ◌≤◌, length, map, replicate, slice_set, bytes_eq, if◌then◌else◌, not, Some, None};
+ghost use Rattle.std.specs.List.{list_all, list_any};
+ghost use Rattle.std.specs.Ordering.{int_eq};
 ghost use Rattle.escrow_checks.specs.Coefficients.{AreCoefficients};
 
+use crate::condition::sums::coefficient_of;
 use escrow_num::{Amount, Name};
+use escrow_sql::Condition;
 use std::fmt::{Debug, Error, Formatter, Write};
 use std::marker::Model;
 
@@ -33,7 +37,7 @@ impl Model for Coefficients {
 }
 
 impl Coefficients {
-    ghost use Rattle.escrow_checks.specs.Checks.{unit_of};
+    ghost use Rattle.escrow_checks.specs.Checks.{unit_of, coefficient_of, is_coefficient, are_good_coefficients};
 
     /// The most coefficients that a check has: a table has at most 10 RESERVABLE columns.
     pub const MAX_LEN: usize = 10;
@@ -55,18 +59,51 @@ impl Coefficients {
     }
 
     /// The coefficients of the column of this name: 1 at each column that has it, 0 elsewhere.
-    pub(crate) fn of_column(columns: &[Name], name: Name) -> Self
+    pub fn of_column(columns: &[Name], name: Name) -> Self
         requires { length columns.now ≤ Coefficients.MAX_LEN }
         ensures { result ≡ unit_of columns.now name }
     {
-        let mut values = [Amount::new(0).unwrap(); Self::MAX_LEN];
+        let mut values = [Amount::ZERO; Self::MAX_LEN];
         for (i, column) in columns.iter().enumerate() {
-            values[i] = coefficient_of(column, name);
+            values[i] = one_or_zero(column, name);
         }
         Coefficients {
             values,
             len: columns.len(),
         }
+    }
+
+    /// The coefficients of a condition, or `None` where one is past [`MAX_COEFFICIENT`], or all
+    /// are zero.
+    ///
+    /// [`MAX_COEFFICIENT`]: crate::MAX_COEFFICIENT
+    pub(crate) fn of_condition(columns: &[Name], condition: &Condition) -> Option<Self>
+        requires { length columns.now ≤ Coefficients.MAX_LEN }
+        ensures { let coeffs = map (coefficient_of condition.now) columns.now in
+            result ≡ (if are_good_coefficients coeffs then Some coeffs else None) }
+    {
+        let coeffs = Self::summed(columns, condition)?;
+        if has_nonzero(coeffs.as_slice()) {
+            Some(coeffs)
+        } else {
+            None
+        }
+    }
+
+    /// The coefficients of a condition, or `None` where one is past the greatest magnitude.
+    fn summed(columns: &[Name], condition: &Condition) -> Option<Self>
+        requires { length columns.now ≤ Coefficients.MAX_LEN }
+        ensures { let coeffs = map (coefficient_of condition.now) columns.now in
+            result ≡ (if list_all is_coefficient coeffs then Some coeffs else None) }
+    {
+        let mut values = [Amount::ZERO; Self::MAX_LEN];
+        for (i, column) in columns.iter().enumerate() {
+            values[i] = coefficient_of(condition, column)?;
+        }
+        Some(Coefficients {
+            values,
+            len: columns.len(),
+        })
     }
 
     /// The coefficients, in column order.
@@ -78,8 +115,15 @@ impl Coefficients {
     }
 }
 
+/// Whether a coefficient isn't zero.
+fn has_nonzero(coeffs: &[Amount]) -> bool
+    ensures { result ≡ list_any (λ c. not (int_eq c (pos 0))) coeffs.now }
+{
+    coeffs.iter().any(|c| c.get() != 0)
+}
+
 /// 1 for the column of this name, 0 for another.
-fn coefficient_of(column: &Name, name: Name) -> Amount
+fn one_or_zero(column: &Name, name: Name) -> Amount
     ensures { result ≡ (if bytes_eq column.now name then pos 1 else pos 0) }
 {
     let number = if *column == name { 1 } else { 0 };

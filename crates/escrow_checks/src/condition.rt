@@ -1,24 +1,37 @@
-ghost use Rattle.std.specs.Prelude.{◌≡◌, ◌≤◌, ◌++◌, ◌&&◌, if◌then◌else◌, length, map, codes, ℕ, ℤ, List, Some, None, IfOk, IsErr, IsErrOf};
-ghost use Rattle.std.specs.Fmt.{decimal};
-ghost use Rattle.escrow_num.specs.Amount.{is_amount};
-ghost use Rattle.escrow_checks.specs.Checks.{check_name, check_of, checks_of, is_limit, span_of};
+ghost use Rattle.std.specs.Prelude.{◌≡◌, ◌≤◌, ◌+◌, ◌&&◌, if◌then◌else◌, length, map, List, Option, Some, None, IfOk, IsErr, IsErrOf, OnOk, bytes_eq};
+ghost use Rattle.std.specs.List.{list_all, list_any, flat_map};
+ghost use Rattle.escrow_checks.specs.declared.check.Check.{Check};
+ghost use Rattle.escrow_checks.specs.Checks.{check_name, check_of, checks_of, checks_of_conditions, columns_in, names_columns};
+ghost use Rattle.escrow_checks.specs.Found.{found, followed_by, few};
 ghost use Rattle.escrow_checks.specs.Meaning.{MeanTheSame};
-ghost use Rattle.escrow_checks.specs.WrittenName.{is_written_name};
+
+mod limits;
+mod names;
+pub(crate) mod sums;
 
 use crate::check::Check;
 use crate::coefficients::Coefficients;
 use crate::fault::CheckFault;
-use escrow_num::{Amount, Name, Seq, Span, Wide};
-use escrow_sql::{CheckText, Comparison, Word};
+use escrow_num::{Name, Seq};
+use escrow_sql::{CheckText, Condition, Term};
+use limits::limits_of;
+pub use names::is_written_name;
+use names::name_of;
 use std::alloc::Global;
+use sums::right_of;
 
 /// The most checks that a table declares.
 pub const MAX_CHECKS: usize = 32;
 
-/// The checks of a table's CHECKs, in their order, over its RESERVABLE columns. Each is named as it
-/// is written, or `CHECK_` and its place. [`CheckFault::Definition`] where there are more than
-/// [`MAX_CHECKS`], or a condition names another column, has a limit of more than 15 digits (after
-/// `<` or `>` moved it by one), or a name that no statement can write.
+/// The greatest magnitude of a coefficient of a declared check.
+pub const MAX_COEFFICIENT: i64 = 1_000_000;
+
+/// The checks of a table's CHECKs over its RESERVABLE columns: one for each condition, in order.
+/// The first of a CHECK is named as that is written, its k-th has `_k` behind the name; those of a
+/// CHECK without a name are `CHECK_` and their place in the table. [`CheckFault::Definition`] where
+/// there are more than [`MAX_CHECKS`], or a condition names another column, has a coefficient past
+/// [`MAX_COEFFICIENT`] or none but zeros, has a limit of more than 15 digits (after `<` or `>` moved
+/// it by one), has a low limit greater than the high one, or a name that no statement can write.
 pub fn normalise(
     alloc: Global,
     texts: &[&CheckText],
@@ -30,114 +43,83 @@ pub fn normalise(
     ensures definition { IsErrOf result CheckFault.Definition → checks_of columns.now (map (λ text. text.now) texts.now) ≡ None }
     ensures broken { checks_of columns.now (map (λ text. text.now) texts.now) ≡ None → IsErr result }
 {
-    if MAX_CHECKS < texts.len() {
-        return Err(CheckFault::Definition);
-    }
     let mut checks = Seq::new(alloc);
-    for (i, text) in texts.iter().enumerate() {
-        let Some(check) = check_of(text, columns, i + 1) else {
-            return Err(CheckFault::Definition);
-        };
-        check.add_to(&mut checks)?;
+    for text in texts {
+        add_checks(&mut checks, text, columns)?;
     }
     Ok(checks)
 }
 
-/// The check of a CHECK, at its place among those of its table.
-fn check_of(text: &CheckText, columns: &[Name], place: usize) -> Option<Check>
-    requires few { length columns.now ≤ Coefficients.MAX_LEN }
-    requires placed { place ≤ MAX_CHECKS }
-    ensures { result ≡ check_of columns.now text.now place }
+/// Adds the checks of a CHECK's conditions to those of the CHECKs before it.
+fn add_checks(checks: &mut Seq<Check>, text: &CheckText, columns: &[Name]) -> Result<(), CheckFault>
+    requires columns { length columns.now ≤ Coefficients.MAX_LEN }
+    requires before { length checks.old ≤ MAX_CHECKS }
+    ensures ok { OnOk result ((others : Option (List Check))
+        → found checks.old (checks_of_conditions columns.now text.now.name 1 (length checks.old + 1) text.now.conditions) others
+        ≡ followed_by checks.new others) }
+    ensures counted { OnOk result (length checks.new ≡ length checks.old + length text.now.conditions) }
+    ensures within { OnOk result (length checks.new ≤ MAX_CHECKS) }
+    ensures definition { IsErrOf result CheckFault.Definition → (others : Option (List Check))
+        → few (found checks.old (checks_of_conditions columns.now text.now.name 1 (length checks.old + 1) text.now.conditions) others)
+        ≡ None }
 {
-    let condition = text.condition;
-    if !columns.contains(&condition.column) {
+    for (k, condition) in text.conditions.as_slice().iter().enumerate() {
+        let before = checks.len();
+        if before == MAX_CHECKS {
+            return Err(CheckFault::Definition);
+        }
+        let Some(check) = check_of(columns, text.name, k + 1, before + 1, condition) else {
+            return Err(CheckFault::Definition);
+        };
+        check.add_to(checks)?;
+    }
+    Ok(())
+}
+
+/// The check of a condition, the `k`-th of a CHECK of this name and the `n`-th of the table.
+fn check_of(
+    columns: &[Name],
+    name: Option<Name>,
+    k: usize,
+    n: usize,
+    condition: &Condition,
+) -> Option<Check>
+    requires columns { length columns.now ≤ Coefficients.MAX_LEN }
+    requires in_check { k ≤ MAX_CHECKS }
+    requires in_table { n ≤ MAX_CHECKS }
+    ensures { result ≡ check_of columns.now (check_name name k n) condition.now }
+{
+    if !names_columns(columns, condition) {
         return None;
     }
-    let span = span_of(condition.comparison, condition.limit)?;
-    let name = name_of(text, place)?;
-    Some(Check {
-        name,
-        coeffs: Coefficients::of_column(columns, condition.column),
-        span,
-    })
+    let name = name_of(name, k, n)?;
+    let coeffs = Coefficients::of_condition(columns, condition)?;
+    let span = limits_of(condition)?;
+    Some(Check { name, coeffs, span })
 }
 
-/// The limits that a comparison with a number sets, or `None` past 15 digits.
-fn span_of(comparison: Comparison, limit: Amount) -> Option<Span>
-    ensures { let span = span_of comparison limit in
-        result ≡ (if is_limit span.lo && is_limit span.hi then Some span else None) }
+/// Whether each column that a condition names, whatever its coefficient, is one of these.
+#[tactic(auto, using(crate::proofs::TermLemmas::all_columns))]
+fn names_columns(columns: &[Name], condition: &Condition) -> bool
+    ensures { result ≡ names_columns columns.now condition.now }
 {
-    let number = limit.get();
-    match comparison {
-        Comparison::Below => at_most(number - 1),
-        Comparison::AtMost => at_most(number),
-        Comparison::Above => at_least(number + 1),
-        Comparison::AtLeast => at_least(number),
+    are_columns(columns, condition.sum.as_slice())
+        && are_columns(columns, right_of(&condition.test))
+}
+
+/// Whether each column that a term names is one of these.
+fn are_columns(columns: &[Name], terms: &[Term]) -> bool
+    ensures { result ≡ list_all (λ term. list_all (λ name. list_any (λ column. bytes_eq column name) columns.now) (columns_in term)) terms.now }
+{
+    terms.iter().all(|term| is_column(columns, term))
+}
+
+/// Whether the column that a term names, if it does, is one of these.
+fn is_column(columns: &[Name], term: &Term) -> bool
+    ensures { result ≡ list_all (λ name. list_any (λ column. bytes_eq column name) columns.now) (columns_in term.now) }
+{
+    match term {
+        Term::Number(_) => true,
+        Term::Column { column, .. } => columns.contains(column),
     }
 }
-
-/// The limits of a form that is at most a number.
-fn at_most(number: i64) -> Option<Span>
-    ensures { result ≡ (if is_amount number then Some (record { lo = None; hi = Some number }) else None) }
-{
-    let hi = Amount::new(number)?;
-    Some(Span {
-        lo: None,
-        hi: Some(Wide::from(hi)),
-    })
-}
-
-/// The limits of a form that is at least a number.
-fn at_least(number: i64) -> Option<Span>
-    ensures { result ≡ (if is_amount number then Some (record { lo = Some number; hi = None }) else None) }
-{
-    let lo = Amount::new(number)?;
-    Some(Span {
-        lo: Some(Wide::from(lo)),
-        hi: None,
-    })
-}
-
-/// The name of a check at its place, or `None` where no statement can write it.
-fn name_of(text: &CheckText, place: usize) -> Option<Name>
-    requires { place ≤ MAX_CHECKS }
-    ensures { let name = check_name text.now place in
-        result ≡ (if is_written_name name then Some name else None) }
-{
-    let name = match text.name {
-        Some(name) => name,
-        None => numbered(place),
-    };
-    if is_written_name(&name) {
-        Some(name)
-    } else {
-        None
-    }
-}
-
-/// Whether a statement can write the name: it has at most [`Name::MAX_WRITTEN`] bytes, and is no
-/// reserved word. A name is spelled as one.
-#[tactic(auto, unfolding(crate::specs::WrittenName::is_written_name))]
-pub fn is_written_name(name: &Name) -> bool
-    ensures { result ≡ is_written_name name.now }
-{
-    let text = name.as_bytes();
-    text.len() <= Name::MAX_WRITTEN && Word::of(text).is_none()
-}
-
-/// `CHECK_` and a place.
-fn numbered(place: usize) -> Name
-    requires { place ≤ MAX_CHECKS }
-    ensures { result ≡ codes "CHECK_" ++ decimal place }
-{
-    let ones = b'0' + (place % 10) as u8;
-    if place < 10 {
-        Name::new(&[b'C', b'H', b'E', b'C', b'K', b'_', ones]).unwrap()
-    } else {
-        let tens = b'0' + (place / 10) as u8;
-        Name::new(&[b'C', b'H', b'E', b'C', b'K', b'_', tens, ones]).unwrap()
-    }
-}
-
-#[cfg(test)]
-mod tests;

@@ -1,7 +1,7 @@
 //! Laws of checks and of the grant rule: facts about their definitions, each the contract of a
 //! function that does nothing. What keeps a database's state valid stands on them.
 
-ghost use Rattle.escrow_checks.specs.Laws.{ChecksMeanTheirTexts, ChecksAreWhole, UnitGivesTheAmount, ExtremesAreReached, GrantedWhereAlwaysMet, GrantedWhereAllAlwaysMet, GrantedStaysSafe, RefusedNamesAChoice, AnyChoiceCanCommit, AnyChoiceCanRollBack, ChangesKeepTheNumber, OtherRowsStaySafe, NewRowIsSafe};
+ghost use Rattle.escrow_checks.specs.Laws.{ChecksMeanTheirTexts, ChecksAreWhole, ChecksAreDeclared, UnitGivesTheAmount, ExtremesAreReached, GrantedWhereAlwaysMet, GrantedWhereAllAlwaysMet, BoundsDecide, GrantedStaysSafe, RefusedNamesAChoice, AnyChoiceCanCommit, AnyChoiceCanRollBack, ChangesKeepTheNumber, OtherRowsStaySafe, NewRowIsSafe};
 ghost use Rattle.escrow_checks.specs.Spread.{OtherRowsAddNothing};
 
 /// A row meets all the checks that CHECKs declare exactly where it meets all the CHECKs as they are
@@ -10,9 +10,15 @@ pub fn checks_mean_their_texts()
     ensures { ChecksMeanTheirTexts }
 {}
 
-/// There is one check for each CHECK, with a coefficient for each RESERVABLE column.
+/// There is one check for each condition of the CHECKs, with a coefficient for each RESERVABLE
+/// column.
 pub fn checks_are_whole()
     ensures { ChecksAreWhole }
+{}
+
+/// The coefficients, the limits and the name of each declared check are as the rules ask.
+pub fn checks_are_declared()
+    ensures { ChecksAreDeclared }
 {}
 
 /// The form of one column's coefficients is the column's amount.
@@ -36,6 +42,12 @@ pub fn granted_where_always_met()
 /// every check.
 pub fn granted_where_all_always_met()
     ensures { GrantedWhereAllAlwaysMet }
+{}
+
+/// A new reservation moves the least and the greatest of a check's form by just what it adds, and
+/// is granted exactly where both are then within the check's limits.
+pub fn bounds_decide()
+    ensures { BoundsDecide }
 {}
 
 /// A row that meets a check whichever of the open reservations are applied still does with one more

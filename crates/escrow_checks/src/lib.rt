@@ -13,6 +13,6 @@ mod spread;
 
 pub use check::Check;
 pub use coefficients::Coefficients;
-pub use condition::{MAX_CHECKS, is_written_name, normalise};
+pub use condition::{MAX_CHECKS, MAX_COEFFICIENT, is_written_name, normalise};
 pub use fault::CheckFault;
 pub use spread::Spread;

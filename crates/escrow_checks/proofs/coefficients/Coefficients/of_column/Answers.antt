@@ -1,11 +1,12 @@
-use Rattle.std.proofs.Common.{arith}
-use Rattle.escrow_checks.proofs.CoefficientsLemmas.{unit_of-more, unit_of_kept}
+use Rattle.std.proofs.Common.{arith, pos, if◌then◌else◌}
+use Rattle.std.specs.Prelude.{bytes_eq}
+use Rattle.escrow_checks.proofs.CoefficientsLemmas.{mapped-more, unit_of_kept}
 use Rattle.escrow_checks.proofs.coefficients.Coefficients.of_column.Goals as goal
 
 pub loop-i-preserved : goal.loop-i-preserved
 loop-i-preserved c =
-    rw (c.coefficient_of.ensures, c.loop-i.invariant)
-    (unit_of-more c.args.columns.now c.args.name c.index-columns-i.result c.loop-i.i c.loop-i-test.true c.requires c.index-columns-i.is)
+    rw c.loop-i.invariant
+    (mapped-more (λ column. if bytes_eq column c.args.name then pos 1 else pos 0) c.args.columns.now c.index-columns-i.result c.loop-i.i c.one_or_zero.result c.loop-i-test.true c.requires c.index-columns-i.is c.one_or_zero.ensures)
 
 pub invariant_of-result : goal.invariant_of-result
 invariant_of-result c =

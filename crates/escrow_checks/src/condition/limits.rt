@@ -1,0 +1,89 @@
+//! The limits of a condition.
+
+ghost use Rattle.std.specs.Prelude.{◌≡◌, ◌&&◌, true, if◌then◌else◌, Some, None};
+ghost use Rattle.escrow_checks.specs.Checks.{condition_limits, span_of, is_limit, in_order, is_good_span};
+ghost use Rattle.escrow_checks.specs.Contribution.{IsDifference};
+
+use super::sums::{less, number_sum, right_of};
+use escrow_num::{Amount, Span, Wide};
+use escrow_sql::{Comparison, Condition, Test};
+
+/// The limits of a condition, or `None` where one has more than 15 digits, or the low one is
+/// greater than the high one.
+pub(super) fn limits_of(condition: &Condition) -> Option<Span>
+    ensures { let span = condition_limits condition.now in
+        result ≡ (if is_good_span span then Some span else None) }
+{
+    let left = number_sum(condition.sum.as_slice());
+    match &condition.test {
+        Test::Compare { comparison, sum } => {
+            span_of(*comparison, less(number_sum(sum.as_slice()), left))
+        }
+        Test::Between { low, high } => {
+            let low = less(i128::from(low.get()), left);
+            let high = less(i128::from(high.get()), left);
+            good_span(Some(low), Some(high))
+        }
+    }
+}
+
+/// The limits that a comparison with a number sets.
+fn span_of(comparison: Comparison, number: i128) -> Option<Span>
+    requires { IsDifference number }
+    ensures { let span = span_of comparison number in
+        result ≡ (if is_good_span span then Some span else None) }
+{
+    match comparison {
+        Comparison::Below => good_span(None, Some(number - 1)),
+        Comparison::AtMost => good_span(None, Some(number)),
+        Comparison::Above => good_span(Some(number + 1), None),
+        Comparison::AtLeast => good_span(Some(number), None),
+        Comparison::Equal => good_span(Some(number), Some(number)),
+    }
+}
+
+/// The span of two limits, where they are good.
+fn good_span(lo: Option<i128>, hi: Option<i128>) -> Option<Span>
+    ensures { result ≡ (if is_limit lo && is_limit hi && in_order lo hi then Some (record { lo = lo; hi = hi }) else None) }
+{
+    if is_limit(lo) && is_limit(hi) && in_order(lo, hi) {
+        Some(Span {
+            lo: limit(lo),
+            hi: limit(hi),
+        })
+    } else {
+        None
+    }
+}
+
+/// Whether a limit, if it is there, has at most 15 digits.
+fn is_limit(number: Option<i128>) -> bool
+    ensures { result ≡ is_limit number }
+{
+    let most = i128::from(Amount::MAX);
+    match number {
+        Some(number) => -most <= number && number <= most,
+        None => true,
+    }
+}
+
+/// Whether the low limit isn't greater than the high one.
+fn in_order(lo: Option<i128>, hi: Option<i128>) -> bool
+    ensures { result ≡ in_order lo hi }
+{
+    match (lo, hi) {
+        (Some(lo), Some(hi)) => lo <= hi,
+        _ => true,
+    }
+}
+
+/// A limit of at most 15 digits.
+fn limit(number: Option<i128>) -> Option<Wide>
+    requires { is_limit number ≡ true }
+    ensures { result ≡ number }
+{
+    match number {
+        Some(number) => Wide::new(number),
+        None => None,
+    }
+}

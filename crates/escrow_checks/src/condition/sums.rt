@@ -1,0 +1,109 @@
+//! What the terms of a condition add up to. A list of terms may be long, so that the sums are
+//! taken in 128 bits.
+
+ghost use Rattle.std.specs.Prelude.{◌≡◌, ◌+ℤ◌, ◌-ℤ◌, if◌then◌else◌, Some, None};
+ghost use Rattle.escrow_num.specs.Amount.{IsAmount};
+ghost use Rattle.escrow_checks.specs.Checks.{coefficient_in, coefficient_of, is_coefficient, number_in, right_of};
+ghost use Rattle.escrow_checks.specs.Condition.{total};
+ghost use Rattle.escrow_checks.specs.Contribution.{IsTermSum, IsDifference};
+
+use super::MAX_COEFFICIENT;
+use escrow_num::{Amount, Name};
+use escrow_sql::{Condition, Term, Test};
+
+/// A column's coefficient in a condition: the sum of those on the left less the sum of those on
+/// the right. `None` where its magnitude is past [`MAX_COEFFICIENT`].
+pub(crate) fn coefficient_of(condition: &Condition, column: &Name) -> Option<Amount>
+    ensures { let c = coefficient_of condition.now column.now in
+        result ≡ (if is_coefficient c then Some c else None) }
+{
+    let left = coefficient_sum(condition.sum.as_slice(), column);
+    let right = coefficient_sum(right_of(&condition.test), column);
+    let coefficient = less(left, right);
+    if coefficient < i128::from(-MAX_COEFFICIENT) || i128::from(MAX_COEFFICIENT) < coefficient {
+        None
+    } else {
+        Amount::new(coefficient as i64)
+    }
+}
+
+/// The terms on the right of a condition: BETWEEN has none.
+pub(super) fn right_of(test: &Test) -> &[Term]
+    ensures { result.now ≡ right_of test.now }
+{
+    match test {
+        Test::Compare { sum, .. } => sum.as_slice(),
+        Test::Between { .. } => &[],
+    }
+}
+
+/// The sum of the coefficients that terms have of a column.
+fn coefficient_sum(terms: &[Term], column: &Name) -> i128
+    ensures value { result ≡ total (coefficient_in column.now) terms.now }
+    ensures within { IsTermSum result }
+{
+    let mut sum = 0;
+    for term in terms {
+        sum = plus(sum, coefficient_in(term, column));
+    }
+    sum
+}
+
+/// The sum of the numbers that stand by themselves among terms.
+pub(super) fn number_sum(terms: &[Term]) -> i128
+    ensures value { result ≡ total number_in terms.now }
+    ensures within { IsTermSum result }
+{
+    let mut sum = 0;
+    for term in terms {
+        sum = plus(sum, number_in(term));
+    }
+    sum
+}
+
+/// What a term adds to the coefficient of a column.
+fn coefficient_in(term: &Term, name: &Name) -> Amount
+    ensures { result ≡ coefficient_in name.now term.now }
+{
+    match term {
+        Term::Number(_) => Amount::ZERO,
+        Term::Column {
+            coefficient,
+            column,
+        } => {
+            if *column == *name {
+                *coefficient
+            } else {
+                Amount::ZERO
+            }
+        }
+    }
+}
+
+/// What a term adds to the numbers of a sum.
+fn number_in(term: &Term) -> Amount
+    ensures { result ≡ number_in term.now }
+{
+    match term {
+        Term::Number(number) => *number,
+        Term::Column { .. } => Amount::ZERO,
+    }
+}
+
+/// A sum of terms, and one amount more.
+fn plus(sum: i128, amount: Amount) -> i128
+    requires { IsTermSum sum }
+    ensures { result ≡ sum +ℤ amount }
+{
+    sum + i128::from(amount.get())
+}
+
+/// A sum of terms less another.
+pub(super) fn less(sum: i128, other: i128) -> i128
+    requires sum { IsTermSum sum }
+    requires other { IsTermSum other }
+    ensures value { result ≡ sum -ℤ other }
+    ensures within { IsDifference result }
+{
+    sum - other
+}
