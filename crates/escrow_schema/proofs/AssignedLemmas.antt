@@ -2,7 +2,7 @@
 use Rattle.std.proofs.Common.{◌≡◌, ℕ, zero, suc, Bool, true, false, Option, Some, None, option_map, option_and_then, Result, Ok, Err, List, [], ◌∷◌, map, bytes_eq, sym, subst, ap, ◌∙◌, refl}
 use Rattle.std.specs.Prelude.{ℤ, slice_get}
 use Rattle.std.specs.List.{list_any, list_all}
-use Rattle.std.proofs.lemmas.Bool.{and_parts, false≢true, or_parts}
+use Rattle.std.proofs.lemmas.Bool.{and_parts, or_parts}
 use Rattle.std.proofs.lemmas.Option.{none-some, same_Some, slice_get-map}
 use Rattle.escrow_num.specs.declared.refusal.Refusal.{Refusal}
 use Rattle.escrow_num.specs.declared.value.Value.{Value}
@@ -16,7 +16,7 @@ use Rattle.escrow_schema.specs.Column.{reservables, value_of}
 use Rattle.escrow_schema.specs.Definition.{are_distinct}
 use Rattle.escrow_schema.specs.Fit.{plains}
 use Rattle.escrow_schema.specs.Laws.{ChangesAsAssigned, NewValuesAsAssigned}
-use Rattle.escrow_schema.specs.Plan.{are_changes, are_replacements, assigned_to, change_in, changes_of, is_replacement, key_named, literal_in, new_values}
+use Rattle.escrow_schema.specs.Plan.{are_changes, are_replacements, assigned_to, change_in, changes_of, is_change, is_replacement, key_named, literal_in, new_values}
 use Rattle.escrow_schema.proofs.DistinctLemmas.{first_apart, same_name}
 use Rattle.escrow_schema.proofs.PlanLemmas.{changes_by, new_ones, plan_by, values_by}
 
@@ -52,12 +52,6 @@ assigned_none (first ∷ assigns) name none =
     let parts = or_parts (bytes_eq first.column name) (list_any (λ assign. bytes_eq assign.column name) assigns) none in
     rw parts.0 (assigned_none assigns name parts.1)
 
--- changes are of one column each
-one_change : (columns : List Column) (assigns : List Assign) → are_changes columns assigns ≡ true → are_distinct (assigned_names assigns) ≡ true
-one_change columns [] e = absurd (false≢true e)
-one_change columns (assign ∷ []) e = refl
-one_change columns (assign ∷ other ∷ assigns) e = absurd (false≢true e)
-
 -- a plan of either kind is for assignments of that kind
 kind_of_changes : (a b : Bool) (k : Result Value Refusal) (made : List (Option ℤ)) (values : Option (List (Option Value))) (key : Value) (changes : List (Option ℤ))
     → plan_by a b k made values ≡ Ok (Reserve key changes) → a ≡ true
@@ -80,13 +74,14 @@ changes_as_assigned table text key changes e i column here =
     let made = changes_of table.columns assigns in
     let a : are_changes table.columns assigns ≡ true =
     kind_of_changes (are_changes table.columns assigns) (are_replacements table assigns) (key_named table text.row) made (new_values table assigns) key changes e in
+    let apart : are_distinct (assigned_names assigns) ≡ true = (and_parts (are_distinct (assigned_names assigns)) (list_all (is_change table.columns) assigns) a).0 in
     let same : made ≡ changes = changes_by (are_changes table.columns assigns) (are_replacements table assigns) (key_named table text.row) made (new_values table assigns) key changes e in
     let change_of : Column → Option ℤ = λ c. option_and_then change_in (assigned_to assigns c.name) in
     let at : slice_get changes i ≡ Some (change_of column) =
     ap (λ (cs : List (Option ℤ)). slice_get cs i) (sym same) ∙ (slice_get-map change_of (reservables table.columns) i ∙ ap (option_map change_of) here) in (
       λ k assign source change found named value.
           let known : assigned_to assigns column.name ≡ Some (assigned.Change source change) =
-          subst (λ (name : List ℕ). assigned_to assigns name ≡ Some assign.value) named (assigned_at assigns k assign (one_change table.columns assigns a) found) ∙ ap Some value in
+          subst (λ (name : List ℕ). assigned_to assigns name ≡ Some assign.value) named (assigned_at assigns k assign apart found) ∙ ap Some value in
           at ∙ ap (λ (o : Option Assigned). Some (option_and_then change_in o)) known,
       λ none. at ∙ ap (λ (o : Option Assigned). Some (option_and_then change_in o)) (assigned_none assigns column.name none),
     )

@@ -10,7 +10,8 @@ use Rattle.std.proofs.lemmas.Option.{none-some, same_Some, option_and_then_some,
 use Rattle.std.proofs.lemmas.Slice.Eq.{bytes_eq-Decides}
 use Rattle.escrow_sql.specs.declared.statement.CreateText.{CreateText}
 use Rattle.escrow_sql.specs.declared.statement.Item.{Item}
-use Rattle.escrow_checks.proofs.ConditionLemmas.{checks_whole}
+use Rattle.escrow_checks.proofs.ConditionLemmas.{checks_declared, checks_whole}
+use Rattle.escrow_checks.specs.DeclaredCheck.{IsDeclared}
 use Rattle.escrow_checks.specs.declared.coefficients.TheConstants.Coefficients.{MAX_LEN}
 use Rattle.escrow_checks.specs.WrittenName.{is_written_name}
 use Rattle.escrow_schema.specs.declared.column.Column.{Column}
@@ -127,7 +128,9 @@ follows_rules text table e =
     let p = parts text table e in
     let rules = rules_on table.columns table.key p.follow in
     let key = plain_column (slice_get table.columns table.key) rules.plain_key in
-    let written = checks_whole (names_of (reservables table.columns)) (checks_in text.items) p.written p.from_texts in
+    let names = names_of (reservables table.columns) in
+    let texts = checks_in text.items in
+    let written = checks_whole names texts p.written p.from_texts in
     record {
       name = p.name;
       columns = p.columns;
@@ -145,6 +148,7 @@ follows_rules text table e =
       declared = p.written;
       of_text = p.from_texts;
       few_declared = written.1;
+      good_declared = recursion_from_All (IsDeclared names) p.written (checks_declared names texts p.written p.from_texts);
       checks = p.checks;
       distinct_checks = distinct_from (check_names table.checks) p.distinct;
     }

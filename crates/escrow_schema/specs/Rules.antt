@@ -6,6 +6,7 @@ use Rattle.escrow_checks.specs.declared.check.Check.{Check}
 use Rattle.escrow_checks.specs.declared.coefficients.TheConstants.Coefficients.{MAX_LEN}
 use Rattle.escrow_checks.specs.declared.condition.TheConstants.{MAX_CHECKS}
 use Rattle.escrow_checks.specs.Checks.{checks_of}
+use Rattle.escrow_checks.specs.DeclaredCheck.{IsDeclared}
 use Rattle.escrow_checks.specs.WrittenName.{is_written_name}
 use Rattle.escrow_schema.specs.declared.column.Column.{Column}
 use Rattle.escrow_schema.specs.declared.table.TableDef.{TableDef}
@@ -32,11 +33,13 @@ pub record FollowsRules (text : CreateText) (table : TableDef) : Type 0 where
   pub some_reservable : 1 ≤ length (reservables table.columns)
   pub few_reservable : length (reservables table.columns) ≤ MAX_LEN
   pub number_reservable : AllByRecursion (λ column. IsTrue (is_numeric column.kind)) (reservables table.columns)
-  -- its checks are at most 32 declared ones, in order, each over the RESERVABLE columns and of a name
-  -- that a statement can write, and behind them the range of each RESERVABLE column; no two have one
-  -- name
+  -- its checks are at most 32 declared ones, in order, where each condition of a CHECK is a check of
+  -- its own, and behind them the range of each RESERVABLE column; no two have one name
   pub declared : List Check
   pub of_text : checks_of (names_of (reservables table.columns)) (checks_in text.items) ≡ Some declared
   pub few_declared : length declared ≤ MAX_CHECKS
+  -- each declared one is over the RESERVABLE columns, of coefficients, limits and a name as CHECKs may
+  -- give them
+  pub good_declared : AllByRecursion (IsDeclared (names_of (reservables table.columns))) declared
   pub checks : table.checks ≡ declared ++ range_checks table.columns
   pub distinct_checks : IsDistinct bytes_eq (check_names table.checks)

@@ -102,8 +102,9 @@ pub(crate) fn reservables(alloc: Global, columns: &[Column]) -> Result<Vec<Colum
         .collect(alloc)
 }
 
-/// The names of columns, in order.
-pub(crate) fn names_of(alloc: Global, columns: &[Column]) -> Result<Vec<Name>, AllocError>
+/// The names of columns, in order, such as those of a table or its RESERVABLE ones. Fails where
+/// memory is refused.
+pub fn names_of(alloc: Global, columns: &[Column]) -> Result<Vec<Name>, AllocError>
     ensures { IfOk result (λ names. names.items ≡ names_of columns.now) }
 {
     columns.iter().map(|column| column.name).collect(alloc)

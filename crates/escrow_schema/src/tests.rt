@@ -1,4 +1,5 @@
 mod catalog;
+mod checks;
 mod rows;
 
 ghost use Rattle.std.specs.Prelude.{IfOk};
@@ -8,7 +9,7 @@ use crate::{TableDef, define};
 use escrow_num::{Amount, Name, Seq, Text, Value};
 use escrow_sql::{
     CheckText, ColumnMark, ColumnText, Comparison, Condition, CreateText, InsertText, Item,
-    Request, Statement, TypeText, parse,
+    Request, Statement, Term, Test, TypeText, parse,
 };
 use std::alloc::{AllocError, Global};
 use std::process::Abort;
@@ -35,7 +36,7 @@ pub(crate) fn statement(alloc: Global, text: &str) -> Result<Statement, Fail> {
     Ok(statement)
 }
 
-fn create_text(rt: &impl Abort, alloc: Global, text: &str) -> Result<CreateText, Fail> {
+pub(crate) fn create_text(rt: &impl Abort, alloc: Global, text: &str) -> Result<CreateText, Fail> {
     let create = match statement(alloc, text)? {
         Statement::Create(create) => Some(create),
         _ => None,
@@ -60,7 +61,7 @@ pub(crate) fn table(rt: &impl Abort, alloc: Global, text: &str) -> Result<TableD
 }
 
 /// 0 for a table, or the number of the refusal.
-fn verdict(alloc: Global, text: &CreateText) -> u8 {
+pub(crate) fn verdict(alloc: Global, text: &CreateText) -> u8 {
     define(alloc, text)
         .err()
         .map_or(0, |refusal| refusal.number())
@@ -112,35 +113,6 @@ fn keeps_to_the_rules(rt: HostRuntime) -> Result<(), Fail> {
         let text = format!(in alloc; "CREATE TABLE T ({items})")?;
         let text = create_text(&rt, alloc, text.as_str())?;
         assert_eq!(rt; verdict(alloc, &text), want, "{items}");
-    }
-    Ok(())
-}
-
-#[test]
-fn keeps_to_names_of_checks(rt: HostRuntime) -> Result<(), Fail> {
-    let alloc = rt.alloc();
-    for (checks, want) in [
-        ("CHECK (A >= 0) CONSTRAINT X CHECK (A < 9)", 0),
-        ("CHECK (A >= 0) CONSTRAINT CHECK_3 CHECK (A < 9)", 0),
-        ("CHECK (A >= 0) CHECK (ID < 9)", 22),
-        ("CHECK (A >= 0) CHECK (B < 9)", 22),
-        ("CONSTRAINT X CHECK (A >= 0) CONSTRAINT X CHECK (A < 9)", 22),
-        ("CHECK (A >= 0) CONSTRAINT CHECK_1 CHECK (A < 9)", 22),
-        ("CHECK (A >= 0) CONSTRAINT RANGE_A CHECK (A < 9)", 22),
-        (", CHECK (A >= 0), CONSTRAINT X CHECK (A < 9)", 0),
-        (
-            "CONSTRAINT X CHECK (A >= 0), CONSTRAINT X CHECK (A < 9)",
-            22,
-        ),
-        (", CHECK (ID >= 0)", 22),
-        (", CHECK (B >= 0), B NUMBER", 22),
-        (", CHECK (B >= 0), B VARCHAR2(5)", 22),
-    ] {
-        let text = format!(in alloc;
-            "CREATE TABLE T (ID NUMBER PRIMARY KEY, A NUMBER RESERVABLE {checks})"
-        )?;
-        let text = create_text(&rt, alloc, text.as_str())?;
-        assert_eq!(rt; verdict(alloc, &text), want, "{checks}");
     }
     Ok(())
 }
@@ -201,6 +173,27 @@ fn keeps_to_the_limits(rt: HostRuntime) -> Result<(), Fail> {
     Ok(())
 }
 
+/// The condition that a column is at least zero, alone.
+fn at_least_zero(rt: &impl Abort, alloc: Global, column: Name) -> Result<Vec<Condition>, Fail> {
+    let mut sum = Vec::new(alloc);
+    sum.push(Term::Column {
+        coefficient: amount(rt, 1),
+        column,
+    })?;
+    let mut zero = Vec::new(alloc);
+    zero.push(Term::Number(amount(rt, 0)))?;
+    let test = Test::Compare {
+        comparison: Comparison::AtLeast,
+        sum: Seq::from_vec(zero),
+    };
+    let mut conditions = Vec::new(alloc);
+    conditions.push(Condition {
+        sum: Seq::from_vec(sum),
+        test,
+    })?;
+    Ok(conditions)
+}
+
 /// A text of two columns, whose names no parser has read: the table's, a column's and a check's.
 fn named_text(
     rt: &impl Abort,
@@ -216,11 +209,7 @@ fn named_text(
     marks.push(ColumnMark::Reservable)?;
     marks.push(ColumnMark::Check(CheckText {
         name: Some(name(rt, check)),
-        condition: Condition {
-            column,
-            comparison: Comparison::AtLeast,
-            limit: amount(rt, 0),
-        },
+        conditions: Seq::from_vec(at_least_zero(rt, alloc, column)?),
     }))?;
     let mut items = Vec::new(alloc);
     items.push(Item::Column(ColumnText {

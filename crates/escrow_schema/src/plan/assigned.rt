@@ -1,6 +1,8 @@
-//! What is assigned to a column.
-ghost use Rattle.std.specs.Prelude.{◌≡◌, bytes_eq, find, option_copied};
+//! What is assigned to which columns.
+ghost use Rattle.std.specs.Prelude.{◌≡◌, bytes_eq, find, map, option_copied};
+ghost use Rattle.std.specs.List.{list_any};
 ghost use Rattle.std.specs.Option.{option_and_then};
+ghost use Rattle.escrow_schema.specs.Definition.{are_distinct};
 ghost use Rattle.escrow_schema.specs.Plan.{assigned_to, change_in, literal_in};
 
 use escrow_num::{Amount, Name};
@@ -31,4 +33,26 @@ fn assign_of(assigns: &[Assign], column: Name) -> Option<&Assign>
     ensures { option_copied result ≡ find (λ assign. bytes_eq assign.column column) assigns.now }
 {
     assigns.iter().find(|assign| assign.column == column)
+}
+
+/// Whether no two assignments are of one column.
+pub(crate) fn are_apart(assigns: &[Assign]) -> bool
+    ensures { result ≡ are_distinct (map (λ assign. assign.column) assigns.now) }
+{
+    for (i, assign) in assigns.iter().enumerate() {
+        if assigns_to(&assigns[i + 1..], assign.column) {
+            return false;
+        }
+    }
+    true
+}
+
+/// Whether one of assignments is of a column.
+fn assigns_to(assigns: &[Assign], column: Name) -> bool
+    ensures { result ≡ list_any (λ other. bytes_eq column other) (map (λ assign. assign.column) assigns.now) }
+{
+    assigns
+        .iter()
+        .map(|assign| assign.column)
+        .any(|other| column == other)
 }

@@ -1,22 +1,26 @@
 //! Changes of RESERVABLE columns.
 ghost use Rattle.std.specs.Prelude.{◌≡◌, ◌&&◌, IfOk, bytes_eq};
-ghost use Rattle.std.specs.List.{list_any};
+ghost use Rattle.std.specs.List.{list_any, list_all};
 ghost use Rattle.escrow_schema.specs.Plan.{are_changes, changes_of, is_change, is_itself};
 
-use super::assigned::change_to;
+use super::assigned::{are_apart, change_to};
 use crate::column::Column;
 use escrow_num::{Amount, Name};
 use escrow_sql::{Assign, Assigned};
 use std::alloc::{AllocError, Global};
 
-/// Whether assignments change RESERVABLE columns: there is exactly one, and it does.
+/// Whether assignments change RESERVABLE columns: each does, and no two are of one column.
 pub(crate) fn are_changes(columns: &[Column], assigns: &[Assign]) -> bool
     ensures { result ≡ are_changes columns.now assigns.now }
 {
-    match assigns {
-        [assign] => is_change(columns, assign),
-        _ => false,
-    }
+    are_apart(assigns) && all_change(columns, assigns)
+}
+
+/// Whether each assignment changes a RESERVABLE column.
+fn all_change(columns: &[Column], assigns: &[Assign]) -> bool
+    ensures { result ≡ list_all (is_change columns.now) assigns.now }
+{
+    assigns.iter().all(|assign| is_change(columns, assign))
 }
 
 /// Whether an assignment is of a RESERVABLE column, to itself plus or minus a number.

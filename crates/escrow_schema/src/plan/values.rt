@@ -1,14 +1,13 @@
 //! New values of plain columns, which are those that are neither RESERVABLE nor the key.
-ghost use Rattle.std.specs.Prelude.{◌≡◌, ◌==◌, ◌||◌, not, IfOk, is_some, map, bytes_eq};
-ghost use Rattle.std.specs.List.{list_any, list_all};
+ghost use Rattle.std.specs.Prelude.{◌≡◌, ◌==◌, ◌||◌, not, IfOk, is_some};
+ghost use Rattle.std.specs.List.{list_all};
 ghost use Rattle.std.specs.Option.{option_and_then};
 ghost use Rattle.escrow_schema.specs.Assigned.{value_assigned, values_assigned};
-ghost use Rattle.escrow_schema.specs.Definition.{are_distinct};
 ghost use Rattle.escrow_schema.specs.Fit.{plains};
 ghost use Rattle.escrow_schema.specs.Plan.{are_replacements, assigned_to, has_column, is_literal, is_replacement, literal_in, new_value, new_values_of};
 ghost use Rattle.escrow_schema.specs.Typed.{IsType, TypedColumns};
 
-use super::assigned::literal_to;
+use super::assigned::{are_apart, literal_to};
 use crate::column::Column;
 use crate::literal::value_of;
 use crate::table::TableDef;
@@ -28,28 +27,6 @@ fn all_replace(table: &TableDef, assigns: &[Assign]) -> bool
     ensures { result ≡ list_all (is_replacement table.now) assigns.now }
 {
     assigns.iter().all(|assign| is_replacement(table, assign))
-}
-
-/// Whether no two assignments are of one column.
-fn are_apart(assigns: &[Assign]) -> bool
-    ensures { result ≡ are_distinct (map (λ assign. assign.column) assigns.now) }
-{
-    for (i, assign) in assigns.iter().enumerate() {
-        if assigns_to(&assigns[i + 1..], assign.column) {
-            return false;
-        }
-    }
-    true
-}
-
-/// Whether one of assignments is of a column.
-fn assigns_to(assigns: &[Assign], column: Name) -> bool
-    ensures { result ≡ list_any (λ other. bytes_eq column other) (map (λ assign. assign.column) assigns.now) }
-{
-    assigns
-        .iter()
-        .map(|assign| assign.column)
-        .any(|other| column == other)
 }
 
 /// Whether an assignment is of a plain column, to a literal.
