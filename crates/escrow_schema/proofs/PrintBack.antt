@@ -1,6 +1,6 @@
 -- The canonical text of a table is read back as that table.
-use Rattle.std.proofs.Common.{◌≡◌, ℕ, ◌-◌, ◌≤◌, true, List, [], ◌∷◌, ◌++◌, Some, length, map, take, refl, sym, ap, ◌∙◌, subst, arith, length-append}
-use Rattle.std.specs.Prelude.{nat_le}
+use Rattle.std.proofs.Common.{◌≡◌, ℕ, ◌-◌, ◌≤◌, true, List, [], ◌∷◌, ◌++◌, Option, Some, None, option_and_then, length, map, take, refl, sym, ap, ◌∙◌, subst, arith, length-append}
+use Rattle.std.specs.Prelude.{cond, nat_le}
 use Rattle.std.specs.List.{AllByRecursion, list_all}
 use Rattle.std.proofs.Math.Seq.{take-append_seam}
 use Rattle.std.proofs.lemmas.Bool.{cond-true, le-leb}
@@ -15,19 +15,20 @@ use Rattle.escrow_sql.specs.declared.statement.Request.TheVariants as requests
 use Rattle.escrow_sql.specs.declared.statement.Statement.TheVariants as statements
 use Rattle.escrow_checks.specs.declared.check.Check.{Check}
 use Rattle.escrow_checks.specs.declared.condition.TheConstants.{MAX_CHECKS}
-use Rattle.escrow_checks.specs.Checks.{checks_from, checks_of}
+use Rattle.escrow_checks.specs.Checks.{checks_of}
+use Rattle.escrow_checks.specs.DeclaredCheck.{IsDeclared}
 use Rattle.escrow_checks.specs.WrittenName.{is_written_name}
 use Rattle.escrow_schema.specs.declared.column.Column.{Column}
 use Rattle.escrow_schema.specs.declared.table.TableDef.{TableDef}
 use Rattle.escrow_schema.specs.Column.{names_of, reservables}
-use Rattle.escrow_schema.specs.Definition.{IsTable, checks_in, definition_of, range_check, range_checks}
+use Rattle.escrow_schema.specs.Definition.{IsTable, are_distinct, definition_of, range_check, range_checks}
 use Rattle.escrow_schema.specs.Print.{ReadsBack, canonical, check_words, columns_words, declared_checks}
 use Rattle.escrow_schema.specs.Rules.{FollowsRules}
-use Rattle.escrow_schema.proofs.ColumnsLemmas.{HasType, reservables_written}
+use Rattle.escrow_schema.proofs.ColumnsLemmas.{HasType, reservables_distinct, reservables_written}
 use Rattle.escrow_schema.proofs.DefinedLemmas.{defined}
-use Rattle.escrow_schema.proofs.ListLemmas.{both_parts, some_under}
+use Rattle.escrow_schema.proofs.ListLemmas.{both_parts}
 use Rattle.escrow_schema.proofs.RuleLemmas.{column_types, follows_rules, rules_of}
-use Rattle.escrow_schema.proofs.PrintChecks.{Declared, all_again, all_declared}
+use Rattle.escrow_schema.proofs.PrintChecks.{all_again}
 use Rattle.escrow_schema.proofs.PrintLength.{IsShort, checks_short, columns_short, length-columns_words, table_length}
 use Rattle.escrow_schema.proofs.PrintTree.{check_item, check_tree, checks_back, columns_back, columns_tree, items_tree, keys_back, plain_found, tree_of}
 use Rattle.escrow_schema.proofs.PrintWrites.{writes_checks, writes_columns, writes_table}
@@ -42,15 +43,21 @@ declared_first table declared e =
     omega (arith, whole, length-append declared ranges, length-map reserved (range_check (names_of reserved))) in
     ap (λ (n : ℕ). take n table.checks) many ∙ (ap (take (length declared)) e ∙ take-append_seam declared ranges)
 
+-- checks, where they are few enough
+abbrev at_most : List Check → Option (List Check)
+at_most checks = cond (nat_le (length checks) MAX_CHECKS) (Some checks) None
+
 -- what the definition of a table gives for its text: names that can be written, types, declared checks
 record Sound (table : TableDef) : Type 0 where
   pub name : is_written_name table.name ≡ true
   pub names : list_all is_written_name (names_of table.columns) ≡ true
+  pub distinct : are_distinct (names_of table.columns) ≡ true
   pub types : AllByRecursion HasType table.columns
   pub some : 1 ≤ length table.columns
   pub columns : length table.columns ≤ 30
+  pub reserved : length (reservables table.columns) ≤ 10
   pub few : length (declared_checks table) ≤ MAX_CHECKS
-  pub declared : AllByRecursion (Declared (names_of (reservables table.columns))) (declared_checks table)
+  pub declared : AllByRecursion (IsDeclared (names_of (reservables table.columns))) (declared_checks table)
   pub checks : table.checks ≡ declared_checks table ++ range_checks table.columns
 
 sound : (text : CreateText) (table : TableDef) → definition_of text ≡ Some table → FollowsRules text table → Sound table
@@ -58,24 +65,24 @@ sound text table e h =
     let rules = rules_of table (text, e) in
     let names = names_of (reservables table.columns) in
     let same = declared_first table h.declared h.checks in
-    let from = some_under (nat_le (length (checks_in text.items)) MAX_CHECKS) (checks_from names (checks_in text.items) 1) h.declared h.of_text in
     let least = rules.least in
     record {
       name = h.written_names.0;
       names = rules.written_names;
+      distinct = rules.distinct;
       types = column_types table (text, e);
       some = omega arith;
       columns = rules.most;
+      reserved = rules.few_reservable;
       few = subst (λ (checks : List Check). length checks ≤ MAX_CHECKS) (sym same) h.few_declared;
       checks = h.checks ∙ ap (λ (checks : List Check). checks ++ range_checks table.columns) (sym same);
-      declared = subst (AllByRecursion (Declared names)) (sym same) (all_declared names (checks_in text.items) 1 h.declared (reservables_written table.columns rules.written_names) from.1);
+      declared = subst (AllByRecursion (IsDeclared names)) (sym same) h.good_declared;
     }
 
 -- the declared checks, of their own texts
-checks_again : (names : List (List ℕ)) (checks : List Check) → length checks ≤ MAX_CHECKS → AllByRecursion (Declared names) checks → checks_of names (map (check_tree names) checks) ≡ Some checks
-checks_again names checks few all =
-    let short : nat_le (length (map (check_tree names) checks)) MAX_CHECKS ≡ true = le-leb (length (map (check_tree names) checks)) MAX_CHECKS (omega (arith, length-map checks (check_tree names))) in
-    cond-true _ _ _ short ∙ all_again names checks 1 all
+checks_again : (names : List (List ℕ)) (checks : List Check) → are_distinct names ≡ true → length checks ≤ MAX_CHECKS → AllByRecursion (IsDeclared names) checks → checks_of names (map (check_tree names) checks) ≡ Some checks
+checks_again names checks apart few all =
+    ap (option_and_then at_most) (all_again names checks 1 apart all) ∙ cond-true (nat_le (length checks) MAX_CHECKS) (Some checks) None (le-leb (length checks) MAX_CHECKS few)
 
 -- the tree and the table follow the rules of definitions
 follows_tree : (text : CreateText) (table : TableDef) → Sound table → FollowsRules text table → FollowsRules (tree_of table) table
@@ -97,8 +104,9 @@ follows_tree text table s h =
       few_reservable = h.few_reservable;
       number_reservable = h.number_reservable;
       declared = checks;
-      of_text = ap (checks_of names) (checks_back table.columns 0 table.key names checks) ∙ checks_again names checks s.few s.declared;
+      of_text = ap (checks_of names) (checks_back table.columns 0 table.key names checks) ∙ checks_again names checks (reservables_distinct table.columns s.distinct) s.few s.declared;
       few_declared = s.few;
+      good_declared = s.declared;
       checks = s.checks;
       distinct_checks = h.distinct_checks;
     }
@@ -112,14 +120,16 @@ some_item (column ∷ columns) key rest some = omega arith
 asks_tree : (table : TableDef) → Sound table → Asks (canonical table) (requests.Statement (statements.Create (tree_of table)))
 asks_tree table s =
     let names = names_of (reservables table.columns) in
+    let written = reservables_written table.columns s.names in
     let columns = columns_words table.columns 0 table.key in
     let checks = map (check_words names) (declared_checks table) in
     let few : length (columns ++ checks) ≤ 62 =
     omega (arith, s.columns, s.few, length-append columns checks, length-columns_words table.columns 0 table.key, length-map (declared_checks table) (check_words names)) in
     let short : AllByRecursion IsShort (columns ++ checks) =
-    both_parts IsShort columns checks (columns_short table.columns 0 table.key s.names s.types) (checks_short names (declared_checks table) s.declared) in
+    both_parts IsShort columns checks (columns_short table.columns 0 table.key s.names s.types)
+    (checks_short names (declared_checks table) written (omega (arith, s.reserved, length-map (reservables table.columns) (λ (c : Column). c.name))) s.declared) in
     let each = each_append item columns checks (columns_tree table.columns 0 table.key) (map (check_item names) (declared_checks table))
-    (writes_columns table.columns 0 table.key s.names s.types) (writes_checks names (declared_checks table) s.declared) in
+    (writes_columns table.columns 0 table.key s.names s.types) (writes_checks names (declared_checks table) written s.declared) in
     asks_written (writes_table table.name (columns ++ checks) (items_tree table) s.name (some_item table.columns table.key (map (check_item names) (declared_checks table)) s.some) each)
     (table_length table.name (columns ++ checks) s.name short few)
 

@@ -1,113 +1,218 @@
 -- A declared check: its canonical text declares it again.
-use Rattle.std.proofs.Common.{◌≡◌, ℕ, ℤ, pos, ◌+◌, ◌-ℤ◌, ◌+ℤ◌, true, ◌&&◌, Option, Some, None, option_map, List, [], ◌∷◌, map, refl, ap, ◌∙◌, subst, inl, inr, bytes_eq}
-use Rattle.std.specs.Prelude.{int_le, neg_ℤ, cond}
-use Rattle.std.specs.List.{AllByRecursion, list_all, list_any}
-use Rattle.std.proofs.lemmas.Bool.{and_parts, cases_Bool, false≢true}
-use Rattle.std.proofs.lemmas.Option.{cond_some, option_and_then_some, same_Some}
-use Rattle.std.proofs.lemmas.Slice.Eq.{bytes_eq-Decides}
+use Rattle.std.proofs.Common.{◌≡◌, ℕ, ℤ, pos, negsuc, ◌+◌, ◌+ℤ◌, ◌-ℤ◌, ◌≤◌, Bool, true, false, ◌&&◌, not, Option, Some, None, List, [], ◌∷◌, ◌++◌, length, map, refl, sym, ap, ap₂, ◌∙◌, arith, inl, inr, bytes_eq}
+use Rattle.std.specs.Prelude.{◌||◌, IfSome, cond, int_le, neg_ℤ, unsigned_abs}
+use Rattle.std.specs.Option.{is_some}
+use Rattle.std.specs.List.{AllByRecursion, flat_map, list_all, list_any}
+use Rattle.std.specs.Ordering.{int_eq}
+use Rattle.std.proofs.Math.IntN.{+ℤ_idl}
+use Rattle.std.proofs.lemmas.Bool.{and_from, and_parts, cases_Bool, cond-true, false≢true, leb-true, or_parts}
+use Rattle.std.proofs.lemmas.Bool.Decides.{Decides-int_eq, nat_tests}
+use Rattle.std.proofs.lemmas.Int.{ints}
 use Rattle.escrow_num.specs.Amount.{IsAmount, is_amount}
 use Rattle.escrow_num.specs.declared.amount.TheConstants.Amount.{MAX}
 use Rattle.escrow_num.specs.declared.span.Span.{Span}
-use Rattle.escrow_sql.specs.declared.statement.CheckText.{CheckText}
-use Rattle.escrow_sql.specs.declared.statement.Comparison.{Comparison}
-use Rattle.escrow_sql.specs.declared.statement.Comparison.TheVariants.{Below, AtMost, Above, AtLeast}
+use Rattle.escrow_sql.specs.declared.statement.Term.{Term}
+use Rattle.escrow_sql.specs.declared.statement.Term.TheVariants as terms
 use Rattle.escrow_checks.specs.declared.check.Check.{Check}
-use Rattle.escrow_checks.specs.Checks.{check_name, check_of, checks_from, is_limit, span_of, unit_of}
+use Rattle.escrow_checks.specs.declared.condition.TheConstants.{MAX_COEFFICIENT}
+use Rattle.escrow_checks.specs.Checks.{are_good_coefficients, check_of, checks_from, coefficient_in, coefficient_of, columns_in, condition_limits, in_order, is_good_span, is_limit, limits_of, names_columns, number_in, right_of}
+use Rattle.escrow_checks.specs.Condition.{total}
+use Rattle.escrow_checks.specs.DeclaredCheck.{IsDeclared}
 use Rattle.escrow_checks.specs.WrittenName.{is_written_name}
-use Rattle.escrow_schema.specs.Print.{column_with}
-use Rattle.escrow_schema.proofs.ListLemmas.{mapped_some}
+use Rattle.escrow_schema.specs.Definition.{are_distinct}
+use Rattle.escrow_schema.proofs.DistinctLemmas.{either_order, first_apart, same_name}
 use Rattle.escrow_schema.proofs.RangeLemmas.{int_le_true}
-use Rattle.escrow_schema.proofs.PrintTree.{check_tree, condition_tree}
+use Rattle.escrow_schema.proofs.PrintTree.{check_tree, condition_tree, terms_tree, test_tree}
 
--- one limit, which is an amount
-abbrev pub IsOneLimit : Option ℤ → Option ℤ → Type 0
-IsOneLimit (Some lo) (Some hi) = ⊥
-IsOneLimit (Some lo) None = IsAmount lo
-IsOneLimit None (Some hi) = IsAmount hi
-IsOneLimit None None = ⊥
+-- ---- what is known of it
 
--- a check that some CHECK over columns of these names declares
-pub record Declared (names : List (List ℕ)) (check : Check) : Type 0 where
-  pub name : is_written_name check.name ≡ true
-  pub column : is_written_name (column_with names check.coeffs) ≡ true
-  pub limit : IsOneLimit check.span.lo check.span.hi
-  pub again : (place : ℕ) → check_of names (check_tree names check) place ≡ Some check
+-- its coefficients are small, and not all zero
+abbrev pub IsSmall : ℤ → Type 0
+IsSmall c = unsigned_abs c ≤ 1000000
 
--- a column is the first with a coefficient among its own coefficients
-column_of_unit : (names : List (List ℕ)) (name : List ℕ) → list_any (λ column. bytes_eq column name) names ≡ true → column_with names (unit_of names name) ≡ name
-column_of_unit [] name among = absurd (false≢true among)
-column_of_unit (first ∷ names) name among =
-    elim (cases_Bool (bytes_eq first name)) [
-      | inl e ↦ rw e ((bytes_eq-Decides first name).0 e)
-      | inr e ↦ rw e (column_of_unit names name (rw e at among))
-    ]
+abbrev is_small : ℤ → Bool
+is_small c = int_le (neg_ℤ MAX_COEFFICIENT) c && int_le c MAX_COEFFICIENT
 
--- a written name among names
-written_among : (names : List (List ℕ)) (name : List ℕ) → list_all is_written_name names ≡ true → list_any (λ column. bytes_eq column name) names ≡ true → is_written_name name ≡ true
-written_among [] name all among = absurd (false≢true among)
-written_among (first ∷ names) name all among =
-    let parts = and_parts (is_written_name first) (list_all is_written_name names) all in
-    elim (cases_Bool (bytes_eq first name)) [
-      | inl e ↦ subst (λ n. is_written_name n ≡ true) ((bytes_eq-Decides first name).0 e) parts.0
-      | inr e ↦ written_among names name parts.1 (rw e at among)
-    ]
+small_from : (c : ℤ) → is_small c ≡ true → IsSmall c
+small_from (pos n) e = leb-true n 1000000 (and_parts (int_le (neg_ℤ MAX_COEFFICIENT) (pos n)) (int_le (pos n) MAX_COEFFICIENT) e).1
+small_from (negsuc n) e = grind (arith, nat_tests)
+
+small_all : (coeffs : List ℤ) → list_all is_small coeffs ≡ true → AllByRecursion IsSmall coeffs
+small_all [] all = tt
+small_all (c ∷ coeffs) all = let parts = and_parts (is_small c) (list_all is_small coeffs) all in (small_from c parts.0, small_all coeffs parts.1)
+
+pub small_each : (names : List (List ℕ)) (check : Check) → IsDeclared names check → AllByRecursion IsSmall check.coeffs
+small_each names check h = small_all check.coeffs (and_parts _ _ h.coefficients).0
+
+pub some_coefficient : (names : List (List ℕ)) (check : Check) → IsDeclared names check → list_any (λ c. not (int_eq c (pos 0))) check.coeffs ≡ true
+some_coefficient names check h = (and_parts _ _ h.coefficients).1
+
+-- its limits are amounts
+abbrev pub AreAmounts : Option ℤ → Option ℤ → Type 0
+AreAmounts lo hi = IfSome lo IsAmount × IfSome hi IsAmount
 
 amount_from : (z : ℤ) → is_amount z ≡ true → IsAmount z
 amount_from z e = let ends = and_parts (int_le (neg_ℤ MAX) z) (int_le z MAX) e in (int_le_true (neg_ℤ MAX) z ends.0, int_le_true z MAX ends.1)
 
--- a comparison sets one limit
-one_limit : (comparison : Comparison) (n : ℤ) → is_limit (span_of comparison n).lo ≡ true → is_limit (span_of comparison n).hi ≡ true → IsOneLimit (span_of comparison n).lo (span_of comparison n).hi
-one_limit Below n lo hi = amount_from (n -ℤ pos 1) hi
-one_limit AtMost n lo hi = amount_from n hi
-one_limit Above n lo hi = amount_from (n +ℤ pos 1) lo
-one_limit AtLeast n lo hi = amount_from n lo
+limit_amount : (limit : Option ℤ) → is_limit limit ≡ true → IfSome limit IsAmount
+limit_amount None e = tt
+limit_amount (Some z) e = amount_from z e
 
--- and the tree of those limits sets them again
-same_limits : (comparison : Comparison) (n : ℤ) (column : List ℕ) → let span = span_of comparison n in let condition = condition_tree column span.lo span.hi in
-    (condition.column ≡ column) × (span_of condition.comparison condition.limit ≡ span)
-same_limits Below n column = (refl, refl)
-same_limits AtMost n column = (refl, refl)
-same_limits Above n column = (refl, refl)
-same_limits AtLeast n column = (refl, refl)
+pub amounts_of : (names : List (List ℕ)) (check : Check) → IsDeclared names check → AreAmounts check.span.lo check.span.hi
+amounts_of names check h =
+    let front = and_parts (is_limit check.span.lo && is_limit check.span.hi) (in_order check.span.lo check.span.hi) h.limits in
+    let ends = and_parts (is_limit check.span.lo) (is_limit check.span.hi) front.0 in
+    (limit_amount check.span.lo ends.0, limit_amount check.span.hi ends.1)
 
--- the check that a name, a column and limits make, where they follow the rules
-abbrev check_with : List (List ℕ) → List ℕ → List ℕ → Span → Option Check
-check_with names name column span =
-    cond (list_any (λ other. bytes_eq other column) names && (is_limit span.lo && is_limit span.hi) && is_written_name name) (Some (record { name = name; coeffs = unit_of names column; span = span })) None
+-- ---- its coefficients
 
-declared_one : (names : List (List ℕ)) (text : CheckText) (place : ℕ) (check : Check) → list_all is_written_name names ≡ true → check_of names text place ≡ Some check → Declared names check
-declared_one names text place check written e =
-    let column = text.condition.column in
-    let name = check_name text place in
-    let span = span_of text.condition.comparison text.condition.limit in
-    let made : Check = record { name = name; coeffs = unit_of names column; span = span } in
-    let among = list_any (λ other. bytes_eq other column) names in
-    let limits = is_limit span.lo && is_limit span.hi in
-    let known = cond_some (among && limits && is_written_name name) made check e in
-    let both = and_parts (among && limits) (is_written_name name) known.0 in
-    let front = and_parts among limits both.0 in
-    let ends = and_parts (is_limit span.lo) (is_limit span.hi) front.1 in
-    let is_column : column_with names (unit_of names column) ≡ column = column_of_unit names column front.0 in
-    let same = same_limits text.condition.comparison text.condition.limit column in
-    let condition = condition_tree column span.lo span.hi in
-    let again : check_with names name condition.column (span_of condition.comparison condition.limit) ≡ Some made =
-    ap (λ (c : List ℕ). check_with names name c (span_of condition.comparison condition.limit)) same.0 ∙ (ap (check_with names name column) same.1 ∙ (rw known.0 refl)) in
-    subst (Declared names) known.1 (record {
-      name = both.1;
-      column = rw is_column (written_among names column written front.0);
-      limit = one_limit text.condition.comparison text.condition.limit ends.0 ends.1;
-      again = λ other. rw is_column again;
-    })
+-- a name that no column has is in no term
+no_term : (name : List ℕ) (names : List (List ℕ)) (coeffs : List ℤ) → list_any (λ other. bytes_eq name other) names ≡ false → total (coefficient_in name) (terms_tree names coeffs) ≡ pos 0
+no_term name [] coeffs none = refl
+no_term name (first ∷ names) [] none = refl
+no_term name (first ∷ names) (c ∷ coeffs) none =
+    let parts = or_parts (bytes_eq name first) (list_any (λ other. bytes_eq name other) names) none in
+    let apart : bytes_eq first name ≡ false = either_order first name ∙ parts.0 in
+    let rest = no_term name names coeffs parts.1 in
+    elim (cases_Bool (int_eq c (pos 0))) [
+      | inl e ↦ rw e rest
+      | inr e ↦ rw (e, apart, rest) refl
+    ]
 
--- the checks that CHECKs declare
-pub all_declared : (names : List (List ℕ)) (texts : List CheckText) (place : ℕ) (checks : List Check) → list_all is_written_name names ≡ true → checks_from names texts place ≡ Some checks → AllByRecursion (Declared names) checks
-all_declared names [] place checks written e = subst (AllByRecursion (Declared names)) (same_Some [] checks e) tt
-all_declared names (text ∷ texts) place checks written e =
-    option_and_then_some (λ check. option_map (λ more. check ∷ more) (checks_from names texts (place + 1))) (check_of names text place) checks e
-    (λ check one more. mapped_some (λ rest. check ∷ rest) (checks_from names texts (place + 1)) checks more
-    (λ rest others whole. subst (AllByRecursion (Declared names)) whole (declared_one names text place check written one, all_declared names texts (place + 1) rest written others)))
+-- a term of one column adds nothing to the coefficients of others
+others_stay : (name : List ℕ) (c : ℤ) (ts : List Term) (names : List (List ℕ)) → list_any (λ other. bytes_eq name other) names ≡ false
+    → map (λ n. total (coefficient_in n) (terms.Column c name ∷ ts)) names ≡ map (λ n. total (coefficient_in n) ts) names
+others_stay name c ts [] none = refl
+others_stay name c ts (other ∷ names) none =
+    let parts = or_parts (bytes_eq name other) (list_any (λ other. bytes_eq name other) names) none in
+    rw (parts.0, +ℤ_idl (total (coefficient_in other) ts)) (ap (λ (cs : List ℤ). total (coefficient_in other) ts ∷ cs) (others_stay name c ts names parts.1))
 
--- their own texts declare them again
-pub all_again : (names : List (List ℕ)) (checks : List Check) (place : ℕ) → AllByRecursion (Declared names) checks → checks_from names (map (check_tree names) checks) place ≡ Some checks
-all_again names [] place all = refl
-all_again names (check ∷ checks) place all = rw (all.0.again place, all_again names checks (place + 1) all.1) refl
+-- among distinct names the terms add up to the coefficients
+terms_back : (names : List (List ℕ)) (coeffs : List ℤ) → are_distinct names ≡ true → length coeffs ≡ length names → map (λ n. total (coefficient_in n) (terms_tree names coeffs)) names ≡ coeffs
+terms_back [] [] apart same = refl
+terms_back [] (c ∷ coeffs) apart same = absurd (omega arith)
+terms_back (name ∷ names) [] apart same = absurd (omega arith)
+terms_back (name ∷ names) (c ∷ coeffs) apart same =
+    let parts = first_apart name names apart in
+    let none = no_term name names coeffs parts.0 in
+    let rest = terms_back names coeffs parts.1 (omega arith) in
+    let others = terms_tree names coeffs in
+    elim (cases_Bool (int_eq c (pos 0))) [
+      | inl e ↦
+          let tree : terms_tree (name ∷ names) (c ∷ coeffs) ≡ others = rw e refl in
+          sums_of names name tree ∙ ap₂ (λ (x : ℤ) (xs : List ℤ). x ∷ xs) (none ∙ sym ((Decides-int_eq c (pos 0)).0 e)) rest
+      | inr e ↦
+          let tree : terms_tree (name ∷ names) (c ∷ coeffs) ≡ terms.Column c name ∷ others = rw e refl in
+          let own : total (coefficient_in name) (terms.Column c name ∷ others) ≡ c = rw (same_name name, none) (omega (arith, ints)) in
+          sums_of names name tree ∙ ap₂ (λ (x : ℤ) (xs : List ℤ). x ∷ xs) own (others_stay name c others names parts.0 ∙ rest)
+    ]
+  where
+    sums_of : (names : List (List ℕ)) (name : List ℕ) {ts us : List Term} → ts ≡ us
+        → map (λ n. total (coefficient_in n) ts) (name ∷ names) ≡ map (λ n. total (coefficient_in n) us) (name ∷ names)
+    sums_of names name e = ap (λ (ts : List Term). map (λ n. total (coefficient_in n) ts) (name ∷ names)) e
+
+-- no column is on the right
+none_right : (lo hi : Option ℤ) (name : List ℕ) → total (coefficient_in name) (right_of (test_tree lo hi)) ≡ pos 0
+none_right (Some lo) (Some hi) name = elim (cases_Bool (int_eq lo hi)) [ inl e ↦ rw e refl | inr e ↦ rw e refl ]
+none_right (Some lo) None name = refl
+none_right None (Some hi) name = refl
+none_right None None name = refl
+
+without_right : (sum : List Term) (lo hi : Option ℤ) (names : List (List ℕ))
+    → map (coefficient_of (record { sum = sum; test = test_tree lo hi })) names ≡ map (λ n. total (coefficient_in n) sum) names
+without_right sum lo hi [] = refl
+without_right sum lo hi (name ∷ names) =
+    let left = total (coefficient_in name) sum in
+    let none = none_right lo hi name in
+    ap₂ (λ (x : ℤ) (xs : List ℤ). x ∷ xs) (omega (arith, ints)) (without_right sum lo hi names)
+
+-- ---- its limits
+
+-- no number is on the left
+no_number : (names : List (List ℕ)) (coeffs : List ℤ) → total number_in (terms_tree names coeffs) ≡ pos 0
+no_number [] coeffs = refl
+no_number (name ∷ names) [] = refl
+no_number (name ∷ names) (c ∷ coeffs) =
+    let rest = no_number names coeffs in
+    elim (cases_Bool (int_eq c (pos 0))) [
+      | inl e ↦ rw e rest
+      | inr e ↦ rw (e, rest) refl
+    ]
+
+-- a number alone on the right is what it is
+alone : (n : ℤ) → (n +ℤ pos 0) -ℤ pos 0 ≡ n
+alone n = omega (arith, ints)
+
+unmoved : (n : ℤ) → n -ℤ pos 0 ≡ n
+unmoved n = omega (arith, ints)
+
+limits_back : (lo hi : Option ℤ) → (is_some lo || is_some hi) ≡ true → limits_of (test_tree lo hi) (pos 0) ≡ record { lo = lo; hi = hi }
+limits_back (Some lo) (Some hi) limited =
+    elim (cases_Bool (int_eq lo hi)) [
+      | inl e ↦ rw (e, alone lo) (ap (λ (z : ℤ). record { lo = Some lo; hi = Some z }) ((Decides-int_eq lo hi).0 e))
+      | inr e ↦ rw (e, unmoved lo, unmoved hi) refl
+    ]
+limits_back (Some lo) None limited = rw (alone lo) refl
+limits_back None (Some hi) limited = rw (alone hi) refl
+limits_back None None limited = absurd (false≢true limited)
+
+-- ---- its columns
+
+-- names that are among columns are so among more
+among_more : (first : List ℕ) (names columns : List (List ℕ)) → list_all (λ name. list_any (λ column. bytes_eq column name) columns) names ≡ true
+    → list_all (λ name. list_any (λ column. bytes_eq column name) (first ∷ columns)) names ≡ true
+among_more first [] columns all = refl
+among_more first (name ∷ names) columns all =
+    let parts = and_parts (list_any (λ column. bytes_eq column name) columns) (list_all (λ n. list_any (λ column. bytes_eq column n) columns) names) all in
+    elim (cases_Bool (bytes_eq first name)) [
+      | inl e ↦ rw e (among_more first names columns parts.1)
+      | inr e ↦ rw (e, parts.0) (among_more first names columns parts.1)
+    ]
+
+-- and each name is among all
+each_among : (names : List (List ℕ)) → list_all (λ name. list_any (λ column. bytes_eq column name) names) names ≡ true
+each_among [] = refl
+each_among (name ∷ names) = rw (same_name name) (among_more name names names (each_among names))
+
+-- where each column passes a test, each that the tree names does
+right_pass : (p : List ℕ → Bool) (lo hi : Option ℤ) → list_all p (flat_map columns_in (right_of (test_tree lo hi))) ≡ true
+right_pass p (Some lo) (Some hi) = elim (cases_Bool (int_eq lo hi)) [ inl e ↦ rw e refl | inr e ↦ rw e refl ]
+right_pass p (Some lo) None = refl
+right_pass p None (Some hi) = refl
+right_pass p None None = refl
+
+named_pass : (p : List ℕ → Bool) (names : List (List ℕ)) (coeffs : List ℤ) (lo hi : Option ℤ) → list_all p names ≡ true
+    → list_all p (flat_map columns_in (terms_tree names coeffs ++ right_of (test_tree lo hi))) ≡ true
+named_pass p [] coeffs lo hi all = right_pass p lo hi
+named_pass p (name ∷ names) [] lo hi all = right_pass p lo hi
+named_pass p (name ∷ names) (c ∷ coeffs) lo hi all =
+    let parts = and_parts (p name) (list_all p names) all in
+    let rest = named_pass p names coeffs lo hi parts.1 in
+    elim (cases_Bool (int_eq c (pos 0))) [
+      | inl e ↦ rw e rest
+      | inr e ↦ rw (e, parts.0) rest
+    ]
+
+-- ---- the whole
+
+-- the check of a name, coefficients and limits, where these are good and the columns are there
+abbrev check_with : Bool → List ℕ → List ℤ → Span → Option Check
+check_with there name coeffs span = cond (there && are_good_coefficients coeffs && is_good_span span && is_written_name name) (Some (record { name = name; coeffs = coeffs; span = span })) None
+
+again : (names : List (List ℕ)) (check : Check) → are_distinct names ≡ true → IsDeclared names check → check_of names check.name (condition_tree names check) ≡ Some check
+again names check apart h =
+    let condition = condition_tree names check in
+    let lo = check.span.lo in
+    let hi = check.span.hi in
+    let is_column : List ℕ → Bool = λ name. list_any (λ column. bytes_eq column name) names in
+    let there : names_columns names condition ≡ true = named_pass is_column names check.coeffs lo hi (each_among names) in
+    let coeffs : map (coefficient_of condition) names ≡ check.coeffs =
+    without_right (terms_tree names check.coeffs) lo hi names ∙ terms_back names check.coeffs apart h.covers in
+    let span : condition_limits condition ≡ check.span = ap (limits_of condition.test) (no_number names check.coeffs) ∙ limits_back lo hi h.limited in
+    let good = and_from _ _ (and_from _ _ (and_from _ _ there h.coefficients) h.limits) h.written in
+    ap₂ (check_with (names_columns names condition) check.name) coeffs span ∙ cond-true _ _ _ good
+
+-- their own texts declare checks again
+pub all_again : (names : List (List ℕ)) (checks : List Check) (n : ℕ) → are_distinct names ≡ true → AllByRecursion (IsDeclared names) checks → checks_from names (map (check_tree names) checks) n ≡ Some checks
+all_again names [] n apart all = refl
+all_again names (check ∷ checks) n apart all = rw (again names check apart all.0, all_again names checks (n + 1) apart all.1) refl

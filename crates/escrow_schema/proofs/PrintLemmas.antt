@@ -1,13 +1,11 @@
 -- The canonical text of a table, item by item.
-use Rattle.std.proofs.Common.{◌≡◌, ℕ, ℤ, pos, zero, suc, ◌≤◌, ◌<◌, min, false, Result, OnOk, List, [], ◌∷◌, ◌++◌, length, drop, get_or, refl, sym, ap, ◌∙◌, subst, append_assoc, arith}
+use Rattle.std.proofs.Common.{◌≡◌, ℕ, ℤ, zero, suc, ◌≤◌, min, Bool, Result, OnOk, List, [], ◌∷◌, ◌++◌, length, drop, refl, sym, ap, ◌∙◌, subst, append_assoc, arith}
 use Rattle.std.specs.Prelude.{◌==◌, codes}
 use Rattle.std.specs.List.{flat_map}
-use Rattle.std.specs.Ordering.{int_eq}
 use Rattle.std.proofs.lemmas.List.Concat.{flat_map-append}
 use Rattle.escrow_sql.specs.Joined.{joined}
 use Rattle.escrow_schema.specs.declared.column.Column.{Column}
-use Rattle.escrow_schema.specs.Print.{column_with, columns_words, column_words}
-use Rattle.escrow_schema.proofs.ListLemmas.{drop_item}
+use Rattle.escrow_schema.specs.Print.{column_words, columns_words, form_words}
 
 -- the texts from a place on, with what stands before each but the first of all
 abbrev pub joined_from : ℕ → List (List ℕ) → List ℕ
@@ -24,19 +22,14 @@ joined_behind (column ∷ columns) key texts some =
     ap (λ more. column_words (0 == key) column ++ more) (flat_map-append separated rest texts)
     ∙ sym (append_assoc (column_words (0 == key) column) (flat_map separated rest) (flat_map separated texts))
 
--- the first column with a coefficient other than zero is that of the form
-pub column_found : (names : List (List ℕ)) (coeffs : List ℤ) (i : ℕ) (name : List ℕ) (c : ℤ) → i < length names → i < length coeffs
-    → name ≡ get_or names i name → c ≡ get_or coeffs i c → int_eq c (pos 0) ≡ false → column_with (drop i names) (drop i coeffs) ≡ name
-column_found names coeffs i name c here there named at other = rw (drop_item names i name here named, drop_item coeffs i c there at, other) refl
-
--- behind the last name or the last coefficient there is none
-pub column_past : (names : List (List ℕ)) (coeffs : List ℤ) (i : ℕ) → i ≡ min (length names) (length coeffs) → column_with (drop i names) (drop i coeffs) ≡ []
-column_past [] coeffs zero end = refl
-column_past (name ∷ names) [] zero end = refl
-column_past (name ∷ names) (c ∷ coeffs) zero end = absurd (omega arith)
-column_past [] coeffs (suc i) end = absurd (omega arith)
-column_past (name ∷ names) [] (suc i) end = absurd (omega arith)
-column_past (name ∷ names) (c ∷ coeffs) (suc i) end = column_past names coeffs i (omega arith)
+-- behind the last name or the last coefficient nothing is shown
+pub form_past : (is_first : Bool) (names : List (List ℕ)) (coeffs : List ℤ) (i : ℕ) → i ≡ min (length names) (length coeffs) → form_words is_first (drop i names) (drop i coeffs) ≡ []
+form_past is_first [] coeffs zero end = refl
+form_past is_first (name ∷ names) [] zero end = refl
+form_past is_first (name ∷ names) (c ∷ coeffs) zero end = absurd (omega arith)
+form_past is_first [] coeffs (suc i) end = absurd (omega arith)
+form_past is_first (name ∷ names) [] (suc i) end = absurd (omega arith)
+form_past is_first (name ∷ names) (c ∷ coeffs) (suc i) end = form_past is_first names coeffs i (omega arith)
 
 -- what was added is what was to be added, where both are the same
 pub added : {A E : Type 0} (r : Result A E) (new before old : List ℕ) (last text : List ℕ) → OnOk r (new ≡ before ++ last) → before ++ last ≡ old ++ text → OnOk r (new ≡ old ++ text)

@@ -1,7 +1,8 @@
 -- The tree that the canonical text of a table writes, and what it declares: the table's columns, key and checks.
 use Rattle.std.proofs.Common.{◌≡◌, ℕ, zero, suc, ℤ, pos, ◌+◌, ◌<◌, Bool, true, false, Option, Some, None, List, [], ◌∷◌, ◌++◌, map, filter, refl, sym, ap, subst, arith}
-use Rattle.std.specs.Prelude.{◌==◌, slice_get}
+use Rattle.std.specs.Prelude.{◌==◌, slice_get, if◌then◌else◌}
 use Rattle.std.specs.List.{AllByRecursion, flat_map, list_any}
+use Rattle.std.specs.Ordering.{int_eq}
 use Rattle.std.proofs.lemmas.Bool.Decides.{nat_tests}
 use Rattle.std.proofs.lemmas.Bool.{eqb-true, eq-eqb, le-leb}
 use Rattle.std.proofs.lemmas.Option.{same_Some}
@@ -14,6 +15,10 @@ use Rattle.escrow_sql.specs.declared.statement.Condition.{Condition}
 use Rattle.escrow_sql.specs.declared.statement.CreateText.{CreateText}
 use Rattle.escrow_sql.specs.declared.statement.Item.{Item}
 use Rattle.escrow_sql.specs.declared.statement.Item.TheVariants as items
+use Rattle.escrow_sql.specs.declared.statement.Term.{Term}
+use Rattle.escrow_sql.specs.declared.statement.Term.TheVariants as terms
+use Rattle.escrow_sql.specs.declared.statement.Test.{Test}
+use Rattle.escrow_sql.specs.declared.statement.Test.TheVariants as tests
 use Rattle.escrow_sql.specs.declared.statement.TypeText.{TypeText}
 use Rattle.escrow_sql.specs.declared.statement.TypeText.TheVariants as types
 use Rattle.escrow_checks.specs.declared.check.Check.{Check}
@@ -23,7 +28,7 @@ use Rattle.escrow_schema.specs.declared.column.ColumnType.TheVariants.{Number, V
 use Rattle.escrow_schema.specs.declared.table.TableDef.{TableDef}
 use Rattle.escrow_schema.specs.Column.{type_of, reservables, names_of}
 use Rattle.escrow_schema.specs.Definition.{check_of_mark, checks_in, column_of, column_texts, columns_of, is_key_mark, is_reservable_mark, key_names}
-use Rattle.escrow_schema.specs.Print.{column_with, declared_checks}
+use Rattle.escrow_schema.specs.Print.{declared_checks}
 use Rattle.escrow_schema.specs.Typed.{IsType}
 use Rattle.escrow_schema.proofs.ColumnsLemmas.{HasType}
 
@@ -47,15 +52,29 @@ abbrev pub columns_tree : List Column → ℕ → ℕ → List Item
 columns_tree [] place key = []
 columns_tree (column ∷ columns) place key = items.Column (column_tree (place == key) column) ∷ columns_tree columns (place + 1) key
 
--- a form of one column within its limits
-abbrev pub condition_tree : List ℕ → Option ℤ → Option ℤ → Condition
-condition_tree column (Some lo) hi = record { column = column; comparison = comparisons.AtLeast; limit = lo }
-condition_tree column None (Some hi) = record { column = column; comparison = comparisons.AtMost; limit = hi }
-condition_tree column None None = record { column = column; comparison = comparisons.AtMost; limit = pos 0 }
+-- a form: each column with a coefficient other than zero, in column order
+abbrev pub terms_tree : List (List ℕ) → List ℤ → List Term
+terms_tree [] coeffs = []
+terms_tree (name ∷ names) [] = []
+terms_tree (name ∷ names) (c ∷ coeffs) = if int_eq c (pos 0) then terms_tree names coeffs else terms.Column c name ∷ terms_tree names coeffs
 
--- a check over columns of these names
+-- a number by itself
+abbrev pub number_tree : ℤ → List Term
+number_tree n = terms.Number n ∷ []
+
+-- limits
+abbrev pub test_tree : Option ℤ → Option ℤ → Test
+test_tree (Some lo) (Some hi) = if int_eq lo hi then tests.Compare comparisons.Equal (number_tree lo) else tests.Between lo hi
+test_tree (Some lo) None = tests.Compare comparisons.AtLeast (number_tree lo)
+test_tree None (Some hi) = tests.Compare comparisons.AtMost (number_tree hi)
+test_tree None None = tests.Compare comparisons.AtMost []
+
+-- a check over columns of these names: one condition under its name
+abbrev pub condition_tree : List (List ℕ) → Check → Condition
+condition_tree names check = record { sum = terms_tree names check.coeffs; test = test_tree check.span.lo check.span.hi }
+
 abbrev pub check_tree : List (List ℕ) → Check → CheckText
-check_tree names check = record { name = Some check.name; condition = condition_tree (column_with names check.coeffs) check.span.lo check.span.hi }
+check_tree names check = record { name = Some check.name; conditions = condition_tree names check ∷ [] }
 
 abbrev pub check_item : List (List ℕ) → Check → Item
 check_item names check = items.Check (check_tree names check)

@@ -1,34 +1,40 @@
 -- The canonical text of a table writes its tree by the grammar.
-use Rattle.std.proofs.Common.{◌≡◌, ℕ, ℤ, ◌+◌, ◌≤◌, Bool, true, false, ◌&&◌, Option, Some, None, List, [], ◌∷◌, ◌++◌, length, map, refl, subst, append_assoc, arith}
-use Rattle.std.specs.Prelude.{◌==◌, codes, is_none, nat_le}
-use Rattle.std.specs.Fmt.{signed_decimal}
-use Rattle.std.specs.List.{AllByRecursion, list_all}
-use Rattle.std.proofs.lemmas.Bool.{and_parts, leb-true, false≢true}
-use Rattle.escrow_num.specs.Name.{spells_name}
+use Rattle.std.proofs.Common.{◌≡◌, ℕ, suc, ℤ, pos, negsuc, ◌+◌, ◌≤◌, ◌<◌, Bool, true, false, ◌&&◌, not, Option, Some, None, List, [], ◌∷◌, ◌++◌, length, map, refl, sym, subst, append_assoc, arith, inl, inr}
+use Rattle.std.specs.Prelude.{◌==◌, ◌||◌, codes, decimal, is_none, nat_le, unsigned_abs}
+use Rattle.std.specs.Char.{is_ascii_uppercase}
+use Rattle.std.specs.List.{AllByRecursion, list_all, list_any}
+use Rattle.std.specs.Option.{is_some}
+use Rattle.std.specs.Ordering.{int_eq}
+use Rattle.std.proofs.lemmas.Bool.{and_parts, cases_Bool, eqb-true, leb-true, false≢true}
+use Rattle.std.proofs.lemmas.Bool.Decides.{nat_tests}
+use Rattle.escrow_num.specs.Name.{is_name_byte, spells_name}
 use Rattle.escrow_num.specs.declared.name.TheConstants.Name.{MAX_WRITTEN}
 use Rattle.escrow_sql.specs.Grammar.{many}
-use Rattle.escrow_sql.specs.Statement.{body, check, column, comparison, condition, constraint, create, digits, item, mark, name, request, type_text}
+use Rattle.escrow_sql.specs.Statement.{body, check, column, condition, constraint, create, digits, item, mark, name, request, signed_term, sum, table_statement, term, test, type_text}
 use Rattle.escrow_sql.specs.Word.{reserved}
+use Rattle.escrow_sql.specs.declared.statement.Comparison.TheVariants as comparisons
 use Rattle.escrow_sql.specs.declared.statement.Item.{Item}
 use Rattle.escrow_sql.specs.declared.statement.Item.TheVariants as items
 use Rattle.escrow_sql.specs.declared.statement.Request.TheVariants as requests
 use Rattle.escrow_sql.specs.declared.statement.Statement.TheVariants as statements
-use Rattle.escrow_sql.specs.declared.token.Symbol.TheVariants as symbols
+use Rattle.escrow_sql.specs.declared.statement.Term.TheVariants as terms
 use Rattle.escrow_sql.specs.declared.word.Word.TheVariants as words
 use Rattle.escrow_sql.proofs.Writing.{Writes, is_behind, none_more, one_more, writes_apart, writes_blank, writes_first, writes_left, writes_meaning, writes_nothing, writes_right}
-use Rattle.escrow_sql.proofs.WritingLists.{WriteEach, writes_listed, writes_signed}
-use Rattle.escrow_sql.proofs.WritingTokens.{writes_in_parentheses, writes_name, writes_number, writes_symbol_apart, writes_word}
+use Rattle.escrow_sql.proofs.WritingLists.{WriteEach, writes_listed}
+use Rattle.escrow_sql.proofs.WritingSums.{digits_plain, first_term, writes_between, writes_compare, writes_minus, writes_negated, writes_once, writes_plus, writes_sum, writes_times, writes_unsigned}
+use Rattle.escrow_sql.proofs.WritingTokens.{no_minus, writes_in_parentheses, writes_name, writes_number, writes_word}
 use Rattle.escrow_checks.specs.declared.check.Check.{Check}
+use Rattle.escrow_checks.specs.DeclaredCheck.{IsDeclared}
 use Rattle.escrow_checks.specs.WrittenName.{is_written_name}
 use Rattle.escrow_schema.specs.declared.column.Column.{Column}
 use Rattle.escrow_schema.specs.declared.column.ColumnType.{ColumnType}
 use Rattle.escrow_schema.specs.declared.column.ColumnType.TheVariants.{Number, Varchar2}
 use Rattle.escrow_schema.specs.Column.{names_of}
-use Rattle.escrow_schema.specs.Print.{check_words, column_with, column_words, columns_words, limit_words, marks_words, table_words, type_words}
+use Rattle.escrow_schema.specs.Print.{check_words, column_words, columns_words, form_words, limit_words, marks_words, sign_words, table_words, times_words, type_words}
 use Rattle.escrow_schema.specs.Typed.{IsType}
 use Rattle.escrow_schema.proofs.ColumnsLemmas.{HasType}
-use Rattle.escrow_schema.proofs.PrintChecks.{Declared, IsOneLimit}
-use Rattle.escrow_schema.proofs.PrintTree.{check_item, column_tree, columns_tree, condition_tree, marks_tree, type_tree}
+use Rattle.escrow_schema.proofs.PrintChecks.{AreAmounts, IsSmall, amounts_of, small_each, some_coefficient}
+use Rattle.escrow_schema.proofs.PrintTree.{check_item, column_tree, columns_tree, condition_tree, marks_tree, terms_tree, test_tree, type_tree}
 
 none_from : {A : Type 0} (o : Option A) → is_none o ≡ true → o ≡ None
 none_from None e = refl
@@ -74,33 +80,110 @@ writes_columns (c ∷ columns) place key written typed =
     let parts = and_parts (is_written_name c.name) (list_all is_written_name (names_of columns)) written in
     (writes_column (place == key) c parts.0 typed.0, writes_columns columns (place + 1) key parts.1 typed.1)
 
-writes_condition : (c : List ℕ) (lo hi : Option ℤ) → is_written_name c ≡ true → IsOneLimit lo hi → Writes is_behind condition (c ++ limit_words lo hi) (condition_tree c lo hi)
-unfolding condition comparison
-writes_condition c (Some lo) None written one =
-    subst (λ (text : List ℕ). Writes is_behind condition text (condition_tree c (Some lo) None)) (append_assoc c (codes " >=") (codes " " ++ signed_decimal lo))
-    (writes_apart (writes_apart (writes_own_name c written) refl (writes_blank (writes_right (writes_right (writes_right (writes_meaning (writes_symbol_apart symbols.AtLeast)))))))
-    refl (writes_blank (writes_signed lo one)))
-writes_condition c None (Some hi) written one =
-    subst (λ (text : List ℕ). Writes is_behind condition text (condition_tree c None (Some hi))) (append_assoc c (codes " <=") (codes " " ++ signed_decimal hi))
-    (writes_apart (writes_apart (writes_own_name c written) refl (writes_blank (writes_right (writes_left (writes_meaning (writes_symbol_apart symbols.AtMost))))))
-    refl (writes_blank (writes_signed hi one)))
-writes_condition c (Some lo) (Some hi) written one = absurd one
-writes_condition c None None written one = absurd one
+-- ---- the checks
 
-writes_check : (names : List (List ℕ)) (c : Check) → Declared names c → Writes is_behind item (check_words names c) (check_item names c)
+-- a name begins with a letter, and no minus
+name_plain : (n rest : List ℕ) → is_written_name n ≡ true → no_minus (n ++ rest) ≡ true
+unfolding is_written_name
+name_plain [] rest h = absurd (cc)
+name_plain (c ∷ cs) rest h =
+    let parts = and_parts (spells_name (c ∷ cs) && nat_le (length (c ∷ cs)) MAX_WRITTEN) (is_none (reserved (c ∷ cs))) h in
+    let front = and_parts (spells_name (c ∷ cs)) (nat_le (length (c ∷ cs)) MAX_WRITTEN) parts.0 in
+    let first = and_parts (is_ascii_uppercase c) (list_all is_name_byte cs) front.0 in
+    grind (arith, nat_tests)
+
+-- so does a column, so many times
+column_plain : (m : ℕ) (n rest : List ℕ) → is_written_name n ≡ true → 0 < m → m ≤ 1000000 → no_minus (times_words m n ++ rest) ≡ true
+column_plain m n rest written some small =
+    elim (cases_Bool (m == 1)) [
+      | inl e ↦ rw e (name_plain n rest written)
+      | inr e ↦ rw (e, append_assoc (decimal m) (codes " * " ++ n) rest) (digits_plain m ((codes " * " ++ n) ++ rest) some (omega arith))
+    ]
+
+writes_column_times : (m : ℕ) (n : List ℕ) → is_written_name n ≡ true → m ≤ 1000000 → Writes is_behind term (times_words m n) (terms.Column (pos m) n)
+writes_column_times m n written small =
+    let name = writes_own_name n written in
+    elim (cases_Bool (m == 1)) [
+      | inl e ↦ subst (λ (k : ℕ). Writes is_behind term (times_words k n) (terms.Column (pos k) n)) (sym (eqb-true m 1 e)) (writes_once name)
+      | inr e ↦ rw e (writes_times m (omega arith) name)
+    ]
+
+writes_first_term : (c : ℤ) (n : List ℕ) → is_written_name n ≡ true → IsSmall c → Writes is_behind first_term (sign_words true c ++ times_words (unsigned_abs c) n) (terms.Column c n)
+writes_first_term (pos m) n written small = writes_unsigned (writes_column_times m n written small)
+writes_first_term (negsuc m) n written small = writes_negated (λ rest. column_plain (suc m) n rest written (omega arith) small) (writes_column_times (suc m) n written small)
+
+writes_later_term : (c : ℤ) (n : List ℕ) → is_written_name n ≡ true → IsSmall c → Writes is_behind signed_term (sign_words false c ++ times_words (unsigned_abs c) n) (terms.Column c n)
+writes_later_term (pos m) n written small = writes_plus (writes_column_times m n written small)
+writes_later_term (negsuc m) n written small = writes_minus (writes_column_times (suc m) n written small)
+
+-- further terms may stand behind a term
+later_behind : (names : List (List ℕ)) (coeffs : List ℤ) → is_behind (form_words false names coeffs) ≡ true
+later_behind [] coeffs = refl
+later_behind (n ∷ names) [] = refl
+later_behind (n ∷ names) (pos m ∷ coeffs) = elim (cases_Bool (int_eq (pos m) (pos 0))) [ inl e ↦ rw e (later_behind names coeffs) | inr e ↦ rw e refl ]
+later_behind (n ∷ names) (negsuc m ∷ coeffs) = refl
+
+writes_later : (names : List (List ℕ)) (coeffs : List ℤ) → list_all is_written_name names ≡ true → AllByRecursion IsSmall coeffs
+    → Writes is_behind (many signed_term (λ ts. ts)) (form_words false names coeffs) (terms_tree names coeffs)
+writes_later [] coeffs written small = none_more
+writes_later (n ∷ names) [] written small = none_more
+writes_later (n ∷ names) (c ∷ coeffs) written small =
+    let parts = and_parts (is_written_name n) (list_all is_written_name names) written in
+    let rest = writes_later names coeffs parts.1 small.1 in
+    elim (cases_Bool (int_eq c (pos 0))) [
+      | inl e ↦ rw e rest
+      | inr e ↦ rw e (one_more (writes_later_term c n parts.0 small.0) (later_behind names coeffs) rest)
+    ]
+
+writes_form : (names : List (List ℕ)) (coeffs : List ℤ) → list_all is_written_name names ≡ true → AllByRecursion IsSmall coeffs
+    → length coeffs ≡ length names → list_any (λ c. not (int_eq c (pos 0))) coeffs ≡ true → Writes is_behind sum (form_words true names coeffs) (terms_tree names coeffs)
+writes_form names [] written small whole some = absurd (false≢true some)
+writes_form [] (c ∷ coeffs) written small whole some = absurd (omega arith)
+writes_form (n ∷ names) (c ∷ coeffs) written small whole some =
+    let parts = and_parts (is_written_name n) (list_all is_written_name names) written in
+    elim (cases_Bool (int_eq c (pos 0))) [
+      | inl e ↦ rw e (writes_form names coeffs parts.1 small.1 (omega arith) (rw e at some))
+      | inr e ↦ rw e (writes_sum (writes_first_term c n parts.0 small.0) (later_behind names coeffs) (writes_later names coeffs parts.1 small.1))
+    ]
+
+writes_test : (lo hi : Option ℤ) → (is_some lo || is_some hi) ≡ true → AreAmounts lo hi → Writes is_behind test (limit_words lo hi) (test_tree lo hi)
+writes_test (Some lo) (Some hi) limited amounts =
+    elim (cases_Bool (int_eq lo hi)) [
+      | inl e ↦ rw e (writes_blank (writes_compare comparisons.Equal lo amounts.0))
+      | inr e ↦ rw e (writes_blank (writes_between lo hi amounts.0 amounts.1))
+    ]
+writes_test (Some lo) None limited amounts = writes_blank (writes_compare comparisons.AtLeast lo amounts.0)
+writes_test None (Some hi) limited amounts = writes_blank (writes_compare comparisons.AtMost hi amounts.1)
+writes_test None None limited amounts = absurd (false≢true limited)
+
+-- limits may stand behind a form
+limits_behind : (lo hi : Option ℤ) → is_behind (limit_words lo hi) ≡ true
+limits_behind (Some lo) (Some hi) = elim (cases_Bool (int_eq lo hi)) [ inl e ↦ rw e refl | inr e ↦ rw e refl ]
+limits_behind (Some lo) None = refl
+limits_behind None (Some hi) = refl
+limits_behind None None = refl
+
+writes_condition : (names : List (List ℕ)) (c : Check) → list_all is_written_name names ≡ true → IsDeclared names c
+    → Writes is_behind condition (form_words true names c.coeffs ++ limit_words c.span.lo c.span.hi) (condition_tree names c)
+unfolding condition
+writes_condition names c written h =
+    writes_apart (writes_form names c.coeffs written (small_each names c h) h.covers (some_coefficient names c h)) (limits_behind c.span.lo c.span.hi)
+    (writes_test c.span.lo c.span.hi h.limited (amounts_of names c h))
+
+writes_check : (names : List (List ℕ)) (c : Check) → list_all is_written_name names ≡ true → IsDeclared names c → Writes is_behind item (check_words names c) (check_item names c)
 unfolding item check constraint check_words
-writes_check names c h =
+writes_check names c written h =
     writes_right (writes_left (writes_meaning (writes_apart
-    (writes_left (writes_meaning (writes_apart (writes_word words.Constraint) refl (writes_blank (writes_own_name c.name h.name))))) refl
-    (writes_blank (writes_apart (writes_word words.Check) refl (writes_blank (writes_in_parentheses (writes_condition (column_with names c.coeffs) c.span.lo c.span.hi h.column h.limit))))))))
+    (writes_left (writes_meaning (writes_apart (writes_word words.Constraint) refl (writes_blank (writes_own_name c.name h.written))))) refl
+    (writes_blank (writes_apart (writes_word words.Check) refl (writes_blank (writes_in_parentheses (writes_first (writes_condition names c written h) none_more))))))))
 
-pub writes_checks : (names : List (List ℕ)) (checks : List Check) → AllByRecursion (Declared names) checks → WriteEach item (map (check_words names) checks) (map (check_item names) checks)
-writes_checks names [] all = tt
-writes_checks names (c ∷ checks) all = (writes_check names c all.0, writes_checks names checks all.1)
+pub writes_checks : (names : List (List ℕ)) (checks : List Check) → list_all is_written_name names ≡ true → AllByRecursion (IsDeclared names) checks → WriteEach item (map (check_words names) checks) (map (check_item names) checks)
+writes_checks names [] written all = tt
+writes_checks names (c ∷ checks) written all = (writes_check names c written all.0, writes_checks names checks written all.1)
 
 pub writes_table : (n : List ℕ) (texts : List (List ℕ)) (is : List Item) → is_written_name n ≡ true → 1 ≤ length is → WriteEach item texts is
     → Writes is_behind request (table_words n texts) (requests.Statement (statements.Create (record { table = n; items = is })))
-unfolding request body create table_words
+unfolding request body table_statement create table_words
 writes_table n texts is written some each =
-    writes_meaning (writes_first (writes_left (writes_meaning (writes_apart (writes_word words.Create) refl (writes_blank (writes_apart (writes_word words.Table) refl
-    (writes_blank (writes_apart (writes_own_name n written) refl (writes_blank (writes_in_parentheses (writes_listed item texts is some each)))))))))) (writes_right writes_nothing))
+    writes_meaning (writes_first (writes_left (writes_left (writes_meaning (writes_apart (writes_word words.Create) refl (writes_blank (writes_apart (writes_word words.Table) refl
+    (writes_blank (writes_apart (writes_own_name n written) refl (writes_blank (writes_in_parentheses (writes_listed item texts is some each))))))))))) (writes_right writes_nothing))

@@ -1,15 +1,15 @@
 //! The canonical text of a table: a CREATE TABLE that is read back as the same table.
-ghost use Rattle.std.specs.Prelude.{◌≡◌, ◌++◌, ◌-◌, ◌==◌, [], IfOk, OnOk, codes, decimal, if◌then◌else◌, length, map, string_bytes};
+ghost use Rattle.std.specs.Prelude.{◌≡◌, ◌++◌, ◌-◌, ◌==◌, [], IfOk, OnOk, codes, decimal, if◌then◌else◌, length, map, string_bytes, true};
 ghost use Rattle.std.specs.List.{flat_map};
 ghost use Rattle.escrow_sql.specs.Joined.{joined};
 ghost use Rattle.escrow_schema.specs.Column.{reservables, names_of};
 ghost use Rattle.escrow_schema.specs.Definition.{IsTable};
-ghost use Rattle.escrow_schema.specs.Print.{ReadsBack, canonical, check_words, column_with, column_words, columns_words, declared_checks, limit_words, marks_words, table_words, type_words};
+ghost use Rattle.escrow_schema.specs.Print.{ReadsBack, canonical, check_words, column_words, columns_words, declared_checks, form_words, limit_words, marks_words, table_words, type_words};
 
 mod words;
 
 use crate::column::{Column, ColumnType};
-use crate::print::words::{column_with, push, push_limits, push_named, push_number};
+use crate::print::words::{push, push_form, push_limits, push_named, push_number};
 use crate::rules::{names_of, reservables};
 use crate::table::TableDef;
 use escrow_checks::Check;
@@ -183,9 +183,9 @@ fn push_condition(
     check: &Check,
 ) -> Result<(), AllocError>
     ensures { OnOk result (string_bytes text.new ≡ string_bytes text.old
-        ++ (column_with names.now check.now.coeffs ++ limit_words check.now.span.lo check.now.span.hi)) }
+        ++ (form_words true names.now check.now.coeffs ++ limit_words check.now.span.lo check.now.span.hi)) }
 {
-    push(text, column_with(names, check.coeffs.as_slice()))?;
+    push_form(alloc, text, names, check.coeffs.as_slice())?;
     push_limits(alloc, text, &check.span)
 }
 

@@ -69,25 +69,87 @@ fn prints_tables(rt: HostRuntime) -> Result<(), Fail> {
     Ok(())
 }
 
+/// A table of these RESERVABLE columns with this CHECK is printed with these checks, and so is the
+/// table of what was printed.
+fn expect_check(
+    rt: &impl Abort,
+    alloc: Global,
+    columns: &[&str],
+    check: &str,
+    want: &str,
+) -> Result<(), Fail> {
+    let mut front = String::from_str(alloc, "CREATE TABLE T (ID NUMBER(15) PRIMARY KEY")?;
+    for column in columns {
+        let words = format!(in alloc; ", {column} NUMBER(15) RESERVABLE")?;
+        front.push_str(words.as_str())?;
+    }
+    let text = format!(in alloc; "{front}, {check})")?;
+    let printed = format!(in alloc; "{front}, {want})")?;
+    expect_printed(rt, alloc, text.as_str(), printed.as_str())
+}
+
 #[test]
-fn prints_every_declared_check(rt: HostRuntime) -> Result<(), Fail> {
+fn prints_checks(rt: HostRuntime) -> Result<(), Fail> {
     let alloc = rt.alloc();
+    for (check, want) in [
+        (
+            "CONSTRAINT D CHECK (A - B BETWEEN -5 AND 5 AND 2 - A <= 1)",
+            "CONSTRAINT D CHECK (A - B BETWEEN -5 AND 5), CONSTRAINT D_2 CHECK (-A <= -1)",
+        ),
+        (
+            "CHECK (2*A + 3*B < 101)",
+            "CONSTRAINT CHECK_1 CHECK (2 * A + 3 * B <= 100)",
+        ),
+        ("CHECK (A = B)", "CONSTRAINT CHECK_1 CHECK (A - B = 0)"),
+        (
+            "CHECK (B BETWEEN 7 AND 7), CHECK (5 >= A)",
+            "CONSTRAINT CHECK_1 CHECK (B = 7), CONSTRAINT CHECK_2 CHECK (-A >= -5)",
+        ),
+        (
+            "CHECK (B - 2*A >= -3 AND 1000000*B - 7*A > 0)",
+            "CONSTRAINT CHECK_1 CHECK (-2 * A + B >= -3), CONSTRAINT CHECK_2 CHECK (-7 * A + 1000000 * B >= 1)",
+        ),
+    ] {
+        expect_check(&rt, alloc, &["A", "B"], check, want)?;
+    }
+    expect_check(
+        &rt,
+        alloc,
+        &["A", "B", "C"],
+        "CHECK (0 * A + C - B + 0 * B < 1), CHECK (A - C > 4 + 0 * B)",
+        "CONSTRAINT CHECK_1 CHECK (-B + C <= 0), CONSTRAINT CHECK_2 CHECK (A - C >= 5)",
+    )
+}
+
+/// The canonical text of a table with 10 RESERVABLE columns and 32 checks of all of them, with the
+/// longest names, coefficients and limits.
+fn longest_text(alloc: Global) -> Result<String, Fail> {
     let mut text = String::from_str(
         alloc,
-        "CREATE TABLE T (K NUMBER PRIMARY KEY, A NUMBER RESERVABLE",
+        "CREATE TABLE T23456789_123456789_123456789_ (K NUMBER(15) PRIMARY KEY",
     )?;
-    let mut want = String::from_str(
-        alloc,
-        "CREATE TABLE T (K NUMBER(15) PRIMARY KEY, A NUMBER(15) RESERVABLE",
-    )?;
-    for place in 1..33 {
-        let check = format!(in alloc; " CHECK (A > {place})")?;
+    let mut form = String::new(alloc);
+    for place in 0..10 {
+        let column = format!(in alloc; "C{place}3456789_123456789_123456789_")?;
+        let words = format!(in alloc; ", {column} NUMBER(15) RESERVABLE")?;
+        text.push_str(words.as_str())?;
+        let sign = if place == 0 { "-" } else { " - " };
+        let term = format!(in alloc; "{sign}1000000 * {column}")?;
+        form.push_str(term.as_str())?;
+    }
+    for place in 10..42 {
+        let check = format!(in alloc;
+            ", CONSTRAINT D{place}456789_123456789_123456789_ CHECK ({form} BETWEEN -999999999999999 AND 999999999999999)"
+        )?;
         text.push_str(check.as_str())?;
-        let least = place + 1;
-        let declared = format!(in alloc; ", CONSTRAINT CHECK_{place} CHECK (A >= {least})")?;
-        want.push_str(declared.as_str())?;
     }
     text.push_str(")")?;
-    want.push_str(")")?;
-    expect_printed(&rt, alloc, text.as_str(), want.as_str())
+    Ok(text)
+}
+
+#[test]
+fn prints_the_longest_text(rt: HostRuntime) -> Result<(), Fail> {
+    let alloc = rt.alloc();
+    let text = longest_text(alloc)?;
+    expect_printed(&rt, alloc, text.as_str(), text.as_str())
 }

@@ -1,10 +1,10 @@
 //! Words, numbers, forms and limits of a text.
-ghost use Rattle.std.specs.Prelude.{◌≡◌, ◌++◌, OnOk, decimal, pos, string_bytes};
+ghost use Rattle.std.specs.Prelude.{◌≡◌, ◌++◌, Some, OnOk, decimal, pos, string_bytes, true, unsigned_abs};
 ghost use Rattle.std.specs.Fmt.{signed_decimal};
 ghost use Rattle.std.specs.Ordering.{int_eq};
-ghost use Rattle.escrow_schema.specs.Print.{column_with, limit_words};
+ghost use Rattle.escrow_schema.specs.Print.{form_words, limit_words, sign_words, times_words};
 
-use escrow_num::{Amount, Name, Span};
+use escrow_num::{Amount, Name, Span, Wide};
 use std::alloc::{AllocError, Global};
 
 /// Adds words.
@@ -31,24 +31,74 @@ pub(crate) fn push_number(alloc: Global, text: &mut String, number: u64) -> Resu
 }
 
 /// Adds words and a number behind them, with a minus where it is negative.
-fn push_limit(alloc: Global, text: &mut String, words: &str, limit: i128) -> Result<(), AllocError>
+fn push_limit(alloc: Global, text: &mut String, words: &str, limit: Wide) -> Result<(), AllocError>
     ensures { OnOk result (string_bytes text.new ≡ string_bytes text.old ++ (words.now ++ signed_decimal limit)) }
 {
-    let digits = limit.to_string(alloc)?;
+    let digits = limit.get().to_string(alloc)?;
     push(text, words)?;
     push(text, digits.as_str())
 }
 
-/// The name of the column that a form is of, or nothing where it is of none.
-pub(crate) fn column_with<'a>(names: &'a [Name], coeffs: &[Amount]) -> &'a str
-    ensures { result.now ≡ column_with names.now coeffs.now }
+/// Adds a form over columns of these names: each with a coefficient other than zero, in order.
+pub(crate) fn push_form(
+    alloc: Global,
+    text: &mut String,
+    names: &[Name],
+    coeffs: &[Amount],
+) -> Result<(), AllocError>
+    ensures { OnOk result (string_bytes text.new ≡ string_bytes text.old ++ form_words true names.now coeffs.now) }
 {
+    let mut is_first = true;
     for (name, coefficient) in names.iter().zip(coeffs) {
         if !is_zero(*coefficient) {
-            return name.as_str();
+            push_term(alloc, text, is_first, *coefficient, name)?;
+            is_first = false;
         }
     }
-    ""
+    Ok(())
+}
+
+/// Adds a term: its sign, and its column so many times.
+fn push_term(
+    alloc: Global,
+    text: &mut String,
+    is_first: bool,
+    coefficient: Amount,
+    name: &Name,
+) -> Result<(), AllocError>
+    ensures { OnOk result (string_bytes text.new ≡ string_bytes text.old
+        ++ (sign_words is_first coefficient ++ times_words (unsigned_abs coefficient) name.now)) }
+{
+    push(text, sign_of(is_first, coefficient))?;
+    push_times(alloc, text, coefficient.get().unsigned_abs(), name)
+}
+
+/// The sign of a term: the first one shows a minus alone.
+fn sign_of(is_first: bool, coefficient: Amount) -> &'static str
+    ensures { result.now ≡ sign_words is_first coefficient }
+{
+    match (is_first, coefficient.get() < 0) {
+        (true, true) => "-",
+        (true, false) => "",
+        (false, true) => " - ",
+        (false, false) => " + ",
+    }
+}
+
+/// Adds a column, so many times.
+fn push_times(
+    alloc: Global,
+    text: &mut String,
+    magnitude: u64,
+    name: &Name,
+) -> Result<(), AllocError>
+    ensures { OnOk result (string_bytes text.new ≡ string_bytes text.old ++ times_words magnitude name.now) }
+{
+    if magnitude == 1 {
+        return push(text, name.as_str());
+    }
+    push_number(alloc, text, magnitude)?;
+    push_named(text, " * ", name)
 }
 
 /// Whether a number is zero.
@@ -63,8 +113,20 @@ pub(crate) fn push_limits(alloc: Global, text: &mut String, span: &Span) -> Resu
     ensures { OnOk result (string_bytes text.new ≡ string_bytes text.old ++ limit_words span.now.lo span.now.hi) }
 {
     match (span.lo, span.hi) {
-        (Some(lo), _) => push_limit(alloc, text, " >= ", lo.get()),
-        (None, Some(hi)) => push_limit(alloc, text, " <= ", hi.get()),
+        (Some(lo), Some(hi)) => push_range(alloc, text, lo, hi),
+        (Some(lo), None) => push_limit(alloc, text, " >= ", lo),
+        (None, Some(hi)) => push_limit(alloc, text, " <= ", hi),
         (None, None) => Ok(()),
     }
+}
+
+/// Adds two limits.
+fn push_range(alloc: Global, text: &mut String, lo: Wide, hi: Wide) -> Result<(), AllocError>
+    ensures { OnOk result (string_bytes text.new ≡ string_bytes text.old ++ limit_words (Some lo) (Some hi)) }
+{
+    if lo == hi {
+        return push_limit(alloc, text, " = ", lo);
+    }
+    push_limit(alloc, text, " BETWEEN ", lo)?;
+    push_limit(alloc, text, " AND ", hi)
 }
