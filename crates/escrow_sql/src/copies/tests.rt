@@ -7,6 +7,7 @@ fn copies_statements(rt: HostRuntime) -> Result<(), Fail> {
     for text in [
         "CREATE TABLE T (A INTEGER PRIMARY KEY, B NUMBER(5) RESERVABLE CHECK (B >= 10))",
         "CREATE TABLE T (A VARCHAR2(9), B NUMBER, PRIMARY KEY (A), CONSTRAINT C CHECK (B < 5))",
+        "CREATE TABLE T (CONSTRAINT C CHECK (2*A - B + 1 >= 5 AND A BETWEEN -1 AND 1 AND A = B))",
         "DROP TABLE T",
         "INSERT INTO T VALUES (1, 20)",
         "INSERT INTO T (B, A) VALUES (20, 'b''1')",
@@ -16,6 +17,7 @@ fn copies_statements(rt: HostRuntime) -> Result<(), Fail> {
         "SELECT * FROM T",
         "SELECT * FROM T WHERE A = 'a'",
         "SHOW TABLE T",
+        "SHOW BOUNDS T WHERE A = 'a'",
         "COMMIT",
         "ROLLBACK",
     ] {
@@ -39,6 +41,26 @@ fn tells_statements_apart(rt: HostRuntime) -> Result<(), Fail> {
             "CREATE TABLE T (A NUMBER, PRIMARY KEY (A))",
         ),
         (
+            "CREATE TABLE T (CHECK (A + B < 5))",
+            "CREATE TABLE T (CHECK (A - B < 5))",
+        ),
+        (
+            "CREATE TABLE T (CHECK (A < 5))",
+            "CREATE TABLE T (CHECK (A < +4))",
+        ),
+        (
+            "CREATE TABLE T (CHECK (A < 5))",
+            "CREATE TABLE T (CHECK (A < 5 AND A < 5))",
+        ),
+        (
+            "CREATE TABLE T (CHECK (A BETWEEN 1 AND 5))",
+            "CREATE TABLE T (CHECK (A BETWEEN 1 AND 6))",
+        ),
+        (
+            "CREATE TABLE T (CHECK (A BETWEEN 1 AND 5))",
+            "CREATE TABLE T (CHECK (A >= 1 AND A <= 5))",
+        ),
+        (
             "INSERT INTO T VALUES (1, 20)",
             "INSERT INTO T (A, B) VALUES (1, 20)",
         ),
@@ -57,6 +79,8 @@ fn tells_statements_apart(rt: HostRuntime) -> Result<(), Fail> {
         ),
         ("DELETE FROM T WHERE A = 'a'", "DELETE FROM T WHERE A = 'A'"),
         ("SELECT * FROM T", "SELECT * FROM T WHERE A = 1"),
+        ("SHOW BOUNDS T WHERE A = 1", "SHOW BOUNDS T WHERE B = 1"),
+        ("SHOW BOUNDS T WHERE A = 1", "DELETE FROM T WHERE A = 1"),
     ] {
         let Request::Statement(a) = parse(rt.alloc(), text)?;
         let Request::Statement(b) = parse(rt.alloc(), other)?;

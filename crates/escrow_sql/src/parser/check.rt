@@ -249,3 +249,6 @@ impl Part for Condition {
         cursor.condition(alloc)
     }
 }
+
+#[cfg(test)]
+mod tests;
