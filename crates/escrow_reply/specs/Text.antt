@@ -81,7 +81,7 @@ refusal_text refusal.UnknownVersion = codes "unknown version"
 -- BOUNDS
 
 -- a column's bounds: its committed value, the least and the greatest that it can come to
-abbrev pub column_text : ColumnBounds → List ℕ
+unfoldable pub column_text : ColumnBounds → List ℕ
 column_text b = b.column ++ codes " value " ++ signed_decimal b.value ++ codes " inf " ++ signed_decimal b.inf ++ codes " sup " ++ signed_decimal b.sup
 
 -- a limit, if there is one
@@ -90,7 +90,7 @@ limit_text None = codes "none"
 limit_text (Some limit) = signed_decimal limit
 
 -- a check's bounds: the least and the greatest value of its form, and its limits
-abbrev pub check_text : CheckBounds → List ℕ
+unfoldable pub check_text : CheckBounds → List ℕ
 check_text b =
     codes "CHECK " ++ b.check ++ codes " least " ++ signed_decimal b.least ++ codes " greatest " ++ signed_decimal b.greatest
     ++ codes " low " ++ limit_text b.limits.lo ++ codes " high " ++ limit_text b.limits.hi

@@ -4,6 +4,7 @@
 //! the session that it is for.
 #![tactic(auto)]
 
+mod bounds;
 mod lines;
 mod push;
 mod values;

@@ -1,6 +1,7 @@
 ghost use Rattle.std.specs.Prelude.{◌≡◌, ◌++◌, ◌∷◌, [], map, IfOk, OnOk};
 ghost use Rattle.escrow_reply.specs.Text.{rendered, prefix_of, with_prefix, reply_lines, shown_lines, header_text, row_text};
 
+use crate::bounds::{push_check_lines, push_column_lines};
 use crate::push::{push_bytes, push_number, push_text};
 use crate::values::{push_header, push_row};
 use crate::words::push_words;
@@ -68,6 +69,10 @@ fn push_shown(
             push_row_lines(alloc, lines, prefix, rows.as_slice())
         }
         Reply::Table(text) => push_line(lines, prefix, text.as_str()),
+        Reply::Bounds { columns, checks } => {
+            push_column_lines(alloc, lines, prefix, columns.as_slice())?;
+            push_check_lines(alloc, lines, prefix, checks.as_slice())
+        }
         _ => Ok(()),
     }
 }

@@ -1,7 +1,7 @@
 //! Replies and the bytes of their lines.
 use crate::{render, render_lines};
-use escrow_core::Reply;
-use escrow_num::{Amount, Breach, Name, Refusal, Seq, Session, Side, Text, Value, Wide};
+use escrow_core::{CheckBounds, ColumnBounds, Reply};
+use escrow_num::{Amount, Breach, Name, Refusal, Seq, Session, Side, Span, Text, Value, Wide};
 use std::alloc::{AllocError, Global};
 use std::process::Abort;
 use std::test::Fail;
@@ -238,6 +238,87 @@ fn tables(rt: HostRuntime) -> Result<(), Fail> {
         &reply,
         "bank.1> CREATE TABLE ACCOUNT (ID NUMBER(15) PRIMARY KEY, BALANCE NUMBER(15) RESERVABLE, CONSTRAINT MINIMUM_BALANCE CHECK (BALANCE >= 50))\n\
          bank.1> OK table\n",
+    )
+}
+
+fn wide(rt: &impl Abort, value: i128) -> Wide {
+    Wide::new(value).expect(rt, "a sum")
+}
+
+fn column_bounds(rt: &impl Abort, column: &str, value: i64, inf: i128, sup: i128) -> ColumnBounds {
+    ColumnBounds {
+        column: name(rt, column),
+        value: Amount::new(value).expect(rt, "an amount"),
+        inf: wide(rt, inf),
+        sup: wide(rt, sup),
+    }
+}
+
+fn check_bounds(
+    rt: &impl Abort,
+    check: &str,
+    (least, greatest): (i128, i128),
+    lo: Option<i128>,
+    hi: Option<i128>,
+) -> CheckBounds {
+    CheckBounds {
+        check: name(rt, check),
+        least: wide(rt, least),
+        greatest: wide(rt, greatest),
+        limits: Span {
+            lo: lo.map(|limit| wide(rt, limit)),
+            hi: hi.map(|limit| wide(rt, limit)),
+        },
+    }
+}
+
+/// Bounds of columns and of checks, where they are negative or wider than a number, and where a limit isn't
+/// there.
+#[test]
+fn bounds(rt: HostRuntime) -> Result<(), Fail> {
+    let alloc = rt.alloc();
+    let columns = vec![in alloc;
+        column_bounds(&rt, "A", 10, 10, 15),
+        column_bounds(&rt, "B$#", -999_999_999_999_999, -16_384_000_000_000_000, 0),
+    ]?;
+    let checks = vec![in alloc;
+        check_bounds(&rt, "CHECK_1", (80, 99), None, Some(100)),
+        check_bounds(&rt, "MINIMUM_BALANCE", (70, 105), Some(50), None),
+        check_bounds(&rt, "D_2", (-7, 0), Some(-7), Some(999_999_999_999_999)),
+        check_bounds(
+            &rt,
+            "E",
+            (
+                -9_999_999_999_999_990_000_000,
+                9_999_999_999_999_990_000_001
+            ),
+            Some(0),
+            Some(0),
+        ),
+    ]?;
+    let reply = Reply::Bounds {
+        columns: Seq::from_vec(columns),
+        checks: Seq::from_vec(checks),
+    };
+    assert_lines(
+        &rt,
+        &reply,
+        "bank.1> A value 10 inf 10 sup 15\n\
+         bank.1> B$# value -999999999999999 inf -16384000000000000 sup 0\n\
+         bank.1> CHECK CHECK_1 least 80 greatest 99 low none high 100\n\
+         bank.1> CHECK MINIMUM_BALANCE least 70 greatest 105 low 50 high none\n\
+         bank.1> CHECK D_2 least -7 greatest 0 low -7 high 999999999999999\n\
+         bank.1> CHECK E least -9999999999999990000000 greatest 9999999999999990000001 low 0 high 0\n\
+         bank.1> OK bounds\n",
+    )?;
+    let reply = Reply::Bounds {
+        columns: Seq::from_vec(vec![in alloc; column_bounds(&rt, "HITS", 0, 0, 1)]?),
+        checks: Seq::new(alloc),
+    };
+    assert_lines(
+        &rt,
+        &reply,
+        "bank.1> HITS value 0 inf 0 sup 1\nbank.1> OK bounds\n",
     )
 }
 

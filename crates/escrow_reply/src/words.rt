@@ -33,6 +33,7 @@ pub(crate) fn push_words(alloc: Global, line: &mut Vec<u8>, reply: &Reply) -> Re
         ),
         Reply::Rows { rows, .. } => push_counted(alloc, line, "OK rows ", rows.len() as u64),
         Reply::Table(_) => push_text(line, "OK table"),
+        Reply::Bounds { .. } => push_text(line, "OK bounds"),
     }
 }
 
