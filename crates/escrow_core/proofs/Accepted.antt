@@ -1,8 +1,7 @@
 -- What holds where a statement is accepted, by the name of what was tested.
-use Rattle.std.specs.Prelude.{◌≡◌, ℕ, ◌<◌, ◌≤◌, ℤ, Bool, true, false, unwrap_or, is_some, is_none, nat_le, nat_lt, option_map, option_and_then, Option, Some, None, List, [], ◌∷◌, ◌++◌, length, map, Result, Ok, Err}
+use Rattle.std.specs.Prelude.{◌≡◌, ℕ, ◌<◌, ◌≤◌, ℤ, false, unwrap_or, is_some, is_none, nat_le, nat_lt, option_map, option_and_then, Option, Some, None, List, [], ◌∷◌, length, map, Result, Ok, Err}
 use Rattle.std.specs.Result.{result_ok, result_err}
-use Rattle.std.proofs.Common.{refl, sym, ap, subst, ◌∙◌, arith}
-use Rattle.std.proofs.lemmas.Option.{option_and_then_some}
+use Rattle.std.proofs.Common.{refl, sym, ap, subst, ◌∙◌}
 use Rattle.escrow_num.specs.declared.refusal.Refusal.{Refusal}
 use Rattle.escrow_num.specs.declared.refusal.Refusal.TheVariants as refusal
 use Rattle.escrow_num.specs.declared.reservation.Reservation.{Reservation}

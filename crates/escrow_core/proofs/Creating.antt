@@ -1,6 +1,6 @@
 -- CREATE TABLE: the catalog's refusals are those that are left where the text defines a table.
 use Rattle.std.specs.Prelude.{◌≡◌, ◌⊎◌, ℕ, false, Option, Some, None, Result, Ok, Err, IfSome}
-use Rattle.std.proofs.Common.{inl, inr, refl, sym, ap, subst, ◌∙◌}
+use Rattle.std.proofs.Common.{inl, inr, refl, sym, ap, ◌∙◌}
 use Rattle.escrow_num.specs.declared.refusal.Refusal.{Refusal}
 use Rattle.escrow_num.specs.declared.refusal.Refusal.TheVariants as refusal
 use Rattle.escrow_num.specs.Refusal.{first_refusal}
@@ -10,7 +10,6 @@ use Rattle.escrow_schema.specs.declared.table.TableDef.{TableDef}
 use Rattle.escrow_schema.specs.Catalog.{add_refusal, table_named}
 use Rattle.escrow_schema.specs.Definition.{definition_of}
 use Rattle.escrow_core.specs.declared.reply.Reply.TheVariants as reply
-use Rattle.escrow_core.specs.Serving.{IsRefusal}
 use Rattle.escrow_core.specs.State.{State, is_open}
 use Rattle.escrow_core.specs.Step.{refusals, StepOrRefusal}
 use Rattle.escrow_core.specs.Turn.{turn_of}

@@ -1,19 +1,18 @@
 -- Rows and tables that a test keeps, and what is found among them.
-use Rattle.std.specs.Prelude.{◌≡◌, ℕ, Bool, true, false, cond, not, ◌||◌, Option, Some, None, List, [], ◌∷◌, filter, find, IsSome, IsSomeAnd, bytes_eq}
+use Rattle.std.specs.Prelude.{◌≡◌, Bool, true, false, cond, ◌||◌, Option, Some, List, [], ◌∷◌, filter, find, IsSome, IsSomeAnd, bytes_eq}
 use Rattle.std.specs.List.{AllByRecursion, list_any}
 use Rattle.std.proofs.Common.{inl, inr, sym, ap, ◌∙◌, subst, refl, le_trans}
 use Rattle.std.proofs.lemmas.Bool.{cond_both, cond-false, false_from_ne_true}
 use Rattle.escrow_num.specs.declared.row.Row.{Row}
 use Rattle.escrow_num.specs.declared.reservation.Reservation.{Reservation}
-use Rattle.escrow_num.specs.declared.value.RowName.{RowName}
 use Rattle.escrow_num.specs.Order.{same_row}
 use Rattle.escrow_num.proofs.Ascending.{ascending_filter}
-use Rattle.escrow_num.proofs.Items.{Has, all_has, has_all, has_filter, filter_has, find_has, has_find}
+use Rattle.escrow_num.proofs.Items.{Has, all_has, has_all, has_filter}
 use Rattle.escrow_checks.specs.Grant.{Meets}
 use Rattle.escrow_schema.specs.declared.table.TableDef.{TableDef}
 use Rattle.escrow_schema.specs.Catalog.{table_named}
 use Rattle.escrow_schema.specs.Fit.{IsRowOf}
-use Rattle.escrow_core.specs.State.{State, row_named, row_after, applied}
+use Rattle.escrow_core.specs.State.{State, row_after, applied}
 use Rattle.escrow_core.specs.Valid.{IsValid, AreSafeRows, HasTable, HasRow, MeetsChecks, row_before}
 use Rattle.escrow_core.proofs.Choices.{IsChoice, choices_all}
 use Rattle.escrow_core.proofs.Lengths.{length-filter_filter}

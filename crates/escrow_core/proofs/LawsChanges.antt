@@ -1,6 +1,5 @@
 -- What DROP TABLE, DELETE and an UPDATE of plain values change, and that no reservation loses its row.
-use Rattle.std.specs.Prelude.{◌≡◌, ℕ, ℤ, Bool, true, false, cond, not, unwrap_or, option_map, Option, Some, None, List, [], ◌∷◌, length, map, filter, find, bytes_eq, IsSome, IsSomeAnd, Ok}
-use Rattle.std.specs.List.{AllByRecursion}
+use Rattle.std.specs.Prelude.{◌≡◌, ℕ, ℤ, Bool, false, not, unwrap_or, option_map, Option, Some, None, List, [], ◌∷◌, length, filter, find, bytes_eq, IsSome, IsSomeAnd, Ok}
 use Rattle.std.proofs.Common.{refl, sym, ap, ap₂, subst, ◌∙◌}
 use Rattle.std.proofs.lemmas.Bool.{cond_both, cond-false, not-true, false_from_ne_true}
 use Rattle.escrow_num.specs.declared.reservation.Reservation.{Reservation}
@@ -8,17 +7,14 @@ use Rattle.escrow_num.specs.declared.row.Row.{Row}
 use Rattle.escrow_num.specs.declared.value.RowName.{RowName}
 use Rattle.escrow_num.specs.declared.value.Value.{Value}
 use Rattle.escrow_num.specs.Order.{same_row}
-use Rattle.escrow_num.specs.Session.{IsSession}
 use Rattle.escrow_num.proofs.Items.{all_has, has_all, find_has}
 use Rattle.escrow_num.proofs.Orders.{name_same, row_same}
-use Rattle.escrow_sql.specs.declared.statement.Statement.{Statement}
 use Rattle.escrow_sql.specs.declared.statement.Statement.TheVariants as statement
-use Rattle.escrow_sql.specs.declared.statement.DeleteText.{DeleteText}
 use Rattle.escrow_sql.specs.declared.statement.UpdateText.{UpdateText}
 use Rattle.escrow_schema.specs.declared.plan.Plan.{Plan}
 use Rattle.escrow_schema.specs.declared.plan.Plan.TheVariants as plan
 use Rattle.escrow_schema.specs.declared.table.TableDef.{TableDef}
-use Rattle.escrow_schema.specs.Catalog.{table_named, without_table}
+use Rattle.escrow_schema.specs.Catalog.{table_named}
 use Rattle.escrow_schema.specs.Column.{reservables}
 use Rattle.escrow_schema.specs.Plan.{planned}
 use Rattle.escrow_schema.proofs.PlanLemmas.{keys_of_plans}
@@ -29,15 +25,15 @@ use Rattle.escrow_core.specs.Laws.{DropsOneTable, DeletesOneRow, PlainUpdatesKee
 use Rattle.escrow_core.specs.Serving.{IsAccepted}
 use Rattle.escrow_core.specs.State.{State, row_named, rows_of, without_row, without_rows_of, with_values, with_plain}
 use Rattle.escrow_core.specs.Step.{step}
-use Rattle.escrow_core.specs.Turn.{turn_of, after_drop, after_delete, update_reply, after_update}
-use Rattle.escrow_core.specs.Valid.{IsValid, IsReservationIn, HasRow}
+use Rattle.escrow_core.specs.Turn.{turn_of, after_drop, update_reply, after_update}
+use Rattle.escrow_core.specs.Valid.{IsReservationIn, HasRow}
 use Rattle.escrow_core.proofs.Accepted.{delete_stands, update_plan}
 use Rattle.escrow_core.proofs.Kept.{find_filter}
 use Rattle.escrow_core.proofs.LawsEnds.{filter_within}
 use Rattle.escrow_core.proofs.LawsSteps.{step_has, step_keeps_valid}
 use Rattle.escrow_core.proofs.Lengths.{find_map}
 use Rattle.escrow_core.proofs.ValidDrop.{other_table}
-use Rattle.escrow_core.proofs.ValidPlain.{values_both, name_stays, same_test}
+use Rattle.escrow_core.proofs.ValidPlain.{values_both, same_test}
 
 -- of what fails a test nothing passes it
 none_pass : {A : Type 0} (p : A → Bool) (xs : List A) → filter p (filter (λ x. not (p x)) xs) ≡ []

@@ -1,6 +1,6 @@
 -- What SELECT and SHOW TABLE show.
-use Rattle.std.specs.Prelude.{◌≡◌, ◌↔◌, ◌⊎◌, ℕ, Bool, true, is_none, unwrap_or, option_map, option_and_then, Option, Some, None, List, [], ◌∷◌, map, filter, bytes_eq, Contains}
-use Rattle.std.proofs.Common.{inl, inr, refl, sym, ap, subst, ◌∙◌}
+use Rattle.std.specs.Prelude.{◌≡◌, ◌↔◌, ℕ, Bool, true, is_none, unwrap_or, option_map, Option, Some, None, List, [], ◌∷◌, map, filter, bytes_eq, Contains}
+use Rattle.std.proofs.Common.{refl, sym, ap, subst, ◌∙◌}
 use Rattle.std.proofs.lemmas.List.Elements.{All-from_recursion}
 use Rattle.escrow_num.specs.declared.refusal.Refusal.{Refusal}
 use Rattle.escrow_num.specs.declared.refusal.Refusal.TheVariants as refusal
@@ -14,7 +14,6 @@ use Rattle.escrow_num.specs.Refusal.{refuse_if, first_refusal}
 use Rattle.escrow_num.proofs.Ascending.{ascending_filter}
 use Rattle.escrow_num.proofs.Items.{Has, has_all, has_filter, filter_has}
 use Rattle.escrow_num.proofs.Orders.{name_same, same_name, row_same, same_row_itself}
-use Rattle.escrow_sql.specs.declared.statement.Statement.{Statement}
 use Rattle.escrow_sql.specs.declared.statement.Statement.TheVariants as statement
 use Rattle.escrow_sql.specs.declared.statement.SelectText.{SelectText}
 use Rattle.escrow_sql.specs.declared.statement.WhereText.{WhereText}
@@ -27,7 +26,6 @@ use Rattle.escrow_core.specs.declared.reply.Reply.{Reply}
 use Rattle.escrow_core.specs.declared.reply.Reply.TheVariants as reply
 use Rattle.escrow_core.specs.Asked.{is_shown, named_by, row_name, select_reply, select_refusal_of, show_reply}
 use Rattle.escrow_core.specs.Laws.{SelectsShowRows, ShowsTheTable, QueriesIgnoreWhatIsOpen, IsSelected, IsKeyed}
-use Rattle.escrow_core.specs.Serving.{IsAccepted}
 use Rattle.escrow_core.specs.State.{State}
 use Rattle.escrow_core.specs.Step.{step}
 use Rattle.escrow_core.specs.Turn.{turn_of}

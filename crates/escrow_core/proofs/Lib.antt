@@ -22,6 +22,7 @@ pub mod Running
 pub mod Safe
 pub mod Served
 pub mod Shapes
+pub mod SpreadLemmas
 pub mod TurnUpdate
 pub mod TurnWords
 pub mod Turns

@@ -1,5 +1,5 @@
 -- UPDATE: what follows for its turn from the plan, or from why there is none.
-use Rattle.std.specs.Prelude.{◌≡◌, ◌⊎◌, ◌≤◌, ℕ, ℤ, Option, Some, None, Result, Ok, Err, IfErr, IsErrOf, IsOk, List, length, option_and_then}
+use Rattle.std.specs.Prelude.{◌≡◌, ◌⊎◌, ◌≤◌, ℕ, ℤ, Option, Some, Result, Ok, Err, IfErr, IsErrOf, IsOk, List, length}
 use Rattle.std.specs.Result.{result_ok}
 use Rattle.std.proofs.Common.{inl, inr, refl, sym, ap, subst, arith, ◌∙◌}
 use Rattle.std.proofs.lemmas.Option.{option_and_then_some}
@@ -17,7 +17,7 @@ use Rattle.escrow_schema.specs.Catalog.{table_named}
 use Rattle.escrow_schema.specs.Plan.{planned}
 use Rattle.escrow_core.specs.declared.reply.Reply.TheVariants as reply
 use Rattle.escrow_core.specs.Asked.{plan_of}
-use Rattle.escrow_core.specs.Serving.{IsAccepted, IsRefusal}
+use Rattle.escrow_core.specs.Serving.{IsRefusal}
 use Rattle.escrow_core.specs.State.{State}
 use Rattle.escrow_core.specs.Step.{refusals, StepOrRefusal}
 use Rattle.escrow_core.specs.Turn.{turn_of, update_refusals}

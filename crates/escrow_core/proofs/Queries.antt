@@ -1,8 +1,7 @@
 -- SELECT and SHOW TABLE: how a call that served one meets the machine's step.
-use Rattle.std.specs.Prelude.{◌≡◌, ℕ, true, Option, Some, None, is_none, unwrap_or, option_map, List, [], map, filter}
-use Rattle.std.proofs.Common.{refl, sym, ap, subst}
+use Rattle.std.specs.Prelude.{◌≡◌, ℕ, Option, Some, None, unwrap_or, option_map, List, []}
+use Rattle.std.proofs.Common.{refl, subst}
 use Rattle.escrow_num.specs.declared.refusal.Refusal.TheVariants as refusal
-use Rattle.escrow_num.specs.Refusal.{first_refusal}
 use Rattle.escrow_sql.specs.declared.statement.SelectText.{SelectText}
 use Rattle.escrow_sql.specs.declared.statement.Statement.TheVariants as statement
 use Rattle.escrow_schema.specs.declared.table.TableDef.{TableDef}

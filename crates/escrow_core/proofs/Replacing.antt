@@ -1,5 +1,5 @@
 -- Plain values replaced in place, and the one row in which they are.
-use Rattle.std.specs.Prelude.{position, find, nat_lt, not, unwrap_or, option_map}
+use Rattle.std.specs.Prelude.{position, nat_lt, unwrap_or, option_map}
 use Rattle.std.specs.List.{AllByRecursion, position_or_len}
 use Rattle.std.specs.Ordering.{is_lt}
 use Rattle.std.proofs.Common.{inl, inr, ◌≡◌, ℕ, zero, suc, ◌+◌, ◌<◌, ◌≤◌, Bool, true, false, cond, IsTrue, Option, Some, None, List, [], ◌∷◌, ◌++◌, length, map, get_or, set, refl, sym, ap, subst, ◌∙◌, arith}
@@ -11,10 +11,10 @@ use Rattle.escrow_num.specs.declared.value.RowName.{RowName}
 use Rattle.escrow_num.specs.declared.value.Value.{Value}
 use Rattle.escrow_num.specs.Ascending.{IsAscending}
 use Rattle.escrow_num.specs.Order.{same_row, row_cmp}
-use Rattle.escrow_num.proofs.Items.{Has, all_has, has_all, find_none}
+use Rattle.escrow_num.proofs.Items.{all_has, has_all, find_none}
 use Rattle.escrow_num.proofs.Orders.{by_row, row_total, before_itself, row_same}
 use Rattle.escrow_schema.proofs.CatalogLemmas.{Once, not_there}
-use Rattle.escrow_core.specs.State.{replaced, with_values, with_plain}
+use Rattle.escrow_core.specs.State.{replaced, with_plain}
 use Rattle.escrow_core.specs.Valid.{row_before}
 
 -- VALUES

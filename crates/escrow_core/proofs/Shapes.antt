@@ -17,10 +17,11 @@ use Rattle.escrow_schema.specs.Column.{reservables}
 use Rattle.escrow_schema.specs.Definition.{IsTable}
 use Rattle.escrow_schema.specs.Fit.{IsRowOf, inserted_row}
 use Rattle.escrow_checks.proofs.FormLemmas.{length-all_changed}
-use Rattle.escrow_schema.proofs.LawLemmas.{checks_keep_amounts, checks_of_whole_row}
+use Rattle.escrow_schema.proofs.LawLemmas.{checks_keep_amounts, checks_of_whole_row, few_checks}
 use Rattle.escrow_num.specs.declared.session.TheConstants.Session.{MAX}
 use Rattle.escrow_checks.specs.declared.spread.TheConstants.Spread.{MAX_OPEN}
 use Rattle.escrow_core.specs.declared.database.TheConstants.Database.{MAX_RESERVATIONS}
+use Rattle.escrow_core.specs.declared.spreads.TheConstants.{MOST_CHECKS}
 use Rattle.escrow_core.specs.Reservations.{own}
 use Rattle.escrow_core.specs.Serving.{IsShort, HaveAmounts}
 use Rattle.escrow_core.specs.State.{State, row_named, changes_to, row_after, applied}
@@ -38,6 +39,10 @@ use Rattle.escrow_schema.proofs.LawLemmas.{rows_of_table, few_reservable}
 pub is_table_found : (s : State) → IsValid s → (name : List ℕ) (table : TableDef) → table_named s.catalog name ≡ Some table → IsTable table
 is_table_found s valid name table found =
     all_has IsTable s.catalog valid.orderly.tables.tables table (find_has (λ (t : TableDef). bytes_eq t.name name) s.catalog table found).0
+
+-- and it has few checks
+pub few_checks_found : (s : State) → IsValid s → (name : List ℕ) (table : TableDef) → table_named s.catalog name ≡ Some table → length table.checks ≤ MOST_CHECKS
+few_checks_found s valid name table found = few_checks table (is_table_found s valid name table found)
 
 -- a database has at most 16384 open reservations: 256 of each of 64 sessions
 pub few_reservations : (s : State) → IsValid s → length s.reservations ≤ MAX_OPEN

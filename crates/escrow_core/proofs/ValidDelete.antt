@@ -1,7 +1,6 @@
 -- DELETE: no open reservation is of the row that is taken out.
-use Rattle.std.specs.Prelude.{◌≡◌, Bool, true, false, not}
-use Rattle.std.proofs.Common.{sym, ap, ◌∙◌, subst, refl}
-use Rattle.std.proofs.lemmas.Bool.{false_from_ne_true}
+use Rattle.std.specs.Prelude.{◌≡◌, true, false, not}
+use Rattle.std.proofs.Common.{ap, ◌∙◌, refl}
 use Rattle.escrow_num.specs.declared.row.Row.{Row}
 use Rattle.escrow_num.specs.declared.reservation.Reservation.{Reservation}
 use Rattle.escrow_num.specs.declared.value.RowName.{RowName}

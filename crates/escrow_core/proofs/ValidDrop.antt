@@ -1,13 +1,10 @@
 -- DROP TABLE: no open reservation is of a row of the table that is taken out.
-use Rattle.std.specs.Prelude.{◌≡◌, ℕ, Bool, true, false, not, Option, Some, None, List, length, find, filter, bytes_eq, IsSomeAnd, Result, Ok, Err, OnOk, IsErr, ◌↔◌}
-use Rattle.std.specs.List.{AllByRecursion}
+use Rattle.std.specs.Prelude.{◌≡◌, ℕ, false, not, Option, Some, None, List, length, bytes_eq, IsSomeAnd, Result, Ok, Err, OnOk, IsErr, ◌↔◌}
 use Rattle.std.proofs.Common.{sym, ap, ◌∙◌, subst, refl}
 use Rattle.std.proofs.lemmas.Bool.{not-true}
 use Rattle.escrow_num.specs.declared.refusal.Refusal.{Refusal}
-use Rattle.escrow_num.specs.declared.row.Row.{Row}
 use Rattle.escrow_num.specs.declared.reservation.Reservation.{Reservation}
 use Rattle.escrow_num.specs.declared.value.RowName.{RowName}
-use Rattle.escrow_num.specs.Order.{same_row}
 use Rattle.escrow_num.proofs.Items.{Has, all_has, has_all}
 use Rattle.escrow_num.proofs.Orders.{row_same, name_same}
 use Rattle.escrow_schema.specs.declared.table.TableDef.{TableDef}

@@ -1,6 +1,6 @@
 -- COMMIT and ROLLBACK: a session's reservations, and then a choice of the others, are together a choice
 -- of the open ones; a choice of what stays open is a choice of what was open.
-use Rattle.std.specs.Prelude.{◌≡◌, ℕ, Bool, ◌==◌, not, List, ◌≤◌, map, bytes_eq, Option, Some, None, option_map, IsSome}
+use Rattle.std.specs.Prelude.{◌≡◌, ℕ, Bool, ◌==◌, not, List, ◌≤◌, map, bytes_eq, Option, option_map, IsSome}
 use Rattle.std.specs.List.{AllByRecursion}
 use Rattle.std.proofs.Common.{le_trans, sym, ◌∙◌, subst, refl}
 use Rattle.escrow_num.specs.declared.reservation.Savepoint.{Savepoint}

@@ -1,5 +1,5 @@
 -- UPDATE of plain values: names and amounts stay, so that each row is as safe as it was.
-use Rattle.std.specs.Prelude.{◌≡◌, ◌≤◌, ℕ, Bool, true, false, unwrap_or, Option, Some, None, option_map, List, [], ◌∷◌, bytes_eq, IfSome, IsSome, IsTrue}
+use Rattle.std.specs.Prelude.{◌≡◌, ◌≤◌, true, Option, Some, None, option_map, List, [], ◌∷◌, bytes_eq, IfSome, IsSome, IsTrue}
 use Rattle.std.specs.List.{AllByRecursion, AllZip}
 use Rattle.std.specs.Ordering.{is_lt}
 use Rattle.std.proofs.Common.{sym, subst, refl, ap, ◌∙◌}
@@ -18,7 +18,7 @@ use Rattle.escrow_schema.specs.Catalog.{table_named}
 use Rattle.escrow_schema.specs.Column.{fits}
 use Rattle.escrow_schema.specs.Fit.{IsRowOf, plains}
 use Rattle.escrow_core.specs.declared.database.TheConstants.Database.{MAX_ROWS}
-use Rattle.escrow_core.specs.State.{State, row_named, rows_of, row_after, applied, replaced, with_values, with_plain}
+use Rattle.escrow_core.specs.State.{State, row_named, row_after, applied, replaced, with_values, with_plain}
 use Rattle.escrow_core.specs.Valid.{IsValid, HasTable, HasRow, MeetsChecks, row_before}
 use Rattle.escrow_core.proofs.Choices.{IsChoice, choices_all, map_all}
 use Rattle.escrow_core.proofs.Lengths.{length-filter_map, find_map}

@@ -1,5 +1,5 @@
 -- Helps: words of private contracts.
-use Rattle.std.specs.Prelude.{◌≡◌, ◌⊎◌, ℕ, ◌≤◌, Some, None, IsTrue, List, length}
+use Rattle.std.specs.Prelude.{◌≡◌, ◌⊎◌, ℕ, ℤ, ◌≤◌, Some, None, IsTrue, List, [], ◌∷◌, length}
 use Rattle.std.specs.List.{AllByRecursion}
 use Rattle.escrow_num.specs.Amount.{IsAmount}
 use Rattle.escrow_num.specs.declared.refusal.Refusal.{Refusal}
@@ -8,6 +8,9 @@ use Rattle.escrow_num.specs.declared.row.Row.{Row}
 use Rattle.escrow_num.specs.declared.reservation.Reservation.{Reservation}
 use Rattle.escrow_num.specs.Refusal.{first_refusal}
 use Rattle.escrow_sql.specs.declared.statement.Statement.{Statement}
+use Rattle.escrow_checks.specs.declared.check.Check.{Check}
+use Rattle.escrow_checks.specs.declared.spread.Spread.{Spread}
+use Rattle.escrow_checks.specs.Spread.{IsSpread}
 use Rattle.escrow_checks.specs.declared.coefficients.TheConstants.Coefficients.{MAX_LEN}
 use Rattle.escrow_core.specs.declared.reply.Failure.TheVariants as failure
 use Rattle.escrow_core.specs.State.{State}
@@ -27,6 +30,12 @@ IsRefusal s session asked r =
 -- a reservation has changes for at most as many columns as a check has coefficients
 abbrev pub IsShort : Reservation → Type 0
 IsShort r = length r.changes ≤ MAX_LEN
+
+-- there is a spread for each check: how far reservations can move its form
+abbrev pub AreSpreads : List Check → List (List ℤ) → List Spread → Type 0
+AreSpreads [] reservations spreads = Unit {0}
+AreSpreads (check ∷ checks) reservations [] = ⊥
+AreSpreads (check ∷ checks) reservations (spread ∷ spreads) = IsSpread check.coeffs reservations spread × AreSpreads checks reservations spreads
 
 -- the amounts of all rows are amounts
 abbrev pub HaveAmounts : List Row → Type 0

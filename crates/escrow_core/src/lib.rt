@@ -16,6 +16,7 @@ mod reply;
 mod reservations;
 mod rows;
 mod shown;
+mod spreads;
 
 pub use database::Database;
 pub use event::Event;

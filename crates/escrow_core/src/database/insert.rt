@@ -18,6 +18,7 @@ impl Database {
     ghost use Rattle.escrow_core.specs.Step.{StepOrRefusal};
     ghost use Rattle.escrow_core.specs.Asked.{row_of};
     ghost use Rattle.escrow_core.specs.declared.database.TheConstants.Database.{MAX_ROWS};
+    ghost use Rattle.escrow_core.specs.declared.spreads.TheConstants.{MOST_CHECKS};
 
     /// INSERT: the row that the values make is put among the committed rows.
     pub(crate) fn insert(&mut self, alloc: Global, session: Session, text: &InsertText) -> Reply
@@ -61,7 +62,8 @@ impl Database {
 
     /// Why a row that fits its table isn't inserted. It is judged with no open reservation.
     fn row_refusal(&self, text: &InsertText, table: &TableDef, row: &Row) -> Option<Refusal>
-        requires { AllByRecursion (λ check. IsCovered check.coeffs row.now.amounts) table.now.checks }
+        requires few { length table.now.checks ≤ MOST_CHECKS }
+        requires covered { AllByRecursion (λ check. IsCovered check.coeffs row.now.amounts) table.now.checks }
         ensures { result ≡ first_refusal (
             refuse_if (is_some (row_named self.now.state.rows row.now.name)) Refusal.RowExists
             ∷ refuse_if (nat_le MAX_ROWS (length (rows_of self.now.state.rows text.now.table))) Refusal.TableFull

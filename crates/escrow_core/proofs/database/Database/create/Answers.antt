@@ -1,4 +1,4 @@
-use Rattle.std.proofs.Common.{◌≡◌, Some, None, false, sym, ap, subst, ◌∙◌}
+use Rattle.std.proofs.Common.{◌≡◌, None, false, sym, ap, subst, ◌∙◌}
 use Rattle.escrow_sql.specs.declared.statement.Statement.TheVariants as statement
 use Rattle.escrow_schema.specs.Catalog.{table_named}
 use Rattle.escrow_core.specs.Inside.{state_of}

@@ -2,8 +2,15 @@ use Rattle.std.proofs.Common.{◌≡◌, Some, sym}
 use Rattle.escrow_schema.specs.Catalog.{table_named}
 use Rattle.escrow_core.specs.Inside.{state_of}
 use Rattle.escrow_core.specs.State.{State, row_named}
-use Rattle.escrow_core.proofs.Shapes.{few_reservations, short_reservations, covered_found}
+use Rattle.escrow_core.proofs.Shapes.{few_checks_found, few_reservations, short_reservations, covered_found}
 use Rattle.escrow_core.proofs.database.Database.grant_refusal.Goals as goal
+
+pub breach_of-requires-clause-few_checks : goal.breach_of-requires-clause-few_checks
+breach_of-requires-clause-few_checks c =
+    let s : State = state_of c.self.inside in
+    let name = c.args.asked.now.row in
+    let named : table_named s.catalog name.table ≡ Some c.in_ok-table.table.now = sym c.in_ok-table.ensures.found in
+    rw c.as_slice.ensures (few_checks_found s c.self.invariant name.table c.in_ok-table.table.now named)
 
 pub breach_of-requires-clause-few : goal.breach_of-requires-clause-few
 breach_of-requires-clause-few c =

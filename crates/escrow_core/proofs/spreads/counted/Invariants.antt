@@ -1,7 +1,7 @@
 use Rattle.std.proofs.Common.{◌≡◌, ◌≤◌, take, length}
 use Rattle.escrow_num.specs.Reservation.{counted}
 use Rattle.escrow_checks.specs.declared.coefficients.TheConstants.Coefficients.{MAX_LEN}
-use Rattle.escrow_core.proofs.grant.counted.Given as goal
+use Rattle.escrow_core.proofs.spreads.counted.Given as goal
 
 abbrev pub invariant-loop-i : goal.invariant-loop-i
 invariant-loop-i l = record {

@@ -1,8 +1,0 @@
-use Rattle.std.proofs.Common.{take}
-use Rattle.std.specs.Prelude.{map}
-use Rattle.escrow_checks.specs.Spread.{IsSpread}
-use Rattle.escrow_core.specs.State.{changes_to}
-use Rattle.escrow_core.proofs.grant.spread_over.Given as goal
-
-abbrev pub invariant-loop-r : goal.invariant-loop-r
-invariant-loop-r l = IsSpread l.check.coeffs (map (changes_to l.row) (take l.r-index l.reservations)) l.spread
