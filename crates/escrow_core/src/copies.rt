@@ -1,6 +1,7 @@
 ghost use Rattle.std.specs.Prelude.{◌≡◌, ◌↔◌, IfOk, IsTrue};
 
-use escrow_num::{Name, Seq, Value};
+use crate::reply::{CheckBounds, ColumnBounds};
+use escrow_num::{Name, Seq, Span, Value};
 use std::alloc::{AllocError, Global};
 
 /// What the lists of a reply are made of: it is copied and compared whole.
@@ -42,6 +43,39 @@ impl Copied for Seq<Value> {
     fn is_same(&self, other: &Seq<Value>) -> bool {
         are_same(self.as_slice(), other.as_slice())
     }
+}
+
+impl Copied for ColumnBounds {
+    fn copy(&self, _: Global) -> Result<ColumnBounds, AllocError> {
+        Ok(*self)
+    }
+
+    fn is_same(&self, other: &ColumnBounds) -> bool {
+        self.column == other.column
+            && self.value == other.value
+            && self.inf == other.inf
+            && self.sup == other.sup
+    }
+}
+
+impl Copied for CheckBounds {
+    fn copy(&self, _: Global) -> Result<CheckBounds, AllocError> {
+        Ok(*self)
+    }
+
+    fn is_same(&self, other: &CheckBounds) -> bool {
+        self.check == other.check
+            && self.least == other.least
+            && self.greatest == other.greatest
+            && same_limits(&self.limits, &other.limits)
+    }
+}
+
+/// Whether two pairs of limits are the same.
+fn same_limits(limits: &Span, others: &Span) -> bool
+    ensures { IsTrue result ↔ (limits.now ≡ others.now) }
+{
+    *limits == *others
 }
 
 /// A copy of a list. Want of memory is the only error.

@@ -20,7 +20,7 @@ mod spreads;
 
 pub use database::Database;
 pub use event::Event;
-pub use reply::{Failure, Reply};
+pub use reply::{CheckBounds, ColumnBounds, Failure, Reply};
 
 #[cfg(test)]
 mod tests;

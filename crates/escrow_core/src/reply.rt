@@ -116,6 +116,10 @@ impl Reply {
                 rows: copy_all(alloc, rows.as_slice())?,
             },
             Reply::Table(text) => Reply::Table(text.copy(alloc)?),
+            Reply::Bounds { columns, checks } => Reply::Bounds {
+                columns: copy_all(alloc, columns.as_slice())?,
+                checks: copy_all(alloc, checks.as_slice())?,
+            },
             Reply::Committed { count } => Reply::Committed { count: *count },
             Reply::RolledBack { count } => Reply::RolledBack { count: *count },
         })
@@ -144,6 +148,16 @@ impl Reply {
                 },
             ) => are_same(a.as_slice(), b.as_slice()) && are_same(x.as_slice(), y.as_slice()),
             (Reply::Table(a), Reply::Table(b)) => a.is_same(b),
+            (
+                Reply::Bounds {
+                    columns: a,
+                    checks: x,
+                },
+                Reply::Bounds {
+                    columns: b,
+                    checks: y,
+                },
+            ) => are_same(a.as_slice(), b.as_slice()) && are_same(x.as_slice(), y.as_slice()),
             (Reply::Committed { count: a }, Reply::Committed { count: b }) => *a == *b,
             (Reply::RolledBack { count: a }, Reply::RolledBack { count: b }) => *a == *b,
             _ => false,
