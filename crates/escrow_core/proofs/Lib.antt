@@ -1,5 +1,6 @@
 pub mod Accepted
 pub mod Applying
+pub mod BoundsLemmas
 pub mod Changes
 pub mod Choices
 pub mod Creating

@@ -108,8 +108,8 @@ length_found s valid name table row named found =
 
 -- COVERED CHECKS
 
--- amounts that are as many as the RESERVABLE columns are as many as each check's coefficients
-covered : (table : TableDef) (row : Row) → IsTable table → length row.amounts ≡ length (reservables table.columns)
+-- a row of a table has an amount for each coefficient of each check
+pub covered : (table : TableDef) (row : Row) → IsTable table → length row.amounts ≡ length (reservables table.columns)
     → AllByRecursion (λ check. IsCovered check.coeffs row.amounts) table.checks
 covered table row is_table long =
     has_all (λ (check : Check). IsCovered check.coeffs row.amounts) table.checks (λ check h.

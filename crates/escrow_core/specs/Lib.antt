@@ -1,4 +1,5 @@
 pub mod Asked
+pub mod Bounds
 pub mod Event
 pub mod Inside
 pub mod Laws

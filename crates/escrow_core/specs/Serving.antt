@@ -12,6 +12,8 @@ use Rattle.escrow_checks.specs.declared.check.Check.{Check}
 use Rattle.escrow_checks.specs.declared.spread.Spread.{Spread}
 use Rattle.escrow_checks.specs.Spread.{IsSpread}
 use Rattle.escrow_checks.specs.declared.coefficients.TheConstants.Coefficients.{MAX_LEN}
+use Rattle.escrow_core.specs.declared.reply.CheckBounds.{CheckBounds}
+use Rattle.escrow_core.specs.declared.reply.ColumnBounds.{ColumnBounds}
 use Rattle.escrow_core.specs.declared.reply.Failure.TheVariants as failure
 use Rattle.escrow_core.specs.State.{State}
 use Rattle.escrow_core.specs.Step.{refusals, may_fail}
@@ -36,6 +38,14 @@ abbrev pub AreSpreads : List Check → List (List ℤ) → List Spread → Type 
 AreSpreads [] reservations spreads = Unit {0}
 AreSpreads (check ∷ checks) reservations [] = ⊥
 AreSpreads (check ∷ checks) reservations (spread ∷ spreads) = IsSpread check.coeffs reservations spread × AreSpreads checks reservations spreads
+
+-- the bounds of columns, each with its amount and the bounds of its range
+abbrev pub columns_from : List (List ℕ) → List ℤ → List CheckBounds → List ColumnBounds
+columns_from [] amounts ranges = []
+columns_from (name ∷ names) [] ranges = []
+columns_from (name ∷ names) (a ∷ amounts) [] = []
+columns_from (name ∷ names) (a ∷ amounts) (range ∷ ranges) =
+    record { column = name; value = a; inf = range.least; sup = range.greatest } ∷ columns_from names amounts ranges
 
 -- the amounts of all rows are amounts
 abbrev pub HaveAmounts : List Row → Type 0

@@ -7,6 +7,7 @@
 #![tactic(auto)]
 
 mod apply;
+mod bounds;
 mod copies;
 mod database;
 mod event;

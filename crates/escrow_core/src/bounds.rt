@@ -1,0 +1,115 @@
+ghost use Rattle.std.specs.Prelude.{◌≡◌, ℤ, ◌≤◌, IfOk, List, length, map};
+ghost use Rattle.std.specs.List.{AllByRecursion};
+ghost use Rattle.escrow_checks.specs.Form.{IsCovered};
+ghost use Rattle.escrow_checks.specs.Spread.{IsSpread};
+ghost use Rattle.escrow_checks.specs.declared.spread.TheConstants.Spread.{MAX_OPEN};
+ghost use Rattle.escrow_schema.specs.Column.{names_of, reservables};
+ghost use Rattle.escrow_schema.specs.Definition.{IsTable};
+ghost use Rattle.escrow_schema.specs.Fit.{IsRowOf};
+ghost use Rattle.escrow_core.specs.Bounds.{bounds_in, check_bounds};
+ghost use Rattle.escrow_core.specs.Serving.{AreSpreads, IsShort, columns_from};
+ghost use Rattle.escrow_core.specs.State.{changes_to};
+
+use crate::copies::copy_all;
+use crate::reply::{CheckBounds, ColumnBounds, Reply};
+use crate::spreads::spreads_over;
+use escrow_checks::{Check, Spread};
+use escrow_num::{Amount, Name, Reservation, Row, Seq};
+use escrow_schema::{Column, TableDef};
+use std::alloc::{AllocError, Global};
+
+/// The bounds of a row of a table: those of its RESERVABLE columns, and of its declared checks. The
+/// ranges of the columns are the last checks, and their forms are the columns themselves.
+pub(crate) fn row_bounds(
+    alloc: Global,
+    table: &TableDef,
+    row: &Row,
+    reservations: &[Reservation],
+) -> Result<Reply, AllocError>
+    requires table { IsTable table.now }
+    requires row { IsRowOf table.now row.now }
+    requires few { length reservations.now ≤ MAX_OPEN }
+    requires short { AllByRecursion IsShort reservations.now }
+    ensures { IfOk result (λ reply. reply ≡ bounds_in reservations.now table.now row.now) }
+{
+    let checks = table.checks.as_slice();
+    let declared = checks.len() - row.amounts.len();
+    let spreads = spreads_over(checks, row, reservations);
+    let bounds = all_check_bounds(alloc, checks, row, &spreads)?;
+    let (shown, ranges) = bounds.as_slice().split_at(declared);
+    let names = reservable_names(alloc, table.columns.as_slice())?;
+    Ok(Reply::Bounds {
+        columns: all_column_bounds(alloc, names.as_slice(), row.amounts.as_slice(), ranges)?,
+        checks: copy_all(alloc, shown)?,
+    })
+}
+
+/// The names of the RESERVABLE columns, in order.
+fn reservable_names(alloc: Global, columns: &[Column]) -> Result<Vec<Name>, AllocError>
+    ensures { IfOk result (λ names. names.items ≡ names_of (reservables columns.now)) }
+{
+    columns
+        .iter()
+        .copied()
+        .filter(|column| column.reservable)
+        .map(|column| column.name)
+        .collect(alloc)
+}
+
+/// The bounds of each check of a row, by its spread.
+fn all_check_bounds(
+    alloc: Global,
+    checks: &[Check],
+    row: &Row,
+    spreads: &[Spread],
+) -> Result<Seq<CheckBounds>, AllocError>
+    requires enough { length checks.now ≤ length spreads.now }
+    ensures { IfOk result (λ bounds. (reservations : List (List ℤ))
+        → AllByRecursion (λ check. IsCovered check.coeffs row.now.amounts) checks.now
+        → AreSpreads checks.now reservations spreads.now
+        → bounds ≡ map (check_bounds row.now.amounts reservations) checks.now) }
+{
+    let mut bounds = Seq::new(alloc);
+    for (i, check) in checks.iter().enumerate() {
+        bounds.push(check_bounds(check, row, &spreads[i]))?;
+    }
+    Ok(bounds)
+}
+
+/// The bounds of a check of a row.
+fn check_bounds(check: &Check, row: &Row, spread: &Spread) -> CheckBounds
+    ensures { (reservations : List (List ℤ)) → IsCovered check.now.coeffs row.now.amounts
+        → IsSpread check.now.coeffs reservations spread.now
+        → result ≡ check_bounds row.now.amounts reservations check.now }
+{
+    let (least, greatest) = check.extremes(row.amounts.as_slice(), spread);
+    CheckBounds {
+        check: check.name,
+        least,
+        greatest,
+        limits: check.span,
+    }
+}
+
+/// The bounds of each column, of which each has an amount and the bounds of its range.
+fn all_column_bounds(
+    alloc: Global,
+    names: &[Name],
+    amounts: &[Amount],
+    ranges: &[CheckBounds],
+) -> Result<Seq<ColumnBounds>, AllocError>
+    requires amounts { length names.now ≡ length amounts.now }
+    requires ranges { length names.now ≡ length ranges.now }
+    ensures { IfOk result (λ bounds. bounds ≡ columns_from names.now amounts.now ranges.now) }
+{
+    let mut bounds = Seq::new(alloc);
+    for (i, name) in names.iter().enumerate() {
+        bounds.push(ColumnBounds {
+            column: *name,
+            value: amounts[i],
+            inf: ranges[i].least,
+            sup: ranges[i].greatest,
+        })?;
+    }
+    Ok(bounds)
+}
