@@ -10,7 +10,7 @@ use Rattle.escrow_num.specs.declared.value.Value.{Value}
 use Rattle.escrow_num.specs.Refusal.{refuse_if, first_refusal}
 use Rattle.escrow_num.specs.Reservation.{counted}
 use Rattle.escrow_sql.specs.declared.statement.CreateText.{CreateText}
-use Rattle.escrow_sql.specs.declared.statement.DeleteText.{DeleteText}
+use Rattle.escrow_sql.specs.declared.statement.RowText.{RowText}
 use Rattle.escrow_sql.specs.declared.statement.InsertText.{InsertText}
 use Rattle.escrow_sql.specs.declared.statement.UpdateText.{UpdateText}
 use Rattle.escrow_sql.specs.declared.statement.Statement.TheVariants as statement
@@ -130,12 +130,12 @@ drop_stands s session name accepted =
     record { table = table.0; named = table.1; free = failed (is_table_reserved s name) refusal.TableReserved free.first }
 
 -- a row that is deleted
-pub record DeleteStands (s : State) (text : DeleteText) : Type 0 where
+pub record DeleteStands (s : State) (text : RowText) : Type 0 where
   pub row : Row
   pub found : row_named s.rows (named_by text.table text.row) ≡ Some row
   pub free : is_reserved s (named_by text.table text.row) ≡ false
 
-pub delete_stands : (s : State) (session : ℕ) (text : DeleteText) → IsAccepted s session (statement.Delete text) → DeleteStands s text
+pub delete_stands : (s : State) (session : ℕ) (text : RowText) → IsAccepted s session (statement.Delete text) → DeleteStands s text
 unfolding turn_of
 delete_stands s session text accepted =
     let name = named_by text.table text.row in

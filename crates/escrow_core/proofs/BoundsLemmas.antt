@@ -7,6 +7,7 @@ use Rattle.std.proofs.lemmas.Bool.{or_parts}
 use Rattle.std.proofs.lemmas.List.{length-map, take-map, drop-map}
 use Rattle.escrow_num.specs.declared.row.Row.{Row}
 use Rattle.escrow_checks.specs.declared.check.Check.{Check}
+use Rattle.escrow_checks.specs.Condition.{amount_of}
 use Rattle.escrow_schema.specs.declared.column.Column.{Column}
 use Rattle.escrow_schema.specs.declared.table.TableDef.{TableDef}
 use Rattle.escrow_schema.specs.Column.{names_of, reservables}
@@ -18,7 +19,7 @@ use Rattle.escrow_schema.proofs.DistinctLemmas.{same_name, first_apart}
 use Rattle.escrow_schema.proofs.RuleLemmas.{rules_on}
 use Rattle.escrow_schema.proofs.TableLemmas.{parts}
 use Rattle.escrow_core.specs.declared.reply.CheckBounds.{CheckBounds}
-use Rattle.escrow_core.specs.Bounds.{amount_of, check_bounds, column_bounds}
+use Rattle.escrow_core.specs.Bounds.{check_bounds, column_bounds}
 use Rattle.escrow_core.specs.Serving.{columns_from}
 
 -- each column of distinct names has its own amount

@@ -99,6 +99,7 @@ fails_for_nothing s session (statement.Update text) f e = absurd (cc)
 fails_for_nothing s session (statement.Delete text) f e = refl
 fails_for_nothing s session (statement.Select text) f e = absurd (cc)
 fails_for_nothing s session (statement.ShowTable name) f e = absurd (cc)
+fails_for_nothing s session (statement.ShowBounds text) f e = absurd (cc)
 fails_for_nothing s session statement.Commit f e = refl
 fails_for_nothing s session statement.Rollback f e = refl
 

@@ -1,7 +1,8 @@
--- SELECT and SHOW TABLE: how a call that served one meets the machine's step.
+-- SELECT, SHOW TABLE and SHOW BOUNDS: how a call that served one meets the machine's step.
 use Rattle.std.specs.Prelude.{◌≡◌, ℕ, Option, Some, None, unwrap_or, option_map, List, []}
 use Rattle.std.proofs.Common.{refl, subst}
 use Rattle.escrow_num.specs.declared.refusal.Refusal.TheVariants as refusal
+use Rattle.escrow_sql.specs.declared.statement.RowText.{RowText}
 use Rattle.escrow_sql.specs.declared.statement.SelectText.{SelectText}
 use Rattle.escrow_sql.specs.declared.statement.Statement.TheVariants as statement
 use Rattle.escrow_schema.specs.declared.table.TableDef.{TableDef}
@@ -9,6 +10,7 @@ use Rattle.escrow_schema.specs.Catalog.{table_named}
 use Rattle.escrow_schema.specs.Print.{canonical}
 use Rattle.escrow_core.specs.declared.reply.Reply.TheVariants as reply
 use Rattle.escrow_core.specs.Asked.{select_reply}
+use Rattle.escrow_core.specs.Bounds.{bounds_reply}
 use Rattle.escrow_core.specs.Serving.{IsAccepted}
 use Rattle.escrow_core.specs.State.{State}
 use Rattle.escrow_core.specs.Step.{StepOrRefusal}
@@ -19,6 +21,11 @@ pub select_serves : (s : State) (session : ℕ) (text : SelectText) → IsAccept
     → StepOrRefusal s session (statement.Select text) (select_reply s text) s
 unfolding turn_of
 select_serves s session text accepted = accepted_serves s session (statement.Select text) accepted
+
+pub bounds_serves : (s : State) (session : ℕ) (text : RowText) → IsAccepted s session (statement.ShowBounds text)
+    → StepOrRefusal s session (statement.ShowBounds text) (bounds_reply s text) s
+unfolding turn_of
+bounds_serves s session text accepted = accepted_serves s session (statement.ShowBounds text) accepted
 
 -- SHOW TABLE of a table that isn't there, and of one that is
 pub show_refuses : (s : State) (session : ℕ) (name : List ℕ) → table_named s.catalog name ≡ None

@@ -11,7 +11,7 @@ use Rattle.escrow_sql.specs.declared.statement.Statement.TheVariants as statemen
 use Rattle.escrow_sql.specs.declared.statement.CreateText.{CreateText}
 use Rattle.escrow_sql.specs.declared.statement.InsertText.{InsertText}
 use Rattle.escrow_sql.specs.declared.statement.UpdateText.{UpdateText}
-use Rattle.escrow_sql.specs.declared.statement.DeleteText.{DeleteText}
+use Rattle.escrow_sql.specs.declared.statement.RowText.{RowText}
 use Rattle.escrow_schema.specs.declared.plan.Plan.{Plan}
 use Rattle.escrow_schema.specs.declared.table.TableDef.{TableDef}
 use Rattle.escrow_schema.specs.Catalog.{with_table}
@@ -97,7 +97,7 @@ pub drop_serves : (s : State) (session : ℕ) (name : List ℕ) → IsAccepted s
 unfolding turn_of
 drop_serves s session name accepted = accepted_serves s session (statement.Drop name) accepted
 
-pub delete_serves : (s : State) (session : ℕ) (text : DeleteText) → IsAccepted s session (statement.Delete text)
+pub delete_serves : (s : State) (session : ℕ) (text : RowText) → IsAccepted s session (statement.Delete text)
     → StepOrRefusal s session (statement.Delete text) reply.Deleted (after_delete s text)
 unfolding turn_of
 delete_serves s session text accepted = accepted_serves s session (statement.Delete text) accepted

@@ -97,14 +97,19 @@ own_amounts s valid session i =
     let chosen : List Reservation = own session (take i s.reservations) in
     choice_amounts s valid chosen (choice_take i s.reservations chosen (choice_passing (λ r. r.session == session) (take i s.reservations)))
 
--- a row that stands has as many amounts as its table has RESERVABLE columns
-pub length_found : (s : State) → IsValid s → (name : RowName) (table : TableDef) (row : Row)
-    → table_named s.catalog name.table ≡ Some table → row_named s.rows name ≡ Some row → length row.amounts ≡ length (reservables table.columns)
-length_found s valid name table row named found =
+-- a row that stands is one of its table
+pub row_found : (s : State) → IsValid s → (name : RowName) (table : TableDef) (row : Row)
+    → table_named s.catalog name.table ≡ Some table → row_named s.rows name ≡ Some row → IsRowOf table row
+row_found s valid name table row named found =
     let of_row = find_has (λ (r : Row). same_row r.name name) s.rows row found in
     let of_table = all_has (HasTable s.catalog) s.rows valid.safe_rows.tables row of_row.0 in
     let at_name = subst (λ (n : RowName). IsSomeAnd (table_named s.catalog n.table) (λ t. IsRowOf t row)) (row_same row.name name of_row.1) of_table in
-    (some_at (λ t. IsRowOf t row) (table_named s.catalog name.table) table named at_name).amounts
+    some_at (λ t. IsRowOf t row) (table_named s.catalog name.table) table named at_name
+
+-- so it has as many amounts as its table has RESERVABLE columns
+pub length_found : (s : State) → IsValid s → (name : RowName) (table : TableDef) (row : Row)
+    → table_named s.catalog name.table ≡ Some table → row_named s.rows name ≡ Some row → length row.amounts ≡ length (reservables table.columns)
+length_found s valid name table row named found = (row_found s valid name table row named found).amounts
 
 -- COVERED CHECKS
 

@@ -1,5 +1,5 @@
 -- What each statement's turn is like, one lemma a statement: what the laws of steps rest on.
-use Rattle.std.specs.Prelude.{◌≡◌, ℕ, ◌<◌, bytes_eq, false, unwrap_or, option_map, Option, Some, None, List, [], length}
+use Rattle.std.specs.Prelude.{◌≡◌, ℕ, ◌<◌, bytes_eq, false, unwrap_or, option_map, option_and_then, Option, Some, None, List, [], length}
 use Rattle.std.proofs.Common.{refl, sym, ap, subst, le_refl, ◌∙◌}
 use Rattle.escrow_num.specs.declared.refusal.Refusal.{Refusal}
 use Rattle.escrow_num.specs.declared.row.Row.{Row}
@@ -9,7 +9,7 @@ use Rattle.escrow_sql.specs.declared.statement.Statement.{Statement}
 use Rattle.escrow_sql.specs.declared.statement.Statement.TheVariants as statement
 use Rattle.escrow_sql.specs.declared.statement.CreateText.{CreateText}
 use Rattle.escrow_sql.specs.declared.statement.InsertText.{InsertText}
-use Rattle.escrow_sql.specs.declared.statement.DeleteText.{DeleteText}
+use Rattle.escrow_sql.specs.declared.statement.RowText.{RowText}
 use Rattle.escrow_sql.specs.declared.statement.SelectText.{SelectText}
 use Rattle.escrow_schema.specs.declared.table.TableDef.{TableDef}
 use Rattle.escrow_schema.specs.Catalog.{table_named}
@@ -17,11 +17,12 @@ use Rattle.escrow_core.specs.declared.database.TheConstants.Database.{MAX_ROWS}
 use Rattle.escrow_core.specs.declared.reply.Reply.{Reply}
 use Rattle.escrow_core.specs.declared.reply.Reply.TheVariants as reply
 use Rattle.escrow_core.specs.Asked.{row_of, insert_breach, named_by, select_reply, show_reply}
+use Rattle.escrow_core.specs.Bounds.{bounds_in, bounds_reply}
 use Rattle.escrow_core.specs.Laws.{tells_of_rows}
 use Rattle.escrow_core.specs.Reply.{failure_of}
 use Rattle.escrow_core.specs.Serving.{IsAccepted}
 use Rattle.escrow_core.specs.Reservations.{own}
-use Rattle.escrow_core.specs.State.{State, rows_of, with_row, without_row, without_rows_of}
+use Rattle.escrow_core.specs.State.{State, row_named, rows_of, with_row, without_row, without_rows_of}
 use Rattle.escrow_core.specs.Turn.{turn_of, after_insert}
 use Rattle.escrow_core.specs.Valid.{IsValid}
 use Rattle.escrow_core.proofs.Accepted.{create_stands, insert_stands, drop_stands, delete_stands}
@@ -125,7 +126,7 @@ insert_turn s session text = record {
       rw stands.made (inserted_valid s session text stands.row valid accepted stands.made);
 }
 
-delete_turn : (s : State) (session : ℕ) (text : DeleteText) → IsTurn s session (statement.Delete text) (turn_of s session (statement.Delete text))
+delete_turn : (s : State) (session : ℕ) (text : RowText) → IsTurn s session (statement.Delete text) (turn_of s session (statement.Delete text))
 unfolding turn_of
 delete_turn s session text = record {
   answers = λ r e. absurd (cc);
@@ -142,7 +143,7 @@ delete_turn s session text = record {
     dropped = λ name answered. absurd (cc);
     inserted = λ other asked _. absurd (cc);
     updated = λ other asked _. absurd (cc);
-    deleted = λ other asked _. let same : text ≡ other = cc in ap (λ (t : DeleteText). without_row (named_by t.table t.row) s.rows) same;
+    deleted = λ other asked _. let same : text ≡ other = cc in ap (λ (t : RowText). without_row (named_by t.table t.row) s.rows) same;
     committed = λ asked. absurd (cc);
     otherwise = λ quiet. absurd (cc);
   };
@@ -171,6 +172,18 @@ table_shows s name =
     shown_as IsShow _ (table_named s.catalog name) (reply.Table [])
     (λ r e. absurd (cc), refl, refl, λ id e. absurd (cc)) (λ table. (λ r e. absurd (cc), refl, refl, λ id e. absurd (cc)))
 
+-- so is what is shown of a row, whatever table and row there are
+shown_of_row : (P : Reply → Type 0) (f : TableDef → Row → Reply) (o : Option TableDef) (row : Option Row) (none : Reply) → P none
+    → ((table : TableDef) (r : Row) → P (f table r)) → P (unwrap_or (option_and_then (λ (table : TableDef). option_map (f table) row) o) none)
+shown_of_row P f None row none at_none each = at_none
+shown_of_row P f (Some table) None none at_none each = at_none
+shown_of_row P f (Some table) (Some r) none at_none each = each table r
+
+bounds_show : (s : State) (text : RowText) → IsShow (bounds_reply s text)
+bounds_show s text =
+    shown_of_row IsShow (bounds_in s.reservations) (table_named s.catalog text.table) (row_named s.rows (named_by text.table text.row)) (reply.Bounds [] [])
+    (λ r e. absurd (cc), refl, refl, λ id e. absurd (cc)) (λ table row. (λ r e. absurd (cc), refl, refl, λ id e. absurd (cc)))
+
 select_turn : (s : State) (session : ℕ) (text : SelectText) → IsTurn s session (statement.Select text) (turn_of s session (statement.Select text))
 unfolding turn_of
 select_turn s session text =
@@ -196,6 +209,21 @@ show_turn s session name =
       judged = (if_among IsJudged _ _ refl, tt);
       memory = memory_alone;
       seen = λ _. unseen s session (statement.ShowTable name) (show_reply s name) shows.2 (λ e. absurd (cc));
+      ids = λ _. le_refl _;
+      next = λ _ id e. absurd (shows.3 id e);
+      valid = λ _ valid _. valid;
+    }
+
+bounds_turn : (s : State) (session : ℕ) (text : RowText) → IsTurn s session (statement.ShowBounds text) (turn_of s session (statement.ShowBounds text))
+unfolding turn_of
+bounds_turn s session text =
+    let shows = bounds_show s text in
+    record {
+      answers = shows.0;
+      succeeds = shows.1;
+      judged = (if_among IsJudged _ _ refl, (key_among IsJudged s text.table text.row refl refl, (if_among IsJudged _ _ refl, tt)));
+      memory = memory_alone;
+      seen = λ _. unseen s session (statement.ShowBounds text) (bounds_reply s text) shows.2 (λ e. absurd (cc));
       ids = λ _. le_refl _;
       next = λ _ id e. absurd (shows.3 id e);
       valid = λ _ valid _. valid;
@@ -243,5 +271,6 @@ is_turn s session (statement.Update text) = update_turn s session text
 is_turn s session (statement.Delete text) = delete_turn s session text
 is_turn s session (statement.Select text) = select_turn s session text
 is_turn s session (statement.ShowTable name) = show_turn s session name
+is_turn s session (statement.ShowBounds text) = bounds_turn s session text
 is_turn s session statement.Commit = commit_turn s session
 is_turn s session statement.Rollback = rollback_turn s session

@@ -11,24 +11,16 @@ use Rattle.escrow_num.specs.Order.{same_row}
 use Rattle.escrow_num.specs.Reservation.{counted}
 use Rattle.escrow_sql.specs.declared.statement.InsertText.{InsertText}
 use Rattle.escrow_sql.specs.declared.statement.UpdateText.{UpdateText}
-use Rattle.escrow_sql.specs.declared.statement.RowText.{RowText}
 use Rattle.escrow_sql.specs.declared.statement.SelectText.{SelectText}
 use Rattle.escrow_sql.specs.declared.statement.WhereText.{WhereText}
-use Rattle.escrow_checks.specs.declared.check.Check.{Check}
-use Rattle.escrow_checks.specs.Checks.{unit_of}
-use Rattle.escrow_checks.specs.Condition.{amount_of}
-use Rattle.escrow_checks.specs.Extremes.{least, greatest}
 use Rattle.escrow_checks.specs.Grant.{broken}
 use Rattle.escrow_schema.specs.declared.plan.Plan.{Plan}
 use Rattle.escrow_schema.specs.declared.plan.Plan.TheVariants as plan
 use Rattle.escrow_schema.specs.Catalog.{table_named}
-use Rattle.escrow_schema.specs.declared.table.TableDef.{TableDef}
-use Rattle.escrow_schema.specs.Column.{names_of, reservables, value_of}
+use Rattle.escrow_schema.specs.Column.{names_of, value_of}
 use Rattle.escrow_schema.specs.Fit.{inserted_row, values_of}
 use Rattle.escrow_schema.specs.Plan.{key_named, planned}
-use Rattle.escrow_schema.specs.Print.{canonical, declared_checks}
-use Rattle.escrow_core.specs.declared.reply.CheckBounds.{CheckBounds}
-use Rattle.escrow_core.specs.declared.reply.ColumnBounds.{ColumnBounds}
+use Rattle.escrow_schema.specs.Print.{canonical}
 use Rattle.escrow_core.specs.declared.reply.Reply.{Reply}
 use Rattle.escrow_core.specs.declared.reply.Reply.TheVariants as reply
 use Rattle.escrow_core.specs.State.{State, row_named, changes_to}
@@ -108,37 +100,3 @@ select_reply s text =
 -- what a SHOW TABLE shows: the text that defines the table
 abbrev pub show_reply : State → List ℕ → Reply
 show_reply s name = unwrap_or (option_map (λ table. reply.Table (canonical table)) (table_named s.catalog name)) (reply.Table [])
-
--- SHOW BOUNDS
-
--- what SHOW BOUNDS shows of a RESERVABLE column: its committed amount, and the least and the greatest
--- that it can come to, whichever of the open reservations are applied
-abbrev pub column_bounds : List (List ℕ) → List ℤ → List (List ℤ) → List ℕ → ColumnBounds
-column_bounds names amounts reservations name = record {
-  column = name;
-  value = amount_of names amounts name;
-  inf = least (unit_of names name) amounts reservations;
-  sup = greatest (unit_of names name) amounts reservations;
-}
-
--- and of a check: the least and the greatest value of its form, and its limits
-abbrev pub check_bounds : List ℤ → List (List ℤ) → Check → CheckBounds
-check_bounds amounts reservations check = record {
-  check = check.name;
-  least = least check.coeffs amounts reservations;
-  greatest = greatest check.coeffs amounts reservations;
-  limits = check.span;
-}
-
--- what SHOW BOUNDS shows of a row: each RESERVABLE column, and each declared check, over every choice
--- of the open reservations of all sessions
-abbrev pub bounds_in : State → TableDef → Row → Reply
-bounds_in s table row =
-    let names = names_of (reservables table.columns) in
-    let reservations = map (changes_to row) s.reservations in
-    reply.Bounds (map (column_bounds names row.amounts reservations) names) (map (check_bounds row.amounts reservations) (declared_checks table))
-
-abbrev pub bounds_reply : State → RowText → Reply
-bounds_reply s text =
-    unwrap_or (option_and_then (λ table. option_map (bounds_in s table) (row_named s.rows (named_by text.table text.row))) (table_named s.catalog text.table))
-    (reply.Bounds [] [])

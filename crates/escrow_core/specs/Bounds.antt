@@ -1,10 +1,13 @@
 -- Believed: what SHOW BOUNDS shows.
-use Rattle.std.specs.Prelude.{ℕ, ℤ, pos, if◌then◌else◌, bytes_eq, List, [], ◌∷◌, map}
+use Rattle.std.specs.Prelude.{ℕ, ℤ, option_map, option_and_then, unwrap_or, List, [], map}
 use Rattle.escrow_num.specs.declared.reservation.Reservation.{Reservation}
 use Rattle.escrow_num.specs.declared.row.Row.{Row}
+use Rattle.escrow_sql.specs.declared.statement.RowText.{RowText}
 use Rattle.escrow_checks.specs.declared.check.Check.{Check}
 use Rattle.escrow_checks.specs.Checks.{unit_of}
+use Rattle.escrow_checks.specs.Condition.{amount_of}
 use Rattle.escrow_checks.specs.Extremes.{least, greatest}
+use Rattle.escrow_schema.specs.Catalog.{table_named}
 use Rattle.escrow_schema.specs.Column.{names_of, reservables}
 use Rattle.escrow_schema.specs.declared.table.TableDef.{TableDef}
 use Rattle.escrow_schema.specs.Print.{declared_checks}
@@ -12,13 +15,8 @@ use Rattle.escrow_core.specs.declared.reply.CheckBounds.{CheckBounds}
 use Rattle.escrow_core.specs.declared.reply.ColumnBounds.{ColumnBounds}
 use Rattle.escrow_core.specs.declared.reply.Reply.{Reply}
 use Rattle.escrow_core.specs.declared.reply.Reply.TheVariants as reply
-use Rattle.escrow_core.specs.State.{changes_to}
-
--- TEMPORARY
-abbrev pub amount_of : List (List ℕ) → List ℤ → List ℕ → ℤ
-amount_of [] amounts name = pos 0
-amount_of (column ∷ columns) [] name = pos 0
-amount_of (column ∷ columns) (a ∷ amounts) name = if bytes_eq column name then a else amount_of columns amounts name
+use Rattle.escrow_core.specs.Asked.{named_by}
+use Rattle.escrow_core.specs.State.{State, row_named, changes_to}
 
 -- what SHOW BOUNDS shows of a RESERVABLE column: its committed amount, and the least and the greatest
 -- that it can come to, whichever of the open reservations are applied
@@ -46,3 +44,9 @@ bounds_in open_ones table row =
     let names = names_of (reservables table.columns) in
     let reservations = map (changes_to row) open_ones in
     reply.Bounds (map (column_bounds names row.amounts reservations) names) (map (check_bounds row.amounts reservations) (declared_checks table))
+
+-- what a SHOW BOUNDS shows
+abbrev pub bounds_reply : State → RowText → Reply
+bounds_reply s text =
+    unwrap_or (option_and_then (λ table. option_map (bounds_in s.reservations table) (row_named s.rows (named_by text.table text.row))) (table_named s.catalog text.table))
+    (reply.Bounds [] [])

@@ -18,7 +18,7 @@ use Rattle.escrow_sql.specs.declared.statement.Statement.{Statement}
 use Rattle.escrow_sql.specs.declared.statement.Statement.TheVariants as statement
 use Rattle.escrow_sql.specs.declared.statement.UpdateText.{UpdateText}
 use Rattle.escrow_sql.specs.declared.statement.InsertText.{InsertText}
-use Rattle.escrow_sql.specs.declared.statement.DeleteText.{DeleteText}
+use Rattle.escrow_sql.specs.declared.statement.RowText.{RowText}
 use Rattle.escrow_sql.specs.declared.statement.SelectText.{SelectText}
 use Rattle.escrow_sql.specs.declared.statement.WhereText.{WhereText}
 use Rattle.escrow_checks.specs.declared.check.Check.{Check}
@@ -133,7 +133,7 @@ pub record IsSeen (s : State) (session : ℕ) (asked : Statement) (answer : Repl
       → (row : Row) × (row_of s text ≡ Some row) × (rows ≡ with_row row s.rows)
   pub updated : (text : UpdateText) → asked ≡ statement.Update text → answer ≡ reply.Updated
       → (key : Value) × (values : List (Option Value)) × (plan_of s text ≡ Some (plan.Plain key values)) × (rows ≡ with_plain (row_name text.table key) values s.rows)
-  pub deleted : (text : DeleteText) → asked ≡ statement.Delete text → answer ≡ reply.Deleted → rows ≡ without_row (named_by text.table text.row) s.rows
+  pub deleted : (text : RowText) → asked ≡ statement.Delete text → answer ≡ reply.Deleted → rows ≡ without_row (named_by text.table text.row) s.rows
   pub committed : asked ≡ statement.Commit → rows ≡ applied s.rows (own session s.reservations)
   pub otherwise : tells_of_rows answer ≡ false → rows ≡ s.rows
 
@@ -160,7 +160,7 @@ DropsOneTable = (s : State) (session : ℕ) (name : List ℕ) → let after = st
 
 -- an accepted DELETE takes out just the row that it names
 abbrev pub DeletesOneRow : Type 0
-DeletesOneRow = (s : State) (session : ℕ) (text : DeleteText) → let after = step s session (statement.Delete text) in after.0 ≡ reply.Deleted
+DeletesOneRow = (s : State) (session : ℕ) (text : RowText) → let after = step s session (statement.Delete text) in after.0 ≡ reply.Deleted
     → (after.1 ≡ record s { rows = after.1.rows })
     × IsSome (row_named s.rows (named_by text.table text.row)) × (row_named after.1.rows (named_by text.table text.row) ≡ None)
     × ((other : RowName) → ¬ (other ≡ named_by text.table text.row) → row_named after.1.rows other ≡ row_named s.rows other)

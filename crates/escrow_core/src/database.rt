@@ -1,3 +1,4 @@
+mod bounds;
 mod create;
 mod delete;
 mod drop;
@@ -100,6 +101,7 @@ impl Database {
             Statement::Delete(text) => self.delete(session, text),
             Statement::Select(text) => self.select(alloc, session, text),
             Statement::ShowTable(name) => self.show_table(alloc, session, *name),
+            Statement::ShowBounds(text) => self.show_bounds(alloc, session, text),
             Statement::Commit => Reply::Committed {
                 count: self.commit(session),
             },

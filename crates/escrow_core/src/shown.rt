@@ -1,20 +1,12 @@
 ghost use Rattle.std.specs.Prelude.{◌≡◌, ◌++◌, ◌∷◌, [], IfOk, OnOk, map, filter};
-ghost use Rattle.escrow_schema.specs.Column.{names_of};
 ghost use Rattle.escrow_schema.specs.Fit.{values_of};
 ghost use Rattle.escrow_core.specs.Asked.{is_shown};
 
 use crate::rows::is_named_by;
 use escrow_num::{Name, Row, Seq, Value};
-use escrow_schema::{Column, TableDef, values_of};
+use escrow_schema::{TableDef, values_of};
 use escrow_sql::{SelectText, WhereText};
 use std::alloc::{AllocError, Global};
-
-/// The names of columns, in order.
-pub(crate) fn names_of(alloc: Global, columns: &[Column]) -> Result<Vec<Name>, AllocError>
-    ensures { IfOk result (λ names. names.items ≡ names_of columns.now) }
-{
-    columns.iter().map(|column| column.name).collect(alloc)
-}
 
 /// The values of each row that a SELECT of a table shows, in column order.
 pub(crate) fn shown_rows(

@@ -4,7 +4,7 @@ use crate::reservations::is_reserved;
 use crate::rows::{find_named_by, remove_row};
 use escrow_num::{Refusal, Session};
 use escrow_schema::check_key;
-use escrow_sql::{DeleteText, Statement};
+use escrow_sql::{RowText, Statement};
 
 impl Database {
     ghost use Rattle.std.specs.Prelude.{◌≡◌, [], ◌∷◌, is_none};
@@ -17,7 +17,7 @@ impl Database {
 
     /// DELETE: the row is taken out. Its key is compared with the literal, so that this takes no
     /// memory.
-    pub(crate) fn delete(&mut self, session: Session, text: &DeleteText) -> Reply
+    pub(crate) fn delete(&mut self, session: Session, text: &RowText) -> Reply
         ensures { StepOrRefusal self.old.state session (Statement.Delete text.now) result self.new.state }
     {
         match self.check_delete(session, text) {
@@ -31,7 +31,7 @@ impl Database {
 
     /// Why a DELETE is refused, if it is.
     #[tactic(auto, unfolding(crate::specs::Turn::turn_of))]
-    fn check_delete(&self, session: Session, text: &DeleteText) -> Result<(), Refusal>
+    fn check_delete(&self, session: Session, text: &RowText) -> Result<(), Refusal>
         ensures { result_err result ≡ first_refusal (refusals (turn_of self.now.state session (Statement.Delete text.now))) }
     {
         if self.is_open(session) {
@@ -45,7 +45,7 @@ impl Database {
     }
 
     /// Why a row isn't taken out: there is none, or a session holds a reservation of it.
-    fn check_free(&self, text: &DeleteText) -> Result<(), Refusal>
+    fn check_free(&self, text: &RowText) -> Result<(), Refusal>
         ensures { result_err result ≡ first_refusal (
             refuse_if (is_none (row_named self.now.state.rows (named_by text.now.table text.now.row))) Refusal.NoSuchRow
             ∷ refuse_if (is_reserved self.now.state (named_by text.now.table text.now.row)) Refusal.RowReserved

@@ -1,8 +1,8 @@
 use crate::database::Database;
 use crate::reply::Reply;
-use crate::shown::{names_of, shown_rows};
+use crate::shown::shown_rows;
 use escrow_num::{Refusal, Seq, Session};
-use escrow_schema::{TableDef, check_key};
+use escrow_schema::{TableDef, check_key, names_of};
 use escrow_sql::{SelectText, Statement};
 use std::alloc::{AllocError, Global};
 
