@@ -1,5 +1,5 @@
 -- The checks that CHECKs declare: they mean what is written, and what is known of each.
-use Rattle.std.proofs.Common.{◌≡◌, ℕ, ◌+◌, ◌≤◌, ◌↔◌, Bool, true, false, ◌&&◌, ◌||◌, cond, ℤ, pos, ◌+ℤ◌, ◌-ℤ◌, List, [], ◌∷◌, ◌++◌, length, map, Option, Some, None, refl, ap, ◌∙◌, sym, subst, arith, length-append}
+use Rattle.std.proofs.Common.{◌≡◌, ℕ, ◌+◌, ◌≤◌, ◌↔◌, true, ◌&&◌, ◌||◌, cond, ℤ, ◌-ℤ◌, List, [], ◌∷◌, ◌++◌, length, map, Option, Some, None, refl, ap, ◌∙◌, sym, subst, arith, length-append}
 use Rattle.std.specs.Prelude.{All, nat_le, bytes_eq, option_map, option_and_then}
 use Rattle.std.specs.Option.{is_some}
 use Rattle.std.specs.List.{IsDistinct, flat_map}

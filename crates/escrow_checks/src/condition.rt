@@ -123,3 +123,6 @@ fn is_column(columns: &[Name], term: &Term) -> bool
         Term::Column { column, .. } => columns.contains(column),
     }
 }
+
+#[cfg(test)]
+mod tests;

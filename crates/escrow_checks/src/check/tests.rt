@@ -128,7 +128,8 @@ fn every_choice_is_covered(rt: HostRuntime) -> Result<(), Fail> {
 
 #[test]
 fn greatest_amounts(rt: HostRuntime) -> Result<(), Fail> {
-    let check = check(&rt, Coefficients::unit(3, 1));
+    let columns = [name(&rt, b"A"), name(&rt, b"B"), name(&rt, b"C")];
+    let check = check(&rt, Coefficients::of_column(&columns, columns[1]));
     let row = amounts(&rt, rt.alloc(), &[-999, Amount::MAX, 999])?;
     let reservations = [
         amounts(&rt, rt.alloc(), &[-999, Amount::MAX, 999])?,
@@ -138,5 +139,34 @@ fn greatest_amounts(rt: HostRuntime) -> Result<(), Fail> {
     let (least, greatest) = check.extremes(row.as_slice(), &spread);
     assert_eq!(rt; least.get(), 999_999_999_999_999);
     assert_eq!(rt; greatest.get(), 1_999_999_999_999_998);
+    Ok(())
+}
+
+#[test]
+fn greatest_forms(rt: HostRuntime) -> Result<(), Fail> {
+    // ten times 1,000,000 times 999,999,999,999,999
+    let most = 9_999_999_999_999_990_000_000;
+    let check = check(&rt, listed(&[coefficient(&rt, 1_000_000); 10]));
+    let high = amounts(&rt, rt.alloc(), &[Amount::MAX; 10])?;
+    let low = amounts(&rt, rt.alloc(), &[-Amount::MAX; 10])?;
+    let reservations = [
+        amounts(&rt, rt.alloc(), &[Amount::MAX; 10])?,
+        amounts(&rt, rt.alloc(), &[-Amount::MAX; 10])?,
+    ];
+    let spread = spread_of(&check, &reservations);
+    assert_eq!(rt; check.form(low.as_slice()).get(), -most);
+    let (least, greatest) = check.extremes(high.as_slice(), &spread);
+    assert_eq!(rt; least.get(), 0);
+    assert_eq!(rt; greatest.get(), 2 * most);
+    for (row, side, worst, limit) in [
+        (&high, Side::High, 3 * most, 20),
+        (&low, Side::Low, -3 * most, -10),
+    ] {
+        let breach = check.breach(row.as_slice(), row.as_slice(), &spread);
+        let breach = breach.expect(&rt, "a breach");
+        assert_eq!(rt; breach.side, side);
+        assert_eq!(rt; breach.worst.get(), worst);
+        assert_eq!(rt; breach.limit.get(), limit);
+    }
     Ok(())
 }

@@ -1,10 +1,9 @@
-use Rattle.std.proofs.Common.{◌≡◌, ◌+◌, ◌≤◌, ◌<◌, ◌∙◌, sym, ap, arith, List, Option, Some, None, length, ◌++◌, ◌∷◌, [], get_or, subst, length-append}
+use Rattle.std.proofs.Common.{◌≡◌, ◌+◌, ◌<◌, ◌∙◌, sym, ap, arith, List, Some, length, ◌∷◌, [], get_or, length-append}
 use Rattle.escrow_sql.specs.declared.statement.Condition.{Condition}
 use Rattle.escrow_checks.specs.declared.check.Check.{Check}
-use Rattle.escrow_checks.specs.declared.condition.TheConstants.{MAX_CHECKS}
 use Rattle.escrow_checks.specs.Checks.{check_name, check_of}
-use Rattle.escrow_checks.specs.Found.{few, found, followed_by}
-use Rattle.escrow_checks.proofs.FoundLemmas.{from_place, place_all, place_more, place_none, place_many}
+use Rattle.escrow_checks.specs.Found.{few, found}
+use Rattle.escrow_checks.proofs.FoundLemmas.{from_place, place_more, place_many}
 use Rattle.escrow_checks.proofs.condition.add_checks.Goals as goal
 
 pub returns-then-before-eq-MAX_CHECKS-clause-definition : goal.returns-then-before-eq-MAX_CHECKS-clause-definition

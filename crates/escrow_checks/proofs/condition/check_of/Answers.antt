@@ -1,8 +1,6 @@
-use Rattle.std.proofs.Common.{◌≡◌, ◌&&◌, ◌∙◌, sym, ap, Bool, true, Some, None, cond, refl, map, List, ℕ}
+use Rattle.std.proofs.Common.{◌∙◌, sym, map, List, ℕ}
 use Rattle.std.proofs.lemmas.Option.{cond_some}
-use Rattle.escrow_num.specs.declared.span.Span.{Span}
-use Rattle.escrow_checks.specs.declared.check.Check.{Check}
-use Rattle.escrow_checks.specs.Checks.{coefficient_of, condition_limits, names_columns, are_good_coefficients, is_good_span, check_name, check_of}
+use Rattle.escrow_checks.specs.Checks.{coefficient_of, condition_limits, are_good_coefficients, is_good_span, check_name}
 use Rattle.escrow_checks.specs.WrittenName.{is_written_name}
 use Rattle.escrow_checks.proofs.ConditionLemmas.{check_of-found}
 use Rattle.escrow_checks.proofs.condition.check_of.Goals as goal

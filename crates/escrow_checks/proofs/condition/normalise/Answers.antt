@@ -3,7 +3,6 @@ use Rattle.std.proofs.lemmas.List.{length-map, get_or-map}
 use Rattle.escrow_sql.specs.declared.statement.CheckText.{CheckText}
 use Rattle.std.specs.Result.{IsErrOf, IsErrAnd}
 use Rattle.escrow_checks.specs.declared.fault.CheckFault.{CheckFault}
-use Rattle.escrow_checks.specs.declared.fault.CheckFault.TheVariants as CheckFault
 use Rattle.escrow_checks.proofs.ConditionLemmas.{mean_the_same}
 use Rattle.escrow_checks.proofs.FoundLemmas.{text_more, text_none, text_all}
 use Rattle.escrow_checks.proofs.condition.normalise.Goals as goal

@@ -1,6 +1,5 @@
-use Rattle.std.proofs.Common.{◌≡◌, ◌∙◌, sym, ap, arith, List, ℕ, ℤ, Bool, true, false, cond, Option, Some, None, map, refl}
+use Rattle.std.proofs.Common.{◌≡◌, ◌∙◌, sym, ap, arith, List, ℕ, ℤ, Bool, true, false, cond, Some, None, map, refl}
 use Rattle.std.proofs.lemmas.Option.{cond_some}
-use Rattle.escrow_sql.specs.declared.statement.Condition.{Condition}
 use Rattle.escrow_checks.specs.Checks.{coefficient_of, is_coefficient}
 use Rattle.escrow_checks.proofs.CoefficientsLemmas.{mapped-more, small-more, small-not, summed_kept}
 use Rattle.escrow_checks.proofs.coefficients.Coefficients.summed.Goals as goal
