@@ -15,7 +15,7 @@ use Rattle.escrow_sql.specs.declared.statement.Term.{Term}
 use Rattle.escrow_sql.specs.declared.statement.Term.TheVariants as terms
 use Rattle.escrow_checks.specs.declared.check.Check.{Check}
 use Rattle.escrow_checks.specs.declared.condition.TheConstants.{MAX_COEFFICIENT}
-use Rattle.escrow_checks.specs.Checks.{are_good_coefficients, check_of, checks_from, coefficient_in, coefficient_of, columns_in, condition_limits, in_order, is_good_span, is_limit, limits_of, names_columns, number_in, right_of}
+use Rattle.escrow_checks.specs.Checks.{are_good_coefficients, check_of, checks_from, coefficient_in, coefficient_of, columns_in, condition_limits, in_order, is_coefficient, is_good_span, is_limit, limits_of, names_columns, number_in, right_of}
 use Rattle.escrow_checks.specs.Condition.{total}
 use Rattle.escrow_checks.specs.DeclaredCheck.{IsDeclared}
 use Rattle.escrow_checks.specs.WrittenName.{is_written_name}
@@ -30,16 +30,13 @@ use Rattle.escrow_schema.proofs.PrintTree.{check_tree, condition_tree, terms_tre
 abbrev pub IsSmall : ℤ → Type 0
 IsSmall c = unsigned_abs c ≤ 1000000
 
-abbrev is_small : ℤ → Bool
-is_small c = int_le (neg_ℤ MAX_COEFFICIENT) c && int_le c MAX_COEFFICIENT
-
-small_from : (c : ℤ) → is_small c ≡ true → IsSmall c
+small_from : (c : ℤ) → is_coefficient c ≡ true → IsSmall c
 small_from (pos n) e = leb-true n 1000000 (and_parts (int_le (neg_ℤ MAX_COEFFICIENT) (pos n)) (int_le (pos n) MAX_COEFFICIENT) e).1
 small_from (negsuc n) e = grind (arith, nat_tests)
 
-small_all : (coeffs : List ℤ) → list_all is_small coeffs ≡ true → AllByRecursion IsSmall coeffs
+small_all : (coeffs : List ℤ) → list_all is_coefficient coeffs ≡ true → AllByRecursion IsSmall coeffs
 small_all [] all = tt
-small_all (c ∷ coeffs) all = let parts = and_parts (is_small c) (list_all is_small coeffs) all in (small_from c parts.0, small_all coeffs parts.1)
+small_all (c ∷ coeffs) all = let parts = and_parts (is_coefficient c) (list_all is_coefficient coeffs) all in (small_from c parts.0, small_all coeffs parts.1)
 
 pub small_each : (names : List (List ℕ)) (check : Check) → IsDeclared names check → AllByRecursion IsSmall check.coeffs
 small_each names check h = small_all check.coeffs (and_parts _ _ h.coefficients).0
