@@ -56,16 +56,16 @@ has_contains (y ∷ ys) x (inl e) = subst (Contains (y ∷ ys)) e (Contains-appe
 has_contains (y ∷ ys) x (inr h) = Contains-append_right (y ∷ []) ys x (has_contains ys x h)
 
 -- a choice is one of the sublists, and each sublist has what each choice has
-choice_contained : {A : Type 0} (xs chosen : List A) → IsChoice xs chosen → Contains (sublists xs) chosen
+pub choice_contained : {A : Type 0} (xs chosen : List A) → IsChoice xs chosen → Contains (sublists xs) chosen
 choice_contained {A} xs chosen h =
     all_choices (λ (c : List A). Contains (sublists xs) c) xs (has_all (λ (c : List A). Contains (sublists xs) c) (sublists xs) (has_contains (sublists xs))) chosen h
 
-contained_has : {A : Type 0} (P : List A → Type 0) (xs : List A) → ((chosen : List A) → IsChoice xs chosen → P chosen)
+pub contained_has : {A : Type 0} (P : List A → Type 0) (xs : List A) → ((chosen : List A) → IsChoice xs chosen → P chosen)
     → (chosen : List A) → Contains (sublists xs) chosen → P chosen
 contained_has P xs each chosen h = subst P h.2 (All-from_recursion P (sublists xs) (choices_all P xs each) h.0 chosen h.1)
 
 -- a choice of an image is the image of a choice
-choice_of_image : {A B : Type 0} (f : A → B) (xs : List A) (image : List B) → IsChoice (map f xs) image
+pub choice_of_image : {A B : Type 0} (f : A → B) (xs : List A) (image : List B) → IsChoice (map f xs) image
     → (chosen : List A) × IsChoice xs chosen × (map f chosen ≡ image)
 choice_of_image f [] image h = ([], refl, h)
 choice_of_image f (x ∷ xs) image (inl h) = let found = choice_of_image f xs image h in (found.0, inl found.1, found.2)

@@ -6,6 +6,7 @@ pub mod Choices
 pub mod Creating
 pub mod Granted
 pub mod Kept
+pub mod LawsBounds
 pub mod LawsChanges
 pub mod LawsEnds
 pub mod LawsGrants

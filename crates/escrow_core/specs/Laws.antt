@@ -1,6 +1,6 @@
 -- Believed: the statements of the laws in src/laws.rt.
-use Rattle.std.specs.Prelude.{◌≡◌, ◌↔◌, ℕ, ℤ, ◌+◌, ◌≤◌, Bool, true, false, Option, Some, None, IsSome, IsSomeAnd, List, [], ◌∷◌, ◌++◌, length, map, take, Contains}
-use Rattle.std.specs.List.{AllByRecursion}
+use Rattle.std.specs.Prelude.{◌≡◌, ◌↔◌, ℕ, ℤ, ◌+◌, ◌≤◌, ◌≤ℤ◌, Bool, true, false, Option, Some, None, IsSome, IsSomeAnd, List, [], ◌∷◌, ◌++◌, length, map, take, Contains}
+use Rattle.std.specs.List.{AllByRecursion, AllZip}
 use Rattle.escrow_num.specs.declared.refusal.Breach.{Breach}
 use Rattle.escrow_num.specs.declared.refusal.Refusal.{Refusal}
 use Rattle.escrow_num.specs.declared.refusal.Refusal.TheVariants as refusal
@@ -14,6 +14,7 @@ use Rattle.escrow_num.specs.declared.session.End.TheVariants as end
 use Rattle.escrow_num.specs.Ascending.{IsAscending}
 use Rattle.escrow_num.specs.Refusal.{first_refusal}
 use Rattle.escrow_num.specs.Session.{IsSession}
+use Rattle.escrow_num.specs.Span.{Holds}
 use Rattle.escrow_sql.specs.declared.statement.Statement.{Statement}
 use Rattle.escrow_sql.specs.declared.statement.Statement.TheVariants as statement
 use Rattle.escrow_sql.specs.declared.statement.UpdateText.{UpdateText}
@@ -22,6 +23,7 @@ use Rattle.escrow_sql.specs.declared.statement.RowText.{RowText}
 use Rattle.escrow_sql.specs.declared.statement.SelectText.{SelectText}
 use Rattle.escrow_sql.specs.declared.statement.WhereText.{WhereText}
 use Rattle.escrow_checks.specs.declared.check.Check.{Check}
+use Rattle.escrow_checks.specs.Condition.{amount_of}
 use Rattle.escrow_checks.specs.Form.{form}
 use Rattle.escrow_checks.specs.Grant.{Meets}
 use Rattle.escrow_checks.specs.Laws.{IsBeyond}
@@ -29,10 +31,12 @@ use Rattle.escrow_checks.specs.Sublists.{sublists}
 use Rattle.escrow_schema.specs.declared.table.TableDef.{TableDef}
 use Rattle.escrow_schema.specs.declared.plan.Plan.TheVariants as plan
 use Rattle.escrow_schema.specs.Catalog.{table_named}
-use Rattle.escrow_schema.specs.Column.{names_of, value_of}
+use Rattle.escrow_schema.specs.Column.{names_of, reservables, value_of}
 use Rattle.escrow_schema.specs.Fit.{FitColumns, values_of}
-use Rattle.escrow_schema.specs.Print.{canonical}
+use Rattle.escrow_schema.specs.Print.{canonical, declared_checks}
 use Rattle.escrow_core.specs.declared.event.Event.{Event}
+use Rattle.escrow_core.specs.declared.reply.CheckBounds.{CheckBounds}
+use Rattle.escrow_core.specs.declared.reply.ColumnBounds.{ColumnBounds}
 use Rattle.escrow_core.specs.declared.reply.Failure.{Failure}
 use Rattle.escrow_core.specs.declared.reply.Failure.TheVariants as failure
 use Rattle.escrow_core.specs.declared.reply.Reply.{Reply}
@@ -220,6 +224,51 @@ IsQuery _ = ⊥
 abbrev pub QueriesIgnoreWhatIsOpen : Type 0
 QueriesIgnoreWhatIsOpen = (s : State) (session other : ℕ) (asked : Statement) (reservations : List Reservation) (savepoints : List Savepoint) → IsQuery asked
     → (step (record s { reservations = reservations; savepoints = savepoints }) other asked).0 ≡ (step s session asked).0
+
+-- a statement that shows something
+abbrev pub Shows : Statement → Type 0
+Shows (statement.Select text) = Unit {0}
+Shows (statement.ShowTable name) = Unit {0}
+Shows (statement.ShowBounds text) = Unit {0}
+Shows _ = ⊥
+
+-- it changes nothing, and whoever asks is answered alike
+abbrev pub QueriesIgnoreWhoAsks : Type 0
+QueriesIgnoreWhoAsks = (s : State) (session other : ℕ) (asked : Statement) → Shows asked
+    → ((step s session asked).1 ≡ s) × ((step s other asked).0 ≡ (step s session asked).0)
+
+-- two numbers bound what a row comes to: whichever of the open reservations are applied, it is from the
+-- one to the other, and some choice brings it to each of the two
+pub record AreBounds (reservations : List Reservation) (row : Row) (value : List ℤ → ℤ) (low high : ℤ) : Type 0 where
+  pub each : AllByRecursion (λ chosen. (low ≤ℤ value (row_after chosen row).amounts) × (value (row_after chosen row).amounts ≤ℤ high)) (sublists reservations)
+  pub reaches_low : (chosen : List Reservation) × Contains (sublists reservations) chosen × (value (row_after chosen row).amounts ≡ low)
+  pub reaches_high : (chosen : List Reservation) × Contains (sublists reservations) chosen × (value (row_after chosen row).amounts ≡ high)
+
+-- a column's line: its committed amount, and the bounds of its amount
+abbrev pub IsColumnLine : List Reservation → Row → List (List ℕ) → ColumnBounds → Type 0
+IsColumnLine reservations row names shown =
+    (shown.value ≡ amount_of names row.amounts shown.column) × AreBounds reservations row (λ amounts. amount_of names amounts shown.column) shown.inf shown.sup
+
+-- a check's line: the bounds of its form, which are within its limits
+abbrev pub IsCheckLine : List Reservation → Row → Check → CheckBounds → Type 0
+IsCheckLine reservations row check shown =
+    (shown.check ≡ check.name) × (shown.limits ≡ check.span) × AreBounds reservations row (form check.coeffs) shown.least shown.greatest
+    × Holds check.span shown.least × Holds check.span shown.greatest
+
+-- SHOW BOUNDS shows the row that it names: a line for each RESERVABLE column and for each declared check
+pub record IsShownBounds (s : State) (text : RowText) (columns : List ColumnBounds) (checks : List CheckBounds) : Type 0 where
+  pub table : TableDef
+  pub named : table_named s.catalog text.table ≡ Some table
+  pub row : Row
+  pub found : row_named s.rows (named_by text.table text.row) ≡ Some row
+  pub names : map (λ shown. shown.column) columns ≡ names_of (reservables table.columns)
+  pub column_lines : AllByRecursion (IsColumnLine s.reservations row (names_of (reservables table.columns))) columns
+  pub check_lines : AllZip (IsCheckLine s.reservations row) (declared_checks table) checks
+
+-- so it does in a valid state
+abbrev pub BoundsAreReached : Type 0
+BoundsAreReached = (s : State) (session : ℕ) (text : RowText) (columns : List ColumnBounds) (checks : List CheckBounds) → IsValid s
+    → (step s session (statement.ShowBounds text)).0 ≡ reply.Bounds columns checks → IsShownBounds s text columns checks
 
 -- ENDS OF TRANSACTIONS
 

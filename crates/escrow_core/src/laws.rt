@@ -4,7 +4,7 @@
 ghost use Rattle.escrow_core.specs.Laws.{StepKeepsValid, RunKeepsValid, CommittedRowsMeetChecks, CommittedValuesFit, EveryRunIsSafe};
 ghost use Rattle.escrow_core.specs.Laws.{RefusedChangesNothing, MachineNeverFails, FailsForMemoryAlone, EarlyRefusalsStand, CommitIsNeverRefused, RollbackIsNeverRefused};
 ghost use Rattle.escrow_core.specs.Laws.{QueriesSeeCommitsAlone, ReservedTakesTheNextId, IdsNeverFall, TransactionsCommute, AnyOrderOfEnds};
-ghost use Rattle.escrow_core.specs.Laws.{DropsOneTable, DeletesOneRow, PlainUpdatesKeepAmounts, ReservationsKeepRows, SelectsShowRows, ShowsTheTable, QueriesIgnoreWhatIsOpen};
+ghost use Rattle.escrow_core.specs.Laws.{DropsOneTable, DeletesOneRow, PlainUpdatesKeepAmounts, ReservationsKeepRows, SelectsShowRows, ShowsTheTable, QueriesIgnoreWhatIsOpen, QueriesIgnoreWhoAsks, BoundsAreReached};
 ghost use Rattle.escrow_core.specs.Laws.{GrantedInEveryChoice, OwnIncrementNotSpent, RefusedByAChoice};
 
 /// Whatever a session asks in a valid state, the state after it is valid: whichever of the open
@@ -101,10 +101,23 @@ pub fn shows_the_table()
     ensures { ShowsTheTable }
 {}
 
-/// A query is answered alike whatever is open, and whoever asks: no reservation shows in it, not even
-/// to the session that holds it.
+/// A SELECT or a SHOW TABLE is answered alike whatever is open, and whoever asks: no reservation
+/// shows in it, not even to the session that holds it.
 pub fn queries_ignore_what_is_open()
     ensures { QueriesIgnoreWhatIsOpen }
+{}
+
+/// What shows something changes nothing, and is answered alike whoever asks. So is SHOW BOUNDS: it
+/// shows what is open, and not whose it is.
+pub fn queries_ignore_who_asks()
+    ensures { QueriesIgnoreWhoAsks }
+{}
+
+/// What SHOW BOUNDS shows: whichever of the open reservations are applied, each column and each
+/// declared check of the row comes to a value between the two bounds that are shown of it, and some
+/// choice brings it to each of the two; the bounds of a check are within its limits.
+pub fn bounds_are_reached()
+    ensures { BoundsAreReached }
 {}
 
 /// The ends of two sessions' transactions, each a commit or a rollback, lead to equal states in
