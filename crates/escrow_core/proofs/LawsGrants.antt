@@ -105,15 +105,15 @@ unfolding turn_of
 granted_plan s session text id e = reserve_of_reply s id (plan_of s text) e
 
 -- the reservation that is granted
-record Granted (s : State) (session : ℕ) (text : UpdateText) : Type 0 where
-  table : TableDef
-  row : Row
-  new : Reservation
-  asked : IsAsked s session text table row new
-  found : row_named s.rows new.row ≡ Some row
-  safe : broken table.checks row.amounts (counted new.changes) (map (changes_to row) s.reservations) ≡ None
+pub record Granted (s : State) (session : ℕ) (text : UpdateText) : Type 0 where
+  pub table : TableDef
+  pub row : Row
+  pub new : Reservation
+  pub asked : IsAsked s session text table row new
+  pub found : row_named s.rows new.row ≡ Some row
+  pub safe : broken table.checks row.amounts (counted new.changes) (map (changes_to row) s.reservations) ≡ None
 
-granted_one : (s : State) (session : ℕ) (text : UpdateText) (id : ℕ) → (step s session (statement.Update text)).0 ≡ reply.Reserved id → Granted s session text
+pub granted_one : (s : State) (session : ℕ) (text : UpdateText) (id : ℕ) → (step s session (statement.Update text)).0 ≡ reply.Reserved id → Granted s session text
 granted_one s session text id granted =
     let accepted = granted_none s session text id granted in
     let is = granted_plan s session text id accepted.1 in
@@ -154,7 +154,7 @@ own_increment_not_spent s session text id granted =
     )
 
 -- what a check refuses
-refused_first : (s : State) (session : ℕ) (text : UpdateText) (breach : Breach) → (step s session (statement.Update text)).0 ≡ reply.Refused (refusal.Check breach)
+pub refused_first : (s : State) (session : ℕ) (text : UpdateText) (breach : Breach) → (step s session (statement.Update text)).0 ≡ reply.Refused (refusal.Check breach)
     → first_refusal (refusals (turn_of s session (statement.Update text))) ≡ Some (refusal.Check breach)
 refused_first s session text breach =
     step_has (λ (p : Reply × State). p.0 ≡ reply.Refused (refusal.Check breach) → first_refusal (refusals (turn_of s session (statement.Update text))) ≡ Some (refusal.Check breach))
@@ -192,7 +192,7 @@ late_breach s session text (Some (plan.Plain key values)) breach first =
     let past_row = passed_over no_row [] here (if_among P _ _ (λ q. absurd (cc))) past_open in
     absurd (cc)
 
-refused_breach : (s : State) (session : ℕ) (text : UpdateText) (breach : Breach)
+pub refused_breach : (s : State) (session : ℕ) (text : UpdateText) (breach : Breach)
     → first_refusal (refusals (turn_of s session (statement.Update text))) ≡ Some (refusal.Check breach)
     → option_and_then (breach_of s) (reservation_of s session text) ≡ Some breach
 unfolding turn_of
@@ -248,7 +248,7 @@ breach_reached s table row r breach found e =
     )
 
 -- a reservation that is asked is of the table that is named
-asked_table : (s : State) (session : ℕ) (text : UpdateText) (o : Option Plan) (r : Reservation) → option_and_then (reserved_by s session text.table) o ≡ Some r
+pub asked_table : (s : State) (session : ℕ) (text : UpdateText) (o : Option Plan) (r : Reservation) → option_and_then (reserved_by s session text.table) o ≡ Some r
     → r.row.table ≡ text.table
 asked_table s session text None r e = absurd (cc)
 asked_table s session text (Some (plan.Reserve key changes)) r e =

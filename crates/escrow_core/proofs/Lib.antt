@@ -8,6 +8,7 @@ pub mod Granted
 pub mod Kept
 pub mod LawsBounds
 pub mod LawsChanges
+pub mod LawsDecide
 pub mod LawsEnds
 pub mod LawsGrants
 pub mod LawsRows

@@ -1,5 +1,5 @@
 -- Believed: the statements of the laws in src/laws.rt.
-use Rattle.std.specs.Prelude.{◌≡◌, ◌↔◌, ℕ, ℤ, ◌+◌, ◌≤◌, ◌≤ℤ◌, Bool, true, false, Option, Some, None, IsSome, IsSomeAnd, List, [], ◌∷◌, ◌++◌, length, map, take, Contains}
+use Rattle.std.specs.Prelude.{◌≡◌, ◌↔◌, ℕ, ℤ, ◌+◌, ◌≤◌, ◌+ℤ◌, ◌≤ℤ◌, Bool, true, false, Option, Some, None, IsSome, IsSomeAnd, List, [], ◌∷◌, ◌++◌, length, map, take, Contains}
 use Rattle.std.specs.List.{AllByRecursion, AllZip}
 use Rattle.escrow_num.specs.declared.refusal.Breach.{Breach}
 use Rattle.escrow_num.specs.declared.refusal.Refusal.{Refusal}
@@ -13,6 +13,7 @@ use Rattle.escrow_num.specs.declared.session.End.{End}
 use Rattle.escrow_num.specs.declared.session.End.TheVariants as end
 use Rattle.escrow_num.specs.Ascending.{IsAscending}
 use Rattle.escrow_num.specs.Refusal.{first_refusal}
+use Rattle.escrow_num.specs.Reservation.{counted}
 use Rattle.escrow_num.specs.Session.{IsSession}
 use Rattle.escrow_num.specs.Span.{Holds}
 use Rattle.escrow_sql.specs.declared.statement.Statement.{Statement}
@@ -24,6 +25,7 @@ use Rattle.escrow_sql.specs.declared.statement.SelectText.{SelectText}
 use Rattle.escrow_sql.specs.declared.statement.WhereText.{WhereText}
 use Rattle.escrow_checks.specs.declared.check.Check.{Check}
 use Rattle.escrow_checks.specs.Condition.{amount_of}
+use Rattle.escrow_checks.specs.Extremes.{least, greatest}
 use Rattle.escrow_checks.specs.Form.{form}
 use Rattle.escrow_checks.specs.Grant.{Meets}
 use Rattle.escrow_checks.specs.Laws.{IsBeyond}
@@ -45,7 +47,7 @@ use Rattle.escrow_core.specs.Event.{HasSession}
 use Rattle.escrow_core.specs.Reply.{failure_of}
 use Rattle.escrow_core.specs.Reservations.{own, others}
 use Rattle.escrow_core.specs.Asked.{row_of, plan_of, row_name, named_by, reservation_of}
-use Rattle.escrow_core.specs.State.{State, empty, row_named, rows_of, row_after, applied, with_row, without_row, without_rows_of, with_plain}
+use Rattle.escrow_core.specs.State.{State, empty, row_named, rows_of, changes_to, row_after, applied, with_row, without_row, without_rows_of, with_plain}
 use Rattle.escrow_core.specs.Step.{step, StepOrRefusal, IsRun}
 use Rattle.escrow_core.specs.Turn.{turn_of}
 use Rattle.escrow_core.specs.Valid.{IsValid, MeetsChecks, row_before}
@@ -329,3 +331,18 @@ RefusedByAChoice = (s : State) (session : ℕ) (text : UpdateText) (breach : Bre
     → (step s session (statement.Update text)).0 ≡ reply.Refused (refusal.Check breach)
     → (table : TableDef) × (row : Row) × (new : Reservation) × IsAsked s session text table row new
     × IsReachedBreach table row s.reservations new breach
+
+-- moved by what changes add to a check's form, both of its bounds are within its limits
+abbrev pub StaysWithin : Row → List Reservation → List ℤ → Check → Type 0
+StaysWithin row reservations changes check =
+    let open_ones = map (changes_to row) reservations in
+    Holds check.span (least check.coeffs row.amounts open_ones +ℤ form check.coeffs changes)
+    × Holds check.span (greatest check.coeffs row.amounts open_ones +ℤ form check.coeffs changes)
+
+-- the bounds decide: what is granted keeps those of every check of its table within the limits, and what
+-- a check refuses doesn't
+abbrev pub BoundsDecideGrants : Type 0
+BoundsDecideGrants = (s : State) (session : ℕ) (text : UpdateText) (table : TableDef) (row : Row) (new : Reservation) → IsValid s → IsAsked s session text table row new
+    → ((id : ℕ) → (step s session (statement.Update text)).0 ≡ reply.Reserved id → AllByRecursion (StaysWithin row s.reservations (counted new.changes)) table.checks)
+    × ((breach : Breach) → (step s session (statement.Update text)).0 ≡ reply.Refused (refusal.Check breach)
+    → ¬ (AllByRecursion (StaysWithin row s.reservations (counted new.changes)) table.checks))

@@ -5,7 +5,7 @@ ghost use Rattle.escrow_core.specs.Laws.{StepKeepsValid, RunKeepsValid, Committe
 ghost use Rattle.escrow_core.specs.Laws.{RefusedChangesNothing, MachineNeverFails, FailsForMemoryAlone, EarlyRefusalsStand, CommitIsNeverRefused, RollbackIsNeverRefused};
 ghost use Rattle.escrow_core.specs.Laws.{QueriesSeeCommitsAlone, ReservedTakesTheNextId, IdsNeverFall, TransactionsCommute, AnyOrderOfEnds};
 ghost use Rattle.escrow_core.specs.Laws.{DropsOneTable, DeletesOneRow, PlainUpdatesKeepAmounts, ReservationsKeepRows, SelectsShowRows, ShowsTheTable, QueriesIgnoreWhatIsOpen, QueriesIgnoreWhoAsks, BoundsAreReached};
-ghost use Rattle.escrow_core.specs.Laws.{GrantedInEveryChoice, OwnIncrementNotSpent, RefusedByAChoice};
+ghost use Rattle.escrow_core.specs.Laws.{GrantedInEveryChoice, OwnIncrementNotSpent, RefusedByAChoice, BoundsDecideGrants};
 
 /// Whatever a session asks in a valid state, the state after it is valid: whichever of the open
 /// reservations are applied, each row meets each check of its table.
@@ -164,4 +164,11 @@ pub fn own_increment_not_spent()
 /// the named check to the named worst value, beyond its limit.
 pub fn refused_by_a_choice()
     ensures { RefusedByAChoice }
+{}
+
+/// What SHOW BOUNDS shows decides: a reservation that is granted moves the bounds of each check of
+/// its table by what it adds to the form, and they stay within the limits; where a check refuses it,
+/// some of them don't.
+pub fn bounds_decide_grants()
+    ensures { BoundsDecideGrants }
 {}
