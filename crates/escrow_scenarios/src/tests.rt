@@ -8,6 +8,7 @@ mod queries;
 mod reservations;
 mod schemas;
 mod streams;
+mod sums;
 mod tables;
 mod texts;
 

@@ -209,7 +209,7 @@ const SHOPPING: [(&str, &str); 6] = [
          bank.1: UPDATE SHOP SET STOCK = '5' WHERE CODE = 'a'\n\
          bank.1: UPDATE SHOP SET STOCK = SOLD + 1 WHERE CODE = 'a'\n\
          bank.1: UPDATE SHOP SET STOCK = STOCK - 1, STOCK = STOCK - 1 WHERE CODE = 'a'\n\
-         bank.1: UPDATE SHOP SET STOCK = STOCK - 1, SOLD = SOLD + 1 WHERE CODE = 'a'\n\
+         bank.1: UPDATE SHOP SET STOCK = STOCK - 1, SOLD = STOCK + 1 WHERE CODE = 'a'\n\
          bank.1: UPDATE SHOP SET STOCK = STOCK - 1, PRICE = 1 WHERE CODE = 'a'\n\
          bank.1: UPDATE SHOP SET PRICE = 1, STOCK = STOCK - 1 WHERE CODE = 'a'\n\
          bank.1: SELECT * FROM SHOP WHERE CODE = 'a'\n",

@@ -122,7 +122,7 @@ const ACCOUNT: [(&str, &str); 9] = [
 ];
 
 /// Scripts with tables of their own.
-const OTHERS: [(&str, &str); 3] = [
+const OTHERS: [(&str, &str); 2] = [
     // A column's type is a check of its own.
     (
         "bank.1: CREATE TABLE WALLET (ID INTEGER PRIMARY KEY, BALANCE INTEGER RESERVABLE)\n\
@@ -131,19 +131,6 @@ const OTHERS: [(&str, &str); 3] = [
         "bank.1> OK created WALLET\n\
          bank.1> OK inserted\n\
          bank.1> ERR 41 RANGE_BALANCE high 1000000000000000 limit 999999999999999\n",
-    ),
-    // A change may be zero, and larger than its column's type.
-    (
-        "bank.1: CREATE TABLE GAUGE (ID INTEGER PRIMARY KEY, FILL NUMBER(3) RESERVABLE CHECK (FILL >= 0) CHECK (FILL <= 100))\n\
-         bank.1: INSERT INTO GAUGE VALUES (1, 100)\n\
-         bank.1: UPDATE GAUGE SET FILL = FILL + 0 WHERE ID = 1\n\
-         bank.1: UPDATE GAUGE SET FILL = FILL + 1 WHERE ID = 1\n\
-         bank.1: UPDATE GAUGE SET FILL = FILL + 1000 WHERE ID = 1\n",
-        "bank.1> OK created GAUGE\n\
-         bank.1> OK inserted\n\
-         bank.1> OK reserved 1\n\
-         bank.1> ERR 41 CHECK_2 high 101 limit 100\n\
-         bank.1> ERR 41 CHECK_2 high 1100 limit 100\n",
     ),
     // A literal has to fit its column, the key's too.
     (

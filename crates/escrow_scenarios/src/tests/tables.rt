@@ -120,13 +120,19 @@ fn definitions(rt: HostRuntime) -> Result<(), Fail> {
     assert_each(&rt, DEFINITIONS.as_slice())
 }
 
-/// A table with so many plain columns beside its key, so many RESERVABLE ones, and so many checks of
-/// `A1`: the first is `A1 <= 2000`, and each further one has a limit that is less by one.
+/// A table with so many plain columns beside its key, so many RESERVABLE ones, and so many conditions on
+/// `A1`, two in each CHECK: the first is `A1 <= 2000`, and each further one has a limit that is less by one.
 fn table(alloc: Global, plain: u8, reservable: u8, checks: u8) -> Result<String, AllocError> {
     let mut text = String::from_str(alloc, "bank.1: CREATE TABLE T (ID INTEGER PRIMARY KEY")?;
     for number in 0..checks {
         let limit = 2000 - u32::from(number);
-        text.push_str(format!(in alloc; " CHECK (A1 <= {limit})")?.as_str())?;
+        let opening = if number % 2 == 0 { " CHECK (" } else { " AND " };
+        let closing = if number % 2 == 1 || number + 1 == checks {
+            ")"
+        } else {
+            ""
+        };
+        text.push_str(format!(in alloc; "{opening}A1 <= {limit}{closing}")?.as_str())?;
     }
     for number in 1..=reservable {
         text.push_str(format!(in alloc; ", A{number} INTEGER RESERVABLE")?.as_str())?;
@@ -138,7 +144,7 @@ fn table(alloc: Global, plain: u8, reservable: u8, checks: u8) -> Result<String,
     Ok(text)
 }
 
-/// A table has at most 30 columns, of which 10 are RESERVABLE, and 32 checks beside those of its
+/// A table has at most 30 columns, of which 10 are RESERVABLE, and 32 conditions beside the checks of its
 /// types.
 #[test]
 fn most_columns_and_checks(rt: HostRuntime) -> Result<(), Fail> {
