@@ -1,3 +1,5 @@
+mod bounds;
+
 use crate::{Database, Event, Reply};
 use escrow_num::{Amount, Breach, Name, Refusal, Seq, Session, Side, Text, Value, Wide};
 use escrow_sql::{Request, Statement, parse};
