@@ -1,6 +1,6 @@
 use super::*;
 use escrow_num::Wide;
-use escrow_sql::{Item, Request, Statement, parse};
+use escrow_sql::{Item, ParseFault, Request, Statement, parse};
 use std::alloc::AllocError;
 use std::process::Abort;
 use std::test::Fail;
@@ -14,6 +14,7 @@ fn items(rt: &impl Abort, alloc: Global, text: &str) -> Result<Seq<Item>, Fail> 
     let text = format!(in alloc; "CREATE TABLE T ({text})")?;
     match parse(alloc, text.as_str()) {
         Ok(Request::Statement(Statement::Create(create))) => Ok(create.items),
+        Err(ParseFault::Memory) => Err(Fail::from(AllocError)),
         _ => panic!(rt; "no table: {text}"),
     }
 }
