@@ -1,9 +1,11 @@
 ghost use Rattle.std.specs.Prelude.{◌≡◌, ◌↔◌, IsTrue, IsOk, IfOk, false};
 ghost use Rattle.escrow_sql.specs.Copies.{holds_memory, literal_holds_memory, row_holds_memory};
 
+mod check;
+
 use crate::statement::{
-    Assign, Assigned, CheckText, ColumnMark, ColumnText, Condition, CreateText, InsertText, Item,
-    Literal, RowText, SelectText, Statement, Term, Test, UpdateText, WhereText,
+    Assign, Assigned, ColumnMark, ColumnText, CreateText, InsertText, Item, Literal, RowText,
+    SelectText, Statement, UpdateText, WhereText,
 };
 use escrow_num::{Name, Seq};
 use std::alloc::{AllocError, Global};
@@ -80,77 +82,6 @@ impl Copied for Literal {
             (Literal::Text(a), Literal::Text(b)) => a.is_same(b),
             _ => false,
         }
-    }
-}
-
-impl Copied for Term {
-    fn copy(&self, _: Global) -> Result<Term, AllocError> {
-        Ok(*self)
-    }
-
-    fn is_same(&self, other: &Term) -> bool {
-        *self == *other
-    }
-}
-
-impl Copied for Test {
-    fn copy(&self, alloc: Global) -> Result<Test, AllocError> {
-        match self {
-            Test::Compare { comparison, sum } => Ok(Test::Compare {
-                comparison: *comparison,
-                sum: copy_all(alloc, sum.as_slice())?,
-            }),
-            Test::Between { low, high } => Ok(Test::Between {
-                low: *low,
-                high: *high,
-            }),
-        }
-    }
-
-    fn is_same(&self, other: &Test) -> bool {
-        match (self, other) {
-            (
-                Test::Compare { comparison, sum },
-                Test::Compare {
-                    comparison: other_comparison,
-                    sum: other_sum,
-                },
-            ) => *comparison == *other_comparison && are_same(sum.as_slice(), other_sum.as_slice()),
-            (
-                Test::Between { low, high },
-                Test::Between {
-                    low: other_low,
-                    high: other_high,
-                },
-            ) => *low == *other_low && *high == *other_high,
-            _ => false,
-        }
-    }
-}
-
-impl Copied for Condition {
-    fn copy(&self, alloc: Global) -> Result<Condition, AllocError> {
-        Ok(Condition {
-            sum: copy_all(alloc, self.sum.as_slice())?,
-            test: self.test.copy(alloc)?,
-        })
-    }
-
-    fn is_same(&self, other: &Condition) -> bool {
-        are_same(self.sum.as_slice(), other.sum.as_slice()) && self.test.is_same(&other.test)
-    }
-}
-
-impl Copied for CheckText {
-    fn copy(&self, alloc: Global) -> Result<CheckText, AllocError> {
-        Ok(CheckText {
-            name: self.name,
-            conditions: copy_all(alloc, self.conditions.as_slice())?,
-        })
-    }
-
-    fn is_same(&self, other: &CheckText) -> bool {
-        self.name == other.name && are_same(self.conditions.as_slice(), other.conditions.as_slice())
     }
 }
 
