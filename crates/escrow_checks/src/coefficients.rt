@@ -42,7 +42,8 @@ impl Coefficients {
     /// The most coefficients that a check has: a table has at most 10 RESERVABLE columns.
     pub const MAX_LEN: usize = 10;
 
-    /// The greatest magnitude of a coefficient.
+    /// The greatest magnitude that a coefficient can have, which bounds the sums. What a CHECK may
+    /// declare is narrower, [`MAX_COEFFICIENT`](crate::MAX_COEFFICIENT).
     pub const MAX: i64 = 1_000_000_000_000;
 
     /// The coefficients of one column among `len`: 1 at its place, 0 elsewhere.

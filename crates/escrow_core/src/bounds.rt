@@ -10,11 +10,10 @@ ghost use Rattle.escrow_core.specs.Bounds.{bounds_in, check_bounds};
 ghost use Rattle.escrow_core.specs.Serving.{AreSpreads, IsShort, columns_from};
 ghost use Rattle.escrow_core.specs.State.{changes_to};
 
-use crate::copies::copy_all;
 use crate::reply::{CheckBounds, ColumnBounds, Reply};
 use crate::spreads::spreads_over;
 use escrow_checks::{Check, Spread};
-use escrow_num::{Amount, Name, Reservation, Row, Seq};
+use escrow_num::{Amount, Name, Reservation, Row, Seq, copy_all};
 use escrow_schema::{Column, TableDef};
 use std::alloc::{AllocError, Global};
 

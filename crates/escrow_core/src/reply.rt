@@ -1,7 +1,6 @@
 ghost use Rattle.std.specs.Prelude.{◌≡◌, ◌↔◌, IfOk, IsOk, IsTrue, false};
 
-use crate::copies::{are_same, copy_all};
-use escrow_num::{Amount, Name, Refusal, Seq, Span, Text, Value, Wide};
+use escrow_num::{Amount, Name, Refusal, Seq, Span, Text, Value, Wide, are_same, copy_all};
 use std::alloc::{AllocError, Global};
 
 /// What a statement is answered.

@@ -7,6 +7,7 @@
 #![tactic(auto)]
 
 mod amount;
+mod copied;
 mod name;
 mod refusal;
 mod reservation;
@@ -19,6 +20,7 @@ mod value;
 mod wide;
 
 pub use amount::Amount;
+pub use copied::{Copied, are_same, copy_all};
 pub use name::Name;
 pub use refusal::{Breach, Refusal};
 pub use reservation::{Reservation, Savepoint};

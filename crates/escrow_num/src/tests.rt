@@ -1,6 +1,8 @@
 ghost use Rattle.std.specs.Prelude.{◌≡◌};
 
-use crate::{Amount, Name, RowName, Seq, Session, Side, Span, Text, Value, Wide};
+use crate::{
+    Amount, Copied, Name, RowName, Seq, Session, Side, Span, Text, Value, Wide, are_same, copy_all,
+};
 use std::process::Abort;
 use std::test::Fail;
 
@@ -99,6 +101,20 @@ fn copies_values(rt: HostRuntime) -> Result<(), Fail> {
     list.push(8)?;
     list.set(0, 9);
     assert_eq!(rt; list.as_slice(), [9, 8].as_slice());
+    Ok(())
+}
+
+#[test]
+fn copies_lists(rt: HostRuntime) -> Result<(), Fail> {
+    let alloc = rt.alloc();
+    let names = [name(&rt, "A"), name(&rt, "B")];
+    let mut rows = Seq::new(alloc);
+    rows.push(copy_all(alloc, &names)?)?;
+    rows.push(copy_all(alloc, &names[..1])?)?;
+    let copied = copy_all(alloc, rows.as_slice())?;
+    assert!(rt; are_same(copied.as_slice(), rows.as_slice()));
+    assert!(rt; !are_same(copied.as_slice(), &rows.as_slice()[..1]));
+    assert!(rt; !copied.as_slice()[0].is_same(&rows.as_slice()[1]));
     Ok(())
 }
 

@@ -7,56 +7,8 @@ use crate::statement::{
     Assign, Assigned, ColumnMark, ColumnText, CreateText, InsertText, Item, Literal, RowText,
     SelectText, Statement, UpdateText, WhereText,
 };
-use escrow_num::{Name, Seq};
+use escrow_num::{Copied, Name, Seq, are_same, copy_all};
 use std::alloc::{AllocError, Global};
-
-/// What is copied and compared whole: the parts of a statement that hold memory, and what its lists
-/// are made of.
-pub(crate) trait Copied: Drop {
-    /// A copy. Want of memory is the only error.
-    fn copy(&self, alloc: Global) -> Result<Self, AllocError>
-        ensures { IfOk result (λ t. t ≡ self.now) };
-
-    /// Whether two are the same.
-    fn is_same(&self, other: &Self) -> bool
-        ensures { IsTrue result ↔ (self.now ≡ other.now) };
-}
-
-/// A copy of a list. Want of memory is the only error.
-fn copy_all<T: Copied>(alloc: Global, items: &[T]) -> Result<Seq<T>, AllocError>
-    ensures { IfOk result (λ copied. copied ≡ items.now) }
-{
-    let mut copied = Seq::new(alloc);
-    for item in items {
-        copied.push(item.copy(alloc)?)?;
-    }
-    Ok(copied)
-}
-
-/// Whether two lists have the same items, in the same order.
-fn are_same<T: Copied>(items: &[T], others: &[T]) -> bool
-    ensures { IsTrue result ↔ (items.now ≡ others.now) }
-{
-    if items.len() != others.len() {
-        return false;
-    }
-    for (i, item) in items.iter().enumerate() {
-        if !item.is_same(&others[i]) {
-            return false;
-        }
-    }
-    true
-}
-
-impl Copied for Name {
-    fn copy(&self, _: Global) -> Result<Name, AllocError> {
-        Ok(*self)
-    }
-
-    fn is_same(&self, other: &Name) -> bool {
-        *self == *other
-    }
-}
 
 impl Literal {
     /// A copy of the literal. Only a text takes memory.

@@ -1,7 +1,7 @@
 //! Copies of CHECKs, of their conditions and of what these are made of.
 
-use super::{Copied, are_same, copy_all};
 use crate::statement::{CheckText, Condition, Term, Test};
+use escrow_num::{Copied, are_same, copy_all};
 use std::alloc::{AllocError, Global};
 
 impl Copied for Term {

@@ -1,0 +1,73 @@
+ghost use Rattle.std.specs.Prelude.{◌≡◌, ◌↔◌, IfOk, IsTrue};
+
+use crate::name::Name;
+use crate::seq::Seq;
+use crate::value::Value;
+use std::alloc::{AllocError, Global};
+
+/// What is copied and compared whole: what the lists of statements and replies are made of.
+pub trait Copied: Drop {
+    /// A copy. Want of memory is the only error.
+    fn copy(&self, alloc: Global) -> Result<Self, AllocError>
+        ensures { IfOk result (λ t. t ≡ self.now) };
+
+    /// Whether two are the same.
+    fn is_same(&self, other: &Self) -> bool
+        ensures { IsTrue result ↔ (self.now ≡ other.now) };
+}
+
+/// A copy of a list. Want of memory is the only error.
+pub fn copy_all<T: Copied>(alloc: Global, items: &[T]) -> Result<Seq<T>, AllocError>
+    ensures { IfOk result (λ copied. copied ≡ items.now) }
+{
+    let mut copied = Seq::new(alloc);
+    for item in items {
+        copied.push(item.copy(alloc)?)?;
+    }
+    Ok(copied)
+}
+
+/// Whether two lists have the same items, in the same order.
+pub fn are_same<T: Copied>(items: &[T], others: &[T]) -> bool
+    ensures { IsTrue result ↔ (items.now ≡ others.now) }
+{
+    if items.len() != others.len() {
+        return false;
+    }
+    for (i, item) in items.iter().enumerate() {
+        if !item.is_same(&others[i]) {
+            return false;
+        }
+    }
+    true
+}
+
+impl Copied for Name {
+    fn copy(&self, _: Global) -> Result<Name, AllocError> {
+        Ok(*self)
+    }
+
+    fn is_same(&self, other: &Name) -> bool {
+        *self == *other
+    }
+}
+
+impl Copied for Value {
+    fn copy(&self, alloc: Global) -> Result<Value, AllocError> {
+        Value::copy(self, alloc)
+    }
+
+    fn is_same(&self, other: &Value) -> bool {
+        Value::is_same(self, other)
+    }
+}
+
+impl<T: Copied> Copied for Seq<T> {
+    fn copy(&self, alloc: Global) -> Result<Seq<T>, AllocError> {
+        copy_all(alloc, self.as_slice())
+    }
+
+    fn is_same(&self, other: &Seq<T>) -> bool {
+        are_same(self.as_slice(), other.as_slice())
+    }
+}
