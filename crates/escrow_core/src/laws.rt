@@ -36,7 +36,7 @@ pub fn fails_for_memory_alone()
 
 /// A refusal that needs no memory is answered whatever memory there is: an open transaction, a table
 /// that is there or isn't, a bad value of an INSERT, what an UPDATE asks that it can't, a WHERE that
-/// names no key, and each refusal of DROP TABLE and DELETE.
+/// names no key, and each refusal of DROP TABLE, DELETE, SELECT, SHOW TABLE and SHOW BOUNDS.
 pub fn early_refusals_stand()
     ensures { EarlyRefusalsStand }
 {}
