@@ -265,16 +265,22 @@ row_statement =
 unfoldable pub work : Grammar (Unit {0})
 work = optional tt (word words.Work)
 
--- ending = COMMIT work | ROLLBACK work
+-- back = [ TO [ SAVEPOINT ] name ]
+unfoldable pub back : Grammar Statement
+back = optional statements.Rollback (meaning statements.RollbackTo (word words.To then optional tt (word words.Savepoint) then name))
+
+-- ending = COMMIT work | ROLLBACK work back | SAVEPOINT name
 unfoldable pub ending : Grammar Statement
 ending =
     meaning (λ k. statements.Commit) (word words.Commit then work)
-    or meaning (λ k. statements.Rollback) (word words.Rollback then work)
+    or word words.Rollback then work then back
+    or meaning statements.Savepoint (word words.Savepoint then name)
 
--- show = SHOW TABLE name | SHOW BOUNDS row
+-- show = SHOW TABLE name | SHOW JOURNAL [ name ] | SHOW BOUNDS row
 unfoldable pub show : Grammar Statement
 show =
     word words.Show then meaning statements.ShowTable (word words.Table then name)
+    or word words.Show then meaning statements.ShowJournal (word words.Journal then optional None (meaning (λ n. Some n) name))
     or word words.Show then meaning statements.ShowBounds (word words.Bounds then row)
 
 -- body = table_statement | row_statement | ending | show

@@ -24,12 +24,18 @@ pub enum Statement {
     Select(SelectText),
     /// `SHOW TABLE name`, with the table's name.
     ShowTable(Name),
+    /// `SHOW JOURNAL [name]`, with the name of a table where one is written.
+    ShowJournal(Option<Name>),
     /// `SHOW BOUNDS name WHERE ..`
     ShowBounds(RowText),
     /// `COMMIT [WORK]`
     Commit,
     /// `ROLLBACK [WORK]`
     Rollback,
+    /// `ROLLBACK [WORK] TO [SAVEPOINT] name`, with the savepoint's name.
+    RollbackTo(Name),
+    /// `SAVEPOINT name`, with the savepoint's name.
+    Savepoint(Name),
 }
 
 /// The text of a CREATE TABLE.
