@@ -15,27 +15,36 @@ keeps_sequence k = record { kept = λ ts v s. (s.0, s.1, s.2, s.3, s.4, k.kept s
 keeps_second : {V : Type 0} {a b c : Grammar V} → Keeps b c → Keeps (either a b) (either a c)
 keeps_second k = record { kept = λ ts v. elim [ inl s ↦ inl s | inr s ↦ inr (k.kept ts v s) ] }
 
--- what both alternatives begin with may be taken out before both
-taken_out : {A B V : Type 0} {a : Grammar A} {b c : Grammar B} {f : A → B → V} → Keeps (either (sequence a b f) (sequence a c f)) (sequence a (either b c) f)
-taken_out = record {
-  kept = λ ts v. elim [ inl s ↦ (s.0, s.1, s.2, s.3, s.4, s.5, inl s.6, s.7) | inr s ↦ (s.0, s.1, s.2, s.3, s.4, s.5, inr s.6, s.7) ];
+keeps_same : {V : Type 0} {g : Grammar V} → Keeps g g
+keeps_same = record { kept = λ ts v s. s }
+
+-- what alternatives begin with may be taken out before them all, where it may before those behind the first
+taken_out : {A B V : Type 0} {a : Grammar A} {b c : Grammar B} {others : Grammar V} {f : A → B → V}
+    → Keeps others (sequence a c f) → Keeps (either (sequence a b f) others) (sequence a (either b c) f)
+taken_out k = record {
+  kept = λ ts v. elim [
+    | inl s ↦ (s.0, s.1, s.2, s.3, s.4, s.5, inl s.6, s.7)
+    | inr o ↦ let s = k.kept ts v o in (s.0, s.1, s.2, s.3, s.4, s.5, inr s.6, s.7)
+  ];
 }
 
-put_back : {A B V : Type 0} {a : Grammar A} {b c : Grammar B} {f : A → B → V} → Keeps (sequence a (either b c) f) (either (sequence a b f) (sequence a c f))
-put_back = record {
+-- and put back before each
+put_back : {A B V : Type 0} {a : Grammar A} {b c : Grammar B} {others : Grammar V} {f : A → B → V}
+    → Keeps (sequence a c f) others → Keeps (sequence a (either b c) f) (either (sequence a b f) others)
+put_back k = record {
   kept = λ ts v s. elim s.6 [
     | inl r ↦ inl (s.0, s.1, s.2, s.3, s.4, s.5, r, s.7)
-    | inr r ↦ inr (s.0, s.1, s.2, s.3, s.4, s.5, r, s.7)
+    | inr r ↦ inr (k.kept ts v (s.0, s.1, s.2, s.3, s.4, s.5, r, s.7))
   ];
 }
 
 show_factored : Keeps show factored_show
 unfolding show factored_show
-show_factored = taken_out
+show_factored = taken_out (taken_out keeps_same)
 
 show_back : Keeps factored_show show
 unfolding show factored_show
-show_back = put_back
+show_back = put_back (put_back keeps_same)
 
 body_factored : Keeps body factored_body
 unfolding body factored_body

@@ -1,4 +1,5 @@
 -- Helps: the grammar of requests, with SHOW, which begins three of its statements, taken out before them.
+use Rattle.std.specs.Prelude.{Some, None}
 use Rattle.escrow_sql.specs.declared.statement.Request.{Request}
 use Rattle.escrow_sql.specs.declared.statement.Request.TheVariants as requests
 use Rattle.escrow_sql.specs.declared.statement.Statement.{Statement}
@@ -13,8 +14,8 @@ unfoldable pub factored_show : Grammar Statement
 factored_show =
     word words.Show
     then (meaning statements.ShowTable (word words.Table then name)
-        or meaning statements.ShowJournal (word words.Journal then optional None (meaning (λ n. Some n) name))
-        or meaning statements.ShowBounds (word words.Bounds then row))
+    or meaning statements.ShowJournal (word words.Journal then optional None (meaning (λ n. Some n) name))
+    or meaning statements.ShowBounds (word words.Bounds then row))
 
 unfoldable pub factored_body : Grammar Statement
 factored_body = table_statement or row_statement or ending or factored_show

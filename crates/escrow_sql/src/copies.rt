@@ -284,9 +284,12 @@ impl Statement {
             Statement::Delete(text) => Ok(Statement::Delete(text.copy(alloc)?)),
             Statement::Select(text) => Ok(Statement::Select(text.copy(alloc)?)),
             Statement::ShowTable(table) => Ok(Statement::ShowTable(*table)),
+            Statement::ShowJournal(table) => Ok(Statement::ShowJournal(*table)),
             Statement::ShowBounds(text) => Ok(Statement::ShowBounds(text.copy(alloc)?)),
             Statement::Commit => Ok(Statement::Commit),
             Statement::Rollback => Ok(Statement::Rollback),
+            Statement::RollbackTo(savepoint) => Ok(Statement::RollbackTo(*savepoint)),
+            Statement::Savepoint(savepoint) => Ok(Statement::Savepoint(*savepoint)),
         }
     }
 
@@ -303,9 +306,12 @@ impl Statement {
             (Statement::Delete(a), Statement::Delete(b)) => a.is_same(b),
             (Statement::Select(a), Statement::Select(b)) => a.is_same(b),
             (Statement::ShowTable(a), Statement::ShowTable(b)) => *a == *b,
+            (Statement::ShowJournal(a), Statement::ShowJournal(b)) => *a == *b,
             (Statement::ShowBounds(a), Statement::ShowBounds(b)) => a.is_same(b),
             (Statement::Commit, Statement::Commit) => true,
             (Statement::Rollback, Statement::Rollback) => true,
+            (Statement::RollbackTo(a), Statement::RollbackTo(b)) => *a == *b,
+            (Statement::Savepoint(a), Statement::Savepoint(b)) => *a == *b,
             _ => false,
         }
     }

@@ -1,12 +1,13 @@
-ghost use Rattle.std.specs.Prelude.{◌≡◌, ◌≤◌, ◌+◌, IfOk, IfErr, MatchResult};
+ghost use Rattle.std.specs.Prelude.{◌≡◌, ◌≤◌, ◌+◌, Some, None, IfOk, IfErr, MatchResult};
 ghost use Rattle.escrow_sql.specs.Token.{column_at};
 ghost use Rattle.escrow_sql.specs.Predictive.{run, run_whole, starts, first};
 ghost use Rattle.escrow_sql.specs.Cursor.{Advances, Ends};
-ghost use Rattle.escrow_sql.specs.Statement.{work, table_statement, row_statement, ending};
+ghost use Rattle.escrow_sql.specs.Statement.{word, ◌then◌, optional, meaning, name, work, back, table_statement, row_statement, ending};
 ghost use Rattle.escrow_sql.specs.Factored.{factored_show, factored_body, factored_request};
 ghost use Rattle.escrow_sql.specs.Parser.{Asks, IsFaultIn};
 ghost use Rattle.escrow_sql.specs.declared.lexer.TheConstants.{MAX_TEXT};
 ghost use Rattle.escrow_sql.specs.declared.statement.Request.{Request};
+ghost use Rattle.escrow_sql.specs.declared.word.Word.TheVariants as words;
 ghost use Rattle.escrow_sql.specs.declared.fault.ParseFault.TheVariants.{Memory};
 
 mod change;
@@ -22,18 +23,29 @@ use crate::lexer;
 use crate::statement::{Request, Statement};
 use crate::token::{Kind, Symbol, Token};
 use crate::word::Word;
+use escrow_num::Name;
 use std::alloc::Global;
 
 impl Cursor<'_> {
-    /// `[ WORK ]`
-    #[tactic(auto, unfolding(crate::specs::Statement::work))]
-    fn work(&mut self) -> Result<(), Halt>
-        ensures { Advances self.new.tokens.now result (run work self.old.tokens.now) }
+    /// A reserved word that may be left out.
+    fn optional_word(&mut self, expected: Word) -> Result<(), Halt>
+        ensures { Advances self.new.tokens.now result (run (optional tt (word expected)) self.old.tokens.now) }
     {
-        if self.is_at_word(Word::Work) {
-            return self.word(Word::Work);
+        if self.is_at_word(expected) {
+            return self.word(expected);
         }
         Ok(())
+    }
+
+    /// `[ name ]`
+    fn optional_name(&mut self) -> Result<Option<Name>, Halt>
+        ensures { Advances self.new.tokens.now result (run (optional None (meaning (λ n. Some n) name)) self.old.tokens.now) }
+    {
+        if !self.is_at_name() {
+            return Ok(None);
+        }
+        let name = self.name()?;
+        Ok(Some(name))
     }
 
     /// `create | drop`
@@ -83,7 +95,36 @@ impl Cursor<'_> {
             || self.is_at_word(Word::Select)
     }
 
-    /// `COMMIT work | ROLLBACK work`
+    /// `[ WORK ]`
+    #[tactic(auto, unfolding(crate::specs::Statement::work))]
+    fn work(&mut self) -> Result<(), Halt>
+        ensures { Advances self.new.tokens.now result (run work self.old.tokens.now) }
+    {
+        self.optional_word(Word::Work)
+    }
+
+    /// `[ TO [ SAVEPOINT ] name ]`
+    #[tactic(auto, unfolding(crate::specs::Statement::back))]
+    fn back(&mut self) -> Result<Statement, Halt>
+        ensures { Advances self.new.tokens.now result (run back self.old.tokens.now) }
+    {
+        if !self.is_at_word(Word::To) {
+            return Ok(Statement::Rollback);
+        }
+        self.word(Word::To)?;
+        self.optional_word(Word::Savepoint)?;
+        Ok(Statement::RollbackTo(self.name()?))
+    }
+
+    /// `SAVEPOINT name`
+    fn savepoint(&mut self) -> Result<Name, Halt>
+        ensures { Advances self.new.tokens.now result (run (word words.Savepoint then name) self.old.tokens.now) }
+    {
+        self.word(Word::Savepoint)?;
+        self.name()
+    }
+
+    /// `COMMIT work | ROLLBACK work back | SAVEPOINT name`
     #[tactic(auto, unfolding(crate::specs::Statement::ending))]
     fn ending(&mut self) -> Result<Statement, Halt>
         ensures { Advances self.new.tokens.now result (run ending self.old.tokens.now) }
@@ -93,20 +134,25 @@ impl Cursor<'_> {
             self.work()?;
             return Ok(Statement::Commit);
         }
-        self.word(Word::Rollback)?;
-        self.work()?;
-        Ok(Statement::Rollback)
+        if self.is_at_word(Word::Rollback) {
+            self.word(Word::Rollback)?;
+            self.work()?;
+            return self.back();
+        }
+        Ok(Statement::Savepoint(self.savepoint()?))
     }
 
-    /// Whether a statement that ends a transaction comes next.
+    /// Whether a statement of the transaction itself comes next.
     #[tactic(auto, unfolding(crate::specs::Statement::ending))]
     fn is_at_ending(&self) -> bool
         ensures { result ≡ starts (first ending) self.now.tokens.now }
     {
-        self.is_at_word(Word::Commit) || self.is_at_word(Word::Rollback)
+        self.is_at_word(Word::Commit)
+            || self.is_at_word(Word::Rollback)
+            || self.is_at_word(Word::Savepoint)
     }
 
-    /// `SHOW ( TABLE name | BOUNDS row )`
+    /// `SHOW ( TABLE name | JOURNAL [ name ] | BOUNDS row )`
     #[tactic(auto, unfolding(crate::specs::Factored::factored_show))]
     fn show(&mut self, alloc: Global) -> Result<Statement, Halt>
         ensures { Advances self.new.tokens.now result (run factored_show self.old.tokens.now) }
@@ -115,6 +161,10 @@ impl Cursor<'_> {
         if self.is_at_word(Word::Table) {
             self.word(Word::Table)?;
             return Ok(Statement::ShowTable(self.name()?));
+        }
+        if self.is_at_word(Word::Journal) {
+            self.word(Word::Journal)?;
+            return Ok(Statement::ShowJournal(self.optional_name()?));
         }
         self.word(Word::Bounds)?;
         Ok(Statement::ShowBounds(self.row(alloc)?))
