@@ -9,7 +9,7 @@ use Rattle.escrow_num.specs.declared.row.Row.{Row}
 use Rattle.escrow_num.specs.declared.reservation.Reservation.{Reservation}
 use Rattle.escrow_checks.specs.Form.{changed, all_changed}
 use Rattle.escrow_num.specs.Reservation.{counted}
-use Rattle.escrow_core.specs.Reservations.{own}
+use Rattle.escrow_journal.specs.Reservations.{own}
 use Rattle.escrow_checks.proofs.FormLemmas.{length-changed}
 use Rattle.escrow_core.proofs.Changes.{changed_nil}
 use Rattle.escrow_num.proofs.Items.{all_at}

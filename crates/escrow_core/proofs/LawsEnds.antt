@@ -9,7 +9,7 @@ use Rattle.escrow_num.specs.declared.session.End.{End}
 use Rattle.escrow_num.specs.declared.session.End.TheVariants as end
 use Rattle.escrow_checks.specs.Form.{changed, all_changed}
 use Rattle.escrow_core.specs.Laws.{after_end, after_ends}
-use Rattle.escrow_core.specs.Reservations.{own, others}
+use Rattle.escrow_journal.specs.Reservations.{own, others}
 use Rattle.escrow_core.specs.State.{State, changes_to, applied}
 use Rattle.escrow_core.specs.Turn.{turn_of}
 use Rattle.escrow_core.specs.Valid.{IsValid}

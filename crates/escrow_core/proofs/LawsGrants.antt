@@ -32,7 +32,7 @@ use Rattle.escrow_core.specs.declared.database.TheConstants.Database.{MAX_RESERV
 use Rattle.escrow_core.specs.declared.reply.Reply.{Reply}
 use Rattle.escrow_core.specs.declared.reply.Reply.TheVariants as reply
 use Rattle.escrow_core.specs.Laws.{IsAsked, MeetsWith, IsReachedBreach}
-use Rattle.escrow_core.specs.Reservations.{own, others}
+use Rattle.escrow_journal.specs.Reservations.{own, others}
 use Rattle.escrow_core.specs.Serving.{IsAccepted}
 use Rattle.escrow_core.specs.Asked.{plan_of, plan_refusal_of, reservation_from, row_name, reserved_by, reservation_of, breach_of}
 use Rattle.escrow_core.specs.State.{State, row_named, is_open, changes_to, row_after}

@@ -17,7 +17,7 @@ use Rattle.escrow_core.specs.declared.reply.Failure.TheVariants as failure
 use Rattle.escrow_core.specs.Event.{HasSession}
 use Rattle.escrow_core.specs.Reply.{failure_of}
 use Rattle.escrow_core.specs.Laws.{IsSeen, takes_nothing}
-use Rattle.escrow_core.specs.Reservations.{own}
+use Rattle.escrow_journal.specs.Reservations.{own}
 use Rattle.escrow_core.specs.State.{State}
 use Rattle.escrow_core.specs.Step.{refusals, step, may_fail, IsStep, StepOrRefusal, IsRun}
 use Rattle.escrow_core.specs.Turn.{turn_of}

@@ -22,7 +22,7 @@ use Rattle.escrow_num.specs.declared.session.TheConstants.Session.{MAX}
 use Rattle.escrow_checks.specs.declared.spread.TheConstants.Spread.{MAX_OPEN}
 use Rattle.escrow_core.specs.declared.database.TheConstants.Database.{MAX_RESERVATIONS}
 use Rattle.escrow_core.specs.declared.spreads.TheConstants.{MOST_CHECKS}
-use Rattle.escrow_core.specs.Reservations.{own}
+use Rattle.escrow_journal.specs.Reservations.{own}
 use Rattle.escrow_core.specs.Serving.{IsShort, HaveAmounts}
 use Rattle.escrow_core.specs.State.{State, row_named, changes_to, row_after, applied}
 use Rattle.escrow_core.specs.Valid.{IsValid, IsReservationIn, HasTable}

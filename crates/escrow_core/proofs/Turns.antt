@@ -21,7 +21,7 @@ use Rattle.escrow_core.specs.Bounds.{bounds_in, bounds_reply}
 use Rattle.escrow_core.specs.Laws.{tells_of_rows}
 use Rattle.escrow_core.specs.Reply.{failure_of}
 use Rattle.escrow_core.specs.Serving.{IsAccepted}
-use Rattle.escrow_core.specs.Reservations.{own}
+use Rattle.escrow_journal.specs.Reservations.{own}
 use Rattle.escrow_core.specs.State.{State, row_named, rows_of, with_row, without_row, without_rows_of}
 use Rattle.escrow_core.specs.Turn.{turn_of, after_insert}
 use Rattle.escrow_core.specs.Valid.{IsValid}

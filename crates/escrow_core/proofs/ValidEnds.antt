@@ -12,7 +12,7 @@ use Rattle.escrow_schema.specs.Catalog.{table_named}
 use Rattle.escrow_schema.specs.Fit.{IsRowOf}
 use Rattle.escrow_checks.proofs.FormLemmas.{length-all_changed}
 use Rattle.escrow_core.specs.declared.database.TheConstants.Database.{MAX_ROWS}
-use Rattle.escrow_core.specs.Reservations.{own, others, other_savepoints, reservation_before, savepoint_before}
+use Rattle.escrow_journal.specs.Reservations.{own, others, other_savepoints, reservation_before, savepoint_before}
 use Rattle.escrow_core.specs.State.{State, row_named, changes_to, row_after, applied}
 use Rattle.escrow_core.specs.Turn.{after_commit, after_rollback}
 use Rattle.escrow_core.specs.Valid.{IsValid, IsOrderly, IsReservationIn, IsSavepointIn, HasTable, HasRow, MeetsChecks, row_before}

@@ -45,7 +45,7 @@ use Rattle.escrow_core.specs.declared.reply.Reply.{Reply}
 use Rattle.escrow_core.specs.declared.reply.Reply.TheVariants as reply
 use Rattle.escrow_core.specs.Event.{HasSession}
 use Rattle.escrow_core.specs.Reply.{failure_of}
-use Rattle.escrow_core.specs.Reservations.{own, others}
+use Rattle.escrow_journal.specs.Reservations.{own, others}
 use Rattle.escrow_core.specs.Asked.{row_of, plan_of, row_name, named_by, reservation_of}
 use Rattle.escrow_core.specs.State.{State, empty, row_named, rows_of, changes_to, row_after, applied, with_row, without_row, without_rows_of, with_plain}
 use Rattle.escrow_core.specs.Step.{step, StepOrRefusal, IsRun}

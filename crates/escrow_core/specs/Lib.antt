@@ -4,7 +4,6 @@ pub mod Event
 pub mod Inside
 pub mod Laws
 pub mod Reply
-pub mod Reservations
 pub mod Seen
 pub mod Serving
 pub mod State

@@ -11,7 +11,7 @@ use Rattle.escrow_num.specs.Order.{same_row, row_cmp}
 use Rattle.escrow_num.specs.Reservation.{counted}
 use Rattle.escrow_checks.specs.Form.{all_changed}
 use Rattle.escrow_schema.specs.declared.table.TableDef.{TableDef}
-use Rattle.escrow_core.specs.Reservations.{own, own_savepoints}
+use Rattle.escrow_journal.specs.Reservations.{own, own_savepoints}
 
 -- The state of a database: the catalog in order of the tables' names; the committed rows in order of
 -- table and key; ONE list of the open reservations of all sessions, in order of grant; the savepoints

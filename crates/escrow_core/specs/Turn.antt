@@ -22,7 +22,7 @@ use Rattle.escrow_core.specs.declared.reply.Failure.{Failure}
 use Rattle.escrow_core.specs.declared.reply.Failure.TheVariants as failure
 use Rattle.escrow_core.specs.Asked.{row_of, insert_breach, plan_of, plan_refusal_of, row_name, reservation_from, breach_of, named_by, key_refusal_of, select_refusal_of, select_reply, show_reply}
 use Rattle.escrow_core.specs.Bounds.{bounds_reply}
-use Rattle.escrow_core.specs.Reservations.{own, others, other_savepoints}
+use Rattle.escrow_journal.specs.Reservations.{own, others, other_savepoints}
 use Rattle.escrow_core.specs.State.{State, row_named, rows_of, is_open, applied, with_row, without_row, without_rows_of, with_plain, is_reserved, is_table_reserved}
 
 -- How the machine takes a statement of a session: its refusals in their order, first those that are

@@ -3,7 +3,7 @@ ghost use Rattle.std.specs.List.{AllByRecursion};
 ghost use Rattle.escrow_num.specs.Amount.{IsAmount};
 ghost use Rattle.escrow_num.specs.Reservation.{counted};
 ghost use Rattle.escrow_checks.specs.Form.{changed};
-ghost use Rattle.escrow_core.specs.Reservations.{own};
+ghost use Rattle.escrow_journal.specs.Reservations.{own};
 ghost use Rattle.escrow_core.specs.Serving.{HaveAmounts};
 ghost use Rattle.escrow_core.specs.State.{applied};
 

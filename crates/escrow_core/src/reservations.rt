@@ -3,7 +3,7 @@ ghost use Rattle.std.specs.List.{list_any};
 ghost use Rattle.escrow_num.specs.Order.{same_row};
 ghost use Rattle.escrow_num.specs.Session.{IsSession};
 ghost use Rattle.escrow_core.specs.Asked.{named_by};
-ghost use Rattle.escrow_core.specs.Reservations.{own, others, own_savepoints, other_savepoints};
+ghost use Rattle.escrow_journal.specs.Reservations.{own, others, own_savepoints, other_savepoints};
 
 use crate::rows::is_named_by;
 use escrow_num::{Name, Reservation, Savepoint, Session};

@@ -5,7 +5,7 @@ use escrow_num::Session;
 
 impl Database {
     ghost use Rattle.std.specs.Prelude.{◌≡◌, length};
-    ghost use Rattle.escrow_core.specs.Reservations.{own};
+    ghost use Rattle.escrow_journal.specs.Reservations.{own};
     ghost use Rattle.escrow_core.specs.Turn.{after_commit, after_rollback};
 
     /// COMMIT: applies the open reservations of a session to the committed rows, and ends its

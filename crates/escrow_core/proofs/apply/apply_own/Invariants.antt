@@ -1,5 +1,5 @@
 use Rattle.std.proofs.Common.{◌≡◌, take}
-use Rattle.escrow_core.specs.Reservations.{own}
+use Rattle.escrow_journal.specs.Reservations.{own}
 use Rattle.escrow_core.specs.State.{applied}
 use Rattle.escrow_core.proofs.apply.apply_own.Given as goal
 

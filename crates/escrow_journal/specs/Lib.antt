@@ -1,0 +1,4 @@
+pub mod Inside
+pub mod Log
+pub mod Reservations
+pub mod Savepoints

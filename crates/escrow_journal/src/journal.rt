@@ -1,0 +1,156 @@
+use crate::lists::{count_others, drop_named, first_from, place_of};
+use escrow_num::{Name, Refusal, Reservation, Savepoint, Session};
+use smallvec::SmallVec;
+use std::alloc::Global;
+use std::marker::Model;
+use std::mem;
+
+/// The journal of a session: its open reservations in order of grant, and its savepoints in order
+/// of making. The first four of each stand in place; only more take memory.
+#[derive(Drop)]
+pub struct Journal {
+    session: Session,
+    reservations: SmallVec<Reservation, 4>,
+    savepoints: SmallVec<Savepoint, 4>,
+}
+
+impl Model for Journal {
+    ghost use Rattle.escrow_journal.specs.Log.{Log, IsLog};
+    ghost use Rattle.escrow_journal.specs.Inside.{log_of};
+
+    ghost Value = { Log };
+
+    ghost view = { λ j. log_of j };
+
+    ghost invariant = { λ j. IsLog (log_of j) };
+}
+
+impl Journal {
+    ghost use Rattle.std.specs.Prelude.{◌≡◌, ◌⊎◌, IsTrue, IfErr, IsErrOf, OnOk, OnErr, Err, false, length, option_copied, option_map};
+    ghost use Rattle.std.specs.List.{AllByRecursion};
+    ghost use Rattle.escrow_journal.specs.Log.{IsLog, empty_log, is_full, is_full_beside, pushed, marked, later, cut_log};
+    ghost use Rattle.escrow_journal.specs.Reservations.{reservation_before};
+
+    /// The most open reservations of a session.
+    pub const MAX_RESERVATIONS: usize = 256;
+
+    /// The most savepoints of a session.
+    pub const MAX_SAVEPOINTS: usize = 64;
+
+    /// A journal that holds nothing, of a session. Takes no memory.
+    pub fn new(alloc: Global, session: Session) -> Self
+        ensures { result ≡ empty_log session }
+    {
+        Journal {
+            session,
+            reservations: SmallVec::new(alloc),
+            savepoints: SmallVec::new(alloc),
+        }
+    }
+
+    /// The session whose journal it is. What it holds is that session's, and ids rise in it.
+    pub fn session(&self) -> Session
+        ensures value { result ≡ self.now.session }
+        ensures valid { IsLog self.now }
+    {
+        self.session
+    }
+
+    /// The open reservations, in order of grant.
+    pub fn all(&self) -> &[Reservation]
+        ensures { result.now ≡ self.now.reservations }
+    {
+        self.reservations.as_slice()
+    }
+
+    /// The savepoints, in order of making.
+    pub fn savepoints(&self) -> &[Savepoint]
+        ensures { result.now ≡ self.now.savepoints }
+    {
+        self.savepoints.as_slice()
+    }
+
+    /// Adds a reservation of the session, with an id above those that the journal holds. Refused
+    /// exactly where it holds [`Journal::MAX_RESERVATIONS`]; memory is only taken, and wanted, where
+    /// it doesn't. Where it is refused the journal stays.
+    pub fn push(&mut self, r: Reservation) -> Result<(), Refusal>
+        requires own { r.session ≡ self.old.session }
+        requires above { AllByRecursion (λ earlier. IsTrue (reservation_before earlier r)) self.old.reservations }
+        ensures pushed { OnOk result (self.new ≡ pushed r self.old) }
+        ensures unchanged { OnErr result (self.new ≡ self.old) }
+        ensures refused { IsTrue (is_full self.old) → result ≡ Err Refusal.TooManyReservations }
+        ensures only { IfErr result (λ e. (e ≡ Refusal.TooManyReservations) ⊎ (e ≡ Refusal.Memory)) }
+        ensures room { IsErrOf result Refusal.TooManyReservations → IsTrue (is_full self.old) }
+    {
+        if self.reservations.len() >= Self::MAX_RESERVATIONS {
+            return Err(Refusal::TooManyReservations);
+        }
+        match self.reservations.push(r) {
+            Ok(()) => Ok(()),
+            Err(_) => Err(Refusal::Memory),
+        }
+    }
+
+    /// Makes a savepoint of a name, with the id that the next reservation takes. An earlier one of
+    /// that name is taken out (Oracle's rule), and doesn't count. Refused exactly where
+    /// [`Journal::MAX_SAVEPOINTS`] of other names stand; memory is only taken, and wanted, where they
+    /// don't. Where it is refused the journal stays.
+    pub fn mark(&mut self, name: Name, id: u64) -> Result<(), Refusal>
+        ensures marked { OnOk result (self.new ≡ marked name id self.old) }
+        ensures unchanged { OnErr result (self.new ≡ self.old) }
+        ensures refused { IsTrue (is_full_beside name self.old) → result ≡ Err Refusal.TooManySavepoints }
+        ensures only { IfErr result (λ e. (e ≡ Refusal.TooManySavepoints) ⊎ (e ≡ Refusal.Memory)) }
+        ensures room { IsErrOf result Refusal.TooManySavepoints → IsTrue (is_full_beside name self.old) }
+    {
+        if count_others(self.savepoints(), name) >= Self::MAX_SAVEPOINTS {
+            return Err(Refusal::TooManySavepoints);
+        }
+        if self.savepoints.reserve(1).is_err() {
+            return Err(Refusal::Memory);
+        }
+        drop_named(&mut self.savepoints, name);
+        self.savepoints.push_reserved(Savepoint {
+            session: self.session,
+            name,
+            id,
+        });
+        Ok(())
+    }
+
+    /// The reservations after the savepoint of a name, in order of grant: those that
+    /// [`Journal::cut`] would take out. `None` exactly where there is no such savepoint.
+    pub fn after(&self, name: Name) -> Option<&[Reservation]>
+        ensures { option_copied result ≡ later name self.now }
+    {
+        let place = place_of(self.savepoints(), name)?;
+        let first = first_from(self.all(), self.savepoints()[place].id);
+        Some(&self.all()[first..])
+    }
+
+    /// Goes back to the savepoint of a name: takes out just the reservations after it, and the
+    /// savepoints that were made after it. It stays itself. Answers how many reservations were taken
+    /// out, or `None`, exactly where there is no such savepoint, and then the journal stays. Takes no
+    /// memory.
+    pub fn cut(&mut self, name: Name) -> Option<u32>
+        ensures count { result ≡ option_map length (later name self.old) }
+        ensures cut { self.new ≡ cut_log name self.old }
+    {
+        let place = place_of(self.savepoints(), name)?;
+        let first = first_from(self.all(), self.savepoints()[place].id);
+        let count = self.reservations.len() - first;
+        self.reservations.truncate(first);
+        self.savepoints.truncate(place + 1);
+        Some(count as u32)
+    }
+
+    /// Hands out all reservations, in order of grant, and leaves neither reservation nor savepoint.
+    /// Takes no memory.
+    pub fn take_all(&mut self) -> SmallVec<Reservation, 4>
+        ensures all { result.items ≡ self.old.reservations }
+        ensures none { self.new ≡ empty_log self.old.session }
+    {
+        let blank = SmallVec::new(*self.reservations.allocator());
+        self.savepoints.clear();
+        mem::replace(&mut self.reservations, blank)
+    }
+}

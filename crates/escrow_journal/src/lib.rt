@@ -1,0 +1,13 @@
+//! The journal of one transaction: its open reservations in order of grant, and its savepoints.
+//!
+//! Its one contract: going back to a savepoint takes out just the reservations and the savepoints
+//! that came after it ([`Journal::cut`]).
+#![tactic(auto)]
+
+mod journal;
+mod lists;
+
+pub use journal::Journal;
+
+#[cfg(test)]
+mod tests;

@@ -1,0 +1,44 @@
+-- Helps: the journals of the sessions as one list.
+use Rattle.std.specs.Prelude.{◌≡◌, ℕ, ◌+◌, ◌≤◌, Bool, nat_lt, if◌then◌else◌, List, [], ◌∷◌, length, flat_map, IsTrue}
+use Rattle.std.specs.List.{AllByRecursion}
+use Rattle.escrow_num.specs.declared.reservation.Reservation.{Reservation}
+use Rattle.escrow_num.specs.declared.reservation.TheConstants.Reservation.{MAX_ID}
+use Rattle.escrow_num.specs.declared.session.TheConstants.Session.{MAX}
+use Rattle.escrow_journal.specs.Log.{Log, IsLog}
+use Rattle.escrow_txn.specs.Open.{Open}
+
+-- a reservation put among others, in order of id
+abbrev pub put : Reservation → List Reservation → List Reservation
+put r [] = r ∷ []
+put r (x ∷ xs) = if nat_lt x.id r.id then x ∷ put r xs else r ∷ x ∷ xs
+
+-- reservations in order of id, which is the order of grant
+abbrev pub by_id : List Reservation → List Reservation
+by_id [] = []
+by_id (r ∷ rest) = put r (by_id rest)
+
+-- what the journals hold together
+abbrev pub opened : List Log → ℕ → Open
+opened logs next = record {
+  reservations = by_id (flat_map (λ log. log.reservations) logs);
+  savepoints = flat_map (λ log. log.savepoints) logs;
+  next_id = next;
+}
+
+-- journals are of sessions with numbers from the first on
+abbrev pub AreNumbered : ℕ → List Log → Type 0
+AreNumbered first [] = Unit {0}
+AreNumbered first (log ∷ logs) = (log.session ≡ first) × AreNumbered (1 + first) logs
+
+-- every id of the journal is below the next one
+abbrev pub IsBelow : ℕ → Log → Type 0
+IsBelow next log = AllByRecursion (λ r. IsTrue (nat_lt r.id next)) log.reservations
+
+-- there is a journal for each session, each is one, and the ids in them are below the next one
+pub record AreJournals (logs : List Log) (next : ℕ) : Type 0 where
+  pub count : length logs ≡ MAX
+  pub numbered : AreNumbered 1 logs
+  pub each : AllByRecursion IsLog logs
+  pub below : AllByRecursion (IsBelow next) logs
+  pub first_id : 1 ≤ next
+  pub last_id : next ≤ MAX_ID + 1

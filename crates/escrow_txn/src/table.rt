@@ -1,0 +1,160 @@
+use crate::merge::merged;
+use escrow_journal::Journal;
+use escrow_num::{Changes, Name, Refusal, Reservation, RowName, Session};
+use smallvec::SmallVec;
+use std::alloc::{AllocError, Global};
+use std::marker::Model;
+
+/// The open transactions of a database: a journal for each of its 64 sessions, and the id that the
+/// next reservation takes. Contracts see the journals as one list of reservations in order of grant,
+/// and one of savepoints.
+#[derive(Drop)]
+pub struct TxnTable {
+    journals: Vec<Journal>,
+    next_id: u64,
+}
+
+impl Model for TxnTable {
+    ghost use Rattle.escrow_txn.specs.Inside.{open_of};
+    ghost use Rattle.escrow_txn.specs.Joined.{AreJournals};
+    ghost use Rattle.escrow_txn.specs.Open.{Open};
+
+    ghost Value = { Open };
+
+    ghost view = { λ t. open_of t };
+
+    ghost invariant = { λ t. AreJournals t.journals.items t.next_id };
+}
+
+impl TxnTable {
+    ghost use Rattle.std.specs.Prelude.{◌≡◌, ◌⊎◌, IfOk, IfErr, IfSome, IsErrOf, OnOk, OnErr, Err, Some, None, length, map};
+    ghost use Rattle.escrow_journal.specs.Reservations.{own, own_savepoints};
+    ghost use Rattle.escrow_txn.specs.Open.{nothing_open, is_open, id_left, grant_refusal, granted, savepoint_refusal, saved, released, cut_back, ended};
+
+    /// A table in which nothing is open and the next id is 1. Out of memory is the only error.
+    pub fn new(alloc: Global) -> Result<Self, AllocError>
+        ensures { IfOk result (λ t. t ≡ nothing_open) }
+    {
+        let mut journals = Vec::with_capacity(alloc, Session::MAX as usize)?;
+        for session in Session::all() {
+            journals.push(Journal::new(alloc, session))?;
+        }
+        Ok(TxnTable {
+            journals,
+            next_id: 1,
+        })
+    }
+
+    /// Whether a session's transaction is open: it holds a reservation or a savepoint.
+    pub fn is_open(&self, session: Session) -> bool
+        ensures { result ≡ is_open session self.now }
+    {
+        let journal = self.journal(session);
+        !journal.all().is_empty() || !journal.savepoints().is_empty()
+    }
+
+    /// The journal of a session: of all that is open, what it holds.
+    pub fn journal(&self, session: Session) -> &Journal
+        ensures session { result.now.session ≡ session }
+        ensures reservations { result.now.reservations ≡ own session self.now.reservations }
+        ensures savepoints { result.now.savepoints ≡ own_savepoints session self.now.savepoints }
+    {
+        &self.journals[session.get() as usize - 1]
+    }
+
+    /// The id that the next reservation takes, or `None` where there are no more ids.
+    pub fn next_id(&self) -> Option<u64>
+        ensures { result ≡ id_left self.now.next_id }
+    {
+        if self.next_id <= Reservation::MAX_ID {
+            Some(self.next_id)
+        } else {
+            None
+        }
+    }
+
+    /// Why a session gets no reservation, if it gets none, but for memory: it holds as many as it
+    /// may, or there are no more ids.
+    pub fn grant_refusal(&self, session: Session) -> Option<Refusal>
+        ensures { result ≡ grant_refusal session self.now }
+    {
+        if self.journal(session).all().len() >= Journal::MAX_RESERVATIONS {
+            return Some(Refusal::TooManyReservations);
+        }
+        if self.next_id > Reservation::MAX_ID {
+            return Some(Refusal::NoMoreIds);
+        }
+        None
+    }
+
+    /// Grants a session a reservation of changes of a row: it takes the next id, and is the last of
+    /// the open ones. Answers its id. Memory is only taken, and wanted, where no refusal applies.
+    /// Where it is refused nothing changes, and no id is taken.
+    pub fn grant(
+        &mut self,
+        session: Session,
+        row: RowName,
+        changes: Changes,
+    ) -> Result<u64, Refusal>
+        ensures id { IfOk result (λ id. id ≡ self.old.next_id) }
+        ensures granted { OnOk result (self.new ≡ granted session row changes self.old) }
+        ensures unchanged { OnErr result (self.new ≡ self.old) }
+        ensures refused { IfSome (grant_refusal session self.old) (λ e. result ≡ Err e) }
+        ensures only { IfErr result (λ e. (grant_refusal session self.old ≡ Some e) ⊎ (e ≡ Refusal.Memory)) }
+    {
+        let Some(id) = self.next_id() else {
+            return Err(..);
+        };
+        todo!()
+    }
+
+    /// Makes a savepoint of a session. An earlier one of that name is taken out (Oracle's rule), and
+    /// doesn't count. Memory is only taken, and wanted, where no refusal applies. Where it is refused
+    /// nothing changes.
+    pub fn mark(&mut self, session: Session, name: Name) -> Result<(), Refusal>
+        ensures saved { OnOk result (self.new ≡ saved session name self.old) }
+        ensures unchanged { OnErr result (self.new ≡ self.old) }
+        ensures refused { IfSome (savepoint_refusal session name self.old) (λ e. result ≡ Err e) }
+        ensures only { IfErr result (λ e. (savepoint_refusal session name self.old ≡ Some e) ⊎ (e ≡ Refusal.Memory)) }
+    {
+        let id = self.next_id;
+        self.journals[session.get() as usize - 1].mark(name, id)
+    }
+
+    /// Takes a session back to its savepoint of a name: what it reserved after it is dropped, and so
+    /// are the savepoints that it made after it. Answers how many reservations were dropped, or
+    /// `None`, exactly where there is no such savepoint, and then nothing changes. Takes no memory.
+    pub fn cut(&mut self, session: Session, name: Name) -> Option<u32>
+        ensures count { result ≡ released session name self.old }
+        ensures cut { self.new ≡ cut_back session name self.old }
+    {
+        self.journals[session.get() as usize - 1].cut(name)
+    }
+
+    /// Ends a session's transaction: hands out its reservations, in order of grant, and leaves
+    /// neither reservation nor savepoint of it. Takes no memory.
+    pub fn take_all(&mut self, session: Session) -> SmallVec<Reservation, 4>
+        ensures all { result.items ≡ own session self.old.reservations }
+        ensures ended { self.new ≡ ended session self.old }
+    {
+        self.journals[session.get() as usize - 1].take_all()
+    }
+
+    /// Drops all reservations and savepoints; the next id is 1. Takes no memory.
+    pub fn clear(&mut self)
+        ensures { self.new ≡ nothing_open }
+    {
+        for journal in &mut self.journals {
+            journal.take_all();
+        }
+        self.next_id = 1;
+    }
+
+    /// The open reservations of all sessions, in order of id, which is the order of grant. Want of
+    /// memory is the only error.
+    pub fn all_in_order(&self, alloc: Global) -> Result<Vec<&Reservation>, AllocError>
+        ensures { IfOk result (λ all. map (λ r. r.now) all.items ≡ self.now.reservations) }
+    {
+        merged(alloc, &self.journals)
+    }
+}
