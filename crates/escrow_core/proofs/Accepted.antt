@@ -24,7 +24,8 @@ use Rattle.escrow_schema.specs.Fit.{inserted_row}
 use Rattle.escrow_schema.specs.Plan.{planned}
 use Rattle.escrow_num.specs.declared.reservation.TheConstants.Reservation.{MAX_ID}
 use Rattle.escrow_schema.specs.declared.catalog.TheConstants.Catalog.{MAX_TABLES}
-use Rattle.escrow_core.specs.declared.database.TheConstants.Database.{MAX_ROWS, MAX_RESERVATIONS}
+use Rattle.escrow_core.specs.declared.database.TheConstants.Database.{MAX_ROWS}
+use Rattle.escrow_journal.specs.declared.journal.TheConstants.Journal.{MAX_RESERVATIONS}
 use Rattle.escrow_journal.specs.Reservations.{own}
 use Rattle.escrow_core.specs.Serving.{IsAccepted}
 use Rattle.escrow_core.specs.State.{State, row_named, rows_of, is_open, is_reserved, is_table_reserved, changes_to}

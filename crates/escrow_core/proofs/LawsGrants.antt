@@ -28,7 +28,7 @@ use Rattle.escrow_schema.specs.declared.plan.Plan.TheVariants as plan
 use Rattle.escrow_schema.specs.declared.table.TableDef.{TableDef}
 use Rattle.escrow_schema.specs.Catalog.{table_named}
 use Rattle.escrow_num.specs.declared.reservation.TheConstants.Reservation.{MAX_ID}
-use Rattle.escrow_core.specs.declared.database.TheConstants.Database.{MAX_RESERVATIONS}
+use Rattle.escrow_journal.specs.declared.journal.TheConstants.Journal.{MAX_RESERVATIONS}
 use Rattle.escrow_core.specs.declared.reply.Reply.{Reply}
 use Rattle.escrow_core.specs.declared.reply.Reply.TheVariants as reply
 use Rattle.escrow_core.specs.Laws.{IsAsked, MeetsWith, IsReachedBreach}

@@ -20,7 +20,7 @@ use Rattle.escrow_checks.proofs.FormLemmas.{length-all_changed}
 use Rattle.escrow_schema.proofs.LawLemmas.{checks_keep_amounts, checks_of_whole_row, few_checks}
 use Rattle.escrow_num.specs.declared.session.TheConstants.Session.{MAX}
 use Rattle.escrow_checks.specs.declared.spread.TheConstants.Spread.{MAX_OPEN}
-use Rattle.escrow_core.specs.declared.database.TheConstants.Database.{MAX_RESERVATIONS}
+use Rattle.escrow_journal.specs.declared.journal.TheConstants.Journal.{MAX_RESERVATIONS}
 use Rattle.escrow_core.specs.declared.spreads.TheConstants.{MOST_CHECKS}
 use Rattle.escrow_journal.specs.Reservations.{own}
 use Rattle.escrow_core.specs.Serving.{IsShort, HaveAmounts}

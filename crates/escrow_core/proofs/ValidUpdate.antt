@@ -18,7 +18,7 @@ use Rattle.escrow_schema.specs.declared.table.TableDef.{TableDef}
 use Rattle.escrow_schema.specs.Catalog.{table_named}
 use Rattle.escrow_schema.specs.Column.{reservables}
 use Rattle.escrow_num.specs.declared.reservation.TheConstants.Reservation.{MAX_ID}
-use Rattle.escrow_core.specs.declared.database.TheConstants.Database.{MAX_RESERVATIONS}
+use Rattle.escrow_journal.specs.declared.journal.TheConstants.Journal.{MAX_RESERVATIONS}
 use Rattle.escrow_journal.specs.Reservations.{own, reservation_before}
 use Rattle.escrow_core.specs.State.{State, row_named, changes_to, row_after, applied}
 use Rattle.escrow_core.specs.Turn.{granted}

@@ -7,7 +7,7 @@ abbrev pub state_of : Inside → State
 state_of d = record {
   catalog = d.catalog;
   rows = d.rows.items;
-  reservations = d.reservations.items;
-  savepoints = d.savepoints.items;
-  next_id = d.next_id;
+  reservations = d.open.reservations;
+  savepoints = d.open.savepoints;
+  next_id = d.open.next_id;
 }

@@ -1,5 +1,5 @@
 -- Believed: the statements of the laws in src/laws.rt.
-use Rattle.std.specs.Prelude.{◌≡◌, ◌↔◌, ℕ, ℤ, ◌+◌, ◌≤◌, ◌+ℤ◌, ◌≤ℤ◌, Bool, true, false, Option, Some, None, IsSome, IsSomeAnd, List, [], ◌∷◌, ◌++◌, length, map, take, Contains}
+use Rattle.std.specs.Prelude.{◌≡◌, ◌↔◌, ℕ, nat_lt, ℤ, ◌+◌, ◌≤◌, ◌+ℤ◌, ◌≤ℤ◌, Bool, true, false, Option, Some, None, IsSome, IsSomeAnd, List, [], ◌∷◌, ◌++◌, length, map, take, Contains}
 use Rattle.std.specs.List.{AllByRecursion, AllZip}
 use Rattle.escrow_num.specs.declared.refusal.Breach.{Breach}
 use Rattle.escrow_num.specs.declared.refusal.Refusal.{Refusal}
@@ -37,6 +37,8 @@ use Rattle.escrow_schema.specs.Column.{names_of, reservables, value_of}
 use Rattle.escrow_schema.specs.Fit.{FitColumns, values_of}
 use Rattle.escrow_schema.specs.Print.{canonical, declared_checks}
 use Rattle.escrow_core.specs.declared.event.Event.{Event}
+use Rattle.escrow_core.specs.declared.event.Event.TheVariants as event
+use Rattle.escrow_core.specs.declared.reply.JournalEntry.{JournalEntry}
 use Rattle.escrow_core.specs.declared.reply.CheckBounds.{CheckBounds}
 use Rattle.escrow_core.specs.declared.reply.ColumnBounds.{ColumnBounds}
 use Rattle.escrow_core.specs.declared.reply.Failure.{Failure}
@@ -46,6 +48,8 @@ use Rattle.escrow_core.specs.declared.reply.Reply.TheVariants as reply
 use Rattle.escrow_core.specs.Event.{HasSession}
 use Rattle.escrow_core.specs.Reply.{failure_of}
 use Rattle.escrow_journal.specs.Reservations.{own, others}
+use Rattle.escrow_journal.specs.Savepoints.{savepoint_of}
+use Rattle.escrow_core.specs.Journal.{entry_of}
 use Rattle.escrow_core.specs.Asked.{row_of, plan_of, row_name, named_by, reservation_of}
 use Rattle.escrow_core.specs.State.{State, empty, row_named, rows_of, changes_to, row_after, applied, with_row, without_row, without_rows_of, with_plain}
 use Rattle.escrow_core.specs.Step.{step, StepOrRefusal, IsRun}
@@ -91,12 +95,13 @@ RefusedChangesNothing = (s : State) (session : ℕ) (asked : Statement) (r : Ref
 abbrev pub MachineNeverFails : Type 0
 MachineNeverFails = (s : State) (session : ℕ) (asked : Statement) → failure_of (step s session asked).0 ≡ None
 
--- a statement takes no memory: COMMIT, ROLLBACK, DELETE and DROP TABLE
+-- a statement takes no memory: COMMIT, ROLLBACK, ROLLBACK TO, DELETE and DROP TABLE
 abbrev pub takes_nothing : Statement → Bool
 takes_nothing (statement.Drop name) = true
 takes_nothing (statement.Delete text) = true
 takes_nothing statement.Commit = true
 takes_nothing statement.Rollback = true
+takes_nothing (statement.RollbackTo name) = true
 takes_nothing _ = false
 
 -- what fails is out of memory, and is no statement that takes none
@@ -231,6 +236,7 @@ QueriesIgnoreWhatIsOpen = (s : State) (session other : ℕ) (asked : Statement) 
 abbrev pub Shows : Statement → Type 0
 Shows (statement.Select text) = Unit {0}
 Shows (statement.ShowTable name) = Unit {0}
+Shows (statement.ShowJournal table) = Unit {0}
 Shows (statement.ShowBounds text) = Unit {0}
 Shows _ = ⊥
 
@@ -238,6 +244,61 @@ Shows _ = ⊥
 abbrev pub QueriesIgnoreWhoAsks : Type 0
 QueriesIgnoreWhoAsks = (s : State) (session other : ℕ) (asked : Statement) → Shows asked
     → ((step s session asked).1 ≡ s) × ((step s other asked).0 ≡ (step s session asked).0)
+
+-- a reservation is of a row of a table, if one is named
+abbrev pub IsOfTable : Option (List ℕ) → Reservation → Type 0
+IsOfTable None r = Unit {0}
+IsOfTable (Some table) r = r.row.table ≡ table
+
+-- entries are in order of id, no two of one id
+abbrev pub entry_before : JournalEntry → JournalEntry → Bool
+entry_before a b = nat_lt a.id b.id
+
+-- a SHOW JOURNAL shows just the open reservations of all sessions, or those of the rows of its table,
+-- and they are in order of id
+pub record IsJournal (s : State) (table : Option (List ℕ)) (entries : List JournalEntry) : Type 0 where
+  pub reservations : List Reservation
+  pub shown : entries ≡ map (entry_of s.catalog) reservations
+  pub each : (r : Reservation) → Contains reservations r ↔ (Contains s.reservations r × IsOfTable table r)
+  pub order : IsValid s → IsAscending entry_before entries
+
+-- what a SHOW JOURNAL shows, from which nothing changes
+abbrev pub ShowsTheJournal : Type 0
+ShowsTheJournal = (s : State) (session : ℕ) (table : Option (List ℕ)) (entries : List JournalEntry)
+    → let after = step s session (statement.ShowJournal table) in after.0 ≡ reply.Journal entries → IsJournal s table entries × (after.1 ≡ s)
+
+-- SAVEPOINTS
+
+-- going back to a savepoint at once, when it was made, drops nothing: the state stays as making it left
+-- it, which changed savepoints alone
+abbrev pub BackAtOnceChangesNothing : Type 0
+BackAtOnceChangesNothing = (s : State) (session : ℕ) (name : List ℕ) → IsValid s → IsSession session
+    → let made = step s session (statement.Savepoint name) in made.0 ≡ reply.Savepoint name
+    → (made.1 ≡ record s { savepoints = made.1.savepoints })
+    × (step made.1 session (statement.RollbackTo name) ≡ (reply.RolledBackTo name 0, made.1))
+
+-- an event makes no savepoint of a session and a name
+abbrev pub MakesNone : ℕ → List ℕ → Event → Type 0
+MakesNone session name (event.Statement other asked) = other ≡ session → ¬ (asked ≡ statement.Savepoint name)
+
+-- A session makes a savepoint. Then anything happens, of any sessions: it may reserve, make other
+-- savepoints, and go back to them. Where the savepoint still stands, not made anew, going back to it
+-- leaves the session's reservations as they were when it was made, and those of the others, and all
+-- else but savepoints, as they stand.
+abbrev pub BackLeavesWhatWas : Type 0
+BackLeavesWhatWas = (s : State) (session : ℕ) (name : List ℕ) (events : List Event) (answers : List Reply) (later : State)
+    → IsValid s → IsSession session → AllByRecursion HasSession events → AllByRecursion (MakesNone session name) events
+    → let made = step s session (statement.Savepoint name) in made.0 ≡ reply.Savepoint name
+    → IsRun made.1 events answers later → IsSome (savepoint_of session name later.savepoints)
+    → let back = (step later session (statement.RollbackTo name)).1 in (own session back.reservations ≡ own session s.reservations)
+    × (others session back.reservations ≡ others session later.reservations)
+    × (back ≡ record later { reservations = back.reservations; savepoints = back.savepoints })
+
+-- what would be granted would also be granted, with the same id, after a ROLLBACK TO of any session
+abbrev pub BackRefusesNothing : Type 0
+BackRefusesNothing = (s : State) (session other : ℕ) (name : List ℕ) (text : UpdateText) (id : ℕ) → IsValid s → IsSession session
+    → (step s other (statement.Update text)).0 ≡ reply.Reserved id
+    → (step (step s session (statement.RollbackTo name)).1 other (statement.Update text)).0 ≡ reply.Reserved id
 
 -- two numbers bound what a row comes to: whichever of the open reservations are applied, it is from the
 -- one to the other, and some choice brings it to each of the two

@@ -2,7 +2,9 @@ pub mod Asked
 pub mod Bounds
 pub mod Event
 pub mod Inside
+pub mod Journal
 pub mod Laws
+pub mod Promised
 pub mod Reply
 pub mod Seen
 pub mod Serving

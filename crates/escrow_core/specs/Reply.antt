@@ -23,4 +23,5 @@ abbrev pub holds_memory : Reply → Bool
 holds_memory (reply.Rows columns rows) = true
 holds_memory (reply.Table text) = true
 holds_memory (reply.Bounds columns checks) = true
+holds_memory (reply.Journal entries) = true
 holds_memory _ = false

@@ -3,6 +3,7 @@ use Rattle.std.specs.Prelude.{ℕ, ◌+◌, Bool, true, false, nat_lt, nat_le, O
 use Rattle.escrow_num.specs.declared.refusal.Refusal.{Refusal}
 use Rattle.escrow_num.specs.declared.refusal.Refusal.TheVariants as refusal
 use Rattle.escrow_num.specs.declared.reservation.Reservation.{Reservation}
+use Rattle.escrow_num.specs.declared.reservation.Savepoint.{Savepoint}
 use Rattle.escrow_num.specs.declared.reservation.TheConstants.Reservation.{MAX_ID}
 use Rattle.escrow_num.specs.Refusal.{refuse_if}
 use Rattle.escrow_sql.specs.declared.statement.Statement.{Statement}
@@ -10,19 +11,22 @@ use Rattle.escrow_sql.specs.declared.statement.Statement.TheVariants as statemen
 use Rattle.escrow_sql.specs.declared.statement.CreateText.{CreateText}
 use Rattle.escrow_sql.specs.declared.statement.InsertText.{InsertText}
 use Rattle.escrow_sql.specs.declared.statement.RowText.{RowText}
+use Rattle.escrow_journal.specs.Reservations.{own, others, own_savepoints, other_savepoints}
+use Rattle.escrow_journal.specs.Savepoints.{savepoint_of, without_savepoint, put_savepoint, through, after, not_after}
 use Rattle.escrow_schema.specs.declared.catalog.TheConstants.Catalog.{MAX_TABLES}
 use Rattle.escrow_schema.specs.declared.plan.Plan.{Plan}
 use Rattle.escrow_schema.specs.declared.plan.Plan.TheVariants as plan
 use Rattle.escrow_schema.specs.Catalog.{table_named, with_table, without_table}
 use Rattle.escrow_schema.specs.Definition.{definition_of}
-use Rattle.escrow_core.specs.declared.database.TheConstants.Database.{MAX_ROWS, MAX_RESERVATIONS}
+use Rattle.escrow_core.specs.declared.database.TheConstants.Database.{MAX_ROWS}
+use Rattle.escrow_journal.specs.declared.journal.TheConstants.Journal.{MAX_RESERVATIONS, MAX_SAVEPOINTS}
 use Rattle.escrow_core.specs.declared.reply.Reply.{Reply}
 use Rattle.escrow_core.specs.declared.reply.Reply.TheVariants as reply
 use Rattle.escrow_core.specs.declared.reply.Failure.{Failure}
 use Rattle.escrow_core.specs.declared.reply.Failure.TheVariants as failure
 use Rattle.escrow_core.specs.Asked.{row_of, insert_breach, plan_of, plan_refusal_of, row_name, reservation_from, breach_of, named_by, key_refusal_of, select_refusal_of, select_reply, show_reply}
 use Rattle.escrow_core.specs.Bounds.{bounds_reply}
-use Rattle.escrow_journal.specs.Reservations.{own, others, other_savepoints}
+use Rattle.escrow_core.specs.Journal.{journal_reply}
 use Rattle.escrow_core.specs.State.{State, row_named, rows_of, is_open, applied, with_row, without_row, without_rows_of, with_plain, is_reserved, is_table_reserved}
 
 -- How the machine takes a statement of a session: its refusals in their order, first those that are
@@ -98,6 +102,25 @@ after_commit s session = record s {
 -- the session's reservations are dropped, and its transaction is over
 abbrev pub after_rollback : State → ℕ → State
 after_rollback s session = record s { reservations = others session s.reservations; savepoints = other_savepoints session s.savepoints }
+
+-- the state with a savepoint of a session, the last of its own, in the place of an earlier one of that
+-- name; it has the id that the next reservation takes
+abbrev pub after_savepoint : State → ℕ → List ℕ → State
+after_savepoint s session name = record s {
+  savepoints = put_savepoint (record { session = session; name = name; id = s.next_id }) (without_savepoint session name s.savepoints);
+}
+
+-- the reservations after a savepoint are dropped, and so are the savepoints that its session made after it
+abbrev pub returned_to : State → Savepoint → State
+returned_to s p = record s { reservations = not_after p s.reservations; savepoints = through p.session p.name s.savepoints }
+
+-- the session has gone back to its savepoint of a name
+abbrev pub after_rollback_to : State → ℕ → List ℕ → State
+after_rollback_to s session name = unwrap_or (option_map (returned_to s) (savepoint_of session name s.savepoints)) s
+
+-- how many reservations came after the session's savepoint of a name, if there is one
+abbrev pub released : State → ℕ → List ℕ → Option ℕ
+released s session name = option_map (λ p. length (after p s.reservations)) (savepoint_of session name s.savepoints)
 
 -- THE TABLE OF STATEMENTS: the turn of each
 unfoldable pub turn_of : State → ℕ → Statement → Turn
@@ -184,6 +207,22 @@ turn_of s session (statement.ShowBounds text) = record {
   next = s;
   fails_for = for_memory;
 }
+turn_of s session (statement.ShowJournal table) = record {
+  early = option_and_then (λ name. refuse_if (is_none (table_named s.catalog name)) refusal.NoSuchTable) table
+      ∷ [];
+  late = [];
+  reply = journal_reply s table;
+  next = s;
+  fails_for = for_memory;
+}
+turn_of s session (statement.Savepoint name) = record {
+  early = refuse_if (nat_le MAX_SAVEPOINTS (length (own_savepoints session (without_savepoint session name s.savepoints)))) refusal.TooManySavepoints
+      ∷ [];
+  late = [];
+  reply = reply.Savepoint name;
+  next = after_savepoint s session name;
+  fails_for = for_memory;
+}
 turn_of s session statement.Commit = record {
   early = [];
   late = [];
@@ -196,5 +235,13 @@ turn_of s session statement.Rollback = record {
   late = [];
   reply = reply.RolledBack (length (own session s.reservations));
   next = after_rollback s session;
+  fails_for = for_nothing;
+}
+turn_of s session (statement.RollbackTo name) = record {
+  early = refuse_if (is_none (savepoint_of session name s.savepoints)) refusal.NoSuchSavepoint
+      ∷ [];
+  late = [];
+  reply = reply.RolledBackTo name (unwrap_or (released s session name) 0);
+  next = after_rollback_to s session name;
   fails_for = for_nothing;
 }

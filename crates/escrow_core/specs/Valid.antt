@@ -15,7 +15,8 @@ use Rattle.escrow_schema.specs.declared.table.TableDef.{TableDef}
 use Rattle.escrow_schema.specs.Catalog.{IsCatalog, table_named}
 use Rattle.escrow_schema.specs.Column.{reservables}
 use Rattle.escrow_schema.specs.Fit.{IsRowOf}
-use Rattle.escrow_core.specs.declared.database.TheConstants.Database.{MAX_ROWS, MAX_RESERVATIONS, MAX_SAVEPOINTS}
+use Rattle.escrow_core.specs.declared.database.TheConstants.Database.{MAX_ROWS}
+use Rattle.escrow_journal.specs.declared.journal.TheConstants.Journal.{MAX_RESERVATIONS, MAX_SAVEPOINTS}
 use Rattle.escrow_journal.specs.Reservations.{own, own_savepoints, reservation_before, savepoint_before}
 use Rattle.escrow_core.specs.State.{State, row_named, rows_of, applied}
 

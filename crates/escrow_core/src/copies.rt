@@ -1,7 +1,7 @@
 ghost use Rattle.std.specs.Prelude.{◌≡◌, ◌↔◌, IsTrue};
 
-use crate::reply::{CheckBounds, ColumnBounds};
-use escrow_num::{Copied, Span};
+use crate::reply::{CheckBounds, ColumnBounds, ColumnChange, JournalEntry};
+use escrow_num::{Copied, Span, are_same, copy_all};
 use std::alloc::{AllocError, Global};
 
 impl Copied for ColumnBounds {
@@ -27,6 +27,34 @@ impl Copied for CheckBounds {
             && self.least == other.least
             && self.greatest == other.greatest
             && same_limits(&self.limits, &other.limits)
+    }
+}
+
+impl Copied for ColumnChange {
+    fn copy(&self, _: Global) -> Result<ColumnChange, AllocError> {
+        Ok(*self)
+    }
+
+    fn is_same(&self, other: &ColumnChange) -> bool {
+        self.column == other.column && self.change == other.change
+    }
+}
+
+impl Copied for JournalEntry {
+    fn copy(&self, alloc: Global) -> Result<JournalEntry, AllocError> {
+        Ok(JournalEntry {
+            id: self.id,
+            session: self.session,
+            row: self.row.copy(alloc)?,
+            changes: copy_all(alloc, self.changes.as_slice())?,
+        })
+    }
+
+    fn is_same(&self, other: &JournalEntry) -> bool {
+        self.id == other.id
+            && self.session == other.session
+            && self.row.is_same(&other.row)
+            && are_same(self.changes.as_slice(), other.changes.as_slice())
     }
 }
 

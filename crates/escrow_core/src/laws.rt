@@ -4,7 +4,8 @@
 ghost use Rattle.escrow_core.specs.Laws.{StepKeepsValid, RunKeepsValid, CommittedRowsMeetChecks, CommittedValuesFit, EveryRunIsSafe};
 ghost use Rattle.escrow_core.specs.Laws.{RefusedChangesNothing, MachineNeverFails, FailsForMemoryAlone, EarlyRefusalsStand, CommitIsNeverRefused, RollbackIsNeverRefused};
 ghost use Rattle.escrow_core.specs.Laws.{QueriesSeeCommitsAlone, ReservedTakesTheNextId, IdsNeverFall, TransactionsCommute, AnyOrderOfEnds};
-ghost use Rattle.escrow_core.specs.Laws.{DropsOneTable, DeletesOneRow, PlainUpdatesKeepAmounts, ReservationsKeepRows, SelectsShowRows, ShowsTheTable, QueriesIgnoreWhatIsOpen, QueriesIgnoreWhoAsks, BoundsAreReached};
+ghost use Rattle.escrow_core.specs.Laws.{DropsOneTable, DeletesOneRow, PlainUpdatesKeepAmounts, ReservationsKeepRows, SelectsShowRows, ShowsTheTable, QueriesIgnoreWhatIsOpen, QueriesIgnoreWhoAsks, ShowsTheJournal, BoundsAreReached};
+ghost use Rattle.escrow_core.specs.Laws.{BackAtOnceChangesNothing, BackLeavesWhatWas, BackRefusesNothing};
 ghost use Rattle.escrow_core.specs.Laws.{GrantedInEveryChoice, OwnIncrementNotSpent, RefusedByAChoice, BoundsDecideGrants};
 
 /// Whatever a session asks in a valid state, the state after it is valid: whichever of the open
@@ -118,6 +119,30 @@ pub fn queries_ignore_who_asks()
 /// choice brings it to each of the two; the bounds of a check are within its limits.
 pub fn bounds_are_reached()
     ensures { BoundsAreReached }
+{}
+
+/// A SHOW JOURNAL shows just the open reservations of all sessions, or those of the rows of its
+/// table, in order of id; nothing changes by it.
+pub fn shows_the_journal()
+    ensures { ShowsTheJournal }
+{}
+
+/// Going back to a savepoint right after it was made drops nothing: the state stays as it is.
+pub fn back_at_once_changes_nothing()
+    ensures { BackAtOnceChangesNothing }
+{}
+
+/// Whatever happened since a session made a savepoint, where it still stands, going back to it leaves
+/// the session's reservations as they were when it was made, and those of the others, and all else
+/// but savepoints, as they stand.
+pub fn back_leaves_what_was()
+    ensures { BackLeavesWhatWas }
+{}
+
+/// A ROLLBACK TO makes nothing refusable: what would be granted before it would be granted after it,
+/// to whoever asks it.
+pub fn back_refuses_nothing()
+    ensures { BackRefusesNothing }
 {}
 
 /// The ends of two sessions' transactions, each a commit or a rollback, lead to equal states in

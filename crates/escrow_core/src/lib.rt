@@ -12,6 +12,7 @@ mod copies;
 mod database;
 mod event;
 mod grant;
+mod journal;
 pub mod laws;
 mod reply;
 mod reservations;
@@ -21,7 +22,7 @@ mod spreads;
 
 pub use database::Database;
 pub use event::Event;
-pub use reply::{CheckBounds, ColumnBounds, Failure, Reply};
+pub use reply::{CheckBounds, ColumnBounds, ColumnChange, Failure, JournalEntry, Reply};
 
 #[cfg(test)]
 mod tests;

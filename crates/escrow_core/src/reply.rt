@@ -1,6 +1,8 @@
 ghost use Rattle.std.specs.Prelude.{◌≡◌, ◌↔◌, IfOk, IsOk, IsTrue, false};
 
-use escrow_num::{Amount, Name, Refusal, Seq, Span, Text, Value, Wide, are_same, copy_all};
+use escrow_num::{
+    Amount, Name, Refusal, RowName, Seq, Session, Span, Text, Value, Wide, are_same, copy_all,
+};
 use std::alloc::{AllocError, Global};
 
 /// What a statement is answered.
@@ -38,6 +40,10 @@ pub enum Reply {
         /// Those of each declared check, in order.
         checks: Seq<CheckBounds>,
     },
+    /// The open reservations are shown, of all sessions, in order of id.
+    Journal(Seq<JournalEntry>),
+    /// A savepoint was made, of this name.
+    Savepoint(Name),
     /// The transaction was committed, and this many reservations applied.
     Committed {
         count: u32,
@@ -46,6 +52,35 @@ pub enum Reply {
     RolledBack {
         count: u32,
     },
+    /// The transaction was rolled back to a savepoint.
+    RolledBackTo {
+        /// The savepoint's name.
+        savepoint: Name,
+        /// How many reservations were released: those that came after it.
+        count: u32,
+    },
+}
+
+/// An open reservation, as SHOW JOURNAL shows it.
+#[derive(Debug, Drop)]
+pub struct JournalEntry {
+    /// Its id.
+    pub id: u64,
+    /// The session whose transaction holds it.
+    pub session: Session,
+    /// The row that it changes.
+    pub row: RowName,
+    /// The changes of the columns that its UPDATE assigned, in column order.
+    pub changes: Seq<ColumnChange>,
+}
+
+/// The change of a RESERVABLE column, which may be zero.
+#[derive(Clone, Copy, Debug)]
+pub struct ColumnChange {
+    /// The column's name.
+    pub column: Name,
+    /// What is added to its amount.
+    pub change: Amount,
 }
 
 /// The bounds of a RESERVABLE column of a row: O'Neil's `inf` and `sup` (1986).
@@ -119,8 +154,14 @@ impl Reply {
                 columns: copy_all(alloc, columns.as_slice())?,
                 checks: copy_all(alloc, checks.as_slice())?,
             },
+            Reply::Journal(entries) => Reply::Journal(copy_all(alloc, entries.as_slice())?),
+            Reply::Savepoint(name) => Reply::Savepoint(*name),
             Reply::Committed { count } => Reply::Committed { count: *count },
             Reply::RolledBack { count } => Reply::RolledBack { count: *count },
+            Reply::RolledBackTo { savepoint, count } => Reply::RolledBackTo {
+                savepoint: *savepoint,
+                count: *count,
+            },
         })
     }
 
@@ -157,8 +198,20 @@ impl Reply {
                     checks: y,
                 },
             ) => are_same(a.as_slice(), b.as_slice()) && are_same(x.as_slice(), y.as_slice()),
+            (Reply::Journal(a), Reply::Journal(b)) => are_same(a.as_slice(), b.as_slice()),
+            (Reply::Savepoint(a), Reply::Savepoint(b)) => *a == *b,
             (Reply::Committed { count: a }, Reply::Committed { count: b }) => *a == *b,
             (Reply::RolledBack { count: a }, Reply::RolledBack { count: b }) => *a == *b,
+            (
+                Reply::RolledBackTo {
+                    savepoint: a,
+                    count: x,
+                },
+                Reply::RolledBackTo {
+                    savepoint: b,
+                    count: y,
+                },
+            ) => *a == *b && *x == *y,
             _ => false,
         }
     }

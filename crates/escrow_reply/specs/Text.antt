@@ -13,6 +13,8 @@ use Rattle.escrow_num.specs.declared.value.Value.TheVariants as value
 use Rattle.escrow_sql.specs.Lex.{doubled}
 use Rattle.escrow_core.specs.declared.reply.CheckBounds.{CheckBounds}
 use Rattle.escrow_core.specs.declared.reply.ColumnBounds.{ColumnBounds}
+use Rattle.escrow_core.specs.declared.reply.ColumnChange.{ColumnChange}
+use Rattle.escrow_core.specs.declared.reply.JournalEntry.{JournalEntry}
 use Rattle.escrow_core.specs.declared.reply.Reply.{Reply}
 use Rattle.escrow_core.specs.declared.reply.Reply.TheVariants as reply
 
@@ -95,6 +97,22 @@ check_text b =
     codes "CHECK " ++ b.check ++ codes " least " ++ signed_decimal b.least ++ codes " greatest " ++ signed_decimal b.greatest
     ++ codes " low " ++ limit_text b.limits.lo ++ codes " high " ++ limit_text b.limits.hi
 
+-- OPEN RESERVATIONS
+
+-- a change, with its sign: a plus where it isn't negative
+abbrev pub signed_text : ℤ → List ℕ
+signed_text change = if is_neg change then signed_decimal change else codes "+" ++ signed_decimal change
+
+-- the change of a column
+abbrev pub change_text : ColumnChange → List ℕ
+change_text c = codes " " ++ c.column ++ codes " " ++ signed_text c.change
+
+-- an open reservation: its id, its session, its row, and the change of each column that it assigns
+unfoldable pub entry_text : JournalEntry → List ℕ
+entry_text e =
+    decimal e.id ++ codes " session " ++ decimal e.session ++ codes " " ++ e.row.table ++ codes " " ++ value_text e.row.key
+    ++ flat_map change_text e.changes
+
 -- REPLIES
 
 -- the words of a reply's last line
@@ -111,13 +129,17 @@ reply_text (reply.RolledBack count) = codes "OK rolled back " ++ decimal count
 reply_text (reply.Rows columns rows) = codes "OK rows " ++ decimal (length rows)
 reply_text (reply.Table text) = codes "OK table"
 reply_text (reply.Bounds columns checks) = codes "OK bounds"
+reply_text (reply.Journal entries) = codes "OK reservations " ++ decimal (length entries)
+reply_text (reply.Savepoint name) = codes "OK savepoint " ++ name
+reply_text (reply.RolledBackTo name count) = codes "OK rolled back to " ++ name ++ codes " " ++ decimal count
 
 -- the lines before the last one: the columns' names and each row, or a table's text, or the bounds of
--- each column and each check
+-- each column and each check, or each open reservation
 abbrev pub shown_lines : Reply → List (List ℕ)
 shown_lines (reply.Rows columns rows) = header_text columns ∷ map row_text rows
 shown_lines (reply.Table text) = text ∷ []
 shown_lines (reply.Bounds columns checks) = map column_text columns ++ map check_text checks
+shown_lines (reply.Journal entries) = map entry_text entries
 shown_lines _ = []
 
 -- the lines of a reply

@@ -1,6 +1,5 @@
-use crate::apply::apply_own;
+use crate::apply::apply_all;
 use crate::database::Database;
-use crate::reservations::{count_own, release, release_savepoints};
 use escrow_num::Session;
 
 impl Database {
@@ -15,11 +14,9 @@ impl Database {
         ensures count { result ≡ length (own session self.old.state.reservations) }
         ensures state { self.new.state ≡ after_commit self.old.state session }
     {
-        let count = count_own(&self.reservations, session);
-        apply_own(&mut self.rows, &self.reservations, session);
-        release(&mut self.reservations, session);
-        release_savepoints(&mut self.savepoints, session);
-        count as u32
+        let taken = self.open.take_all(session);
+        apply_all(&mut self.rows, taken.as_slice());
+        taken.len() as u32
     }
 
     /// ROLLBACK: drops the open reservations and the savepoints of a session. Answers how many
@@ -28,9 +25,6 @@ impl Database {
         ensures count { result ≡ length (own session self.old.state.reservations) }
         ensures state { self.new.state ≡ after_rollback self.old.state session }
     {
-        let count = count_own(&self.reservations, session);
-        release(&mut self.reservations, session);
-        release_savepoints(&mut self.savepoints, session);
-        count as u32
+        self.open.take_all(session).len() as u32
     }
 }

@@ -1,0 +1,29 @@
+use crate::database::Database;
+use crate::reply::Reply;
+use escrow_num::{Name, Session};
+
+impl Database {
+    ghost use Rattle.std.specs.Prelude.{◌≡◌};
+    ghost use Rattle.escrow_core.specs.Step.{StepOrRefusal};
+    ghost use Rattle.escrow_core.specs.Turn.{after_rollback_to, released};
+
+    /// SAVEPOINT: makes a savepoint of the session. An earlier one of its name is taken out.
+    pub(crate) fn savepoint(&mut self, session: Session, name: Name) -> Reply
+        ensures { StepOrRefusal self.old.state session (Statement.Savepoint name) result self.new.state }
+    {
+        match self.open.mark(session, name) {
+            Ok(()) => Reply::Savepoint(name),
+            Err(refusal) => Reply::Refused(refusal),
+        }
+    }
+
+    /// ROLLBACK TO: drops the open reservations of a session that came after its savepoint of a
+    /// name, and the savepoints that it made after it. Answers how many reservations there were, or
+    /// `None`, exactly where there is no such savepoint, and then nothing changes. Takes no memory.
+    pub fn rollback_to(&mut self, session: Session, name: Name) -> Option<u32>
+        ensures count { result ≡ released self.old.state session name }
+        ensures state { self.new.state ≡ after_rollback_to self.old.state session name }
+    {
+        self.open.cut(session, name)
+    }
+}
