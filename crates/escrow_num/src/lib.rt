@@ -7,6 +7,7 @@
 #![tactic(auto)]
 
 mod amount;
+mod changes;
 mod copied;
 mod name;
 mod refusal;
@@ -20,6 +21,7 @@ mod value;
 mod wide;
 
 pub use amount::Amount;
+pub use changes::Changes;
 pub use copied::{Copied, are_same, copy_all};
 pub use name::Name;
 pub use refusal::{Breach, Refusal};

@@ -1,6 +1,5 @@
-use crate::amount::Amount;
+use crate::changes::Changes;
 use crate::name::Name;
-use crate::seq::Seq;
 use crate::session::Session;
 use crate::value::RowName;
 use std::alloc::Global;
@@ -17,7 +16,7 @@ pub struct Reservation {
     pub row: RowName,
     /// The change of each RESERVABLE column of the table, in column order: `None` where the UPDATE
     /// doesn't assign the column, so that one that adds zero is told apart.
-    pub changes: Seq<Option<Amount>>,
+    pub changes: Changes,
 }
 
 impl Reservation {
@@ -32,7 +31,7 @@ impl MadeWith<Global> for Reservation {
             id: 1,
             session: Session::FIRST,
             row: RowName::made_with(alloc),
-            changes: Seq::new(alloc),
+            changes: Changes::new(alloc),
         }
     }
 }

@@ -1,8 +1,10 @@
 ghost use Rattle.std.specs.Prelude.{◌≡◌};
 
 use crate::{
-    Amount, Copied, Name, RowName, Seq, Session, Side, Span, Text, Value, Wide, are_same, copy_all,
+    Amount, Changes, Copied, Name, RowName, Seq, Session, Side, Span, Text, Value, Wide, are_same,
+    copy_all,
 };
+use std::alloc::Global;
 use std::process::Abort;
 use std::test::Fail;
 
@@ -83,6 +85,26 @@ fn tells_the_first_broken_side(rt: HostRuntime) {
     let open = Span { lo: None, hi: None };
     assert_eq!(rt; open.first_broken(below, above), None);
     assert!(rt; open.holds(below) && open.holds(above));
+}
+
+fn changes_of(alloc: Global, changes: &[Option<Amount>]) -> Result<Changes, Fail> {
+    let mut all = Changes::new(alloc);
+    for change in changes {
+        all.push(*change)?;
+    }
+    Ok(all)
+}
+
+#[test]
+fn keeps_changes_in_order(rt: HostRuntime) -> Result<(), Fail> {
+    let (fall, zero) = (Amount::new(-30), Some(Amount::ZERO));
+    let changes = [fall, None, zero, None, Amount::new(7)];
+    for len in [0, Changes::IN_PLACE, changes.len()] {
+        let kept = changes_of(rt.alloc(), &changes[..len])?;
+        assert_eq!(rt; kept.len(), len);
+        assert_eq!(rt; kept.as_slice(), &changes[..len]);
+    }
+    Ok(())
 }
 
 #[test]

@@ -12,7 +12,7 @@ use crate::key::check_key;
 use crate::literal::value_of;
 use crate::table::TableDef;
 use changes::{are_changes, changes_of};
-use escrow_num::{Amount, Refusal, Seq, Value};
+use escrow_num::{Changes, Refusal, Seq, Value};
 use escrow_sql::UpdateText;
 use std::alloc::{AllocError, Global};
 use values::{all_fit, are_replacements, new_values};
@@ -25,7 +25,7 @@ pub enum Plan {
         /// The row's key.
         key: Value,
         /// The change of each RESERVABLE column, in column order: `None` where it isn't assigned.
-        changes: Seq<Option<Amount>>,
+        changes: Changes,
     },
     /// To write its plain columns, which are those that are neither RESERVABLE nor the key.
     Plain {
@@ -82,7 +82,7 @@ fn make_plan(alloc: Global, table: &TableDef, text: &UpdateText) -> Result<Plan,
     let assigns = text.assigns.as_slice();
     let key = value_of(alloc, &text.row.literal)?;
     if are_changes(columns, assigns) {
-        let changes = Seq::from_vec(changes_of(alloc, columns, assigns)?);
+        let changes = changes_of(alloc, columns, assigns)?;
         Ok(Plan::Reserve { key, changes })
     } else {
         let values = Seq::from_vec(new_values(alloc, columns, table.key, assigns)?);

@@ -3,7 +3,7 @@ use crate::grant::breach_of;
 use crate::reply::Reply;
 use crate::reservations::count_own;
 use crate::rows::{find_row, replace_plain};
-use escrow_num::{Amount, Refusal, Reservation, RowName, Seq, Session, Value};
+use escrow_num::{Changes, Refusal, Reservation, RowName, Seq, Session, Value};
 use escrow_schema::{Plan, plan_update};
 use escrow_sql::{Statement, UpdateText};
 use std::alloc::Global;
@@ -47,7 +47,7 @@ impl Database {
         session: Session,
         text: &UpdateText,
         key: Value,
-        changes: Seq<Option<Amount>>,
+        changes: Changes,
     ) -> Reply
         requires { plan_of self.old.state text.now ≡ Some (Plan.Reserve key changes) }
         ensures { StepOrRefusal self.old.state session (Statement.Update text.now) result self.new.state }

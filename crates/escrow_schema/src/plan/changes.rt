@@ -5,7 +5,7 @@ ghost use Rattle.escrow_schema.specs.Plan.{are_changes, changes_of, is_change, i
 
 use super::assigned::{are_apart, change_to};
 use crate::column::Column;
-use escrow_num::{Amount, Name};
+use escrow_num::{Changes, Name};
 use escrow_sql::{Assign, Assigned};
 use std::alloc::{AllocError, Global};
 
@@ -54,12 +54,14 @@ pub(crate) fn changes_of(
     alloc: Global,
     columns: &[Column],
     assigns: &[Assign],
-) -> Result<Vec<Option<Amount>>, AllocError>
-    ensures { IfOk result (λ changes. changes.items ≡ changes_of columns.now assigns.now) }
+) -> Result<Changes, AllocError>
+    ensures { IfOk result (λ changes. changes ≡ changes_of columns.now assigns.now) }
 {
-    columns
-        .iter()
-        .filter(|column| column.reservable)
-        .map(|column| change_to(assigns, column.name))
-        .collect(alloc)
+    let mut changes = Changes::new(alloc);
+    for column in columns {
+        if column.reservable {
+            changes.push(change_to(assigns, column.name))?;
+        }
+    }
+    Ok(changes)
 }
