@@ -17,9 +17,13 @@ fn copies_statements(rt: HostRuntime) -> Result<(), Fail> {
         "SELECT * FROM T",
         "SELECT * FROM T WHERE A = 'a'",
         "SHOW TABLE T",
+        "SHOW JOURNAL",
+        "SHOW JOURNAL T",
         "SHOW BOUNDS T WHERE A = 'a'",
         "COMMIT",
         "ROLLBACK",
+        "ROLLBACK TO S",
+        "SAVEPOINT S",
     ] {
         let Request::Statement(statement) = parse(rt.alloc(), text)?;
         let copied = statement.copy(rt.alloc())?;
@@ -81,6 +85,13 @@ fn tells_statements_apart(rt: HostRuntime) -> Result<(), Fail> {
         ("SELECT * FROM T", "SELECT * FROM T WHERE A = 1"),
         ("SHOW BOUNDS T WHERE A = 1", "SHOW BOUNDS T WHERE B = 1"),
         ("SHOW BOUNDS T WHERE A = 1", "DELETE FROM T WHERE A = 1"),
+        ("SHOW JOURNAL", "SHOW JOURNAL T"),
+        ("SHOW JOURNAL T", "SHOW JOURNAL U"),
+        ("SHOW JOURNAL T", "SHOW TABLE T"),
+        ("ROLLBACK", "ROLLBACK TO S"),
+        ("ROLLBACK TO R", "ROLLBACK TO S"),
+        ("ROLLBACK TO S", "SAVEPOINT S"),
+        ("SAVEPOINT R", "SAVEPOINT S"),
     ] {
         let Request::Statement(a) = parse(rt.alloc(), text)?;
         let Request::Statement(b) = parse(rt.alloc(), other)?;

@@ -21,21 +21,58 @@ fn finds_first_fault(rt: HostRuntime) -> Result<(), Fail> {
             (" UPDATE ACCOUNT SET BALANCE = BALANCE -", 40),
             ("", 1),
             (" -- x", 6),
+            ("ALTER TABLE T ADD A INTEGER", 1),
+            ("DROP T", 6),
+            ("DROP TABLE 'T'", 12),
+            ("DROP TABLE T, U", 13),
+        ],
+    )
+}
+
+#[test]
+fn finds_first_fault_of_transactions(rt: HostRuntime) -> Result<(), Fail> {
+    assert_faults(
+        &rt,
+        &[
             ("COMMIT ?", 8),
             ("COMMIT WORK WORK", 13),
             ("COMMIT;;", 8),
             ("COMMIT; COMMIT", 9),
-            ("ALTER TABLE T ADD A INTEGER", 1),
-            ("SHOW TABLE", 11),
+            ("COMMIT TO A", 8),
+            ("COMMIT WORK TO A", 13),
+            ("ROLLBACK A", 10),
+            ("ROLLBACK SAVEPOINT A", 10),
+            ("ROLLBACK TO", 12),
+            ("ROLLBACK TO WORK A", 13),
+            ("ROLLBACK TO SAVEPOINT", 22),
+            ("ROLLBACK TO SAVEPOINT;", 22),
+            ("ROLLBACK TO SAVEPOINT TO", 23),
+            ("ROLLBACK TO 'A'", 13),
+            ("ROLLBACK TO A WORK", 15),
+            ("SAVEPOINT", 10),
+            ("SAVEPOINT TO", 11),
+            ("SAVEPOINT A B", 13),
+            ("SAVEPOINT 1", 11),
+        ],
+    )
+}
+
+#[test]
+fn finds_first_fault_of_shows(rt: HostRuntime) -> Result<(), Fail> {
+    assert_faults(
+        &rt,
+        &[
             ("SHOW", 5),
             ("SHOW INDEX", 6),
+            ("SHOW SAVEPOINT", 6),
+            ("SHOW STATISTICS", 6),
+            ("SHOW TABLE", 11),
+            ("SHOW JOURNAL 5", 14),
+            ("SHOW JOURNAL A B", 16),
+            ("SHOW JOURNAL TABLE A", 14),
             ("SHOW BOUNDS T", 14),
             ("SHOW BOUNDS WHERE ID = 1", 13),
             ("SHOW BOUNDS T WHERE ID < 1", 24),
-            ("SHOW STATISTICS", 6),
-            ("DROP T", 6),
-            ("DROP TABLE 'T'", 12),
-            ("DROP TABLE T, U", 13),
         ],
     )
 }
@@ -287,6 +324,25 @@ fn reads_show_table(rt: HostRuntime) -> Result<(), Fail> {
 }
 
 #[test]
+fn reads_show_journal(rt: HostRuntime) -> Result<(), Fail> {
+    for text in ["SHOW JOURNAL", "show journal;"] {
+        let shown = parse(rt.alloc(), text)?;
+        assert!(rt;
+            matches!(&shown, Request::Statement(Statement::ShowJournal(None))),
+            "in {text}"
+        );
+    }
+    for text in ["SHOW JOURNAL ACCOUNT", "show journal Account ;"] {
+        let shown = parse(rt.alloc(), text)?;
+        assert!(rt;
+            matches!(&shown, Request::Statement(Statement::ShowJournal(Some(table))) if table.as_bytes() == b"ACCOUNT".as_slice()),
+            "in {text}"
+        );
+    }
+    Ok(())
+}
+
+#[test]
 fn reads_show_bounds(rt: HostRuntime) -> Result<(), Fail> {
     let text = "show bounds t where id = 7;";
     let Request::Statement(Statement::ShowBounds(row)) = parse(rt.alloc(), text)? else {
@@ -301,9 +357,50 @@ fn reads_show_bounds(rt: HostRuntime) -> Result<(), Fail> {
 
 #[test]
 fn reads_ends(rt: HostRuntime) -> Result<(), Fail> {
-    let commit = parse(rt.alloc(), "commit work;")?;
-    assert!(rt; matches!(&commit, Request::Statement(Statement::Commit)));
-    let rollback = parse(rt.alloc(), "ROLLBACK -- all of it")?;
-    assert!(rt; matches!(&rollback, Request::Statement(Statement::Rollback)));
+    for text in ["COMMIT", "commit work;"] {
+        let commit = parse(rt.alloc(), text)?;
+        assert!(rt;
+            matches!(&commit, Request::Statement(Statement::Commit)),
+            "in {text}"
+        );
+    }
+    for text in ["ROLLBACK -- all of it", "rollback work;"] {
+        let rollback = parse(rt.alloc(), text)?;
+        assert!(rt;
+            matches!(&rollback, Request::Statement(Statement::Rollback)),
+            "in {text}"
+        );
+    }
+    Ok(())
+}
+
+#[test]
+fn reads_rollback_to(rt: HostRuntime) -> Result<(), Fail> {
+    for text in [
+        "ROLLBACK TO MIDDAY",
+        "ROLLBACK WORK TO MIDDAY",
+        "ROLLBACK TO SAVEPOINT MIDDAY",
+        "ROLLBACK WORK TO SAVEPOINT MIDDAY",
+        "rollback to midday;",
+        "Rollback Work To Savepoint Midday ;",
+    ] {
+        let back = parse(rt.alloc(), text)?;
+        assert!(rt;
+            matches!(&back, Request::Statement(Statement::RollbackTo(savepoint)) if savepoint.as_bytes() == b"MIDDAY".as_slice()),
+            "in {text}"
+        );
+    }
+    Ok(())
+}
+
+#[test]
+fn reads_savepoint(rt: HostRuntime) -> Result<(), Fail> {
+    for text in ["SAVEPOINT S$1", "savepoint s$1;"] {
+        let made = parse(rt.alloc(), text)?;
+        assert!(rt;
+            matches!(&made, Request::Statement(Statement::Savepoint(savepoint)) if savepoint.as_bytes() == b"S$1".as_slice()),
+            "in {text}"
+        );
+    }
     Ok(())
 }
