@@ -25,8 +25,9 @@ use Rattle.escrow_schema.specs.Plan.{planned}
 use Rattle.escrow_num.specs.declared.reservation.TheConstants.Reservation.{MAX_ID}
 use Rattle.escrow_schema.specs.declared.catalog.TheConstants.Catalog.{MAX_TABLES}
 use Rattle.escrow_core.specs.declared.database.TheConstants.Database.{MAX_ROWS}
-use Rattle.escrow_journal.specs.declared.journal.TheConstants.Journal.{MAX_RESERVATIONS}
-use Rattle.escrow_journal.specs.Reservations.{own}
+use Rattle.escrow_journal.specs.declared.journal.TheConstants.Journal.{MAX_RESERVATIONS, MAX_SAVEPOINTS}
+use Rattle.escrow_journal.specs.Reservations.{own, own_savepoints}
+use Rattle.escrow_journal.specs.Savepoints.{without_savepoint}
 use Rattle.escrow_core.specs.Serving.{IsAccepted}
 use Rattle.escrow_core.specs.State.{State, row_named, rows_of, is_open, is_reserved, is_table_reserved, changes_to}
 use Rattle.escrow_core.specs.Turn.{turn_of, update_refusals}
@@ -261,3 +262,12 @@ plain_stands s session text key values is accepted =
     let stands = passed no_row [] closed.others in
     let row = some_there (row_named s.rows name) (failed (is_none (row_named s.rows name)) refusal.NoSuchRow stands.first) in
     record { table = p.table; named = p.named; planned = same_plan s text (plan.Plain key values) p is; row = row.0; found = row.1 }
+
+-- a savepoint that is made has room
+pub savepoint_room : (s : State) (session : ℕ) (name : List ℕ) → IsAccepted s session (statement.Savepoint name)
+    → length (own_savepoints session (without_savepoint session name s.savepoints)) < MAX_SAVEPOINTS
+unfolding turn_of
+savepoint_room s session name accepted =
+    let others = length (own_savepoints session (without_savepoint session name s.savepoints)) in
+    let full = refuse_if (nat_le MAX_SAVEPOINTS others) refusal.TooManySavepoints in
+    below MAX_SAVEPOINTS others (failed (nat_le MAX_SAVEPOINTS others) refusal.TooManySavepoints (passed full [] accepted).first)

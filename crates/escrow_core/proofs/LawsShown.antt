@@ -136,6 +136,9 @@ queries_ignore_what_is_open s session other (statement.Update text) reservations
 queries_ignore_what_is_open s session other (statement.Delete text) reservations savepoints query = absurd query
 queries_ignore_what_is_open s session other (statement.Select text) reservations savepoints query = select_alike s session other text reservations savepoints
 queries_ignore_what_is_open s session other (statement.ShowTable name) reservations savepoints query = show_alike s session other name reservations savepoints
+queries_ignore_what_is_open s session other (statement.ShowJournal table) reservations savepoints query = absurd query
 queries_ignore_what_is_open s session other (statement.ShowBounds text) reservations savepoints query = absurd query
+queries_ignore_what_is_open s session other (statement.Savepoint name) reservations savepoints query = absurd query
 queries_ignore_what_is_open s session other statement.Commit reservations savepoints query = absurd query
 queries_ignore_what_is_open s session other statement.Rollback reservations savepoints query = absurd query
+queries_ignore_what_is_open s session other (statement.RollbackTo name) reservations savepoints query = absurd query

@@ -99,9 +99,12 @@ fails_for_nothing s session (statement.Update text) f e = absurd (cc)
 fails_for_nothing s session (statement.Delete text) f e = refl
 fails_for_nothing s session (statement.Select text) f e = absurd (cc)
 fails_for_nothing s session (statement.ShowTable name) f e = absurd (cc)
+fails_for_nothing s session (statement.ShowJournal table) f e = absurd (cc)
 fails_for_nothing s session (statement.ShowBounds text) f e = absurd (cc)
+fails_for_nothing s session (statement.Savepoint name) f e = absurd (cc)
 fails_for_nothing s session statement.Commit f e = refl
 fails_for_nothing s session statement.Rollback f e = refl
+fails_for_nothing s session (statement.RollbackTo name) f e = refl
 
 pub fails_for_memory_alone : (s : State) (session : ℕ) (asked : Statement) (answer : Reply) (new : State) (f : Failure)
     → StepOrRefusal s session asked answer new → failure_of answer ≡ Some f

@@ -23,9 +23,11 @@ pub mod Refusals
 pub mod Replacing
 pub mod Running
 pub mod Safe
+pub mod Savepoints
 pub mod Served
 pub mod Shapes
 pub mod SpreadLemmas
+pub mod TurnSavepoints
 pub mod TurnUpdate
 pub mod TurnWords
 pub mod Turns
@@ -36,4 +38,5 @@ pub mod ValidEmpty
 pub mod ValidEnds
 pub mod ValidInsert
 pub mod ValidPlain
+pub mod ValidSavepoint
 pub mod ValidUpdate

@@ -24,7 +24,7 @@ use Rattle.escrow_core.proofs.Refusals.{if_among, check_among}
 use Rattle.escrow_schema.proofs.PlanLemmas.{plans_of_whole_row, plain_plans_fit}
 use Rattle.escrow_core.proofs.ValidPlain.{plain_valid}
 use Rattle.escrow_core.proofs.ValidUpdate.{update_valid}
-use Rattle.escrow_core.proofs.TurnWords.{IsJudged, IsTurn, memory_alone, unseen}
+use Rattle.escrow_core.proofs.TurnWords.{IsJudged, NeedsMore, IsTurn, memory_alone, unseen}
 
 -- the turn of an UPDATE, by its plan
 abbrev update_by : State → ℕ → UpdateText → Option Plan → Turn
@@ -68,6 +68,7 @@ update_turn_by s session text None is accepts = record {
   answers = λ r e. absurd (cc);
   succeeds = refl;
   judged = (if_among IsJudged _ _ refl, (plan_among IsJudged s text refl refl refl, tt));
+  late = tt;
   memory = memory_alone;
   seen = λ accepted. absurd (no_plan s text [] is accepted);
   ids = λ _. le_refl _;
@@ -90,6 +91,16 @@ update_turn_by s session text (Some (plan.Reserve key changes)) is accepts = rec
       ),
     ),
   );
+  late = (
+    if_among (NeedsMore (statement.Update text)) _ _ refl,
+    (
+      if_among (NeedsMore (statement.Update text)) _ _ refl,
+      (
+        if_among (NeedsMore (statement.Update text)) _ _ refl,
+        (check_among (NeedsMore (statement.Update text)) (breach_of s (reservation_from s session (row_name text.table key) changes)) (λ _. refl), tt),
+      ),
+    ),
+  );
   memory = memory_alone;
   seen = λ _. unseen s session (statement.Update text) (reply.Reserved s.next_id) refl (λ e. absurd (cc));
   ids = λ _. more s.next_id;
@@ -103,6 +114,7 @@ update_turn_by s session text (Some (plan.Plain key values)) is accepts = record
     if_among IsJudged _ _ refl,
     (plan_among IsJudged s text refl refl refl, (if_among IsJudged _ _ refl, (if_among IsJudged _ _ refl, tt))),
   );
+  late = (if_among (NeedsMore (statement.Update text)) _ _ refl, (if_among (NeedsMore (statement.Update text)) _ _ refl, tt));
   memory = memory_alone;
   seen = λ _. record {
     dropped = λ name answered. absurd (cc);

@@ -12,6 +12,7 @@ use Rattle.escrow_core.specs.declared.reply.Reply.TheVariants as reply
 use Rattle.escrow_core.specs.declared.reply.Failure.{Failure}
 use Rattle.escrow_core.specs.declared.reply.Failure.TheVariants as failure
 use Rattle.escrow_core.specs.Laws.{IsSeen, tells_of_rows}
+use Rattle.escrow_core.specs.Promised.{is_plain_refusal}
 use Rattle.escrow_core.specs.Reply.{failure_of, failure_of_refusal}
 use Rattle.escrow_core.specs.State.{State}
 use Rattle.escrow_core.specs.Step.{refusals}
@@ -22,12 +23,18 @@ use Rattle.escrow_core.specs.Valid.{IsValid}
 abbrev pub IsJudged : Refusal → Type 0
 IsJudged r = failure_of_refusal r ≡ None
 
--- what laws need of a turn: its reply is no refusal, its refusals are no failures, it fails for memory
--- alone; and where it is accepted, what its next state keeps and changes
+-- a refusal of a statement needs memory or the store
+abbrev pub NeedsMore : Statement → Refusal → Type 0
+NeedsMore asked r = is_plain_refusal asked (reply.Refused r) ≡ false
+
+-- what laws need of a turn: its reply is no refusal, its refusals are no failures, what needs neither
+-- memory nor the store is refused early, it fails for memory alone; and where it is accepted, what its
+-- next state keeps and changes
 pub record IsTurn (s : State) (session : ℕ) (asked : Statement) (turn : Turn) : Type 0 where
   pub answers : (r : Refusal) → ¬ (turn.reply ≡ reply.Refused r)
   pub succeeds : failure_of turn.reply ≡ None
   pub judged : AllByRecursion (λ o. IfSome o IsJudged) (refusals turn)
+  pub late : AllByRecursion (λ o. IfSome o (NeedsMore asked)) turn.late
   pub memory : (f : Failure) → turn.fails_for f ≡ true → f ≡ failure.Memory
   pub seen : first_refusal (refusals turn) ≡ None → IsSeen s session asked turn.reply turn.next.rows
   pub ids : first_refusal (refusals turn) ≡ None → s.next_id ≤ turn.next.next_id

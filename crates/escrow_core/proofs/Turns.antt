@@ -1,8 +1,10 @@
 -- What each statement's turn is like, one lemma a statement: what the laws of steps rest on.
-use Rattle.std.specs.Prelude.{◌≡◌, ℕ, ◌<◌, bytes_eq, false, unwrap_or, option_map, option_and_then, Option, Some, None, List, [], length}
+use Rattle.std.specs.Prelude.{◌≡◌, ℕ, ◌<◌, bytes_eq, false, is_none, unwrap_or, option_map, option_and_then, IfSome, Option, Some, None, List, [], length}
 use Rattle.std.proofs.Common.{refl, sym, ap, subst, le_refl, ◌∙◌}
 use Rattle.escrow_num.specs.declared.refusal.Refusal.{Refusal}
+use Rattle.escrow_num.specs.declared.refusal.Refusal.TheVariants as refusal
 use Rattle.escrow_num.specs.declared.row.Row.{Row}
+use Rattle.escrow_num.specs.Refusal.{refuse_if}
 use Rattle.escrow_num.proofs.Items.{find_has}
 use Rattle.escrow_num.proofs.Orders.{name_same}
 use Rattle.escrow_sql.specs.declared.statement.Statement.{Statement}
@@ -18,6 +20,7 @@ use Rattle.escrow_core.specs.declared.reply.Reply.{Reply}
 use Rattle.escrow_core.specs.declared.reply.Reply.TheVariants as reply
 use Rattle.escrow_core.specs.Asked.{row_of, insert_breach, named_by, select_reply, show_reply}
 use Rattle.escrow_core.specs.Bounds.{bounds_in, bounds_reply}
+use Rattle.escrow_core.specs.Journal.{journal_reply}
 use Rattle.escrow_core.specs.Laws.{tells_of_rows}
 use Rattle.escrow_core.specs.Reply.{failure_of}
 use Rattle.escrow_core.specs.Serving.{IsAccepted}
@@ -33,7 +36,8 @@ use Rattle.escrow_core.proofs.ValidDelete.{delete_valid}
 use Rattle.escrow_core.proofs.ValidDrop.{drop_valid}
 use Rattle.escrow_core.proofs.ValidEnds.{commit_valid, rollback_valid}
 use Rattle.escrow_core.proofs.ValidInsert.{insert_valid}
-use Rattle.escrow_core.proofs.TurnWords.{IsJudged, IsTurn, memory_alone, unseen}
+use Rattle.escrow_core.proofs.TurnSavepoints.{savepoint_turn, back_turn}
+use Rattle.escrow_core.proofs.TurnWords.{IsJudged, NeedsMore, IsTurn, memory_alone, unseen}
 use Rattle.escrow_core.proofs.TurnUpdate.{update_turn}
 
 -- a table that is found has the name that was looked for
@@ -46,6 +50,7 @@ create_turn s session text = record {
   answers = λ r e. absurd (cc);
   succeeds = refl;
   judged = (if_among IsJudged _ _ refl, (if_among IsJudged _ _ refl, (if_among IsJudged _ _ refl, (if_among IsJudged _ _ refl, tt))));
+  late = (if_among (NeedsMore (statement.Create text)) _ _ refl, (if_among (NeedsMore (statement.Create text)) _ _ refl, tt));
   memory = memory_alone;
   seen = λ _. unseen s session (statement.Create text) (reply.Created text.table) refl (λ e. absurd (cc));
   ids = λ _. le_refl _;
@@ -61,6 +66,7 @@ drop_turn s session name = record {
   answers = λ r e. absurd (cc);
   succeeds = refl;
   judged = (if_among IsJudged _ _ refl, (if_among IsJudged _ _ refl, (if_among IsJudged _ _ refl, tt)));
+  late = tt;
   memory = λ f e. absurd (cc);
   seen = λ _. record {
     dropped = λ other answered. let same : name ≡ other = cc in ap (λ (n : List ℕ). without_rows_of n s.rows) same;
@@ -105,6 +111,13 @@ insert_turn s session text = record {
       ),
     ),
   );
+  late = (
+    if_among (NeedsMore (statement.Insert text)) _ _ refl,
+    (
+      if_among (NeedsMore (statement.Insert text)) _ _ refl,
+      (check_among (NeedsMore (statement.Insert text)) (insert_breach s text) (λ _. refl), tt),
+    ),
+  );
   memory = memory_alone;
   seen = λ accepted.
       let stands = insert_stands s session text accepted in
@@ -138,6 +151,7 @@ delete_turn s session text = record {
       (key_among IsJudged s text.table text.row refl refl, (if_among IsJudged _ _ refl, (if_among IsJudged _ _ refl, tt))),
     ),
   );
+  late = tt;
   memory = λ f e. absurd (cc);
   seen = λ _. record {
     dropped = λ name answered. absurd (cc);
@@ -192,6 +206,7 @@ select_turn s session text =
       answers = shows.0;
       succeeds = shows.1;
       judged = (if_among IsJudged _ _ refl, (select_among IsJudged s text refl refl, tt));
+      late = tt;
       memory = memory_alone;
       seen = λ _. unseen s session (statement.Select text) (select_reply s text) shows.2 (λ e. absurd (cc));
       ids = λ _. le_refl _;
@@ -207,6 +222,7 @@ show_turn s session name =
       answers = shows.0;
       succeeds = shows.1;
       judged = (if_among IsJudged _ _ refl, tt);
+      late = tt;
       memory = memory_alone;
       seen = λ _. unseen s session (statement.ShowTable name) (show_reply s name) shows.2 (λ e. absurd (cc));
       ids = λ _. le_refl _;
@@ -222,6 +238,7 @@ bounds_turn s session text =
       answers = shows.0;
       succeeds = shows.1;
       judged = (if_among IsJudged _ _ refl, (key_among IsJudged s text.table text.row refl refl, (if_among IsJudged _ _ refl, tt)));
+      late = tt;
       memory = memory_alone;
       seen = λ _. unseen s session (statement.ShowBounds text) (bounds_reply s text) shows.2 (λ e. absurd (cc));
       ids = λ _. le_refl _;
@@ -229,12 +246,32 @@ bounds_turn s session text =
       valid = λ _ valid _. valid;
     }
 
+-- the table that a SHOW JOURNAL names, if it names one
+journal_among : (s : State) (table : Option (List ℕ)) → IfSome (option_and_then (λ name. refuse_if (is_none (table_named s.catalog name)) refusal.NoSuchTable) table) IsJudged
+journal_among s None = tt
+journal_among s (Some name) = if_among IsJudged _ _ refl
+
+journal_turn : (s : State) (session : ℕ) (table : Option (List ℕ)) → IsTurn s session (statement.ShowJournal table) (turn_of s session (statement.ShowJournal table))
+unfolding turn_of
+journal_turn s session table = record {
+  answers = λ r e. absurd (cc);
+  succeeds = refl;
+  judged = (journal_among s table, tt);
+  late = tt;
+  memory = memory_alone;
+  seen = λ _. unseen s session (statement.ShowJournal table) (journal_reply s table) refl (λ e. absurd (cc));
+  ids = λ _. le_refl _;
+  next = λ _ id e. absurd (cc);
+  valid = λ _ valid _. valid;
+}
+
 commit_turn : (s : State) (session : ℕ) → IsTurn s session statement.Commit (turn_of s session statement.Commit)
 unfolding turn_of
 commit_turn s session = record {
   answers = λ r e. absurd (cc);
   succeeds = refl;
   judged = tt;
+  late = tt;
   memory = λ f e. absurd (cc);
   seen = λ _. record {
     dropped = λ name e. absurd (cc);
@@ -255,6 +292,7 @@ rollback_turn s session = record {
   answers = λ r e. absurd (cc);
   succeeds = refl;
   judged = tt;
+  late = tt;
   memory = λ f e. absurd (cc);
   seen = λ _. unseen s session statement.Rollback (reply.RolledBack (length (own session s.reservations))) refl (λ e. absurd (cc));
   ids = λ _. le_refl _;
@@ -271,6 +309,9 @@ is_turn s session (statement.Update text) = update_turn s session text
 is_turn s session (statement.Delete text) = delete_turn s session text
 is_turn s session (statement.Select text) = select_turn s session text
 is_turn s session (statement.ShowTable name) = show_turn s session name
+is_turn s session (statement.ShowJournal table) = journal_turn s session table
 is_turn s session (statement.ShowBounds text) = bounds_turn s session text
+is_turn s session (statement.Savepoint name) = savepoint_turn s session name
 is_turn s session statement.Commit = commit_turn s session
 is_turn s session statement.Rollback = rollback_turn s session
+is_turn s session (statement.RollbackTo name) = back_turn s session name

@@ -1,6 +1,6 @@
--- COMMIT and ROLLBACK: a session's reservations, and then a choice of the others, are together a choice
--- of the open ones; a choice of what stays open is a choice of what was open.
-use Rattle.std.specs.Prelude.{◌≡◌, ℕ, Bool, ◌==◌, not, List, ◌≤◌, map, bytes_eq, Option, option_map, IsSome}
+-- COMMIT, ROLLBACK and ROLLBACK TO: a session's reservations, and then a choice of the others, are together
+-- a choice of the open ones; a choice of what stays open is a choice of what was open.
+use Rattle.std.specs.Prelude.{◌≡◌, ℕ, Bool, ◌==◌, not, List, ◌≤◌, length, map, filter, bytes_eq, Option, Some, None, option_map, unwrap_or, IsSome}
 use Rattle.std.specs.List.{AllByRecursion}
 use Rattle.std.proofs.Common.{le_trans, sym, ◌∙◌, subst, refl}
 use Rattle.escrow_num.specs.declared.reservation.Savepoint.{Savepoint}
@@ -12,51 +12,91 @@ use Rattle.escrow_schema.specs.Catalog.{table_named}
 use Rattle.escrow_schema.specs.Fit.{IsRowOf}
 use Rattle.escrow_checks.proofs.FormLemmas.{length-all_changed}
 use Rattle.escrow_core.specs.declared.database.TheConstants.Database.{MAX_ROWS}
-use Rattle.escrow_journal.specs.Reservations.{own, others, other_savepoints, reservation_before, savepoint_before}
+use Rattle.escrow_num.specs.Ascending.{IsAscending}
+use Rattle.escrow_journal.specs.declared.journal.TheConstants.Journal.{MAX_SAVEPOINTS}
+use Rattle.escrow_journal.specs.Reservations.{own, others, own_savepoints, other_savepoints, reservation_before, savepoint_before}
+use Rattle.escrow_journal.specs.Savepoints.{savepoint_of, through, is_after}
 use Rattle.escrow_core.specs.State.{State, row_named, changes_to, row_after, applied}
-use Rattle.escrow_core.specs.Turn.{after_commit, after_rollback}
-use Rattle.escrow_core.specs.Valid.{IsValid, IsOrderly, IsReservationIn, IsSavepointIn, HasTable, HasRow, MeetsChecks, row_before}
+use Rattle.escrow_core.specs.Turn.{after_commit, after_rollback, returned_to, after_rollback_to}
+use Rattle.escrow_core.specs.Valid.{IsValid, IsOrderly, AreSafeRows, IsReservationIn, IsSavepointIn, HasTable, HasRow, MeetsChecks, row_before}
 use Rattle.escrow_num.proofs.Items.{Has, all_has, has_all, has_filter, has_map, all_filter}
 use Rattle.escrow_core.proofs.Choices.{IsChoice, all_choices, choices_all, choice_filter, map_all}
 use Rattle.escrow_core.proofs.Changes.{IsMerged, merge_choice}
 use Rattle.escrow_num.proofs.Ascending.{ascending_filter, ascending_map}
 use Rattle.escrow_core.proofs.Lengths.{length-filter_filter, length-filter_map, find_map}
+use Rattle.escrow_core.proofs.Savepoints.{has_through, through_ascending, length-filter_through}
 use Rattle.escrow_core.proofs.Safe.{some_weaker, some_image, safe_row, safe_rows}
 
--- what is in order stays so where a session's transaction is over
+-- what is in order stays so where only the reservations that pass a test are kept, and savepoints stay in order
+kept_orderly : (catalog : List TableDef) (reservations : List Reservation) (savepoints left : List Savepoint) (next_id : ℕ) (keep : Reservation → Bool)
+    → IsOrderly catalog reservations savepoints next_id
+    → AllByRecursion (IsSavepointIn next_id) left → IsAscending savepoint_before left → ((session : ℕ) → length (own_savepoints session left) ≤ MAX_SAVEPOINTS)
+    → IsOrderly catalog (filter keep reservations) left next_id
+kept_orderly catalog reservations savepoints left next_id keep orderly left_in order few = record {
+  tables = orderly.tables;
+  reservations_in = all_filter (IsReservationIn catalog next_id) keep reservations orderly.reservations_in;
+  reservation_order = ascending_filter reservation_before keep reservations orderly.reservation_order;
+  few_reservations = λ k. le_trans (length-filter_filter (λ r. r.session == k) keep reservations) (orderly.few_reservations k);
+  savepoints_in = left_in;
+  savepoint_order = order;
+  few_savepoints = few;
+  first_id = orderly.first_id;
+  last_id = orderly.last_id;
+}
+
+-- so it is where a session's transaction is over
 ended_orderly : (catalog : List TableDef) (reservations : List Reservation) (savepoints : List Savepoint) (next_id session : ℕ)
     → IsOrderly catalog reservations savepoints next_id
     → IsOrderly catalog (others session reservations) (other_savepoints session savepoints) next_id
 ended_orderly catalog reservations savepoints next_id session orderly =
-    let other : Reservation → Bool = λ r. not (r.session == session) in
-    let other_savepoint : Savepoint → Bool = λ p. not (p.session == session) in
+    let other : Savepoint → Bool = λ p. not (p.session == session) in
+    kept_orderly catalog reservations savepoints (other_savepoints session savepoints) next_id (λ r. not (r.session == session)) orderly
+    (all_filter (IsSavepointIn next_id) other savepoints orderly.savepoints_in)
+    (ascending_filter savepoint_before other savepoints orderly.savepoint_order)
+    (λ k. le_trans (length-filter_filter (λ p. p.session == k) other savepoints) (orderly.few_savepoints k))
+
+-- and the rows are safe whatever is dropped
+kept_safe : (s : State) (keep : Reservation → Bool) → IsValid s → AreSafeRows s.catalog s.rows (filter keep s.reservations)
+kept_safe s keep valid =
+    let Safe : List Reservation → Type 0 = λ c. AllByRecursion (MeetsChecks s.catalog) (applied s.rows c) in
     record {
-      tables = orderly.tables;
-      reservations_in = all_filter (IsReservationIn catalog next_id) other reservations orderly.reservations_in;
-      reservation_order = ascending_filter reservation_before other reservations orderly.reservation_order;
-      few_reservations = λ k. le_trans (length-filter_filter (λ r. r.session == k) other reservations) (orderly.few_reservations k);
-      savepoints_in = all_filter (IsSavepointIn next_id) other_savepoint savepoints orderly.savepoints_in;
-      savepoint_order = ascending_filter savepoint_before other_savepoint savepoints orderly.savepoint_order;
-      few_savepoints = λ k. le_trans (length-filter_filter (λ p. p.session == k) other_savepoint savepoints) (orderly.few_savepoints k);
-      first_id = orderly.first_id;
-      last_id = orderly.last_id;
+      tables = valid.safe_rows.tables;
+      row_order = valid.safe_rows.row_order;
+      few_rows = valid.safe_rows.few_rows;
+      reserved_rows = all_filter (HasRow s.rows) keep s.reservations valid.safe_rows.reserved_rows;
+      safe = choices_all Safe (filter keep s.reservations) (λ c h. all_choices Safe s.reservations valid.safe_rows.safe c (choice_filter keep s.reservations c h));
     }
 
 -- ROLLBACK keeps a valid state valid
 pub rollback_valid : (s : State) (session : ℕ) → IsValid s → IsValid (after_rollback s session)
-rollback_valid s session valid =
-    let other : Reservation → Bool = λ r. not (r.session == session) in
-    let Safe : List Reservation → Type 0 = λ c. AllByRecursion (MeetsChecks s.catalog) (applied s.rows c) in
+rollback_valid s session valid = record {
+  orderly = ended_orderly s.catalog s.reservations s.savepoints s.next_id session valid.orderly;
+  safe_rows = kept_safe s (λ r. not (r.session == session)) valid;
+}
+
+-- ROLLBACK TO too
+returned_valid : (s : State) (p : Savepoint) → IsValid s → IsValid (returned_to s p)
+returned_valid s p valid =
+    let In : Savepoint → Type 0 = IsSavepointIn s.next_id in
+    let left : List Savepoint = through p.session p.name s.savepoints in
     record {
-      orderly = ended_orderly s.catalog s.reservations s.savepoints s.next_id session valid.orderly;
-      safe_rows = record {
-        tables = valid.safe_rows.tables;
-        row_order = valid.safe_rows.row_order;
-        few_rows = valid.safe_rows.few_rows;
-        reserved_rows = all_filter (HasRow s.rows) other s.reservations valid.safe_rows.reserved_rows;
-        safe = choices_all Safe (others session s.reservations) (λ c h. all_choices Safe s.reservations valid.safe_rows.safe c (choice_filter other s.reservations c h));
-      };
+      orderly = kept_orderly s.catalog s.reservations s.savepoints left s.next_id (λ r. not (is_after p r)) valid.orderly
+          (has_all In left (λ q h. all_has In s.savepoints valid.orderly.savepoints_in q (has_through p.session p.name s.savepoints q h)))
+          (through_ascending p.session p.name s.savepoints valid.orderly.savepoint_order)
+          (λ k. le_trans (length-filter_through (λ (q : Savepoint). q.session == k) p.session p.name s.savepoints) (valid.orderly.few_savepoints k));
+      safe_rows = kept_safe s (λ r. not (is_after p r)) valid;
     }
+
+-- what holds of a state and of it returned to each savepoint holds after a ROLLBACK TO
+returned_has : (P : State → Type 0) (s : State) (o : Option Savepoint) → P s → ((p : Savepoint) → P (returned_to s p)) → P (unwrap_or (option_map (returned_to s) o) s)
+returned_has P s None same returned = same
+returned_has P s (Some p) same returned = returned p
+
+pub back_has : (P : State → Type 0) (s : State) (session : ℕ) (name : List ℕ) → P s → ((p : Savepoint) → P (returned_to s p)) → P (after_rollback_to s session name)
+back_has P s session name same returned = returned_has P s (savepoint_of session name s.savepoints) same returned
+
+pub back_valid : (s : State) (session : ℕ) (name : List ℕ) → IsValid s → IsValid (after_rollback_to s session name)
+back_valid s session name valid = back_has IsValid s session name valid (λ p. returned_valid s p valid)
 
 -- a row with changes added is one of the same table
 still_row_of : (table : TableDef) (row : Row) (chosen : List Reservation) → IsRowOf table row → IsRowOf table (row_after chosen row)
