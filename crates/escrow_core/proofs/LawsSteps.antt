@@ -90,7 +90,7 @@ fails s session asked f e =
     let turn = turn_of s session asked in
     (and_parts (is_none (first_refusal turn.early)) (turn.fails_for f) e).1
 
-fails_for_nothing : (s : State) (session : ℕ) (asked : Statement) (f : Failure) → takes_nothing asked ≡ true → (turn_of s session asked).fails_for f ≡ false
+pub fails_for_nothing : (s : State) (session : ℕ) (asked : Statement) (f : Failure) → takes_nothing asked ≡ true → (turn_of s session asked).fails_for f ≡ false
 unfolding turn_of
 fails_for_nothing s session (statement.Create text) f e = absurd (cc)
 fails_for_nothing s session (statement.Drop name) f e = refl

@@ -17,6 +17,7 @@ pub mod LawsSteps
 pub mod Lengths
 pub mod Planned
 pub mod Plans
+pub mod Promised
 pub mod Put
 pub mod Queries
 pub mod Refusals

@@ -1,7 +1,8 @@
--- SELECT, SHOW TABLE and SHOW BOUNDS: how a call that served one meets the machine's step.
-use Rattle.std.specs.Prelude.{◌≡◌, ℕ, Option, Some, None, unwrap_or, option_map, List, []}
-use Rattle.std.proofs.Common.{refl, subst}
+-- SELECT, SHOW TABLE, SHOW JOURNAL and SHOW BOUNDS: how a call that served one meets the machine's step.
+use Rattle.std.specs.Prelude.{◌≡◌, ℕ, Bool, false, is_none, IsSome, IfSome, Option, Some, None, unwrap_or, option_map, List, [], ◌∷◌}
+use Rattle.std.proofs.Common.{refl, ap, subst}
 use Rattle.escrow_num.specs.declared.refusal.Refusal.TheVariants as refusal
+use Rattle.escrow_num.specs.Refusal.{refuse_if, first_refusal}
 use Rattle.escrow_sql.specs.declared.statement.RowText.{RowText}
 use Rattle.escrow_sql.specs.declared.statement.SelectText.{SelectText}
 use Rattle.escrow_sql.specs.declared.statement.Statement.TheVariants as statement
@@ -11,6 +12,7 @@ use Rattle.escrow_schema.specs.Print.{canonical}
 use Rattle.escrow_core.specs.declared.reply.Reply.TheVariants as reply
 use Rattle.escrow_core.specs.Asked.{select_reply}
 use Rattle.escrow_core.specs.Bounds.{bounds_reply}
+use Rattle.escrow_core.specs.Journal.{journal_reply}
 use Rattle.escrow_core.specs.Serving.{IsAccepted}
 use Rattle.escrow_core.specs.State.{State}
 use Rattle.escrow_core.specs.Step.{StepOrRefusal}
@@ -48,3 +50,30 @@ pub show_wants : (s : State) (session : ℕ) (name : List ℕ) (table : TableDef
     → StepOrRefusal s session (statement.ShowTable name) (reply.Refused refusal.Memory) s
 unfolding turn_of
 show_wants s session name table named = memory_serves s session (statement.ShowTable name) (show_accepted s session name table named) refl
+
+-- SHOW JOURNAL of a table that isn't there; of one that is, or of all
+pub journal_refuses : (s : State) (session : ℕ) (name : List ℕ) → table_named s.catalog name ≡ None
+    → StepOrRefusal s session (statement.ShowJournal (Some name)) (reply.Refused refusal.NoSuchTable) s
+unfolding turn_of
+journal_refuses s session name unknown = rule_serves s session (statement.ShowJournal (Some name)) refusal.NoSuchTable (rw unknown refl)
+
+pub journal_accepted : (s : State) (session : ℕ) (table : Option (List ℕ)) → IfSome table (λ name. IsSome (table_named s.catalog name))
+    → IsAccepted s session (statement.ShowJournal table)
+unfolding turn_of
+journal_accepted s session None known = refl
+journal_accepted s session (Some name) known =
+    ap (λ (b : Bool). first_refusal (refuse_if b refusal.NoSuchTable ∷ [])) (there (table_named s.catalog name) known)
+  where
+    there : (o : Option TableDef) → IsSome o → is_none o ≡ false
+    there None h = absurd (cc)
+    there (Some table) h = refl
+
+pub journal_serves : (s : State) (session : ℕ) (table : Option (List ℕ)) → IfSome table (λ name. IsSome (table_named s.catalog name))
+    → StepOrRefusal s session (statement.ShowJournal table) (journal_reply s table) s
+unfolding turn_of
+journal_serves s session table known = accepted_serves s session (statement.ShowJournal table) (journal_accepted s session table known)
+
+pub journal_wants : (s : State) (session : ℕ) (table : Option (List ℕ)) → IfSome table (λ name. IsSome (table_named s.catalog name))
+    → StepOrRefusal s session (statement.ShowJournal table) (reply.Refused refusal.Memory) s
+unfolding turn_of
+journal_wants s session table known = memory_serves s session (statement.ShowJournal table) (journal_accepted s session table known) refl

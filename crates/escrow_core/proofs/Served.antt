@@ -1,10 +1,11 @@
 -- How a call that served a statement meets the machine's step.
-use Rattle.std.specs.Prelude.{◌≡◌, ℕ, true, is_none, option_map, unwrap_or, MatchOption, IsTrue, Option, Some, None, List, length}
-use Rattle.std.proofs.Common.{inl, inr, refl, sym, ap, subst}
+use Rattle.std.specs.Prelude.{◌≡◌, ◌⊎◌, ℕ, true, is_none, nat_le, option_map, unwrap_or, MatchOption, IsTrue, IfSome, Option, Some, None, List, [], ◌∷◌, length}
+use Rattle.std.proofs.Common.{inl, inr, refl, sym, ap, ◌∙◌, subst}
 use Rattle.std.proofs.lemmas.Bool.{and_from}
 use Rattle.escrow_num.specs.declared.refusal.Refusal.{Refusal}
 use Rattle.escrow_num.specs.declared.refusal.Refusal.TheVariants as refusal
-use Rattle.escrow_num.specs.Refusal.{first_refusal}
+use Rattle.escrow_num.specs.declared.reservation.Savepoint.{Savepoint}
+use Rattle.escrow_num.specs.Refusal.{refuse_if, first_refusal}
 use Rattle.escrow_num.specs.declared.row.Row.{Row}
 use Rattle.escrow_sql.specs.declared.statement.Statement.{Statement}
 use Rattle.escrow_sql.specs.declared.statement.Statement.TheVariants as statement
@@ -22,10 +23,12 @@ use Rattle.escrow_core.specs.declared.reply.Failure.{Failure}
 use Rattle.escrow_core.specs.declared.reply.Failure.TheVariants as failure
 use Rattle.escrow_core.specs.Reply.{failure_of}
 use Rattle.escrow_core.specs.Serving.{IsAccepted, IsRefusal}
-use Rattle.escrow_journal.specs.Reservations.{own}
+use Rattle.escrow_journal.specs.declared.journal.TheConstants.Journal.{MAX_SAVEPOINTS}
+use Rattle.escrow_journal.specs.Reservations.{own, own_savepoints}
+use Rattle.escrow_journal.specs.Savepoints.{savepoint_of, without_savepoint, after}
 use Rattle.escrow_core.specs.State.{State, with_row}
 use Rattle.escrow_core.specs.Step.{refusals, step, may_fail, IsStep, StepOrRefusal}
-use Rattle.escrow_core.specs.Turn.{turn_of, update_reply, after_update, after_drop, after_delete, after_commit, after_rollback}
+use Rattle.escrow_core.specs.Turn.{turn_of, update_reply, after_update, after_drop, after_delete, after_commit, after_rollback, after_savepoint, returned_to, after_rollback_to, released}
 use Rattle.escrow_core.specs.Asked.{row_of, plan_of}
 use Rattle.escrow_core.proofs.Refusals.{none_in_front, first_among}
 use Rattle.escrow_core.proofs.TurnWords.{IsJudged}
@@ -125,3 +128,62 @@ commit_serves s session = accepted_serves s session statement.Commit refl
 pub rollback_serves : (s : State) (session : ℕ) → StepOrRefusal s session statement.Rollback (reply.RolledBack (length (own session s.reservations))) (after_rollback s session)
 unfolding turn_of
 rollback_serves s session = accepted_serves s session statement.Rollback refl
+
+-- SAVEPOINT: made, or refused for the reason that there is, or for memory where there is none
+pub savepoint_serves : (s : State) (session : ℕ) (name : List ℕ) → IsAccepted s session (statement.Savepoint name)
+    → StepOrRefusal s session (statement.Savepoint name) (reply.Savepoint name) (after_savepoint s session name)
+unfolding turn_of
+savepoint_serves s session name accepted = accepted_serves s session (statement.Savepoint name) accepted
+
+-- why a session gets no savepoint of a name
+abbrev pub savepoint_full : State → ℕ → List ℕ → Option Refusal
+savepoint_full s session name = refuse_if (nat_le MAX_SAVEPOINTS (length (own_savepoints session (without_savepoint session name s.savepoints)))) refusal.TooManySavepoints
+
+savepoint_refused : (s : State) (session : ℕ) (name : List ℕ) (r : Refusal) → savepoint_full s session name ≡ Some r
+    → StepOrRefusal s session (statement.Savepoint name) (reply.Refused r) s
+unfolding turn_of
+savepoint_refused s session name r full =
+    rule_serves s session (statement.Savepoint name) r (ap (λ (o : Option Refusal). first_refusal (o ∷ [])) full)
+
+savepoint_wants : (s : State) (session : ℕ) (name : List ℕ) → savepoint_full s session name ≡ None
+    → StepOrRefusal s session (statement.Savepoint name) (reply.Refused refusal.Memory) s
+unfolding turn_of
+savepoint_wants s session name room =
+    memory_serves s session (statement.Savepoint name) (ap (λ (o : Option Refusal). first_refusal (o ∷ [])) room) refl
+
+refused_by : (s : State) (session : ℕ) (name : List ℕ) (r : Refusal) (o : Option Refusal) → savepoint_full s session name ≡ o
+    → IfSome o (λ e. e ≡ r) → (o ≡ Some r) ⊎ (r ≡ refusal.Memory) → StepOrRefusal s session (statement.Savepoint name) (reply.Refused r) s
+refused_by s session name r None is first only = elim only [
+  | inl e ↦ absurd (cc)
+  | inr e ↦ subst (λ (q : Refusal). StepOrRefusal s session (statement.Savepoint name) (reply.Refused q) s) (sym e) (savepoint_wants s session name is)
+]
+refused_by s session name r (Some e) is first only = savepoint_refused s session name r (is ∙ ap Some first)
+
+pub savepoint_refuses : (s : State) (session : ℕ) (name : List ℕ) (r : Refusal) → IfSome (savepoint_full s session name) (λ e. e ≡ r)
+    → (savepoint_full s session name ≡ Some r) ⊎ (r ≡ refusal.Memory) → StepOrRefusal s session (statement.Savepoint name) (reply.Refused r) s
+savepoint_refuses s session name r first only = refused_by s session name r (savepoint_full s session name) refl first only
+
+-- ROLLBACK TO, by how many reservations came after the savepoint, if there is one
+back_at : (s : State) (session : ℕ) (name : List ℕ) (o : Option Savepoint) (count : ℕ) → savepoint_of session name s.savepoints ≡ o
+    → option_map (λ p. length (after p s.reservations)) o ≡ Some count → IsAccepted s session (statement.RollbackTo name)
+unfolding turn_of
+back_at s session name None count is e = absurd (cc)
+back_at s session name (Some p) count is e = rw is refl
+
+pub back_serves : (s : State) (session : ℕ) (name : List ℕ) (count : ℕ) → released s session name ≡ Some count
+    → StepOrRefusal s session (statement.RollbackTo name) (reply.RolledBackTo name count) (after_rollback_to s session name)
+unfolding turn_of
+back_serves s session name count e =
+    subst (λ (o : Option ℕ). StepOrRefusal s session (statement.RollbackTo name) (reply.RolledBackTo name (unwrap_or o 0)) (after_rollback_to s session name))
+    e (accepted_serves s session (statement.RollbackTo name) (back_at s session name (savepoint_of session name s.savepoints) count refl e))
+
+back_none : (s : State) (session : ℕ) (name : List ℕ) (o : Option Savepoint) → savepoint_of session name s.savepoints ≡ o
+    → option_map (λ p. length (after p s.reservations)) o ≡ None
+    → StepOrRefusal s session (statement.RollbackTo name) (reply.Refused refusal.NoSuchSavepoint) (unwrap_or (option_map (returned_to s) o) s)
+unfolding turn_of
+back_none s session name None is e = rule_serves s session (statement.RollbackTo name) refusal.NoSuchSavepoint (rw is refl)
+back_none s session name (Some p) is e = absurd (cc)
+
+pub back_refuses : (s : State) (session : ℕ) (name : List ℕ) → released s session name ≡ None
+    → StepOrRefusal s session (statement.RollbackTo name) (reply.Refused refusal.NoSuchSavepoint) (after_rollback_to s session name)
+back_refuses s session name e = back_none s session name (savepoint_of session name s.savepoints) refl e
