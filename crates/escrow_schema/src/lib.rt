@@ -33,7 +33,7 @@ pub use literal::is_value;
 pub use plan::{Plan, plan_update};
 pub use print::print_table;
 pub use row::values_of;
-pub use rules::names_of;
+pub use rules::{names_of, reservable_names};
 pub use table::TableDef;
 
 #[cfg(test)]

@@ -10,7 +10,7 @@ mod words;
 
 use crate::column::{Column, ColumnType};
 use crate::print::words::{push, push_form, push_limits, push_named, push_number};
-use crate::rules::{names_of, reservables};
+use crate::rules::reservable_names;
 use crate::table::TableDef;
 use escrow_checks::Check;
 use escrow_num::{Name, Text};
@@ -34,19 +34,11 @@ fn push_table(alloc: Global, text: &mut String, table: &TableDef) -> Result<(), 
     requires { IsTable table.now }
     ensures { OnOk result (string_bytes text.new ≡ string_bytes text.old ++ canonical table.now) }
 {
-    let names = reservable_names(alloc, table)?;
+    let names = reservable_names(alloc, table.columns.as_slice())?;
     push_named(text, "CREATE TABLE ", &table.name)?;
     push(text, " (")?;
     push_items(alloc, text, table, names.as_slice())?;
     push(text, ")")
-}
-
-/// The names of the RESERVABLE columns of a table, in column order.
-fn reservable_names(alloc: Global, table: &TableDef) -> Result<Vec<Name>, AllocError>
-    ensures { IfOk result (λ names. names.items ≡ names_of (reservables table.now.columns)) }
-{
-    let reservable = reservables(alloc, table.columns.as_slice())?;
-    names_of(alloc, reservable.as_slice())
 }
 
 /// Adds the columns, and behind them the declared checks, which are over the columns of these names.

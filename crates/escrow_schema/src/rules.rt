@@ -102,12 +102,22 @@ pub(crate) fn reservables(alloc: Global, columns: &[Column]) -> Result<Vec<Colum
         .collect(alloc)
 }
 
-/// The names of columns, in order, such as those of a table or its RESERVABLE ones. Fails where
-/// memory is refused.
+/// The names of columns, in order. Want of memory is the only error.
 pub fn names_of(alloc: Global, columns: &[Column]) -> Result<Vec<Name>, AllocError>
     ensures { IfOk result (λ names. names.items ≡ names_of columns.now) }
 {
     columns.iter().map(|column| column.name).collect(alloc)
+}
+
+/// The names of the RESERVABLE ones of columns, in order. Want of memory is the only error.
+pub fn reservable_names(alloc: Global, columns: &[Column]) -> Result<Vec<Name>, AllocError>
+    ensures { IfOk result (λ names. names.items ≡ names_of (reservables columns.now)) }
+{
+    columns
+        .iter()
+        .filter(|column| column.reservable)
+        .map(|column| column.name)
+        .collect(alloc)
 }
 
 /// The names of checks, in order.
