@@ -1,4 +1,4 @@
-use crate::lists::{count_others, drop_named, first_from, place_of};
+use crate::lists::{count_others, first_from, make_room, place_of};
 use escrow_num::{Name, Refusal, Reservation, Savepoint, Session};
 use smallvec::SmallVec;
 use std::alloc::Global;
@@ -7,7 +7,7 @@ use std::mem;
 
 /// The journal of a session: its open reservations in order of grant, and its savepoints in order
 /// of making. The first four of each stand in place; only more take memory.
-#[derive(Drop)]
+#[derive(Debug, Drop)]
 pub struct Journal {
     session: Session,
     reservations: SmallVec<Reservation, 4>,
@@ -26,10 +26,11 @@ impl Model for Journal {
 }
 
 impl Journal {
-    ghost use Rattle.std.specs.Prelude.{◌≡◌, ◌⊎◌, IsTrue, IfErr, IsErrOf, OnOk, OnErr, Err, false, length, option_copied, option_map};
+    ghost use Rattle.std.specs.Prelude.{◌≡◌, ◌⊎◌, IsTrue, IfErr, IsOk, IsSome, IsErrOf, OnOk, OnErr, Err, length, option_copied, option_map};
     ghost use Rattle.std.specs.List.{AllByRecursion};
     ghost use Rattle.escrow_journal.specs.Log.{IsLog, empty_log, is_full, is_full_beside, pushed, marked, later, cut_log};
     ghost use Rattle.escrow_journal.specs.Reservations.{reservation_before};
+    ghost use Rattle.escrow_journal.specs.Savepoints.{savepoint_of};
 
     /// The most open reservations of a session.
     pub const MAX_RESERVATIONS: usize = 256;
@@ -81,34 +82,36 @@ impl Journal {
         ensures refused { IsTrue (is_full self.old) → result ≡ Err Refusal.TooManyReservations }
         ensures only { IfErr result (λ e. (e ≡ Refusal.TooManyReservations) ⊎ (e ≡ Refusal.Memory)) }
         ensures room { IsErrOf result Refusal.TooManyReservations → IsTrue (is_full self.old) }
+        ensures valid { IsLog self.new }
     {
         if self.reservations.len() >= Self::MAX_RESERVATIONS {
             return Err(Refusal::TooManyReservations);
         }
-        match self.reservations.push(r) {
-            Ok(()) => Ok(()),
-            Err(_) => Err(Refusal::Memory),
+        if self.reservations.push(r).is_err() {
+            return Err(Refusal::Memory);
         }
+        Ok(())
     }
 
     /// Makes a savepoint of a name, with the id that the next reservation takes. An earlier one of
-    /// that name is taken out (Oracle's rule), and doesn't count. Refused exactly where
-    /// [`Journal::MAX_SAVEPOINTS`] of other names stand; memory is only taken, and wanted, where they
-    /// don't. Where it is refused the journal stays.
+    /// that name is taken out (Oracle's rule), doesn't count, and leaves its place: memory is only
+    /// taken, and wanted, where none of that name stands. Refused for their number exactly where
+    /// [`Journal::MAX_SAVEPOINTS`] of other names stand. Where it is refused the journal stays.
     pub fn mark(&mut self, name: Name, id: u64) -> Result<(), Refusal>
         ensures marked { OnOk result (self.new ≡ marked name id self.old) }
         ensures unchanged { OnErr result (self.new ≡ self.old) }
         ensures refused { IsTrue (is_full_beside name self.old) → result ≡ Err Refusal.TooManySavepoints }
         ensures only { IfErr result (λ e. (e ≡ Refusal.TooManySavepoints) ⊎ (e ≡ Refusal.Memory)) }
         ensures room { IsErrOf result Refusal.TooManySavepoints → IsTrue (is_full_beside name self.old) }
+        ensures again { IsSome (savepoint_of self.old.session name self.old.savepoints) → IsOk result }
+        ensures valid { IsLog self.new }
     {
-        if count_others(self.savepoints(), name) >= Self::MAX_SAVEPOINTS {
+        if count_others(&self.savepoints, name) >= Self::MAX_SAVEPOINTS {
             return Err(Refusal::TooManySavepoints);
         }
-        if self.savepoints.reserve(1).is_err() {
+        if make_room(&mut self.savepoints, name).is_err() {
             return Err(Refusal::Memory);
         }
-        drop_named(&mut self.savepoints, name);
         self.savepoints.push_reserved(Savepoint {
             session: self.session,
             name,
@@ -122,9 +125,10 @@ impl Journal {
     pub fn after(&self, name: Name) -> Option<&[Reservation]>
         ensures { option_copied result ≡ later name self.now }
     {
-        let place = place_of(self.savepoints(), name)?;
-        let first = first_from(self.all(), self.savepoints()[place].id);
-        Some(&self.all()[first..])
+        let place = place_of(&self.savepoints, name)?;
+        let savepoint = self.savepoints[place];
+        let first = first_from(&self.reservations, savepoint.id);
+        Some(&self.reservations[first..])
     }
 
     /// Goes back to the savepoint of a name: takes out just the reservations after it, and the
@@ -134,9 +138,11 @@ impl Journal {
     pub fn cut(&mut self, name: Name) -> Option<u32>
         ensures count { result ≡ option_map length (later name self.old) }
         ensures cut { self.new ≡ cut_log name self.old }
+        ensures valid { IsLog self.new }
     {
-        let place = place_of(self.savepoints(), name)?;
-        let first = first_from(self.all(), self.savepoints()[place].id);
+        let place = place_of(&self.savepoints, name)?;
+        let savepoint = self.savepoints[place];
+        let first = first_from(&self.reservations, savepoint.id);
         let count = self.reservations.len() - first;
         self.reservations.truncate(first);
         self.savepoints.truncate(place + 1);
@@ -148,6 +154,7 @@ impl Journal {
     pub fn take_all(&mut self) -> SmallVec<Reservation, 4>
         ensures all { result.items ≡ self.old.reservations }
         ensures none { self.new ≡ empty_log self.old.session }
+        ensures valid { IsLog self.new }
     {
         let blank = SmallVec::new(*self.reservations.allocator());
         self.savepoints.clear();

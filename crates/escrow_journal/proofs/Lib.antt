@@ -1,0 +1,6 @@
+pub mod Cutting
+pub mod Filters
+pub mod Kept
+pub mod Named
+pub mod Ordered
+pub mod Outcomes
