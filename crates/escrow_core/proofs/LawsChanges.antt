@@ -1,20 +1,20 @@
 -- What DROP TABLE, DELETE and an UPDATE of plain values change, and that no reservation loses its row.
-use Rattle.std.specs.Prelude.{◌≡◌, ℕ, ℤ, Bool, false, not, unwrap_or, option_map, Option, Some, None, List, [], ◌∷◌, length, filter, find, bytes_eq, IsSome, IsSomeAnd, Ok}
+use Rattle.std.specs.Prelude.{◌≡◌, ℕ, ℤ, Bool, false, not, unwrap_or, option_map, Option, Some, None, List, [], ◌∷◌, length, filter, bytes_eq, IsSome, IsSomeAnd, Ok}
 use Rattle.std.proofs.Common.{refl, sym, ap, ap₂, subst, ◌∙◌}
-use Rattle.std.proofs.lemmas.Bool.{cond_both, cond-false, not-true, false_from_ne_true}
+use Rattle.std.proofs.lemmas.Bool.{not-true, false_from_ne_true}
 use Rattle.escrow_num.specs.declared.reservation.Reservation.{Reservation}
 use Rattle.escrow_num.specs.declared.row.Row.{Row}
 use Rattle.escrow_num.specs.declared.value.RowName.{RowName}
 use Rattle.escrow_num.specs.declared.value.Value.{Value}
 use Rattle.escrow_num.specs.Order.{same_row}
-use Rattle.escrow_num.proofs.Items.{all_has, has_all, find_has}
+use Rattle.escrow_num.proofs.Items.{Has, all_has, has_all, has_filter, find_has}
 use Rattle.escrow_num.proofs.Orders.{name_same, row_same}
 use Rattle.escrow_sql.specs.declared.statement.Statement.TheVariants as statement
 use Rattle.escrow_sql.specs.declared.statement.UpdateText.{UpdateText}
 use Rattle.escrow_schema.specs.declared.plan.Plan.{Plan}
 use Rattle.escrow_schema.specs.declared.plan.Plan.TheVariants as plan
 use Rattle.escrow_schema.specs.declared.table.TableDef.{TableDef}
-use Rattle.escrow_schema.specs.Catalog.{table_named}
+use Rattle.escrow_schema.specs.Catalog.{table_named, without_table}
 use Rattle.escrow_schema.specs.Column.{reservables}
 use Rattle.escrow_schema.specs.Plan.{planned}
 use Rattle.escrow_schema.proofs.PlanLemmas.{keys_of_plans}
@@ -28,27 +28,16 @@ use Rattle.escrow_core.specs.Step.{step}
 use Rattle.escrow_core.specs.Turn.{turn_of, after_drop, update_reply, after_update}
 use Rattle.escrow_core.specs.Valid.{IsReservationIn, HasRow}
 use Rattle.escrow_core.proofs.Accepted.{delete_stands, update_plan}
+use Rattle.escrow_core.proofs.Filters.{filter_within, filter_none, none_found}
 use Rattle.escrow_core.proofs.Kept.{find_filter}
-use Rattle.escrow_core.proofs.LawsEnds.{filter_within}
 use Rattle.escrow_core.proofs.LawsSteps.{step_has, step_keeps_valid}
 use Rattle.escrow_core.proofs.Lengths.{find_map}
 use Rattle.escrow_core.proofs.ValidDrop.{other_table}
 use Rattle.escrow_core.proofs.ValidPlain.{values_both, same_test}
 
--- of what fails a test nothing passes it
-none_pass : {A : Type 0} (p : A → Bool) (xs : List A) → filter p (filter (λ x. not (p x)) xs) ≡ []
-none_pass p [] = refl
-none_pass {A} p (x ∷ xs) =
-    let rest = none_pass p xs in
-    cond_both (not (p x)) (x ∷ filter (λ y. not (p y)) xs) (filter (λ y. not (p y)) xs) (λ zs. filter p zs ≡ [])
-    (λ t. cond-false (p x) (x ∷ filter p (filter (λ y. not (p y)) xs)) (filter p (filter (λ y. not (p y)) xs)) (not-true (p x) t) ∙ rest) (λ _. rest)
-
-none_found : {A : Type 0} (p : A → Bool) (xs : List A) → find p (filter (λ x. not (p x)) xs) ≡ None
-none_found p [] = refl
-none_found {A} p (x ∷ xs) =
-    let rest = none_found p xs in
-    cond_both (not (p x)) (x ∷ filter (λ y. not (p y)) xs) (filter (λ y. not (p y)) xs) (λ zs. find p zs ≡ None)
-    (λ t. cond-false (p x) (Some x) (find p (filter (λ y. not (p y)) xs)) (not-true (p x) t) ∙ rest) (λ _. rest)
+-- what is kept by failing a test fails it
+kept_fails : {A : Type 0} (p : A → Bool) (xs : List A) (x : A) → Has (filter (λ y. not (p y)) xs) x → p x ≡ false
+kept_fails p xs x h = not-true (p x) (has_filter (λ y. not (p y)) xs x h).1
 
 -- DROP TABLE
 other_rows : (rows : List Row) (name other : List ℕ) → bytes_eq other name ≡ false → rows_of (without_rows_of name rows) other ≡ rows_of rows other
@@ -69,8 +58,8 @@ Dropped s name new =
 dropped : (s : State) (name : List ℕ) → Dropped s name (after_drop s name)
 dropped s name = (
   refl,
-  none_found (λ (t : TableDef). bytes_eq t.name name) s.catalog,
-  none_pass (λ (r : Row). bytes_eq r.name.table name) s.rows,
+  none_found (λ (t : TableDef). bytes_eq t.name name) (without_table name s.catalog) (kept_fails (λ (t : TableDef). bytes_eq t.name name) s.catalog),
+  filter_none (λ (r : Row). bytes_eq r.name.table name) (without_rows_of name s.rows) (kept_fails (λ (r : Row). bytes_eq r.name.table name) s.rows),
   λ other differ. (other_table s.catalog name other (names_differ other name differ), other_rows s.rows name other (names_differ other name differ)),
 )
 
@@ -94,7 +83,7 @@ deleted : (s : State) (name : RowName) → IsSome (row_named s.rows name) → De
 deleted s name stands = (
   refl,
   stands,
-  none_found (λ (r : Row). same_row r.name name) s.rows,
+  none_found (λ (r : Row). same_row r.name name) (without_row name s.rows) (kept_fails (λ (r : Row). same_row r.name name) s.rows),
   λ other differ. find_filter (λ (r : Row). same_row r.name other) (λ (r : Row). not (same_row r.name name)) s.rows
       (λ r same. ap not (ap (λ (n : RowName). same_row n name) (row_same r.name other same) ∙ rows_differ other name differ)),
 )

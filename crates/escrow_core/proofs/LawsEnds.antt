@@ -1,7 +1,7 @@
 -- The ends of transactions: they commute, and keep a valid state valid in any order.
-use Rattle.std.specs.Prelude.{◌≡◌, ℕ, ℤ, ◌==◌, Bool, true, false, cond, not, List, [], ◌∷◌, map, filter, take}
+use Rattle.std.specs.Prelude.{◌≡◌, ℕ, ℤ, ◌==◌, not, List, [], ◌∷◌, map, take}
 use Rattle.std.proofs.Common.{refl, sym, ap, ap₂, ◌∙◌}
-use Rattle.std.proofs.lemmas.Bool.{cond_both, cond-false, false_from_ne_true, eqb-true}
+use Rattle.std.proofs.lemmas.Bool.{false_from_ne_true, eqb-true}
 use Rattle.escrow_num.specs.declared.reservation.Savepoint.{Savepoint}
 use Rattle.escrow_num.specs.declared.reservation.Reservation.{Reservation}
 use Rattle.escrow_num.specs.declared.row.Row.{Row}
@@ -14,36 +14,8 @@ use Rattle.escrow_core.specs.State.{State, changes_to, applied}
 use Rattle.escrow_core.specs.Turn.{turn_of}
 use Rattle.escrow_core.specs.Valid.{IsValid}
 use Rattle.escrow_core.proofs.Changes.{all_changed_later}
+use Rattle.escrow_core.proofs.Filters.{filters_commute, filter_within}
 use Rattle.escrow_core.proofs.ValidEnds.{commit_valid, rollback_valid}
-
--- two tests keep the same items in either order
-filter_kept : {A : Type 0} (p : A → Bool) (b : Bool) (x : A) (xs : List A)
-    → filter p (cond b (x ∷ xs) xs) ≡ cond b (cond (p x) (x ∷ filter p xs) (filter p xs)) (filter p xs)
-filter_kept p true x xs = refl
-filter_kept p false x xs = refl
-
-cond_swap : {A : Type 0} (a b : Bool) (x y : A) → cond a (cond b x y) y ≡ cond b (cond a x y) y
-cond_swap true true x y = refl
-cond_swap true false x y = refl
-cond_swap false true x y = refl
-cond_swap false false x y = refl
-
-filters_commute : {A : Type 0} (p q : A → Bool) (xs : List A) → filter p (filter q xs) ≡ filter q (filter p xs)
-filters_commute p q [] = refl
-filters_commute {A} p q (x ∷ xs) =
-    filter_kept p (q x) x (filter q xs)
-    ∙ cond_swap (q x) (p x) (x ∷ filter p (filter q xs)) (filter p (filter q xs))
-    ∙ ap (λ (zs : List A). cond (p x) (cond (q x) (x ∷ zs) zs) zs) (filters_commute p q xs)
-    ∙ sym (filter_kept q (p x) x (filter p xs))
-
--- a test that asks more keeps what it keeps of the whole list
-pub filter_within : {A : Type 0} (p q : A → Bool) (xs : List A) → ((x : A) → p x ≡ true → q x ≡ true) → filter p (filter q xs) ≡ filter p xs
-filter_within p q [] within = refl
-filter_within {A} p q (x ∷ xs) within =
-    let rest = filter_within p q xs within in
-    cond_both (q x) (x ∷ filter q xs) (filter q xs) (λ zs. filter p zs ≡ filter p (x ∷ xs))
-    (λ _. ap (λ (zs : List A). cond (p x) (x ∷ zs) zs) rest)
-    (λ f. rest ∙ sym (cond-false (p x) (x ∷ filter p xs) (filter p xs) (false_from_ne_true (p x) (λ t. let yes = within x t in absurd (cc)))))
 
 -- a session's own stay when another's go
 own_stay : (a b : ℕ) (reservations : List Reservation) → ¬ (a ≡ b) → own b (others a reservations) ≡ own b reservations

@@ -86,13 +86,13 @@ row_is_named : (s : State) (r : Reservation) (row : Row) → row_named s.rows r.
 row_is_named s r row found = (find_has (λ (x : Row). same_row x.name r.row) s.rows row found).1
 
 -- what is granted has no refusal, and its plan is to reserve changes
-granted_none : (s : State) (session : ℕ) (text : UpdateText) (id : ℕ) → (step s session (statement.Update text)).0 ≡ reply.Reserved id
+pub granted_none : (s : State) (session : ℕ) (text : UpdateText) (id : ℕ) → (step s session (statement.Update text)).0 ≡ reply.Reserved id
     → IsAccepted s session (statement.Update text) × ((turn_of s session (statement.Update text)).reply ≡ reply.Reserved id)
 granted_none s session text id =
     step_has (λ (p : Reply × State). p.0 ≡ reply.Reserved id → IsAccepted s session (statement.Update text) × ((turn_of s session (statement.Update text)).reply ≡ reply.Reserved id))
     s session (statement.Update text) (λ _ _ e. absurd (cc)) (λ accepted e. (accepted, e))
 
-abbrev IsReserve : Option Plan → Type 0
+abbrev pub IsReserve : Option Plan → Type 0
 IsReserve o = (key : Value) × (changes : List (Option ℤ)) × (o ≡ Some (plan.Reserve key changes))
 
 reserve_of_reply : (s : State) (id : ℕ) (o : Option Plan) → unwrap_or (option_map (update_reply s) o) reply.Updated ≡ reply.Reserved id → IsReserve o
@@ -100,7 +100,7 @@ reserve_of_reply s id None e = absurd (cc)
 reserve_of_reply s id (Some (plan.Reserve key changes)) e = (key, changes, refl)
 reserve_of_reply s id (Some (plan.Plain key values)) e = absurd (cc)
 
-granted_plan : (s : State) (session : ℕ) (text : UpdateText) (id : ℕ) → (turn_of s session (statement.Update text)).reply ≡ reply.Reserved id → IsReserve (plan_of s text)
+pub granted_plan : (s : State) (session : ℕ) (text : UpdateText) (id : ℕ) → (turn_of s session (statement.Update text)).reply ≡ reply.Reserved id → IsReserve (plan_of s text)
 unfolding turn_of
 granted_plan s session text id e = reserve_of_reply s id (plan_of s text) e
 

@@ -1,5 +1,6 @@
--- What SELECT and SHOW TABLE show.
-use Rattle.std.specs.Prelude.{◌≡◌, ◌↔◌, ℕ, Bool, true, is_none, unwrap_or, option_map, Option, Some, None, List, [], ◌∷◌, map, filter, bytes_eq, Contains}
+-- What SELECT, SHOW TABLE and SHOW JOURNAL show.
+use Rattle.std.specs.Prelude.{◌≡◌, ◌↔◌, ℕ, Bool, true, is_none, unwrap_or, option_map, Option, Some, None, List, [], ◌∷◌, map, filter, bytes_eq, Contains, IsTrue}
+use Rattle.std.specs.List.{AllByRecursion}
 use Rattle.std.proofs.Common.{refl, sym, ap, subst, ◌∙◌}
 use Rattle.std.proofs.lemmas.List.Elements.{All-from_recursion}
 use Rattle.escrow_num.specs.declared.refusal.Refusal.{Refusal}
@@ -9,6 +10,7 @@ use Rattle.escrow_num.specs.declared.reservation.Savepoint.{Savepoint}
 use Rattle.escrow_num.specs.declared.row.Row.{Row}
 use Rattle.escrow_num.specs.declared.value.RowName.{RowName}
 use Rattle.escrow_num.specs.declared.value.Value.{Value}
+use Rattle.escrow_num.specs.Ascending.{IsAscending}
 use Rattle.escrow_num.specs.Order.{same_row}
 use Rattle.escrow_num.specs.Refusal.{refuse_if, first_refusal}
 use Rattle.escrow_num.proofs.Ascending.{ascending_filter}
@@ -22,10 +24,13 @@ use Rattle.escrow_schema.specs.Catalog.{table_named}
 use Rattle.escrow_schema.specs.Column.{names_of, value_of}
 use Rattle.escrow_schema.specs.Fit.{values_of}
 use Rattle.escrow_schema.specs.Print.{canonical}
+use Rattle.escrow_journal.specs.Reservations.{reservation_before}
+use Rattle.escrow_core.specs.declared.reply.JournalEntry.{JournalEntry}
 use Rattle.escrow_core.specs.declared.reply.Reply.{Reply}
 use Rattle.escrow_core.specs.declared.reply.Reply.TheVariants as reply
 use Rattle.escrow_core.specs.Asked.{is_shown, named_by, row_name, select_reply, select_refusal_of, show_reply}
-use Rattle.escrow_core.specs.Laws.{SelectsShowRows, ShowsTheTable, QueriesIgnoreWhatIsOpen, IsSelected, IsKeyed}
+use Rattle.escrow_core.specs.Journal.{entry_of, of_table, journal_reply}
+use Rattle.escrow_core.specs.Laws.{SelectsShowRows, ShowsTheTable, ShowsTheJournal, IsJournal, IsOfTable, entry_before, QueriesIgnoreWhatIsOpen, IsSelected, IsKeyed}
 use Rattle.escrow_core.specs.State.{State}
 use Rattle.escrow_core.specs.Step.{step}
 use Rattle.escrow_core.specs.Turn.{turn_of}
@@ -105,6 +110,52 @@ shows_the_table s session name shown =
     subst (λ (o : Option TableDef). unwrap_or (option_map (λ (t : TableDef). reply.Table (canonical t)) o) (reply.Table []) ≡ reply.Table shown) table.1 e in
     let same : canonical table.0 ≡ shown = cc in
     ((table.0, table.1, sym same), refl))
+
+-- SHOW JOURNAL
+of_table_is : (table : Option (List ℕ)) (reservations : List Reservation) (r : Reservation)
+    → Contains (of_table table reservations) r ↔ (Contains reservations r × IsOfTable table r)
+of_table_is None reservations r = (λ h. (h, tt), λ h. h.0)
+of_table_is (Some table) reservations r =
+    let p : Reservation → Bool = λ x. bytes_eq x.row.table table in (
+      λ h.
+          let was = has_filter p reservations r (contains_has (filter p reservations) r h) in
+          (has_contains reservations r was.0, name_same r.row.table table was.1),
+      λ h. has_contains (filter p reservations) r
+          (filter_has p reservations r (contains_has reservations r h.0) (subst (λ (n : List ℕ). bytes_eq r.row.table n ≡ true) h.1 (same_name r.row.table))),
+    )
+
+of_table_ascending : (table : Option (List ℕ)) (reservations : List Reservation)
+    → IsAscending reservation_before reservations → IsAscending reservation_before (of_table table reservations)
+of_table_ascending None reservations order = order
+of_table_ascending (Some table) reservations order = ascending_filter reservation_before (λ r. bytes_eq r.row.table table) reservations order
+
+-- entries are in the order of their reservations
+entries_after : (catalog : List TableDef) (r : Reservation) (rest : List Reservation) → AllByRecursion (λ x. IsTrue (reservation_before r x)) rest
+    → AllByRecursion (λ e. IsTrue (entry_before (entry_of catalog r) e)) (map (entry_of catalog) rest)
+entries_after catalog r [] after = tt
+entries_after catalog r (x ∷ rest) after = (after.0, entries_after catalog r rest after.1)
+
+entries_ascending : (catalog : List TableDef) (reservations : List Reservation)
+    → IsAscending reservation_before reservations → IsAscending entry_before (map (entry_of catalog) reservations)
+entries_ascending catalog [] order = tt
+entries_ascending catalog (r ∷ rest) order = (entries_after catalog r rest order.0, entries_ascending catalog rest order.1)
+
+journal_in : (s : State) (table : Option (List ℕ)) (entries : List JournalEntry) → journal_reply s table ≡ reply.Journal entries → IsJournal s table entries
+journal_in s table entries e =
+    let same : map (entry_of s.catalog) (of_table table s.reservations) ≡ entries = cc in
+    record {
+      reservations = of_table table s.reservations;
+      shown = sym same;
+      each = of_table_is table s.reservations;
+      order = λ valid. subst (IsAscending entry_before) same
+          (entries_ascending s.catalog (of_table table s.reservations) (of_table_ascending table s.reservations valid.orderly.reservation_order));
+    }
+
+pub shows_the_journal : ShowsTheJournal
+unfolding turn_of
+shows_the_journal s session table entries =
+    step_has (λ (p : Reply × State). p.0 ≡ reply.Journal entries → IsJournal s table entries × (p.1 ≡ s)) s session (statement.ShowJournal table)
+    (λ _ _ e. absurd (cc)) (λ _ e. (journal_in s table entries e, refl))
 
 -- the reply alone
 reply_part : (s new : State) (o : Option Refusal) (done : Reply)

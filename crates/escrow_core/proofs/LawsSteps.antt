@@ -48,7 +48,7 @@ step_keeps_valid s session asked valid of_session =
     step_has (λ (p : Reply × State). IsValid p.1) s session asked (λ _ _. valid) (λ accepted. (is_turn s session asked).valid accepted valid of_session)
 
 -- and so does a step or a failure
-event_keeps_valid : (s : State) (session : ℕ) (asked : Statement) (answer : Reply) (new : State) (o : Option Failure) → IsValid s → IsSession session
+pub event_keeps_valid : (s : State) (session : ℕ) (asked : Statement) (answer : Reply) (new : State) (o : Option Failure) → IsValid s → IsSession session
     → MatchOption o (IsStep s session asked answer new) (λ f. IsTrue (may_fail s session asked f) × (new ≡ s)) → IsValid new
 event_keeps_valid s session asked answer new None valid of_session h =
     subst IsValid (sym (ap (λ (p : Reply × State). p.1) h.is_step)) (step_keeps_valid s session asked valid of_session)

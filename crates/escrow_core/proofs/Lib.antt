@@ -4,14 +4,17 @@ pub mod BoundsLemmas
 pub mod Changes
 pub mod Choices
 pub mod Creating
+pub mod Filters
 pub mod Granted
 pub mod Kept
+pub mod LawsBack
 pub mod LawsBounds
 pub mod LawsChanges
 pub mod LawsDecide
 pub mod LawsEnds
 pub mod LawsGrants
 pub mod LawsRows
+pub mod LawsSavepoints
 pub mod LawsShown
 pub mod LawsSteps
 pub mod Lengths
@@ -24,6 +27,7 @@ pub mod Refusals
 pub mod Replacing
 pub mod Running
 pub mod Safe
+pub mod SavepointNames
 pub mod Savepoints
 pub mod Served
 pub mod Shapes

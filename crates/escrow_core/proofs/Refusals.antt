@@ -1,5 +1,5 @@
 -- Lists of refusals: where none applies each test failed, and what holds of each holds of the first that applies.
-use Rattle.std.specs.Prelude.{◌≡◌, ℕ, ◌<◌, ◌≤◌, Bool, true, false, nat_le, nat_lt, is_some, is_none, option_map, IfSome, Option, Some, None, List, [], ◌∷◌, ◌++◌}
+use Rattle.std.specs.Prelude.{◌≡◌, ℕ, ◌<◌, ◌≤◌, Bool, true, false, nat_le, nat_lt, is_some, is_none, option_map, IfSome, Option, Some, None, Result, Ok, Err, List, [], ◌∷◌, ◌++◌}
 use Rattle.std.specs.List.{AllByRecursion}
 use Rattle.std.proofs.Common.{refl, subst, arith}
 use Rattle.std.proofs.lemmas.Bool.Decides.{nat_tests}
@@ -71,3 +71,8 @@ pub passed_over : (o : Option Refusal) (refusals : List (Option Refusal)) (r : R
     → first_refusal (o ∷ refusals) ≡ Some r → first_refusal refusals ≡ Some r
 passed_over None refusals r differs first = first
 passed_over (Some other) refusals r differs first = absurd (differs (cc))
+
+-- where a call that is refused for each reason isn't refused, there is no reason
+pub no_reason : {T : Type 0} (o : Option Refusal) (result : Result T Refusal) (x : T) → result ≡ Ok x → IfSome o (λ r. result ≡ Err r) → o ≡ None
+no_reason None result x is h = refl
+no_reason (Some r) result x is h = absurd (cc)

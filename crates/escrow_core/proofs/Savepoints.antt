@@ -51,16 +51,16 @@ before_made a b e =
     (not_from_false (bytes_eq a.name b.name) e.named))
 
 -- in order sessions never fall
-sessions_rise : (a b : Savepoint) → IsTrue (savepoint_before a b) → a.session ≤ b.session
+pub sessions_rise : (a b : Savepoint) → IsTrue (savepoint_before a b) → a.session ≤ b.session
 sessions_rise a b before = elim (before_parts a b before) [ inl lower ↦ omega arith | inr e ↦ let same : a.session ≡ b.session = e.session in omega arith ]
 
 -- ONE MORE
 
 -- a savepoint is put in front of the first of a later session
-abbrev session_before : Savepoint → Savepoint → Bool
+abbrev pub session_before : Savepoint → Savepoint → Bool
 session_before a b = nat_lt a.session b.session
 
-put_is : (p : Savepoint) (savepoints : List Savepoint) → put_savepoint p savepoints ≡ put session_before p savepoints
+pub put_is : (p : Savepoint) (savepoints : List Savepoint) → put_savepoint p savepoints ≡ put session_before p savepoints
 put_is p [] = refl
 put_is p (q ∷ rest) = ap (λ zs. cond (nat_lt p.session q.session) (p ∷ q ∷ rest) (q ∷ zs)) (put_is p rest)
 

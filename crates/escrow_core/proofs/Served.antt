@@ -129,15 +129,19 @@ pub rollback_serves : (s : State) (session : ℕ) → StepOrRefusal s session st
 unfolding turn_of
 rollback_serves s session = accepted_serves s session statement.Rollback refl
 
--- SAVEPOINT: made, or refused for the reason that there is, or for memory where there is none
-pub savepoint_serves : (s : State) (session : ℕ) (name : List ℕ) → IsAccepted s session (statement.Savepoint name)
-    → StepOrRefusal s session (statement.Savepoint name) (reply.Savepoint name) (after_savepoint s session name)
-unfolding turn_of
-savepoint_serves s session name accepted = accepted_serves s session (statement.Savepoint name) accepted
-
 -- why a session gets no savepoint of a name
 abbrev pub savepoint_full : State → ℕ → List ℕ → Option Refusal
 savepoint_full s session name = refuse_if (nat_le MAX_SAVEPOINTS (length (own_savepoints session (without_savepoint session name s.savepoints)))) refusal.TooManySavepoints
+
+savepoint_accepted : (s : State) (session : ℕ) (name : List ℕ) → savepoint_full s session name ≡ None → IsAccepted s session (statement.Savepoint name)
+unfolding turn_of
+savepoint_accepted s session name room = ap (λ (o : Option Refusal). first_refusal (o ∷ [])) room
+
+-- SAVEPOINT: made where there is no reason against it, else refused for the reason, or out of memory
+pub savepoint_serves : (s : State) (session : ℕ) (name : List ℕ) → savepoint_full s session name ≡ None
+    → StepOrRefusal s session (statement.Savepoint name) (reply.Savepoint name) (after_savepoint s session name)
+unfolding turn_of
+savepoint_serves s session name room = accepted_serves s session (statement.Savepoint name) (savepoint_accepted s session name room)
 
 savepoint_refused : (s : State) (session : ℕ) (name : List ℕ) (r : Refusal) → savepoint_full s session name ≡ Some r
     → StepOrRefusal s session (statement.Savepoint name) (reply.Refused r) s
@@ -149,7 +153,7 @@ savepoint_wants : (s : State) (session : ℕ) (name : List ℕ) → savepoint_fu
     → StepOrRefusal s session (statement.Savepoint name) (reply.Refused refusal.Memory) s
 unfolding turn_of
 savepoint_wants s session name room =
-    memory_serves s session (statement.Savepoint name) (ap (λ (o : Option Refusal). first_refusal (o ∷ [])) room) refl
+    memory_serves s session (statement.Savepoint name) (savepoint_accepted s session name room) refl
 
 refused_by : (s : State) (session : ℕ) (name : List ℕ) (r : Refusal) (o : Option Refusal) → savepoint_full s session name ≡ o
     → IfSome o (λ e. e ≡ r) → (o ≡ Some r) ⊎ (r ≡ refusal.Memory) → StepOrRefusal s session (statement.Savepoint name) (reply.Refused r) s

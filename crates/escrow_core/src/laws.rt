@@ -30,14 +30,16 @@ pub fn machine_never_fails()
     ensures { MachineNeverFails }
 {}
 
-/// What fails is out of memory, and is no COMMIT, ROLLBACK, DELETE or DROP TABLE: these never fail.
+/// What fails is out of memory, and is no COMMIT, ROLLBACK, ROLLBACK TO, DELETE or DROP TABLE: these
+/// never fail.
 pub fn fails_for_memory_alone()
     ensures { FailsForMemoryAlone }
 {}
 
 /// A refusal that needs no memory is answered whatever memory there is: an open transaction, a table
 /// that is there or isn't, a bad value of an INSERT, what an UPDATE asks that it can't, a WHERE that
-/// names no key, and each refusal of DROP TABLE, DELETE, SELECT, SHOW TABLE and SHOW BOUNDS.
+/// names no key, and each refusal of DROP TABLE, DELETE, SELECT, SHOW TABLE, SHOW JOURNAL, SHOW
+/// BOUNDS, SAVEPOINT and ROLLBACK TO.
 pub fn early_refusals_stand()
     ensures { EarlyRefusalsStand }
 {}
@@ -108,8 +110,8 @@ pub fn queries_ignore_what_is_open()
     ensures { QueriesIgnoreWhatIsOpen }
 {}
 
-/// What shows something changes nothing, and is answered alike whoever asks. So is SHOW BOUNDS: it
-/// shows what is open, and not whose it is.
+/// What shows something changes nothing, and is answered alike whoever asks. So are SHOW JOURNAL and
+/// SHOW BOUNDS: they show what is open, of all sessions.
 pub fn queries_ignore_who_asks()
     ensures { QueriesIgnoreWhoAsks }
 {}
