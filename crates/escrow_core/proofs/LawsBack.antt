@@ -88,7 +88,7 @@ back_at_once s session name valid =
 
 pub back_at_once_changes_nothing : BackAtOnceChangesNothing
 unfolding turn_of
-back_at_once_changes_nothing s session name valid of_session =
+back_at_once_changes_nothing s session name valid =
     step_has (λ (p : Reply × State). p.0 ≡ reply.Savepoint name
     → (p.1 ≡ record s { savepoints = p.1.savepoints }) × (step p.1 session (statement.RollbackTo name) ≡ (reply.RolledBackTo name 0, p.1)))
     s session (statement.Savepoint name) (λ _ _ e. absurd (cc)) (λ _ _. (refl, back_at_once s session name valid))
@@ -189,7 +189,7 @@ unfolding turn_of
 back_next s session name = refl
 
 pub back_refuses_nothing : BackRefusesNothing
-back_refuses_nothing s session other name text id valid of_session granted =
+back_refuses_nothing s session other name text id granted =
     let Granted : State → Type 0 = λ t. (step t other (statement.Update text)).0 ≡ reply.Reserved id in
     step_has (λ (p : Reply × State). Granted p.1) s session (statement.RollbackTo name) (λ _ _. granted)
     (λ _. subst Granted (sym (back_next s session name))

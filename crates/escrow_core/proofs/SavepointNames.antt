@@ -58,7 +58,7 @@ through_put p (q ∷ rest) order others =
     from_first r (inl same) = subst (λ (x : Savepoint). q.session ≤ x.session) same (le_refl q.session)
     from_first r (inr h) = sessions_rise q r (all_has (λ (x : Savepoint). IsTrue (savepoint_before q x)) rest order.0 r h)
 
--- another one that is put, or taken out, isn't found, nor is one less found by it
+-- where one that isn't named is put, the same is found
 pub found_beside : (session : ℕ) (name : List ℕ) (q : Savepoint) (savepoints : List Savepoint) → is_named session name q ≡ false
     → savepoint_of session name (put_savepoint q savepoints) ≡ savepoint_of session name savepoints
 found_beside session name q savepoints other =
@@ -87,7 +87,8 @@ found_through_other session name other back (p ∷ rest) differ =
     (λ zs. savepoint_of session name zs ≡ savepoint_of session name (p ∷ rest))
     (λ _. ap first (found_of_other session name other rest differ)) (λ _. ap first (found_through_other session name other back rest differ))
 
--- where it goes back itself, one of its own is taken out, or is found and was made no later than the one it goes back to
+-- where a session goes back, one of its own is taken out; or it is found as before, and was made no later than
+-- the one that the session goes back to
 abbrev pub IsBehind : ℕ → List ℕ → Savepoint → List Savepoint → List Savepoint → Type 0
 IsBehind session name q savepoints left =
     (savepoint_of session name left ≡ None)

@@ -56,8 +56,8 @@ ended_orderly catalog reservations savepoints next_id session orderly =
     (λ k. le_trans (length-filter_filter (λ p. p.session == k) other savepoints) (orderly.few_savepoints k))
 
 -- and the rows are safe whatever is dropped
-kept_safe : (s : State) (keep : Reservation → Bool) → IsValid s → AreSafeRows s.catalog s.rows (filter keep s.reservations)
-kept_safe s keep valid =
+fewer_safe : (s : State) (keep : Reservation → Bool) → IsValid s → AreSafeRows s.catalog s.rows (filter keep s.reservations)
+fewer_safe s keep valid =
     let Safe : List Reservation → Type 0 = λ c. AllByRecursion (MeetsChecks s.catalog) (applied s.rows c) in
     record {
       tables = valid.safe_rows.tables;
@@ -71,7 +71,7 @@ kept_safe s keep valid =
 pub rollback_valid : (s : State) (session : ℕ) → IsValid s → IsValid (after_rollback s session)
 rollback_valid s session valid = record {
   orderly = ended_orderly s.catalog s.reservations s.savepoints s.next_id session valid.orderly;
-  safe_rows = kept_safe s (λ r. not (r.session == session)) valid;
+  safe_rows = fewer_safe s (λ r. not (r.session == session)) valid;
 }
 
 -- ROLLBACK TO too
@@ -84,7 +84,7 @@ returned_valid s p valid =
           (has_all In left (λ q h. all_has In s.savepoints valid.orderly.savepoints_in q (has_through p.session p.name s.savepoints q h)))
           (through_ascending p.session p.name s.savepoints valid.orderly.savepoint_order)
           (λ k. le_trans (length-filter_through (λ (q : Savepoint). q.session == k) p.session p.name s.savepoints) (valid.orderly.few_savepoints k));
-      safe_rows = kept_safe s (λ r. not (is_after p r)) valid;
+      safe_rows = fewer_safe s (λ r. not (is_after p r)) valid;
     }
 
 -- what holds of a state and of it returned to each savepoint holds after a ROLLBACK TO

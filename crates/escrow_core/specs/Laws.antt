@@ -272,7 +272,7 @@ ShowsTheJournal = (s : State) (session : ℕ) (table : Option (List ℕ)) (entri
 -- going back to a savepoint at once, when it was made, drops nothing: the state stays as making it left
 -- it, which changed savepoints alone
 abbrev pub BackAtOnceChangesNothing : Type 0
-BackAtOnceChangesNothing = (s : State) (session : ℕ) (name : List ℕ) → IsValid s → IsSession session
+BackAtOnceChangesNothing = (s : State) (session : ℕ) (name : List ℕ) → IsValid s
     → let made = step s session (statement.Savepoint name) in made.0 ≡ reply.Savepoint name
     → (made.1 ≡ record s { savepoints = made.1.savepoints })
     × (step made.1 session (statement.RollbackTo name) ≡ (reply.RolledBackTo name 0, made.1))
@@ -296,7 +296,7 @@ BackLeavesWhatWas = (s : State) (session : ℕ) (name : List ℕ) (events : List
 
 -- what would be granted would also be granted, with the same id, after a ROLLBACK TO of any session
 abbrev pub BackRefusesNothing : Type 0
-BackRefusesNothing = (s : State) (session other : ℕ) (name : List ℕ) (text : UpdateText) (id : ℕ) → IsValid s → IsSession session
+BackRefusesNothing = (s : State) (session other : ℕ) (name : List ℕ) (text : UpdateText) (id : ℕ)
     → (step s other (statement.Update text)).0 ≡ reply.Reserved id
     → (step (step s session (statement.RollbackTo name)).1 other (statement.Update text)).0 ≡ reply.Reserved id
 
