@@ -1,10 +1,10 @@
 -- Helps: the journals of the sessions as one list.
-use Rattle.std.specs.Prelude.{◌≡◌, ℕ, ◌+◌, ◌≤◌, Bool, nat_lt, if◌then◌else◌, List, [], ◌∷◌, length, flat_map, IsTrue}
+use Rattle.std.specs.Prelude.{◌≡◌, ℕ, ◌+◌, ◌≤◌, Bool, nat_lt, nat_le, if◌then◌else◌, List, [], ◌∷◌, length, flat_map, IsTrue}
 use Rattle.std.specs.List.{AllByRecursion}
 use Rattle.escrow_num.specs.declared.reservation.Reservation.{Reservation}
 use Rattle.escrow_num.specs.declared.reservation.TheConstants.Reservation.{MAX_ID}
 use Rattle.escrow_num.specs.declared.session.TheConstants.Session.{MAX}
-use Rattle.escrow_journal.specs.Log.{Log, IsLog}
+use Rattle.escrow_journal.specs.Log.{Log, IsLog, empty_log}
 use Rattle.escrow_txn.specs.Open.{Open}
 
 -- a reservation put among others, in order of id
@@ -16,6 +16,10 @@ put r (x ∷ xs) = if nat_lt x.id r.id then x ∷ put r xs else r ∷ x ∷ xs
 abbrev pub by_id : List Reservation → List Reservation
 by_id [] = []
 by_id (r ∷ rest) = put r (by_id rest)
+
+-- the id of the one isn't above that of the other
+abbrev pub in_order : Reservation → Reservation → Bool
+in_order a b = nat_le a.id b.id
 
 -- what the journals hold together
 abbrev pub opened : List Log → ℕ → Open
@@ -33,6 +37,12 @@ AreNumbered first (log ∷ logs) = (log.session ≡ first) × AreNumbered (1 + f
 -- every id of the journal is below the next one
 abbrev pub IsBelow : ℕ → Log → Type 0
 IsBelow next log = AllByRecursion (λ r. IsTrue (nat_lt r.id next)) log.reservations
+
+-- there is a journal for each of the first n sessions, and none holds anything
+pub record AreEmpty (n : ℕ) (logs : List Log) : Type 0 where
+  pub count : length logs ≡ n
+  pub numbered : AreNumbered 1 logs
+  pub each : AllByRecursion (λ log. log ≡ empty_log log.session) logs
 
 -- there is a journal for each session, each is one, and the ids in them are below the next one
 pub record AreJournals (logs : List Log) (next : ℕ) : Type 0 where

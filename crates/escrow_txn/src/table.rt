@@ -1,3 +1,9 @@
+ghost use Rattle.std.specs.Prelude.{◌≡◌, ◌+◌, IfOk, map};
+ghost use Rattle.escrow_num.specs.Session.{IsSession};
+ghost use Rattle.escrow_num.specs.declared.session.TheConstants.Session.{MAX};
+ghost use Rattle.escrow_journal.specs.Log.{empty_log};
+ghost use Rattle.escrow_txn.specs.Joined.{AreEmpty};
+
 use crate::merge::merged;
 use escrow_journal::Journal;
 use escrow_num::{Changes, Name, Refusal, Reservation, RowName, Session};
@@ -8,7 +14,7 @@ use std::marker::Model;
 /// The open transactions of a database: a journal for each of its 64 sessions, and the id that the
 /// next reservation takes. Contracts see the journals as one list of reservations in order of grant,
 /// and one of savepoints.
-#[derive(Drop)]
+#[derive(Debug, Drop)]
 pub struct TxnTable {
     journals: Vec<Journal>,
     next_id: u64,
@@ -35,12 +41,8 @@ impl TxnTable {
     pub fn new(alloc: Global) -> Result<Self, AllocError>
         ensures { IfOk result (λ t. t ≡ nothing_open) }
     {
-        let mut journals = Vec::with_capacity(alloc, Session::MAX as usize)?;
-        for session in Session::all() {
-            journals.push(Journal::new(alloc, session))?;
-        }
         Ok(TxnTable {
-            journals,
+            journals: empty_journals(alloc)?,
             next_id: 1,
         })
     }
@@ -59,7 +61,7 @@ impl TxnTable {
         ensures reservations { result.now.reservations ≡ own session self.now.reservations }
         ensures savepoints { result.now.savepoints ≡ own_savepoints session self.now.savepoints }
     {
-        &self.journals[session.get() as usize - 1]
+        &self.journals[place_of(session)]
     }
 
     /// The id that the next reservation takes, or `None` where there are no more ids.
@@ -102,10 +104,21 @@ impl TxnTable {
         ensures refused { IfSome (grant_refusal session self.old) (λ e. result ≡ Err e) }
         ensures only { IfErr result (λ e. (grant_refusal session self.old ≡ Some e) ⊎ (e ≡ Refusal.Memory)) }
     {
-        let Some(id) = self.next_id() else {
-            return Err(..);
+        if let Some(refusal) = self.grant_refusal(session) {
+            return Err(refusal);
+        }
+        let id = self.next_id;
+        let reservation = Reservation {
+            id,
+            session,
+            row,
+            changes,
         };
-        todo!()
+        if let Err(refusal) = self.journals[place_of(session)].push(reservation) {
+            return Err(refusal);
+        }
+        self.next_id += 1;
+        Ok(id)
     }
 
     /// Makes a savepoint of a session. An earlier one of that name is taken out (Oracle's rule), and
@@ -118,7 +131,7 @@ impl TxnTable {
         ensures only { IfErr result (λ e. (savepoint_refusal session name self.old ≡ Some e) ⊎ (e ≡ Refusal.Memory)) }
     {
         let id = self.next_id;
-        self.journals[session.get() as usize - 1].mark(name, id)
+        self.journals[place_of(session)].mark(name, id)
     }
 
     /// Takes a session back to its savepoint of a name: what it reserved after it is dropped, and so
@@ -128,7 +141,7 @@ impl TxnTable {
         ensures count { result ≡ released session name self.old }
         ensures cut { self.new ≡ cut_back session name self.old }
     {
-        self.journals[session.get() as usize - 1].cut(name)
+        self.journals[place_of(session)].cut(name)
     }
 
     /// Ends a session's transaction: hands out its reservations, in order of grant, and leaves
@@ -137,16 +150,14 @@ impl TxnTable {
         ensures all { result.items ≡ own session self.old.reservations }
         ensures ended { self.new ≡ ended session self.old }
     {
-        self.journals[session.get() as usize - 1].take_all()
+        self.journals[place_of(session)].take_all()
     }
 
     /// Drops all reservations and savepoints; the next id is 1. Takes no memory.
     pub fn clear(&mut self)
         ensures { self.new ≡ nothing_open }
     {
-        for journal in &mut self.journals {
-            journal.take_all();
-        }
+        empty_all(&mut self.journals);
         self.next_id = 1;
     }
 
@@ -156,5 +167,35 @@ impl TxnTable {
         ensures { IfOk result (λ all. map (λ r. r.now) all.items ≡ self.now.reservations) }
     {
         merged(alloc, &self.journals)
+    }
+}
+
+/// The place of a session's journal among all.
+fn place_of(session: Session) -> usize
+    ensures place { result + 1 ≡ session }
+    ensures within { IsSession session }
+{
+    session.get() as usize - 1
+}
+
+/// A journal that holds nothing for each session, in order of their numbers.
+fn empty_journals(alloc: Global) -> Result<Vec<Journal>, AllocError>
+    ensures { IfOk result (λ journals. AreEmpty MAX journals.items) }
+{
+    let mut journals = Vec::with_capacity(alloc, Session::MAX as usize)?;
+    for below in 0..Session::MAX {
+        if let Some(session) = Session::new(below + 1) {
+            journals.push(Journal::new(alloc, session))?;
+        }
+    }
+    Ok(journals)
+}
+
+/// Empties the journals. Takes no memory.
+fn empty_all(journals: &mut Vec<Journal>)
+    ensures { journals.new.items ≡ map (λ log. empty_log log.session) journals.old.items }
+{
+    for journal in journals.iter_mut() {
+        journal.take_all();
     }
 }

@@ -1,0 +1,9 @@
+mod ById
+mod Empty
+mod Kept
+mod Marks
+mod Merging
+mod Parts
+mod Places
+mod Refusals
+mod Sessions
