@@ -1,6 +1,7 @@
 -- Believed: a reply's lines, to the byte.
-use Rattle.std.specs.Prelude.{ℕ, ℤ, Option, Some, None, List, [], ◌∷◌, ◌++◌, length, map, codes, decimal}
+use Rattle.std.specs.Prelude.{ℕ, ℤ, if◌then◌else◌, Option, Some, None, List, [], ◌∷◌, ◌++◌, length, map, codes, decimal}
 use Rattle.std.specs.Fmt.{signed_decimal}
+use Rattle.std.specs.Int.{is_negative}
 use Rattle.std.specs.List.{flat_map, join_by}
 use Rattle.escrow_num.specs.declared.span.Side.{Side}
 use Rattle.escrow_num.specs.declared.span.Side.TheVariants as side
@@ -101,7 +102,7 @@ check_text b =
 
 -- a change, with its sign: a plus where it isn't negative
 abbrev pub signed_text : ℤ → List ℕ
-signed_text change = if is_neg change then signed_decimal change else codes "+" ++ signed_decimal change
+signed_text change = if is_negative change then signed_decimal change else codes "+" ++ signed_decimal change
 
 -- the change of a column
 abbrev pub change_text : ColumnChange → List ℕ

@@ -5,6 +5,7 @@
 #![tactic(auto)]
 
 mod bounds;
+mod journal;
 mod lines;
 mod push;
 mod values;

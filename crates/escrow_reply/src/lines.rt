@@ -2,6 +2,7 @@ ghost use Rattle.std.specs.Prelude.{◌≡◌, ◌++◌, ◌∷◌, [], map, IfO
 ghost use Rattle.escrow_reply.specs.Text.{rendered, prefix_of, with_prefix, reply_lines, shown_lines, header_text, row_text};
 
 use crate::bounds::{push_check_lines, push_column_lines};
+use crate::journal::push_entry_lines;
 use crate::push::{push_bytes, push_number, push_text};
 use crate::values::{push_header, push_row};
 use crate::words::push_words;
@@ -73,6 +74,7 @@ fn push_shown(
             push_column_lines(alloc, lines, prefix, columns.as_slice())?;
             push_check_lines(alloc, lines, prefix, checks.as_slice())
         }
+        Reply::Journal(entries) => push_entry_lines(alloc, lines, prefix, entries.as_slice()),
         _ => Ok(()),
     }
 }

@@ -1,4 +1,6 @@
 //! Replies and the bytes of their lines.
+mod journals;
+
 use crate::{render, render_lines};
 use escrow_core::{CheckBounds, ColumnBounds, Reply};
 use escrow_num::{Amount, Breach, Name, Refusal, Seq, Session, Side, Span, Text, Value, Wide};
@@ -81,6 +83,24 @@ fn one_line(rt: HostRuntime) -> Result<(), Fail> {
         (
             Reply::RolledBack { count: 10 },
             "bank.1> OK rolled back 10\n",
+        ),
+        (
+            Reply::Savepoint(name(&rt, "BEFORE_LUNCH")),
+            "bank.1> OK savepoint BEFORE_LUNCH\n",
+        ),
+        (
+            Reply::RolledBackTo {
+                savepoint: name(&rt, "X"),
+                count: 0,
+            },
+            "bank.1> OK rolled back to X 0\n",
+        ),
+        (
+            Reply::RolledBackTo {
+                savepoint: name(&rt, "A_$#9"),
+                count: 256,
+            },
+            "bank.1> OK rolled back to A_$#9 256\n",
         ),
     ] {
         assert_lines(&rt, reply, expected)?;

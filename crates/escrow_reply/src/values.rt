@@ -44,7 +44,7 @@ pub(crate) fn push_row(
 }
 
 /// A value: a number in decimal, or a text in quotes.
-fn push_value(alloc: Global, line: &mut Vec<u8>, value: &Value) -> Result<(), AllocError>
+pub(crate) fn push_value(alloc: Global, line: &mut Vec<u8>, value: &Value) -> Result<(), AllocError>
     ensures { OnOk result (line.new.items ≡ line.old.items ++ value_text value.now) }
 {
     match value {

@@ -1,9 +1,9 @@
-ghost use Rattle.std.specs.Prelude.{◌≡◌, ◌++◌, OnOk, codes};
+ghost use Rattle.std.specs.Prelude.{◌≡◌, ◌++◌, OnOk, codes, decimal};
 ghost use Rattle.escrow_reply.specs.Text.{reply_text, refusal_text, breach_text, side_text};
 
 use crate::push::{push_bytes, push_counted, push_measure, push_text};
 use escrow_core::Reply;
-use escrow_num::{Breach, Refusal, Side};
+use escrow_num::{Breach, Name, Refusal, Side};
 use std::alloc::{AllocError, Global};
 
 /// The words of a reply's last line.
@@ -12,14 +12,8 @@ pub(crate) fn push_words(alloc: Global, line: &mut Vec<u8>, reply: &Reply) -> Re
 {
     match reply {
         Reply::Refused(refusal) => push_refused(alloc, line, refusal),
-        Reply::Created(name) => {
-            push_text(line, "OK created ")?;
-            push_bytes(line, name.as_bytes())
-        }
-        Reply::Dropped(name) => {
-            push_text(line, "OK dropped ")?;
-            push_bytes(line, name.as_bytes())
-        }
+        Reply::Created(name) => push_named(line, "OK created ", *name),
+        Reply::Dropped(name) => push_named(line, "OK dropped ", *name),
         Reply::Inserted => push_text(line, "OK inserted"),
         Reply::Deleted => push_text(line, "OK deleted"),
         Reply::Updated => push_text(line, "OK updated"),
@@ -34,7 +28,42 @@ pub(crate) fn push_words(alloc: Global, line: &mut Vec<u8>, reply: &Reply) -> Re
         Reply::Rows { rows, .. } => push_counted(alloc, line, "OK rows ", rows.len() as u64),
         Reply::Table(_) => push_text(line, "OK table"),
         Reply::Bounds { .. } => push_text(line, "OK bounds"),
+        Reply::Journal(entries) => {
+            push_counted(alloc, line, "OK reservations ", entries.len() as u64)
+        }
+        Reply::Savepoint(name) => push_named(line, "OK savepoint ", *name),
+        Reply::RolledBackTo { savepoint, count } => {
+            push_named_count(
+                alloc,
+                line,
+                "OK rolled back to ",
+                *savepoint,
+                u64::from(*count),
+            )
+        }
     }
+}
+
+/// Words and a name behind them.
+fn push_named(line: &mut Vec<u8>, words: &str, name: Name) -> Result<(), AllocError>
+    ensures { OnOk result (line.new.items ≡ line.old.items ++ (words.now ++ name)) }
+{
+    push_text(line, words)?;
+    push_bytes(line, name.as_bytes())
+}
+
+/// Words, a name behind them, and a number behind that.
+fn push_named_count(
+    alloc: Global,
+    line: &mut Vec<u8>,
+    words: &str,
+    name: Name,
+    count: u64,
+) -> Result<(), AllocError>
+    ensures { OnOk result (line.new.items ≡ line.old.items ++ (words.now ++ name ++ codes " " ++ decimal count)) }
+{
+    push_named(line, words, name)?;
+    push_counted(alloc, line, " ", count)
 }
 
 /// A refusal's number and its words.
