@@ -16,7 +16,7 @@ use Rattle.escrow_journal.proofs.Filters.{find_same, fewer_others}
 use Rattle.escrow_journal.proofs.Named.{has_name, named_is, without_is}
 
 -- what holds of all items, and of one more
-all_push : {X : Type 0} (P : X → Type 0) (xs : List X) (y : X) → AllByRecursion P xs → P y → AllByRecursion P (xs ++ y ∷ [])
+pub all_push : {X : Type 0} (P : X → Type 0) (xs : List X) (y : X) → AllByRecursion P xs → P y → AllByRecursion P (xs ++ y ∷ [])
 all_push P [] y all last = (last, tt)
 all_push P (x ∷ xs) y all last = (all.0, all_push P xs y all.1 last)
 

@@ -1,6 +1,7 @@
 pub mod Cutting
 pub mod Filters
 pub mod Kept
+pub mod LawLemmas
 pub mod Named
 pub mod Ordered
 pub mod Outcomes

@@ -1,4 +1,5 @@
 pub mod Inside
+pub mod Laws
 pub mod Log
 pub mod Reservations
 pub mod Savepoints

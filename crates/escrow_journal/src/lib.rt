@@ -5,6 +5,7 @@
 #![tactic(auto)]
 
 mod journal;
+pub mod laws;
 mod lists;
 
 pub use journal::Journal;

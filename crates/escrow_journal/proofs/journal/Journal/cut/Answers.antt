@@ -27,7 +27,7 @@ returns-in_err-place-clause-cut c =
 pub invariant_of-self : goal.invariant_of-self
 invariant_of-self c =
     rw (c.truncate.ensures.items, c.truncate-2.ensures.items)
-    (cut_kept c.first_from-first.result (c.in_ok-place.place + 1) (log_of c.self.inside) c.self.invariant)
+    (cut_kept _ _ (log_of c.self.inside) c.self.invariant)
 
 pub returns-clause-count : goal.returns-clause-count
 returns-clause-count c =

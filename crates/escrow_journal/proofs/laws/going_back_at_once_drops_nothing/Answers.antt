@@ -1,0 +1,5 @@
+use Rattle.escrow_journal.proofs.LawLemmas.{going_back_at_once_drops_nothing}
+use Rattle.escrow_journal.proofs.laws.going_back_at_once_drops_nothing.Goals as goal
+
+pub returns : goal.returns
+returns c = going_back_at_once_drops_nothing
