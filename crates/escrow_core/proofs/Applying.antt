@@ -1,15 +1,13 @@
 -- Adding changes to amounts, column by column, and to rows, one by one.
-use Rattle.std.proofs.Common.{◌≡◌, ℕ, zero, suc, Option, unwrap_or, pos, ◌+◌, ◌<◌, ◌≤◌, ℤ, ◌+ℤ◌, List, [], ◌∷◌, ◌++◌, length, append-nil, take, drop, get_or, set, refl, ap, ap₂, true, false, sym, ◌∙◌, subst, arith, add-one}
+use Rattle.std.proofs.Common.{◌≡◌, ℕ, zero, suc, Option, unwrap_or, pos, ◌+◌, ◌<◌, ◌≤◌, ℤ, ◌+ℤ◌, List, [], ◌∷◌, ◌++◌, length, take, drop, get_or, set, refl, ap, ap₂, true, false, sym, ◌∙◌, subst, arith, add-one}
 use Rattle.std.specs.List.{AllByRecursion}
 use Rattle.std.proofs.lemmas.List.{map-append, length-map, take_more, take-map, get_or-map, map_more}
 use Rattle.std.proofs.lemmas.List.Edits.{map_over_more}
-use Rattle.std.proofs.lemmas.List.Elements.{filter-append}
-use Rattle.std.specs.Prelude.{map, ◌==◌}
+use Rattle.std.specs.Prelude.{map}
 use Rattle.escrow_num.specs.declared.row.Row.{Row}
 use Rattle.escrow_num.specs.declared.reservation.Reservation.{Reservation}
 use Rattle.escrow_checks.specs.Form.{changed, all_changed}
 use Rattle.escrow_num.specs.Reservation.{counted}
-use Rattle.escrow_journal.specs.Reservations.{own}
 use Rattle.escrow_checks.proofs.FormLemmas.{length-changed}
 use Rattle.escrow_core.proofs.Changes.{changed_nil}
 use Rattle.escrow_num.proofs.Items.{all_at}
@@ -141,11 +139,6 @@ may_change rows r i x below at same all =
     let whole : length (applied rows (r ∷ [])) ≡ length rows = length-map rows (row_after (r ∷ [])) in
     subst P (row_changed x r same) (all_at P (applied rows (r ∷ [])) i (row_after (r ∷ []) x) (omega arith) (applied_at rows r i x below at) all)
 
--- a session's own among one more reservation
-pub own_more : (session : ℕ) (reservations : List Reservation) (i : ℕ) (r : Reservation) → i < length reservations → r ≡ get_or reservations i r
-    → own session (take (i + 1) reservations) ≡ own session (take i reservations) ++ own session (r ∷ [])
-own_more session reservations i r below at = rw (take_more reservations i r below, ← at) (filter-append (λ (x : Reservation). x.session == session) (take i reservations) (r ∷ []))
-
 -- one more row of a reservation's table and key
 pub applied_then : (rows now : List Row) (r : Reservation) (i : ℕ) (x : Row) → i < length rows → now ≡ applied_to rows r i → x ≡ get_or now i x
     → same_row x.name r.row ≡ true → set now i (record x { amounts = changed x.amounts (counted r.changes) }) ≡ applied_to rows r (i + 1)
@@ -158,19 +151,11 @@ pub applied_else : (rows now : List Row) (r : Reservation) (i : ℕ) (x : Row) �
 applied_else rows now r i x below done at other =
     subst (λ (y : Row). set now i y ≡ applied_to rows r (i + 1)) (sym (row_unchanged x r other)) (map_over_more (row_after (r ∷ [])) rows now i x below done at)
 
--- one more reservation of the session
-pub own_applied : (session : ℕ) (rows : List Row) (reservations : List Reservation) (i : ℕ) (r : Reservation) → i < length reservations → r ≡ get_or reservations i r → (r.session == session) ≡ true
-    → applied rows (own session (take (i + 1) reservations)) ≡ applied (applied rows (own session (take i reservations))) (r ∷ [])
-own_applied session rows reservations i r below at mine =
-    let kept : own session (r ∷ []) ≡ r ∷ [] = rw mine refl in
-    rw (own_more session reservations i r below at, kept) (applied_append rows (own session (take i reservations)) (r ∷ []))
-
--- one more reservation of another session
-pub own_skipped : (session : ℕ) (rows : List Row) (reservations : List Reservation) (i : ℕ) (r : Reservation) → i < length reservations → r ≡ get_or reservations i r → (r.session == session) ≡ false
-    → applied rows (own session (take (i + 1) reservations)) ≡ applied rows (own session (take i reservations))
-own_skipped session rows reservations i r below at other =
-    let dropped : own session (r ∷ []) ≡ [] = rw other refl in
-    rw (own_more session reservations i r below at, dropped, append-nil) refl
+-- one more reservation applied
+pub applied_more : (rows : List Row) (reservations : List Reservation) (i : ℕ) (r : Reservation) → i < length reservations → r ≡ get_or reservations i r
+    → applied rows (take (i + 1) reservations) ≡ applied (applied rows (take i reservations)) (r ∷ [])
+applied_more rows reservations i r below at =
+    rw (take_more reservations i r below, ← at) (applied_append rows (take i reservations) (r ∷ []))
 
 -- the changes to a row of one more reservation
 pub changes_more : (row : Row) (reservations : List Reservation) (i : ℕ) (r : Reservation) → i < length reservations → r ≡ get_or reservations i r

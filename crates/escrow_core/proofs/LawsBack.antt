@@ -30,7 +30,7 @@ use Rattle.escrow_core.specs.Asked.{plan_of, plan_refusal_of, row_name, reservat
 use Rattle.escrow_core.specs.Laws.{BackAtOnceChangesNothing, BackRefusesNothing}
 use Rattle.escrow_core.specs.Serving.{IsAccepted}
 use Rattle.escrow_core.specs.State.{State, changes_to}
-use Rattle.escrow_core.specs.Step.{step, refusals}
+use Rattle.escrow_core.specs.Step.{step}
 use Rattle.escrow_core.specs.Turn.{turn_of, after_savepoint, returned_to, after_rollback_to, update_refusals, update_reply}
 use Rattle.escrow_core.specs.Valid.{IsValid, IsReservationIn}
 use Rattle.escrow_core.proofs.Accepted.{reserve_stands}

@@ -6,6 +6,7 @@ pub mod Choices
 pub mod Creating
 pub mod Filters
 pub mod Granted
+pub mod Journals
 pub mod Kept
 pub mod LawsBack
 pub mod LawsBounds
@@ -31,11 +32,13 @@ pub mod SavepointNames
 pub mod Savepoints
 pub mod Served
 pub mod Shapes
+pub mod Sessions
 pub mod SpreadLemmas
 pub mod TurnSavepoints
 pub mod TurnUpdate
 pub mod TurnWords
 pub mod Turns
+pub mod Txns
 pub mod ValidCreate
 pub mod ValidDelete
 pub mod ValidDrop

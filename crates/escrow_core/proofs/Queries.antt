@@ -1,8 +1,7 @@
 -- SELECT, SHOW TABLE, SHOW JOURNAL and SHOW BOUNDS: how a call that served one meets the machine's step.
-use Rattle.std.specs.Prelude.{◌≡◌, ℕ, Bool, false, is_none, IsSome, IfSome, Option, Some, None, unwrap_or, option_map, List, [], ◌∷◌}
-use Rattle.std.proofs.Common.{refl, ap, subst}
+use Rattle.std.specs.Prelude.{◌≡◌, ℕ, Option, Some, None, unwrap_or, option_map, List, []}
+use Rattle.std.proofs.Common.{refl, subst}
 use Rattle.escrow_num.specs.declared.refusal.Refusal.TheVariants as refusal
-use Rattle.escrow_num.specs.Refusal.{refuse_if, first_refusal}
 use Rattle.escrow_sql.specs.declared.statement.RowText.{RowText}
 use Rattle.escrow_sql.specs.declared.statement.SelectText.{SelectText}
 use Rattle.escrow_sql.specs.declared.statement.Statement.TheVariants as statement
@@ -29,6 +28,11 @@ pub bounds_serves : (s : State) (session : ℕ) (text : RowText) → IsAccepted 
 unfolding turn_of
 bounds_serves s session text accepted = accepted_serves s session (statement.ShowBounds text) accepted
 
+pub journal_serves : (s : State) (session : ℕ) (table : Option (List ℕ)) → IsAccepted s session (statement.ShowJournal table)
+    → StepOrRefusal s session (statement.ShowJournal table) (journal_reply s table) s
+unfolding turn_of
+journal_serves s session table accepted = accepted_serves s session (statement.ShowJournal table) accepted
+
 -- SHOW TABLE of a table that isn't there, and of one that is
 pub show_refuses : (s : State) (session : ℕ) (name : List ℕ) → table_named s.catalog name ≡ None
     → StepOrRefusal s session (statement.ShowTable name) (reply.Refused refusal.NoSuchTable) s
@@ -50,30 +54,3 @@ pub show_wants : (s : State) (session : ℕ) (name : List ℕ) (table : TableDef
     → StepOrRefusal s session (statement.ShowTable name) (reply.Refused refusal.Memory) s
 unfolding turn_of
 show_wants s session name table named = memory_serves s session (statement.ShowTable name) (show_accepted s session name table named) refl
-
--- SHOW JOURNAL of a table that isn't there; of one that is, or of all
-pub journal_refuses : (s : State) (session : ℕ) (name : List ℕ) → table_named s.catalog name ≡ None
-    → StepOrRefusal s session (statement.ShowJournal (Some name)) (reply.Refused refusal.NoSuchTable) s
-unfolding turn_of
-journal_refuses s session name unknown = rule_serves s session (statement.ShowJournal (Some name)) refusal.NoSuchTable (rw unknown refl)
-
-pub journal_accepted : (s : State) (session : ℕ) (table : Option (List ℕ)) → IfSome table (λ name. IsSome (table_named s.catalog name))
-    → IsAccepted s session (statement.ShowJournal table)
-unfolding turn_of
-journal_accepted s session None known = refl
-journal_accepted s session (Some name) known =
-    ap (λ (b : Bool). first_refusal (refuse_if b refusal.NoSuchTable ∷ [])) (there (table_named s.catalog name) known)
-  where
-    there : (o : Option TableDef) → IsSome o → is_none o ≡ false
-    there None h = absurd (cc)
-    there (Some table) h = refl
-
-pub journal_serves : (s : State) (session : ℕ) (table : Option (List ℕ)) → IfSome table (λ name. IsSome (table_named s.catalog name))
-    → StepOrRefusal s session (statement.ShowJournal table) (journal_reply s table) s
-unfolding turn_of
-journal_serves s session table known = accepted_serves s session (statement.ShowJournal table) (journal_accepted s session table known)
-
-pub journal_wants : (s : State) (session : ℕ) (table : Option (List ℕ)) → IfSome table (λ name. IsSome (table_named s.catalog name))
-    → StepOrRefusal s session (statement.ShowJournal table) (reply.Refused refusal.Memory) s
-unfolding turn_of
-journal_wants s session table known = memory_serves s session (statement.ShowJournal table) (journal_accepted s session table known) refl

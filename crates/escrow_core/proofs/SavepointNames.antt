@@ -6,7 +6,7 @@ use Rattle.escrow_num.specs.declared.reservation.Savepoint.{Savepoint}
 use Rattle.escrow_num.specs.Ascending.{IsAscending}
 use Rattle.escrow_num.proofs.Items.{Has, all_has, has_filter, find_has}
 use Rattle.escrow_num.proofs.Orders.{name_same, same_name}
-use Rattle.escrow_num.proofs.Put.{put, find_put}
+use Rattle.escrow_num.proofs.Put.{find_put}
 use Rattle.escrow_journal.specs.Reservations.{other_savepoints, savepoint_before}
 use Rattle.escrow_journal.specs.Savepoints.{is_named, savepoint_of, without_savepoint, put_savepoint, through}
 use Rattle.escrow_core.proofs.Filters.{filter_all, none_found}

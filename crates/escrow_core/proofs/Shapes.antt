@@ -27,7 +27,7 @@ use Rattle.escrow_core.specs.Serving.{IsShort, HaveAmounts}
 use Rattle.escrow_core.specs.State.{State, row_named, changes_to, row_after, applied}
 use Rattle.escrow_core.specs.Valid.{IsValid, IsReservationIn, HasTable}
 use Rattle.escrow_num.proofs.Items.{Has, all_has, has_all, find_has}
-use Rattle.escrow_core.proofs.Choices.{IsChoice, choice_passing, choice_take, map_all}
+use Rattle.escrow_core.proofs.Choices.{IsChoice, choice_filter, choice_whole, choice_take, map_all}
 use Rattle.escrow_core.proofs.Lengths.{length-by_number}
 use Rattle.escrow_num.proofs.Orders.{row_same}
 use Rattle.escrow_core.proofs.Safe.{some_at, some_weaker, safe_row}
@@ -92,10 +92,11 @@ choice_amounts s valid chosen choice =
     (has_all (λ row. AllByRecursion IsAmount (row_after chosen row).amounts) s.rows (row_amounts s valid chosen choice))
 
 -- whichever of a session's first reservations are applied, all amounts of every row are amounts
-pub own_amounts : (s : State) → IsValid s → (session i : ℕ) → HaveAmounts (applied s.rows (own session (take i s.reservations)))
+pub own_amounts : (s : State) → IsValid s → (session i : ℕ) → HaveAmounts (applied s.rows (take i (own session s.reservations)))
 own_amounts s valid session i =
-    let chosen : List Reservation = own session (take i s.reservations) in
-    choice_amounts s valid chosen (choice_take i s.reservations chosen (choice_passing (λ r. r.session == session) (take i s.reservations)))
+    let mine : List Reservation = own session s.reservations in
+    let some : IsChoice mine (take i mine) = choice_take i mine (take i mine) (choice_whole (take i mine)) in
+    choice_amounts s valid (take i mine) (choice_filter (λ r. r.session == session) s.reservations (take i mine) some)
 
 -- a row that stands is one of its table
 pub row_found : (s : State) → IsValid s → (name : RowName) (table : TableDef) (row : Row)

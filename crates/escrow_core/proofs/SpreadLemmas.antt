@@ -31,13 +31,6 @@ spread_at (first ∷ checks) reservations (s ∷ spreads) zero check spread are 
 spread_at (first ∷ checks) reservations (s ∷ spreads) (suc i) check spread are below at at_spread =
     spread_at checks reservations spreads i check spread are.1 (omega arith) at at_spread
 
--- and as an index reads it
-pub spread_read : (checks : List Check) (reservations : List (List ℤ)) (spreads : List Spread) (i : ℕ) (check : Check) (spread : Spread)
-    → AreSpreads checks reservations spreads → i < length checks → check ≡ get_or checks i check → spread ≡ get_or spreads i spread
-    → IsSpread check.coeffs reservations (get_or spreads i spread)
-spread_read checks reservations spreads i check spread are below at at_spread =
-    subst (IsSpread check.coeffs reservations) at_spread (spread_at checks reservations spreads i check spread are below at at_spread)
-
 -- spreads of which those before a place have more reservations than the others
 abbrev pub AreMixed : ℕ → List Check → List (List ℤ) → List (List ℤ) → List Spread → Type 0
 AreMixed i [] fewer more spreads = Unit {0}

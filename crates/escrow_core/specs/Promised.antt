@@ -1,6 +1,5 @@
 -- Believed: which statements are served whatever memory there is and whatever the store does.
 use Rattle.std.specs.Prelude.{ℕ, Bool, true, false, ◌||◌, not, nat_lt, length}
-use Rattle.escrow_num.specs.declared.refusal.Refusal.{Refusal}
 use Rattle.escrow_num.specs.declared.refusal.Refusal.TheVariants as refusal
 use Rattle.escrow_sql.specs.declared.statement.Statement.{Statement}
 use Rattle.escrow_sql.specs.declared.statement.Statement.TheVariants as statement

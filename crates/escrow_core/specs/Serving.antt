@@ -2,6 +2,7 @@
 use Rattle.std.specs.Prelude.{◌≡◌, ◌⊎◌, ℕ, ℤ, ◌≤◌, Some, None, IsTrue, List, [], ◌∷◌, length}
 use Rattle.std.specs.List.{AllByRecursion}
 use Rattle.escrow_num.specs.Amount.{IsAmount}
+use Rattle.escrow_num.specs.Session.{IsSession}
 use Rattle.escrow_num.specs.declared.refusal.Refusal.{Refusal}
 use Rattle.escrow_num.specs.declared.refusal.Refusal.TheVariants as refusal
 use Rattle.escrow_num.specs.declared.row.Row.{Row}
@@ -10,6 +11,7 @@ use Rattle.escrow_num.specs.Refusal.{first_refusal}
 use Rattle.escrow_sql.specs.declared.statement.Statement.{Statement}
 use Rattle.escrow_checks.specs.declared.check.Check.{Check}
 use Rattle.escrow_checks.specs.declared.spread.Spread.{Spread}
+use Rattle.escrow_checks.specs.declared.spread.TheConstants.Spread.{MAX_OPEN}
 use Rattle.escrow_checks.specs.Spread.{IsSpread}
 use Rattle.escrow_checks.specs.declared.coefficients.TheConstants.Coefficients.{MAX_LEN}
 use Rattle.escrow_core.specs.declared.reply.CheckBounds.{CheckBounds}
@@ -32,6 +34,13 @@ IsRefusal s session asked r =
 -- a reservation has changes for at most as many columns as a check has coefficients
 abbrev pub IsShort : Reservation → Type 0
 IsShort r = length r.changes ≤ MAX_LEN
+
+-- open reservations, as they can be walked: each is of a session and short, and they are as many at
+-- most as there can be
+pub record AreOpen (reservations : List Reservation) : Type 0 where
+  pub sessions : AllByRecursion (λ r. IsSession r.session) reservations
+  pub short : AllByRecursion IsShort reservations
+  pub few : length reservations ≤ MAX_OPEN
 
 -- there is a spread for each check: how far reservations can move its form
 abbrev pub AreSpreads : List Check → List (List ℤ) → List Spread → Type 0

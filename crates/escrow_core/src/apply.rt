@@ -3,11 +3,10 @@ ghost use Rattle.std.specs.List.{AllByRecursion};
 ghost use Rattle.escrow_num.specs.Amount.{IsAmount};
 ghost use Rattle.escrow_num.specs.Reservation.{counted};
 ghost use Rattle.escrow_checks.specs.Form.{changed};
-ghost use Rattle.escrow_journal.specs.Reservations.{own};
 ghost use Rattle.escrow_core.specs.Serving.{HaveAmounts};
 ghost use Rattle.escrow_core.specs.State.{applied};
 
-use escrow_num::{Amount, Reservation, Row, Seq, Session};
+use escrow_num::{Amount, Reservation, Row, Seq};
 
 /// Adds changes to amounts, column by column.
 fn add_changes(amounts: &mut Seq<Amount>, changes: &[Option<Amount>])
@@ -35,15 +34,12 @@ fn apply(rows: &mut Vec<Row>, r: &Reservation)
     }
 }
 
-/// Adds the changes of each open reservation of a session to its row, in order of grant. Takes no
-/// memory.
-pub(crate) fn apply_own(rows: &mut Vec<Row>, reservations: &[Reservation], session: Session)
-    requires { (i : ℕ) → HaveAmounts (applied rows.old.items (own session (take i reservations.now))) }
-    ensures { rows.new.items ≡ applied rows.old.items (own session reservations.now) }
+/// Adds the changes of each reservation to its row, in their order. Takes no memory.
+pub(crate) fn apply_all(rows: &mut Vec<Row>, reservations: &[Reservation])
+    requires { (i : ℕ) → HaveAmounts (applied rows.old.items (take i reservations.now)) }
+    ensures { rows.new.items ≡ applied rows.old.items reservations.now }
 {
     for r in reservations {
-        if r.session == session {
-            apply(rows, r);
-        }
+        apply(rows, r);
     }
 }

@@ -2,19 +2,17 @@ ghost use Rattle.std.specs.Prelude.{◌≡◌, ℤ, ◌≤◌, IfOk, List, lengt
 ghost use Rattle.std.specs.List.{AllByRecursion};
 ghost use Rattle.escrow_checks.specs.Form.{IsCovered};
 ghost use Rattle.escrow_checks.specs.Spread.{IsSpread};
-ghost use Rattle.escrow_checks.specs.declared.spread.TheConstants.Spread.{MAX_OPEN};
-ghost use Rattle.escrow_schema.specs.Column.{names_of, reservables};
 ghost use Rattle.escrow_schema.specs.Definition.{IsTable};
 ghost use Rattle.escrow_schema.specs.Fit.{IsRowOf};
 ghost use Rattle.escrow_core.specs.Bounds.{bounds_in, check_bounds};
-ghost use Rattle.escrow_core.specs.Serving.{AreSpreads, IsShort, columns_from};
-ghost use Rattle.escrow_core.specs.State.{changes_to};
+ghost use Rattle.escrow_core.specs.Serving.{AreOpen, AreSpreads, columns_from};
 
 use crate::reply::{CheckBounds, ColumnBounds, Reply};
 use crate::spreads::spreads_over;
 use escrow_checks::{Check, Spread};
-use escrow_num::{Amount, Name, Reservation, Row, Seq, copy_all};
-use escrow_schema::{Column, TableDef};
+use escrow_num::{Amount, Name, Row, Seq, copy_all};
+use escrow_schema::{TableDef, reservable_names};
+use escrow_txn::TxnTable;
 use std::alloc::{AllocError, Global};
 
 /// The bounds of a row of a table: those of its RESERVABLE columns, and of its declared checks. The
@@ -23,17 +21,16 @@ pub(crate) fn row_bounds(
     alloc: Global,
     table: &TableDef,
     row: &Row,
-    reservations: &[Reservation],
+    txns: &TxnTable,
 ) -> Result<Reply, AllocError>
     requires table { IsTable table.now }
     requires row { IsRowOf table.now row.now }
-    requires few { length reservations.now ≤ MAX_OPEN }
-    requires short { AllByRecursion IsShort reservations.now }
-    ensures { IfOk result (λ reply. reply ≡ bounds_in reservations.now table.now row.now) }
+    requires open { AreOpen txns.now.reservations }
+    ensures { IfOk result (λ reply. reply ≡ bounds_in txns.now.reservations table.now row.now) }
 {
     let checks = table.checks.as_slice();
     let declared = checks.len() - row.amounts.len();
-    let spreads = spreads_over(checks, row, reservations);
+    let spreads = spreads_over(checks, row, txns);
     let bounds = all_check_bounds(alloc, checks, row, &spreads)?;
     let (shown, ranges) = bounds.as_slice().split_at(declared);
     let names = reservable_names(alloc, table.columns.as_slice())?;
@@ -41,18 +38,6 @@ pub(crate) fn row_bounds(
         columns: all_column_bounds(alloc, names.as_slice(), row.amounts.as_slice(), ranges)?,
         checks: copy_all(alloc, shown)?,
     })
-}
-
-/// The names of the RESERVABLE columns, in order.
-fn reservable_names(alloc: Global, columns: &[Column]) -> Result<Vec<Name>, AllocError>
-    ensures { IfOk result (λ names. names.items ≡ names_of (reservables columns.now)) }
-{
-    columns
-        .iter()
-        .copied()
-        .filter(|column| column.reservable)
-        .map(|column| column.name)
-        .collect(alloc)
 }
 
 /// The bounds of each check of a row, by its spread.

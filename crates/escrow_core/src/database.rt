@@ -88,6 +88,13 @@ impl Database {
         ensures event { StepOrRefusal self.old.state session statement.now result self.new.state }
         ensures succeeds { IsTrue (is_promised self.old.state session statement.now) → IsStep self.old.state session statement.now result self.new.state }
     {
+        self.answer(alloc, session, statement)
+    }
+
+    /// Serves one statement of a session, by what it asks.
+    fn answer(&mut self, alloc: Global, session: Session, statement: &Statement) -> Reply
+        ensures { StepOrRefusal self.old.state session statement.now result self.new.state }
+    {
         match statement {
             Statement::Create(text) => self.create(alloc, session, text),
             Statement::Drop(name) => self.drop_table(session, *name),

@@ -1,32 +1,32 @@
-ghost use Rattle.std.specs.Prelude.{◌≡◌, ◌≤◌, length, map};
+ghost use Rattle.std.specs.Prelude.{◌≡◌, ℤ, ◌≤◌, List, length, map};
 ghost use Rattle.std.specs.List.{AllByRecursion};
 ghost use Rattle.escrow_num.specs.Reservation.{counted};
 ghost use Rattle.escrow_checks.specs.Form.{IsCovered};
 ghost use Rattle.escrow_checks.specs.Grant.{broken};
-ghost use Rattle.escrow_checks.specs.declared.spread.TheConstants.Spread.{MAX_OPEN};
+ghost use Rattle.escrow_checks.specs.declared.coefficients.TheConstants.Coefficients.{MAX_LEN};
 ghost use Rattle.escrow_core.specs.declared.spreads.TheConstants.{MOST_CHECKS};
-ghost use Rattle.escrow_core.specs.Serving.{IsShort};
+ghost use Rattle.escrow_core.specs.Serving.{AreOpen, AreSpreads};
 ghost use Rattle.escrow_core.specs.State.{changes_to};
 
 use crate::spreads::{counted, spreads_over};
-use escrow_checks::Check;
-use escrow_num::{Amount, Breach, Reservation, Row};
+use escrow_checks::{Check, Spread};
+use escrow_num::{Amount, Breach, Row};
+use escrow_txn::TxnTable;
 
 /// The grant rule: what changes of a row would break of the first check that they can break, over
-/// every choice of the open reservations that holds them. `None` where they break nothing.
+/// every choice of the open reservations that holds them, by the spread of those under each check.
+/// `None` where they break nothing.
 pub(crate) fn first_breach(
     checks: &[Check],
     row: &Row,
     changes: &[Amount],
-    reservations: &[Reservation],
+    spreads: &[Spread],
 ) -> Option<Breach>
-    requires few_checks { length checks.now ≤ MOST_CHECKS }
-    requires few { length reservations.now ≤ MAX_OPEN }
-    requires short { AllByRecursion IsShort reservations.now }
+    requires enough { length checks.now ≤ length spreads.now }
     requires covered { AllByRecursion (λ check. IsCovered check.coeffs row.now.amounts) checks.now }
-    ensures { result ≡ broken checks.now row.now.amounts changes.now (map (changes_to row.now) reservations.now) }
+    ensures { (reservations : List (List ℤ)) → AreSpreads checks.now reservations spreads.now
+        → result ≡ broken checks.now row.now.amounts changes.now reservations }
 {
-    let spreads = spreads_over(checks, row, reservations);
     for (i, check) in checks.iter().enumerate() {
         let breach = check.breach(row.amounts.as_slice(), changes, &spreads[i]);
         if breach.is_some() {
@@ -36,21 +36,21 @@ pub(crate) fn first_breach(
     None
 }
 
-/// What a new reservation of a row would break of the first check that it can break. It is granted
+/// What new changes of a row would break of the first check that they can break. They are granted
 /// where there is none.
 pub(crate) fn breach_of(
     checks: &[Check],
     row: &Row,
-    asked: &Reservation,
-    reservations: &[Reservation],
+    changes: &[Option<Amount>],
+    txns: &TxnTable,
 ) -> Option<Breach>
     requires few_checks { length checks.now ≤ MOST_CHECKS }
-    requires few { length reservations.now ≤ MAX_OPEN }
-    requires short { AllByRecursion IsShort reservations.now }
-    requires asked_short { IsShort asked.now }
+    requires short { length changes.now ≤ MAX_LEN }
+    requires open { AreOpen txns.now.reservations }
     requires covered { AllByRecursion (λ check. IsCovered check.coeffs row.now.amounts) checks.now }
-    ensures { result ≡ broken checks.now row.now.amounts (counted asked.now.changes) (map (changes_to row.now) reservations.now) }
+    ensures { result ≡ broken checks.now row.now.amounts (counted changes.now) (map (changes_to row.now) txns.now.reservations) }
 {
-    let amounts = counted(asked.changes.as_slice());
-    first_breach(checks, row, &amounts[..asked.changes.len()], reservations)
+    let amounts = counted(changes);
+    let spreads = spreads_over(checks, row, txns);
+    first_breach(checks, row, &amounts[..changes.len()], &spreads)
 }

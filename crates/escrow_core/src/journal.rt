@@ -1,10 +1,13 @@
 //! What SHOW JOURNAL shows.
-ghost use Rattle.std.specs.Prelude.{◌≡◌, IfOk, map};
-ghost use Rattle.escrow_core.specs.Journal.{entry_of, of_table, named_changes};
+ghost use Rattle.std.specs.Prelude.{◌≡◌, ◌++◌, ◌∷◌, [], IfOk, OnOk, map, unwrap_or, option_map};
+ghost use Rattle.std.specs.Option.{option_copied};
+ghost use Rattle.escrow_schema.specs.Catalog.{table_named};
+ghost use Rattle.escrow_schema.specs.Column.{names_of, reservables};
+ghost use Rattle.escrow_core.specs.Journal.{columns_of, entry_of, of_table, named_changes};
 
-use crate::reply::JournalEntry;
-use escrow_num::{Name, Seq};
-use escrow_schema::Catalog;
+use crate::reply::{ColumnChange, JournalEntry};
+use escrow_num::{Amount, Copied, Name, Reservation, Seq};
+use escrow_schema::{Catalog, reservable_names};
 use escrow_txn::TxnTable;
 use std::alloc::{AllocError, Global};
 
@@ -13,11 +16,74 @@ use std::alloc::{AllocError, Global};
 pub(crate) fn journal_entries(
     alloc: Global,
     catalog: &Catalog,
-    open: &TxnTable,
+    txns: &TxnTable,
     table: Option<Name>,
 ) -> Result<Seq<JournalEntry>, AllocError>
-    ensures { IfOk result (λ entries. entries ≡ map (entry_of catalog.now) (of_table table open.now.reservations)) }
+    ensures { IfOk result (λ entries. entries ≡ map (entry_of catalog.now) (of_table table txns.now.reservations)) }
 {
-    let all = open.all_in_order(alloc)?;
-    todo!()
+    let mut entries = Seq::new(alloc);
+    for r in &txns.all_in_order(alloc)? {
+        push_entry(alloc, &mut entries, catalog, table, *r)?;
+    }
+    Ok(entries)
+}
+
+/// Adds a reservation as it is shown, if it is: one of the rows of the table, if one is named.
+fn push_entry(
+    alloc: Global,
+    entries: &mut Seq<JournalEntry>,
+    catalog: &Catalog,
+    table: Option<Name>,
+    r: &Reservation,
+) -> Result<(), AllocError>
+    ensures { OnOk result (entries.new ≡ entries.old ++ map (entry_of catalog.now) (of_table table (r.now ∷ []))) }
+{
+    if table.is_none_or(|name| r.row.table == name) {
+        entries.push(entry_of(alloc, catalog, r)?)?;
+    }
+    Ok(())
+}
+
+/// A reservation as it is shown.
+fn entry_of(alloc: Global, catalog: &Catalog, r: &Reservation) -> Result<JournalEntry, AllocError>
+    ensures { IfOk result (λ entry. entry ≡ entry_of catalog.now r.now) }
+{
+    let names = columns_of(alloc, catalog, r.row.table)?;
+    Ok(JournalEntry {
+        id: r.id,
+        session: r.session,
+        row: r.row.copy(alloc)?,
+        changes: named_changes(alloc, names.as_slice(), r.changes.as_slice())?,
+    })
+}
+
+/// The names of the RESERVABLE columns of a table, in column order; none where there is no such
+/// table.
+fn columns_of(alloc: Global, catalog: &Catalog, table: Name) -> Result<Vec<Name>, AllocError>
+    ensures { IfOk result (λ names. names.items ≡ columns_of catalog.now table) }
+{
+    match catalog.find(table) {
+        Some(table) => reservable_names(alloc, table.columns.as_slice()),
+        None => Ok(Vec::new(alloc)),
+    }
+}
+
+/// The changes that there are, each with the name of its column.
+fn named_changes(
+    alloc: Global,
+    names: &[Name],
+    changes: &[Option<Amount>],
+) -> Result<Seq<ColumnChange>, AllocError>
+    ensures { IfOk result (λ named. named ≡ named_changes names.now changes.now) }
+{
+    let mut named = Seq::new(alloc);
+    for (name, change) in names.iter().zip(changes) {
+        if let Some(change) = change {
+            named.push(ColumnChange {
+                column: *name,
+                change: *change,
+            })?;
+        }
+    }
+    Ok(named)
 }

@@ -1,14 +1,16 @@
-ghost use Rattle.std.specs.Prelude.{◌≡◌, ℤ, [], ◌∷◌, ◌++◌, ◌<◌, ◌≤◌, List, length, map, take};
+ghost use Rattle.std.specs.Prelude.{◌≡◌, ℤ, [], ◌∷◌, ◌++◌, ◌+◌, ◌<◌, ◌≤◌, List, length, map, take};
 ghost use Rattle.std.specs.List.{AllByRecursion};
 ghost use Rattle.escrow_num.specs.Reservation.{counted};
 ghost use Rattle.escrow_checks.specs.declared.spread.TheConstants.Spread.{MAX_OPEN};
 ghost use Rattle.escrow_checks.specs.declared.check.Check.{Check};
 ghost use Rattle.escrow_core.specs.declared.spreads.TheConstants.{MOST_CHECKS};
-ghost use Rattle.escrow_core.specs.Serving.{AreSpreads, IsShort};
+ghost use Rattle.escrow_core.specs.Serving.{AreOpen, AreSpreads, IsShort};
 ghost use Rattle.escrow_core.specs.State.{changes_to};
 
+use crate::reservations::reservations_at;
 use escrow_checks::{Check, Coefficients, MAX_CHECKS, Spread};
-use escrow_num::{Amount, Reservation, Row};
+use escrow_num::{Amount, Reservation, Row, Session};
+use escrow_txn::TxnTable;
 
 /// The most checks of a table: those that it declares, and the range of each RESERVABLE column.
 pub(crate) const MOST_CHECKS: usize = MAX_CHECKS + Coefficients::MAX_LEN;
@@ -25,30 +27,42 @@ pub(crate) fn counted(changes: &[Option<Amount>]) -> [Amount; Coefficients::MAX_
     amounts
 }
 
-/// How far the open reservations of a row can move the form of each check, whichever are applied:
-/// one spread for each check, in place. Each reservation is read once.
-pub(crate) fn spreads_over(
-    checks: &[Check],
-    row: &Row,
-    reservations: &[Reservation],
-) -> [Spread; MOST_CHECKS]
+/// How far the open reservations of all sessions can move the form of each check of a row,
+/// whichever are applied: one spread for each check, in place. The journals are walked one after
+/// another, and each reservation is read once.
+pub(crate) fn spreads_over(checks: &[Check], row: &Row, txns: &TxnTable) -> [Spread; MOST_CHECKS]
     requires few_checks { length checks.now ≤ MOST_CHECKS }
-    requires few { length reservations.now ≤ MAX_OPEN }
-    requires short { AllByRecursion IsShort reservations.now }
-    ensures { AreSpreads checks.now (map (changes_to row.now) reservations.now) result }
+    requires open { AreOpen txns.now.reservations }
+    ensures { AreSpreads checks.now (map (changes_to row.now) txns.now.reservations) result }
 {
     let mut spreads = no_spreads();
-    for r in reservations {
-        if row.name.is_same(&r.row) {
-            let amounts = counted(r.changes.as_slice());
-            add_to_each(&mut spreads, checks, &amounts[..r.changes.len()]);
-        }
+    for i in 0..Session::MAX {
+        add_reservations(&mut spreads, checks, row, reservations_at(txns, i));
     }
     spreads
 }
 
+/// Adds what reservations contribute to the form of each check of a row to its spread.
+fn add_reservations(
+    spreads: &mut [Spread],
+    checks: &[Check],
+    row: &Row,
+    reservations: &[Reservation],
+)
+    requires room { (before : List (List ℤ)) × AreSpreads checks.now before spreads.old × (length before + length reservations.now ≤ MAX_OPEN) }
+    requires short { AllByRecursion IsShort reservations.now }
+    ensures { (before : List (List ℤ)) → AreSpreads checks.now before spreads.old → AreSpreads checks.now (before ++ map (changes_to row.now) reservations.now) spreads.new }
+{
+    for r in reservations {
+        if row.name.is_same(&r.row) {
+            let amounts = counted(r.changes.as_slice());
+            add_to_each(spreads, checks, &amounts[..r.changes.len()]);
+        }
+    }
+}
+
 /// The spread of no reservation, as often as a table can have checks.
-fn no_spreads() -> [Spread; MOST_CHECKS]
+pub(crate) fn no_spreads() -> [Spread; MOST_CHECKS]
     ensures { (checks : List Check) → length checks ≤ MOST_CHECKS → AreSpreads checks [] result }
 {
     [Spread::new(); MOST_CHECKS]

@@ -148,7 +148,7 @@ fn grants_over_every_choice(rt: HostRuntime) -> Result<(), Fail> {
         add_7,
         &Reply::Reserved { id: 2 },
     );
-    assert_eq!(rt; database.next_id(), 3);
+    assert_eq!(rt; database.next_id(), Some(3));
     assert_eq!(rt; database.rollback(session(&rt, 1)), 1);
     serve(
         &rt,

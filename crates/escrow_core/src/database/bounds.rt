@@ -38,7 +38,7 @@ impl Database {
         let Some(row) = find_named_by(&self.rows, text.table, &text.row) else {
             return Err(Refusal::NoSuchRow);
         };
-        match row_bounds(alloc, table, row, &self.reservations) {
+        match row_bounds(alloc, table, row, &self.open) {
             Ok(reply) => Ok(reply),
             Err(_) => Err(Refusal::Memory),
         }

@@ -54,7 +54,7 @@ impl Database {
         if find_named_by(&self.rows, text.table, &text.row).is_none() {
             return Err(Refusal::NoSuchRow);
         }
-        if is_reserved(&self.reservations, text.table, &text.row) {
+        if is_reserved(&self.open, text.table, &text.row) {
             return Err(Refusal::RowReserved);
         }
         Ok(())

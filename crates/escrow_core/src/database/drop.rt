@@ -38,7 +38,7 @@ impl Database {
         if self.catalog.find(name).is_none() {
             return Err(Refusal::NoSuchTable);
         }
-        if is_table_reserved(&self.reservations, name) {
+        if is_table_reserved(&self.open, name) {
             return Err(Refusal::TableReserved);
         }
         Ok(())

@@ -2,6 +2,7 @@ use crate::database::Database;
 use crate::grant::first_breach;
 use crate::reply::Reply;
 use crate::rows::{count_rows, find_row, row_place};
+use crate::spreads::no_spreads;
 use escrow_num::{Refusal, Row, Session};
 use escrow_schema::{TableDef, fit_row};
 use escrow_sql::{InsertText, Statement};
@@ -76,6 +77,6 @@ impl Database {
         if count_rows(&self.rows, text.table) >= Self::MAX_ROWS {
             return Some(Refusal::TableFull);
         }
-        first_breach(table.checks.as_slice(), row, &[], &[]).map(Refusal::Check)
+        first_breach(table.checks.as_slice(), row, &[], &no_spreads()).map(Refusal::Check)
     }
 }

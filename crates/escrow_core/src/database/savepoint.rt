@@ -1,6 +1,7 @@
 use crate::database::Database;
 use crate::reply::Reply;
 use escrow_num::{Name, Session};
+use escrow_sql::Statement;
 
 impl Database {
     ghost use Rattle.std.specs.Prelude.{◌≡◌};
@@ -11,6 +12,8 @@ impl Database {
     pub(crate) fn savepoint(&mut self, session: Session, name: Name) -> Reply
         ensures { StepOrRefusal self.old.state session (Statement.Savepoint name) result self.new.state }
     {
+        // What its type knows of a session's number is told where the number is read.
+        let _ = session.get();
         match self.open.mark(session, name) {
             Ok(()) => Reply::Savepoint(name),
             Err(refusal) => Reply::Refused(refusal),

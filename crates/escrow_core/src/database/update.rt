@@ -1,19 +1,19 @@
 use crate::database::Database;
 use crate::grant::breach_of;
 use crate::reply::Reply;
-use crate::reservations::count_own;
 use crate::rows::{find_row, replace_plain};
-use escrow_num::{Changes, Refusal, Reservation, RowName, Seq, Session, Value};
+use escrow_num::{Amount, Changes, Refusal, RowName, Seq, Session, Value};
 use escrow_schema::{Plan, plan_update};
 use escrow_sql::{Statement, UpdateText};
 use std::alloc::Global;
 
 impl Database {
-    ghost use Rattle.std.specs.Prelude.{◌≡◌, None, Some, IfOk, IfErr, [], ◌∷◌, is_none};
+    ghost use Rattle.std.specs.Prelude.{◌≡◌, ◌≤◌, None, Some, IfOk, IfErr, [], ◌∷◌, is_none, length};
     ghost use Rattle.escrow_num.specs.Refusal.{first_refusal, refuse_if};
     ghost use Rattle.escrow_num.specs.Session.{IsSession};
     ghost use Rattle.escrow_core.specs.Asked.{plan_of};
-    ghost use Rattle.escrow_core.specs.Serving.{IsRefusal, IsShort};
+    ghost use Rattle.escrow_checks.specs.declared.coefficients.TheConstants.Coefficients.{MAX_LEN};
+    ghost use Rattle.escrow_core.specs.Serving.{IsRefusal};
     ghost use Rattle.escrow_core.specs.State.{row_named, is_open};
     ghost use Rattle.escrow_core.specs.Step.{StepOrRefusal};
     ghost use Rattle.escrow_core.specs.Turn.{update_refusals};
@@ -52,47 +52,41 @@ impl Database {
         requires { plan_of self.old.state text.now ≡ Some (Plan.Reserve key changes) }
         ensures { StepOrRefusal self.old.state session (Statement.Update text.now) result self.new.state }
     {
-        let id = self.next_id;
-        let row = RowName {
+        let name = RowName {
             table: text.table,
             key,
         };
-        let asked = Reservation {
-            id,
-            session,
-            row,
-            changes,
-        };
-        if let Some(refusal) = self.grant_refusal(&asked) {
+        if let Some(refusal) = self.grant_refusal(session, &name, changes.as_slice()) {
             return Reply::Refused(refusal);
         }
-        match self.reservations.push(asked) {
-            Ok(()) => {
-                self.next_id += 1;
-                Reply::Reserved { id }
-            }
-            Err(_) => Reply::Refused(Refusal::Memory),
+        match self.open.grant(session, name, changes) {
+            Ok(id) => Reply::Reserved { id },
+            Err(refusal) => Reply::Refused(refusal),
         }
     }
 
     /// Why a reservation isn't granted: no such row, as many reservations of the session as it may
     /// have, no more ids, or the first check that it could break.
-    fn grant_refusal(&self, asked: &Reservation) -> Option<Refusal>
-        requires { IsShort asked.now }
-        ensures first { result ≡ first_refusal (update_refusals self.now.state asked.now.session asked.now.row.table (Plan.Reserve asked.now.row.key asked.now.changes)) }
-        ensures session { result ≡ None → IsSession asked.now.session }
+    fn grant_refusal(
+        &self,
+        session: Session,
+        name: &RowName,
+        changes: &[Option<Amount>],
+    ) -> Option<Refusal>
+        requires { length changes.now ≤ MAX_LEN }
+        ensures first { result ≡ first_refusal (update_refusals self.now.state session name.now.table (Plan.Reserve name.now.key changes.now)) }
+        ensures session { result ≡ None → IsSession session }
     {
-        let Some(row) = find_row(&self.rows, &asked.row) else {
+        let Some(row) = find_row(&self.rows, name) else {
             return Some(Refusal::NoSuchRow);
         };
-        if count_own(&self.reservations, asked.session) >= Self::MAX_RESERVATIONS {
-            return Some(Refusal::TooManyReservations);
+        if let Some(refusal) = self.open.grant_refusal(session) {
+            return Some(refusal);
         }
-        if self.next_id > Reservation::MAX_ID {
-            return Some(Refusal::NoMoreIds);
-        }
-        let table = self.catalog.find(asked.row.table)?;
-        breach_of(table.checks.as_slice(), row, asked, &self.reservations).map(Refusal::Check)
+        // What its type knows of a session's number is told where the number is read.
+        let _ = session.get();
+        let table = self.catalog.find(name.table)?;
+        breach_of(table.checks.as_slice(), row, changes, &self.open).map(Refusal::Check)
     }
 
     /// Plain values of a row are replaced. Its amounts stay, and so do the reservations of it.

@@ -27,14 +27,14 @@ spreads_over-spreads-requires-clause-few_checks c = rw c.as_slice-checks.ensures
 
 pub all_check_bounds-requires : goal.all_check_bounds-requires
 all_check_bounds-requires c = record {
-  enough = enough_spreads c.as_slice-checks.result.now (map (changes_to c.args.row.now) c.args.reservations.now) c.spreads_over-spreads.result c.spreads_over-spreads.ensures;
+  enough = enough_spreads c.as_slice-checks.result.now (map (changes_to c.args.row.now) c.args.txns.now.reservations) c.spreads_over-spreads.result c.spreads_over-spreads.ensures;
 }
 
 pub split_at-requires : goal.split_at-requires
 split_at-requires c =
     let table = c.args.table.now in
     let row = c.args.row.now in
-    let reservations = map (changes_to row) c.args.reservations.now in
+    let reservations = map (changes_to row) c.args.txns.now.reservations in
     let has_all : AllByRecursion (λ (check : Check). IsCovered check.coeffs row.amounts) c.as_slice-checks.result.now =
     rw c.as_slice-checks.ensures (covered table row c.requires.table c.requires.row.amounts) in
     let is : c.in_ok-bounds.bounds ≡ map (check_bounds row.amounts reservations) table.checks =
@@ -47,7 +47,7 @@ pub all_column_bounds-requires-clause-ranges : goal.all_column_bounds-requires-c
 all_column_bounds-requires-clause-ranges c =
     let table = c.args.table.now in
     let row = c.args.row.now in
-    let reservations = map (changes_to row) c.args.reservations.now in
+    let reservations = map (changes_to row) c.args.txns.now.reservations in
     let has_all : AllByRecursion (λ (check : Check). IsCovered check.coeffs row.amounts) c.as_slice-checks.result.now =
     rw c.as_slice-checks.ensures (covered table row c.requires.table c.requires.row.amounts) in
     let is : c.in_ok-bounds.bounds ≡ map (check_bounds row.amounts reservations) table.checks =
@@ -65,7 +65,7 @@ pub returns : goal.returns
 returns c =
     let table = c.args.table.now in
     let row = c.args.row.now in
-    let reservations = map (changes_to row) c.args.reservations.now in
+    let reservations = map (changes_to row) c.args.txns.now.reservations in
     let has_all : AllByRecursion (λ (check : Check). IsCovered check.coeffs row.amounts) c.as_slice-checks.result.now =
     rw c.as_slice-checks.ensures (covered table row c.requires.table c.requires.row.amounts) in
     let is : c.in_ok-bounds.bounds ≡ map (check_bounds row.amounts reservations) table.checks =

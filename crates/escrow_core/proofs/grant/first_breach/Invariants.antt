@@ -1,9 +1,9 @@
-use Rattle.std.proofs.Common.{◌≡◌, drop}
-use Rattle.std.specs.Prelude.{map}
+use Rattle.std.proofs.Common.{◌≡◌, ℤ, List, drop}
 use Rattle.escrow_checks.specs.Grant.{broken}
-use Rattle.escrow_core.specs.State.{changes_to}
+use Rattle.escrow_core.specs.Serving.{AreSpreads}
 use Rattle.escrow_core.proofs.grant.first_breach.Given as goal
 
 abbrev pub invariant-loop-i : goal.invariant-loop-i
 invariant-loop-i l =
-    broken (drop l.i l.checks) l.row.amounts l.changes (map (changes_to l.row) l.reservations) ≡ broken l.checks l.row.amounts l.changes (map (changes_to l.row) l.reservations)
+    (reservations : List (List ℤ)) → AreSpreads l.checks reservations l.spreads
+    → broken (drop l.i l.checks) l.row.amounts l.changes reservations ≡ broken l.checks l.row.amounts l.changes reservations

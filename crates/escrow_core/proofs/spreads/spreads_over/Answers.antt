@@ -1,35 +1,39 @@
-use Rattle.std.proofs.Common.{◌≡◌, sym, ◌∙◌, take, arith}
+use Rattle.std.proofs.Common.{◌≡◌, ◌+◌, ◌≤◌, length, arith}
 use Rattle.std.specs.Prelude.{map}
-use Rattle.std.proofs.lemmas.List.{length-map, length-take}
-use Rattle.escrow_num.specs.Reservation.{counted}
+use Rattle.std.proofs.lemmas.List.{length-map}
+use Rattle.escrow_checks.specs.declared.spread.TheConstants.Spread.{MAX_OPEN}
+use Rattle.escrow_num.specs.declared.session.TheConstants.Session.{MAX}
+use Rattle.escrow_journal.specs.Reservations.{own}
 use Rattle.escrow_core.specs.State.{changes_to}
-use Rattle.escrow_core.proofs.Applying.{changes_more, changes_own, changes_other}
-use Rattle.escrow_core.proofs.SpreadLemmas.{spreads_other}
+use Rattle.escrow_core.proofs.Sessions.{first_sessions, sessions_none, sessions_all, spreads_next, count_next, short_own, few_first}
 use Rattle.escrow_core.proofs.spreads.spreads_over.Goals as goal
-use Rattle.escrow_core.proofs.spreads.spreads_over.Goals.{then-is_same, else-is_same}
 
-pub loop-r-preserved : goal.loop-r-preserved
-loop-r-preserved c =
-    let row = c.args.row.now in
-    let reservations = c.args.reservations.now in
-    let checks = c.args.checks.now in
-    let r = c.r-item.result in
-    let i = c.loop-r.r-index in
-    let so_far = map (changes_to row) (take i reservations) in
-    let more = changes_more row reservations i r c.loop-r-test.true c.r-item.is in
-    elim c.if-is_same.branch [
-      | then-is_same w ↦
-          let own = changes_own row r (sym c.is_same.ensures.test ∙ w.if-is_same.true) in
-          let amounts : take w.len.result w.counted-amounts.result ≡ counted r.changes = rw w.len.ensures (rw w.as_slice.ensures at w.counted-amounts.ensures) in
-          rw (w.spreads-is, more, own) (rw amounts at (w.add_to_each.ensures so_far c.loop-r.invariant))
-      | else-is_same w ↦
-          let none = changes_other row r (sym c.is_same.ensures.test ∙ w.if-is_same.false) in
-          rw (w.spreads-is, more, none) (spreads_other checks so_far c.loop-r.spreads c.loop-r.invariant)
-    ]
+pub loop-i-init : goal.loop-i-init
+loop-i-init c =
+    rw (sessions_none c.args.txns.now.reservations c.requires.open.sessions) (c.no_spreads-spreads.ensures c.args.checks.now c.requires.few_checks)
 
-pub add_to_each-requires : goal.add_to_each-requires
-add_to_each-requires c =
-    let i = c.loop-r.r-index in
-    let reservations = c.args.reservations.now in
-    let so_far = map (changes_to c.args.row.now) (take i reservations) in
-    (so_far, c.loop-r.invariant, omega (arith, length-map (take i reservations) (changes_to c.args.row.now), length-take i reservations, c.loop-r-test.true, c.requires.few))
+pub add_reservations-requires : goal.add_reservations-requires
+add_reservations-requires c =
+    let all = c.args.txns.now.reservations in
+    let n = c.loop-i.i in
+    let before = map (changes_to c.args.row.now) (first_sessions n all) in
+    let few : length before + length (own (n + 1) all) ≤ MAX_OPEN =
+    omega (arith, length-map (first_sessions n all) (changes_to c.args.row.now), count_next n all, few_first (n + 1) all, c.requires.open.few) in
+    record {
+      room = (before, c.loop-i.invariant, rw c.reservations_at.ensures few);
+      short = rw c.reservations_at.ensures (short_own (n + 1) all c.requires.open.short);
+    }
+
+pub loop-i-preserved : goal.loop-i-preserved
+loop-i-preserved c =
+    let all = c.args.txns.now.reservations in
+    let n = c.loop-i.i in
+    let before = map (changes_to c.args.row.now) (first_sessions n all) in
+    let more = rw c.reservations_at.ensures at (c.add_reservations.ensures before c.loop-i.invariant) in
+    spreads_next c.args.checks.now (changes_to c.args.row.now) n all c.add_reservations.new.spreads more
+
+pub returns : goal.returns
+returns c =
+    let all = c.args.txns.now.reservations in
+    let last : c.loop-i.i ≡ MAX = omega (arith, c.loop-i-test.false, c.loop-i.auto.i-end) in
+    rw (last, sessions_all all c.requires.open.sessions) at c.loop-i.invariant

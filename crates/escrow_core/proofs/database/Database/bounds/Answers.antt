@@ -3,7 +3,8 @@ use Rattle.escrow_schema.specs.Catalog.{table_named}
 use Rattle.escrow_core.specs.Asked.{named_by}
 use Rattle.escrow_core.specs.Inside.{state_of}
 use Rattle.escrow_core.specs.State.{State, row_named}
-use Rattle.escrow_core.proofs.Shapes.{few_reservations, row_found, short_reservations}
+use Rattle.escrow_core.proofs.Sessions.{open_ones}
+use Rattle.escrow_core.proofs.Shapes.{row_found}
 use Rattle.escrow_core.proofs.database.Database.bounds.Goals as goal
 
 pub row_bounds-requires-clause-row : goal.row_bounds-requires-clause-row
@@ -16,12 +17,7 @@ row_bounds-requires-clause-row c =
     let found : row_named s.rows (named_by text.table text.row) ≡ Some row = rw (← c.deref.ensures.value) (sym c.in-Some-find_named_by.ensures) in
     row_found s c.self.invariant (named_by text.table text.row) table row named found
 
-pub row_bounds-requires-clause-few : goal.row_bounds-requires-clause-few
-row_bounds-requires-clause-few c =
+pub row_bounds-requires-clause-open : goal.row_bounds-requires-clause-open
+row_bounds-requires-clause-open c =
     let s : State = state_of c.self.inside in
-    rw c.deref-2.ensures.value (few_reservations s c.self.invariant)
-
-pub row_bounds-requires-clause-short : goal.row_bounds-requires-clause-short
-row_bounds-requires-clause-short c =
-    let s : State = state_of c.self.inside in
-    rw c.deref-2.ensures.value (short_reservations s c.self.invariant)
+    open_ones s c.self.invariant

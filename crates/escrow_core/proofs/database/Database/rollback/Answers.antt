@@ -6,4 +6,4 @@ use Rattle.escrow_core.proofs.database.Database.rollback.Goals as goal
 pub invariant_of-self : goal.invariant_of-self
 invariant_of-self c =
     let s : State = state_of c.self.inside in
-    rw (c.release.ensures, c.release_savepoints.ensures) (rollback_valid s c.args.session c.self.invariant)
+    rw c.take_all.ensures.ended (rollback_valid s c.args.session c.self.invariant)

@@ -1,0 +1,6 @@
+use Rattle.escrow_core.specs.Inside.{state_of}
+use Rattle.escrow_core.proofs.Sessions.{open_ones}
+use Rattle.escrow_core.proofs.database.Database.check_drop.Goals as goal
+
+pub is_table_reserved-requires : goal.is_table_reserved-requires
+is_table_reserved-requires c = open_ones (state_of c.self.inside) c.self.invariant

@@ -1,0 +1,9 @@
+use Rattle.std.proofs.Common.{ℤ, List, ◌++◌, take}
+use Rattle.std.specs.Prelude.{map}
+use Rattle.escrow_core.specs.Serving.{AreSpreads}
+use Rattle.escrow_core.specs.State.{changes_to}
+use Rattle.escrow_core.proofs.spreads.add_reservations.Given as goal
+
+abbrev pub invariant-loop-r : goal.invariant-loop-r
+invariant-loop-r l =
+    (before : List (List ℤ)) → AreSpreads l.checks before l.initial.spreads → AreSpreads l.checks (before ++ map (changes_to l.row) (take l.r-index l.reservations)) l.spreads
