@@ -66,10 +66,10 @@ const TEXTS: [(&str, &str); 6] = [
          bank.1> ERR 11 syntax column 15\nbank.1> ERR 11 syntax column 6\n",
     ),
     (
-        "bank.1: SHOW BOUNDS T WHERE ID > 1\nbank.1: SHOW JOURNAL\nbank.1: SHOW STATISTICS\nbank.1: SAVEPOINT X\nbank.1: ROLLBACK TO X\n\
+        "bank.1: SHOW BOUNDS T WHERE ID > 1\nbank.1: SHOW JOURNALS\nbank.1: SHOW STATISTICS\nbank.1: SAVEPOINT TABLE\nbank.1: ROLLBACK TO 1\n\
          bank.1: UPDATE T SET A = A + 1, WHERE ID = 1\nbank.1: UPDATE T SET A = A + B WHERE ID = 1\nbank.1: UPDATE T SET A = 1 + A WHERE ID = 1\nbank.1: UPDATE T SET A = 1\n\
          bank.1: INSERT INTO T (A, VALUES (1)\nbank.1: INSERT INTO T (1) VALUES (1)\nbank.1: INSERT INTO T VALUES (A)\n",
-        "bank.1> ERR 11 syntax column 25\nbank.1> ERR 11 syntax column 7\nbank.1> ERR 11 syntax column 7\nbank.1> ERR 11 syntax column 2\nbank.1> ERR 11 syntax column 11\n\
+        "bank.1> ERR 11 syntax column 25\nbank.1> ERR 11 syntax column 7\nbank.1> ERR 11 syntax column 7\nbank.1> ERR 11 syntax column 12\nbank.1> ERR 11 syntax column 14\n\
          bank.1> ERR 11 syntax column 26\nbank.1> ERR 11 syntax column 23\nbank.1> ERR 11 syntax column 21\nbank.1> ERR 11 syntax column 20\n\
          bank.1> ERR 11 syntax column 20\nbank.1> ERR 11 syntax column 17\nbank.1> ERR 11 syntax column 24\n",
     ),
