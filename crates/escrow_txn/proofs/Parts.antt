@@ -7,6 +7,7 @@ use Rattle.std.proofs.lemmas.List.{append-nil}
 use Rattle.std.proofs.lemmas.List.Elements.{filter-append}
 use Rattle.escrow_num.specs.declared.reservation.Savepoint.{Savepoint}
 use Rattle.escrow_num.proofs.Items.{all_has, has_all}
+use Rattle.escrow_journal.proofs.Filters.{filter_all}
 use Rattle.escrow_journal.specs.Reservations.{other_savepoints}
 use Rattle.escrow_journal.specs.Savepoints.{is_named, put_savepoint, through}
 
@@ -14,11 +15,6 @@ use Rattle.escrow_journal.specs.Savepoints.{is_named, put_savepoint, through}
 pub filter_none : {A : Type 0} (p : A → Bool) (xs : List A) → AllByRecursion (λ x. p x ≡ false) xs → filter p xs ≡ []
 filter_none p [] all = refl
 filter_none p (x ∷ xs) all = cond-false (p x) (x ∷ filter p xs) (filter p xs) all.0 ∙ filter_none p xs all.1
-
--- what every item passes leaves all
-pub filter_all : {A : Type 0} (p : A → Bool) (xs : List A) → AllByRecursion (λ x. p x ≡ true) xs → filter p xs ≡ xs
-filter_all p [] all = refl
-filter_all p (x ∷ xs) all = cond-true (p x) (x ∷ filter p xs) (filter p xs) all.0 ∙ ap (λ ys. x ∷ ys) (filter_all p xs all.1)
 
 filter_parts : {A : Type 0} (p : A → Bool) (xs part ys : List A) → filter p (xs ++ (part ++ ys)) ≡ filter p xs ++ (filter p part ++ filter p ys)
 filter_parts p xs part ys = filter-append p xs (part ++ ys) ∙ ap (λ zs. filter p xs ++ zs) (filter-append p part ys)

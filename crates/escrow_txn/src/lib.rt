@@ -8,3 +8,6 @@ mod merge;
 mod table;
 
 pub use table::TxnTable;
+
+#[cfg(test)]
+mod tests;
