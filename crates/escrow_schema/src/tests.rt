@@ -5,13 +5,14 @@ mod rows;
 ghost use Rattle.std.specs.Prelude.{IfOk};
 ghost use Rattle.escrow_schema.specs.Definition.{IsTable};
 
-use crate::{TableDef, define};
-use escrow_num::{Amount, Name, Seq, Text, Value};
+use crate::{TableDef, define, fit_row, plan_update};
+use escrow_num::{Amount, Name, Refusal, Seq, Text, Value};
 use escrow_sql::{
     CheckText, ColumnMark, ColumnText, Comparison, Condition, CreateText, InsertText, Item,
-    Request, Statement, Term, Test, TypeText, parse,
+    Request, Statement, Term, Test, TypeText, UpdateText, parse,
 };
 use std::alloc::{AllocError, Global};
+use std::fmt;
 use std::process::Abort;
 use std::test::Fail;
 
@@ -36,85 +37,140 @@ pub(crate) fn statement(alloc: Global, text: &str) -> Result<Statement, Fail> {
     Ok(statement)
 }
 
-pub(crate) fn create_text(rt: &impl Abort, alloc: Global, text: &str) -> Result<CreateText, Fail> {
-    let create = match statement(alloc, text)? {
-        Statement::Create(create) => Some(create),
-        _ => None,
-    };
-    Ok(create.expect(rt, "a CREATE TABLE"))
-}
+/// GOODS: the plain columns LABEL, a text of 4 bytes, and SHELF, of two digits; STOCK, which is
+/// RESERVABLE; and behind it the key CODE, a text.
+pub(crate) const GOODS: &str = "CREATE TABLE GOODS (LABEL VARCHAR2(4), SHELF NUMBER(2), \
+    STOCK INTEGER RESERVABLE, CODE VARCHAR2(255), CHECK (STOCK >= 0), PRIMARY KEY (CODE))";
 
-pub(crate) fn insert_text(rt: &impl Abort, alloc: Global, text: &str) -> Result<InsertText, Fail> {
-    let insert = match statement(alloc, text)? {
-        Statement::Insert(insert) => Some(insert),
-        _ => None,
-    };
-    Ok(insert.expect(rt, "an INSERT"))
-}
+/// T: the plain columns BRANCH of two digits and OWNER of four bytes, the RESERVABLE columns BALANCE
+/// and POINTS of two digits, and the key ID of three digits, in the middle.
+pub(crate) const ACCOUNTS: &str = "CREATE TABLE T (BRANCH NUMBER(2), BALANCE INTEGER RESERVABLE, \
+    ID NUMBER(3) PRIMARY KEY, POINTS NUMBER(2) RESERVABLE, OWNER VARCHAR2(4))";
 
 /// The table that a text defines.
 pub(crate) fn table(rt: &impl Abort, alloc: Global, text: &str) -> Result<TableDef, Fail>
     ensures { IfOk result IsTable }
 {
-    let text = create_text(rt, alloc, text)?;
-    Ok(define(alloc, &text)?)
+    match statement(alloc, text)? {
+        Statement::Create(create) => Ok(define(alloc, &create)?),
+        _ => panic!(rt; "no CREATE TABLE: {text}"),
+    }
 }
 
-/// 0 for a table, or the number of the refusal.
-pub(crate) fn verdict(alloc: Global, text: &CreateText) -> u8 {
-    define(alloc, text)
-        .err()
-        .map_or(0, |refusal| refusal.number())
+/// 0, or the number of the refusal.
+pub(crate) fn number_of<T: Drop>(answer: Result<T, Refusal>) -> u8 {
+    answer.err().map_or(0, |refusal| refusal.number())
+}
+
+/// The answer to an INSERT into GOODS.
+fn insert_answer(rt: &impl Abort, alloc: Global, text: &InsertText) -> Result<u8, Fail> {
+    let goods = table(rt, alloc, GOODS)?;
+    Ok(number_of(fit_row(alloc, &goods, text)))
+}
+
+/// The answer to an UPDATE of ACCOUNTS.
+fn update_answer(rt: &impl Abort, alloc: Global, text: &UpdateText) -> Result<u8, Fail> {
+    let accounts = table(rt, alloc, ACCOUNTS)?;
+    Ok(number_of(plan_update(alloc, &accounts, text)))
+}
+
+/// The answer to a statement: 0, or the number of its refusal.
+pub(crate) fn answer(rt: &impl Abort, alloc: Global, text: &str) -> Result<u8, Fail> {
+    match statement(alloc, text)? {
+        Statement::Create(create) => Ok(number_of(define(alloc, &create))),
+        Statement::Insert(insert) => insert_answer(rt, alloc, &insert),
+        Statement::Update(update) => update_answer(rt, alloc, &update),
+        _ => panic!(rt; "no such statement: {text}"),
+    }
+}
+
+/// Statements have these answers. Each is the text of its row, between the front and the end.
+pub(crate) fn expect_answers(
+    rt: &impl Abort,
+    alloc: Global,
+    (front, end): (&str, &str),
+    rows: &[(&str, u8)],
+) -> Result<(), Fail> {
+    for (middle, want) in rows {
+        let text = format!(in alloc; "{front}{middle}{end}")?;
+        assert_eq!(rt; answer(rt, alloc, text.as_str())?, *want, "{text}");
+    }
+    Ok(())
+}
+
+/// Adds a blank and a word, which is a dash for none.
+pub(crate) fn push_word<T: fmt::Display + Drop>(
+    text: &mut String,
+    word: Option<T>,
+) -> Result<(), Fail> {
+    match word {
+        Some(word) => write!(text, " {word}")?,
+        None => text.push_str(" -")?,
+    }
+    Ok(())
+}
+
+/// Adds a blank and a value, a text in quotes as it is, or a dash for none.
+pub(crate) fn push_value(text: &mut String, value: Option<&Value>) -> Result<(), Fail> {
+    match value {
+        Some(Value::Text(bytes)) => push_quoted(text, bytes.as_str()),
+        Some(Value::Number(number)) => push_word(text, Some(*number)),
+        None => push_word(text, None::<Amount>),
+    }
+}
+
+fn push_quoted(text: &mut String, bytes: &str) -> Result<(), Fail> {
+    write!(text, " '{bytes}'")?;
+    Ok(())
 }
 
 #[test]
 fn keeps_to_the_rules(rt: HostRuntime) -> Result<(), Fail> {
-    let alloc = rt.alloc();
-    for (items, want) in [
-        ("ID NUMBER PRIMARY KEY, A NUMBER RESERVABLE", 0),
-        (
-            "ID NUMBER(1) PRIMARY KEY, A NUMBER(15) RESERVABLE NOT NULL RESERVABLE",
-            0,
-        ),
-        ("A NUMBER RESERVABLE, ID INTEGER PRIMARY KEY", 0),
-        ("ID NUMBER(0) PRIMARY KEY, A NUMBER RESERVABLE", 22),
-        ("ID NUMBER PRIMARY KEY, A NUMBER(16) RESERVABLE", 22),
-        ("ID NUMBER PRIMARY KEY, ID NUMBER RESERVABLE", 22),
-        ("ID NUMBER PRIMARY KEY PRIMARY KEY, A NUMBER RESERVABLE", 22),
-        (
-            "ID NUMBER PRIMARY KEY, B NUMBER PRIMARY KEY, A NUMBER RESERVABLE",
-            22,
-        ),
-        ("ID NUMBER, A NUMBER RESERVABLE", 22),
-        ("ID NUMBER, A NUMBER PRIMARY KEY RESERVABLE", 22),
-        ("ID NUMBER PRIMARY KEY, A NUMBER", 22),
-        ("ID NUMBER PRIMARY KEY RESERVABLE", 22),
-        ("ID VARCHAR2(1) PRIMARY KEY, A NUMBER RESERVABLE", 0),
-        ("ID VARCHAR2(255) PRIMARY KEY, A NUMBER RESERVABLE", 0),
-        ("ID VARCHAR2(0) PRIMARY KEY, A NUMBER RESERVABLE", 22),
-        ("ID VARCHAR2(256) PRIMARY KEY, A NUMBER RESERVABLE", 22),
-        (
-            "ID NUMBER PRIMARY KEY, A NUMBER RESERVABLE, B VARCHAR2(9) RESERVABLE",
-            22,
-        ),
-        ("ID NUMBER, A NUMBER RESERVABLE, PRIMARY KEY (ID)", 0),
-        ("PRIMARY KEY (ID), A NUMBER RESERVABLE, ID NUMBER", 0),
-        (
-            "ID NUMBER PRIMARY KEY, A NUMBER RESERVABLE, PRIMARY KEY (ID)",
-            22,
-        ),
-        (
-            "PRIMARY KEY (ID), ID NUMBER, A NUMBER RESERVABLE, PRIMARY KEY (ID)",
-            22,
-        ),
-        ("ID NUMBER, A NUMBER RESERVABLE, PRIMARY KEY (B)", 22),
-        ("ID NUMBER, A NUMBER RESERVABLE, PRIMARY KEY (A)", 22),
-    ] {
-        let text = format!(in alloc; "CREATE TABLE T ({items})")?;
-        let text = create_text(&rt, alloc, text.as_str())?;
-        assert_eq!(rt; verdict(alloc, &text), want, "{items}");
-    }
-    Ok(())
+    expect_answers(
+        &rt,
+        rt.alloc(),
+        ("CREATE TABLE T (", ")"),
+        &[
+            ("ID NUMBER PRIMARY KEY, A NUMBER RESERVABLE", 0),
+            (
+                "ID NUMBER(1) PRIMARY KEY, A NUMBER(15) RESERVABLE NOT NULL RESERVABLE",
+                0,
+            ),
+            ("A NUMBER RESERVABLE, ID INTEGER PRIMARY KEY", 0),
+            ("ID NUMBER(0) PRIMARY KEY, A NUMBER RESERVABLE", 22),
+            ("ID NUMBER PRIMARY KEY, A NUMBER(16) RESERVABLE", 22),
+            ("ID NUMBER PRIMARY KEY, ID NUMBER RESERVABLE", 22),
+            ("ID NUMBER PRIMARY KEY PRIMARY KEY, A NUMBER RESERVABLE", 22),
+            (
+                "ID NUMBER PRIMARY KEY, B NUMBER PRIMARY KEY, A NUMBER RESERVABLE",
+                22,
+            ),
+            ("ID NUMBER, A NUMBER RESERVABLE", 22),
+            ("ID NUMBER, A NUMBER PRIMARY KEY RESERVABLE", 22),
+            ("ID NUMBER PRIMARY KEY, A NUMBER", 22),
+            ("ID NUMBER PRIMARY KEY RESERVABLE", 22),
+            ("ID VARCHAR2(1) PRIMARY KEY, A NUMBER RESERVABLE", 0),
+            ("ID VARCHAR2(255) PRIMARY KEY, A NUMBER RESERVABLE", 0),
+            ("ID VARCHAR2(0) PRIMARY KEY, A NUMBER RESERVABLE", 22),
+            ("ID VARCHAR2(256) PRIMARY KEY, A NUMBER RESERVABLE", 22),
+            (
+                "ID NUMBER PRIMARY KEY, A NUMBER RESERVABLE, B VARCHAR2(9) RESERVABLE",
+                22,
+            ),
+            ("ID NUMBER, A NUMBER RESERVABLE, PRIMARY KEY (ID)", 0),
+            ("PRIMARY KEY (ID), A NUMBER RESERVABLE, ID NUMBER", 0),
+            (
+                "ID NUMBER PRIMARY KEY, A NUMBER RESERVABLE, PRIMARY KEY (ID)",
+                22,
+            ),
+            (
+                "PRIMARY KEY (ID), ID NUMBER, A NUMBER RESERVABLE, PRIMARY KEY (ID)",
+                22,
+            ),
+            ("ID NUMBER, A NUMBER RESERVABLE, PRIMARY KEY (B)", 22),
+            ("ID NUMBER, A NUMBER RESERVABLE, PRIMARY KEY (A)", 22),
+        ],
+    )
 }
 
 /// A text of so many CHECKs, a key, so many RESERVABLE columns, of which the first has so many more
@@ -163,12 +219,7 @@ fn keeps_to_the_limits(rt: HostRuntime) -> Result<(), Fail> {
         (2, 0, 0, 0, 22),
     ] {
         let text = wide_text(alloc, columns, reservable, items, checks)?;
-        let text = create_text(&rt, alloc, text.as_str())?;
-        assert_eq!(rt;
-            verdict(alloc, &text),
-            want,
-            "{columns} {reservable} {items} {checks}"
-        );
+        assert_eq!(rt; answer(&rt, alloc, text.as_str())?, want, "{text}");
     }
     Ok(())
 }
@@ -244,7 +295,11 @@ fn keeps_to_names_that_can_be_written(rt: HostRuntime) -> Result<(), Fail> {
         ("T", "A", "RESERVABLE", 22),
     ] {
         let text = named_text(&rt, alloc, table, column, check)?;
-        assert_eq!(rt; verdict(alloc, &text), want, "{table} {column} {check}");
+        assert_eq!(rt;
+            number_of(define(alloc, &text)),
+            want,
+            "{table} {column} {check}"
+        );
     }
     Ok(())
 }

@@ -2,9 +2,8 @@
 ghost use Rattle.std.specs.Prelude.{IfOk};
 ghost use Rattle.escrow_schema.specs.Definition.{IsTable};
 
-use crate::tests::{name, table};
+use crate::tests::{name, number_of, table};
 use crate::{Catalog, TableDef};
-use escrow_num::Refusal;
 use std::alloc::Global;
 use std::process::Abort;
 use std::test::Fail;
@@ -17,10 +16,6 @@ fn named(rt: &impl Abort, alloc: Global, name: &str) -> Result<TableDef, Fail>
         "CREATE TABLE {name} (ID NUMBER PRIMARY KEY, A NUMBER RESERVABLE)"
     )?;
     table(rt, alloc, text.as_str())
-}
-
-fn number_of(answer: Result<(), Refusal>) -> u8 {
-    answer.err().map_or(0, |refusal| refusal.number())
 }
 
 #[test]

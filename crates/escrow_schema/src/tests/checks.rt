@@ -1,154 +1,143 @@
 //! The checks that definitions declare.
 use crate::TableDef;
-use crate::tests::{create_text, table, verdict};
+use crate::tests::{answer, expect_answers, push_word, table};
 use escrow_checks::Check;
-use escrow_num::Wide;
 use std::alloc::Global;
 use std::process::Abort;
 use std::test::Fail;
 
-/// 0 where checks behind the columns ID, the key, the RESERVABLE A and B and the plain P give a table,
-/// or the number of the refusal.
-fn checked(rt: &impl Abort, alloc: Global, checks: &str) -> Result<u8, Fail> {
-    let text = format!(in alloc;
-        "CREATE TABLE T (ID NUMBER PRIMARY KEY, A NUMBER RESERVABLE, B NUMBER RESERVABLE, \
-         P NUMBER, {checks})"
-    )?;
-    Ok(verdict(alloc, &create_text(rt, alloc, text.as_str())?))
-}
+/// The columns ID, the key, the RESERVABLE A and B and the plain P, in front of further items.
+const COLUMNS: &str = "CREATE TABLE T (ID NUMBER PRIMARY KEY, A NUMBER RESERVABLE, \
+    B NUMBER RESERVABLE, P NUMBER, ";
 
 #[test]
 fn keeps_to_names_of_checks(rt: HostRuntime) -> Result<(), Fail> {
-    let alloc = rt.alloc();
-    for (checks, want) in [
-        ("CHECK (A >= 0) CONSTRAINT X CHECK (A < 9)", 0),
-        ("CHECK (A >= 0) CONSTRAINT CHECK_3 CHECK (A < 9)", 0),
-        ("CHECK (A >= 0) CHECK (ID < 9)", 22),
-        ("CHECK (A >= 0) CHECK (B < 9)", 22),
-        ("CONSTRAINT X CHECK (A >= 0) CONSTRAINT X CHECK (A < 9)", 22),
-        ("CHECK (A >= 0) CONSTRAINT CHECK_1 CHECK (A < 9)", 22),
-        ("CHECK (A >= 0) CONSTRAINT RANGE_A CHECK (A < 9)", 22),
-        (", CHECK (A >= 0), CONSTRAINT X CHECK (A < 9)", 0),
+    expect_answers(
+        &rt,
+        rt.alloc(),
         (
-            "CONSTRAINT X CHECK (A >= 0), CONSTRAINT X CHECK (A < 9)",
-            22,
+            "CREATE TABLE T (ID NUMBER PRIMARY KEY, A NUMBER RESERVABLE ",
+            ")",
         ),
-        (", CHECK (ID >= 0)", 22),
-        (", CHECK (B >= 0), B NUMBER", 22),
-        (", CHECK (B >= 0), B VARCHAR2(5)", 22),
-    ] {
-        let text = format!(in alloc;
-            "CREATE TABLE T (ID NUMBER PRIMARY KEY, A NUMBER RESERVABLE {checks})"
-        )?;
-        let text = create_text(&rt, alloc, text.as_str())?;
-        assert_eq!(rt; verdict(alloc, &text), want, "{checks}");
-    }
-    Ok(())
+        &[
+            ("CHECK (A >= 0) CONSTRAINT X CHECK (A < 9)", 0),
+            ("CHECK (A >= 0) CONSTRAINT CHECK_3 CHECK (A < 9)", 0),
+            ("CHECK (A >= 0) CHECK (ID < 9)", 22),
+            ("CHECK (A >= 0) CHECK (B < 9)", 22),
+            ("CONSTRAINT X CHECK (A >= 0) CONSTRAINT X CHECK (A < 9)", 22),
+            ("CHECK (A >= 0) CONSTRAINT CHECK_1 CHECK (A < 9)", 22),
+            ("CHECK (A >= 0) CONSTRAINT RANGE_A CHECK (A < 9)", 22),
+            (", CHECK (A >= 0), CONSTRAINT X CHECK (A < 9)", 0),
+            (
+                "CONSTRAINT X CHECK (A >= 0), CONSTRAINT X CHECK (A < 9)",
+                22,
+            ),
+            (", CHECK (ID >= 0)", 22),
+            (", CHECK (B >= 0), B NUMBER", 22),
+            (", CHECK (B >= 0), B VARCHAR2(5)", 22),
+        ],
+    )
 }
 
 #[test]
 fn keeps_to_names_of_conditions(rt: HostRuntime) -> Result<(), Fail> {
-    for (checks, want) in [
-        ("CONSTRAINT D CHECK (A > 0 AND B > 0)", 0),
-        (
-            "CONSTRAINT D CHECK (A > 0 AND B > 0), CONSTRAINT D_2 CHECK (A > 1)",
-            22,
-        ),
-        (
-            "CONSTRAINT D_2 CHECK (A > 1), CONSTRAINT D CHECK (A > 0 AND B > 0)",
-            22,
-        ),
-        (
-            "CONSTRAINT D_3 CHECK (A > 1), CONSTRAINT D CHECK (A > 0 AND B > 0)",
-            0,
-        ),
-        ("CONSTRAINT CHECK_2 CHECK (A > 0), CHECK (A < 9)", 22),
-        (
-            "CHECK (A > 0 AND B > 0), CONSTRAINT CHECK_2 CHECK (A < 9)",
-            22,
-        ),
-        (
-            "CONSTRAINT CHECK_3 CHECK (A > 0 AND B > 0), CHECK (A < 9)",
-            22,
-        ),
-        (
-            "CONSTRAINT CHECK_2 CHECK (A > 0 AND B > 0), CHECK (A < 9)",
-            0,
-        ),
-        (
-            "CONSTRAINT A23456789_123456789_12345678 CHECK (A > 0 AND B > 0)",
-            0,
-        ),
-        (
-            "CONSTRAINT A23456789_123456789_123456789 CHECK (A > 0 AND B > 0)",
-            22,
-        ),
-        (
-            "CONSTRAINT A23456789_123456789_123456789_ CHECK (A > 0 AND B > 0)",
-            22,
-        ),
-        ("CONSTRAINT A23456789_123456789_123456789_ CHECK (A > 0)", 0),
-    ] {
-        assert_eq!(rt; checked(&rt, rt.alloc(), checks)?, want, "{checks}");
-    }
-    Ok(())
+    expect_answers(
+        &rt,
+        rt.alloc(),
+        (COLUMNS, ")"),
+        &[
+            ("CONSTRAINT D CHECK (A > 0 AND B > 0)", 0),
+            (
+                "CONSTRAINT D CHECK (A > 0 AND B > 0), CONSTRAINT D_2 CHECK (A > 1)",
+                22,
+            ),
+            (
+                "CONSTRAINT D_2 CHECK (A > 1), CONSTRAINT D CHECK (A > 0 AND B > 0)",
+                22,
+            ),
+            (
+                "CONSTRAINT D_3 CHECK (A > 1), CONSTRAINT D CHECK (A > 0 AND B > 0)",
+                0,
+            ),
+            ("CONSTRAINT CHECK_2 CHECK (A > 0), CHECK (A < 9)", 22),
+            (
+                "CHECK (A > 0 AND B > 0), CONSTRAINT CHECK_2 CHECK (A < 9)",
+                22,
+            ),
+            (
+                "CONSTRAINT CHECK_3 CHECK (A > 0 AND B > 0), CHECK (A < 9)",
+                22,
+            ),
+            (
+                "CONSTRAINT CHECK_2 CHECK (A > 0 AND B > 0), CHECK (A < 9)",
+                0,
+            ),
+            (
+                "CONSTRAINT A23456789_123456789_12345678 CHECK (A > 0 AND B > 0)",
+                0,
+            ),
+            (
+                "CONSTRAINT A23456789_123456789_123456789 CHECK (A > 0 AND B > 0)",
+                22,
+            ),
+            (
+                "CONSTRAINT A23456789_123456789_123456789_ CHECK (A > 0 AND B > 0)",
+                22,
+            ),
+            ("CONSTRAINT A23456789_123456789_123456789_ CHECK (A > 0)", 0),
+        ],
+    )
 }
 
 #[test]
 fn keeps_to_columns_of_conditions(rt: HostRuntime) -> Result<(), Fail> {
-    for (condition, want) in [
-        ("A + B < 9", 0),
-        ("A + P < 9", 22),
-        ("A + 0 * P < 9", 22),
-        ("A < 9 + P * 0", 22),
-        ("A + 0 * OTHER < 9", 22),
-        ("A + 0 * ID < 9", 22),
-        ("A - 0 * B BETWEEN 0 AND 9", 0),
-        ("A - 0 * ID BETWEEN 0 AND 9", 22),
-        ("A > 0 AND P > 0", 22),
-        ("A - A < 9", 22),
-        ("A < A + 9", 22),
-        ("0 * A + 0 * B = 0", 22),
-        ("5 < 6", 22),
-        ("5 BETWEEN 0 AND 9", 22),
-        ("A > 0 AND B - B < 9", 22),
-        ("A + B < B", 0),
-    ] {
-        let checks = format!(in rt.alloc(); "CHECK ({condition})")?;
-        assert_eq!(rt;
-            checked(&rt, rt.alloc(), checks.as_str())?,
-            want,
-            "{condition}"
-        );
-    }
-    Ok(())
+    expect_answers(
+        &rt,
+        rt.alloc(),
+        (COLUMNS, ")"),
+        &[
+            ("CHECK (A + B < 9)", 0),
+            ("CHECK (A + P < 9)", 22),
+            ("CHECK (A + 0 * P < 9)", 22),
+            ("CHECK (A < 9 + P * 0)", 22),
+            ("CHECK (A + 0 * OTHER < 9)", 22),
+            ("CHECK (A + 0 * ID < 9)", 22),
+            ("CHECK (A - 0 * B BETWEEN 0 AND 9)", 0),
+            ("CHECK (A - 0 * ID BETWEEN 0 AND 9)", 22),
+            ("CHECK (A > 0 AND P > 0)", 22),
+            ("CHECK (A - A < 9)", 22),
+            ("CHECK (A < A + 9)", 22),
+            ("CHECK (0 * A + 0 * B = 0)", 22),
+            ("CHECK (5 < 6)", 22),
+            ("CHECK (5 BETWEEN 0 AND 9)", 22),
+            ("CHECK (A > 0 AND B - B < 9)", 22),
+            ("CHECK (A + B < B)", 0),
+        ],
+    )
 }
 
 #[test]
 fn keeps_to_limits_of_conditions(rt: HostRuntime) -> Result<(), Fail> {
-    for (condition, want) in [
-        ("1000000 * A < 9", 0),
-        ("1000001 * A < 9", 22),
-        ("B - 1000000 * A > 0", 0),
-        ("B - 1000001 * A > 0", 22),
-        ("999999 * A + 999999 * A - 999998 * A < 9", 0),
-        ("A < 999999999999999 + 1", 0),
-        ("A <= 999999999999999 + 1", 22),
-        ("A >= 999999999999999", 0),
-        ("A > 999999999999999", 22),
-        ("A + 1 BETWEEN 0 AND 999999999999999", 0),
-        ("A - 1 BETWEEN 0 AND 999999999999999", 22),
-        ("A BETWEEN 5 AND 5", 0),
-        ("A BETWEEN 6 AND 5", 22),
-    ] {
-        let checks = format!(in rt.alloc(); "CHECK ({condition})")?;
-        assert_eq!(rt;
-            checked(&rt, rt.alloc(), checks.as_str())?,
-            want,
-            "{condition}"
-        );
-    }
-    Ok(())
+    expect_answers(
+        &rt,
+        rt.alloc(),
+        (COLUMNS, ")"),
+        &[
+            ("CHECK (1000000 * A < 9)", 0),
+            ("CHECK (1000001 * A < 9)", 22),
+            ("CHECK (B - 1000000 * A > 0)", 0),
+            ("CHECK (B - 1000001 * A > 0)", 22),
+            ("CHECK (999999 * A + 999999 * A - 999998 * A < 9)", 0),
+            ("CHECK (A < 999999999999999 + 1)", 0),
+            ("CHECK (A <= 999999999999999 + 1)", 22),
+            ("CHECK (A >= 999999999999999)", 0),
+            ("CHECK (A > 999999999999999)", 22),
+            ("CHECK (A + 1 BETWEEN 0 AND 999999999999999)", 0),
+            ("CHECK (A - 1 BETWEEN 0 AND 999999999999999)", 22),
+            ("CHECK (A BETWEEN 5 AND 5)", 0),
+            ("CHECK (A BETWEEN 6 AND 5)", 22),
+        ],
+    )
 }
 
 /// A CHECK of so many conditions.
@@ -167,33 +156,20 @@ fn keeps_to_the_most_conditions(rt: HostRuntime) -> Result<(), Fail> {
     for (first, second, want) in [(31, 1, 0), (1, 31, 0), (1, 32, 22), (32, 1, 22)] {
         let former = many_conditions(alloc, first)?;
         let latter = many_conditions(alloc, second)?;
-        let checks = format!(in alloc; "{former}, {latter}")?;
-        assert_eq!(rt;
-            checked(&rt, alloc, checks.as_str())?,
-            want,
-            "{first} {second}"
-        );
+        let text = format!(in alloc; "{COLUMNS}{former}, {latter})")?;
+        assert_eq!(rt; answer(&rt, alloc, text.as_str())?, want, "{text}");
     }
     Ok(())
-}
-
-/// A limit, or a dash for none.
-fn shown_limit(alloc: Global, limit: Option<Wide>) -> Result<String, Fail> {
-    match limit {
-        Some(limit) => Ok(format!(in alloc; " {limit}")?),
-        None => Ok(String::from_str(alloc, " -")?),
-    }
 }
 
 /// A check: its name, its coefficients and its limits.
 fn shown(alloc: Global, check: &Check) -> Result<String, Fail> {
     let mut text = String::from_str(alloc, check.name.as_str())?;
     for coefficient in check.coeffs.as_slice() {
-        let word = format!(in alloc; " {coefficient}")?;
-        text.push_str(word.as_str())?;
+        push_word(&mut text, Some(coefficient))?;
     }
-    text.push_str(shown_limit(alloc, check.span.lo)?.as_str())?;
-    text.push_str(shown_limit(alloc, check.span.hi)?.as_str())?;
+    push_word(&mut text, check.span.lo)?;
+    push_word(&mut text, check.span.hi)?;
     Ok(text)
 }
 
@@ -258,8 +234,7 @@ fn keeps_to_the_greatest_coefficients(rt: HostRuntime) -> Result<(), Fail> {
     let alloc = rt.alloc();
     for (last, want) in [(1_000_000, 0), (1_000_001, 22)] {
         let text = heavy_text(alloc, last)?;
-        let text = create_text(&rt, alloc, text.as_str())?;
-        assert_eq!(rt; verdict(alloc, &text), want, "{last}");
+        assert_eq!(rt; answer(&rt, alloc, text.as_str())?, want, "{last}");
     }
     Ok(())
 }
