@@ -3,9 +3,12 @@ ghost use Rattle.std.specs.Prelude.{◌≡◌, ◌≤◌, vec_len, IfOk};
 
 mod changes;
 mod databases;
+mod journals;
 mod lines;
+mod many;
 mod queries;
 mod reservations;
+mod savepoints;
 mod schemas;
 mod streams;
 mod sums;
