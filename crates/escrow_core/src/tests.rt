@@ -1,4 +1,5 @@
 mod bounds;
+mod savepoints;
 
 use crate::{Database, Event, Reply};
 use escrow_num::{Amount, Breach, Name, Refusal, Seq, Session, Side, Text, Value, Wide};
