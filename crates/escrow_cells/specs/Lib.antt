@@ -1,0 +1,6 @@
+pub mod Failure
+pub mod Inside
+pub mod Read
+pub mod Step
+pub mod Store
+pub mod Tables

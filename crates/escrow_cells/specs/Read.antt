@@ -1,0 +1,42 @@
+-- Believed: what is read of a store.
+use Rattle.std.specs.Prelude.{◌≡◌, ℕ, false, List, [], ◌∷◌, map, filter, ◌&&◌, IsPermutation, IsSorted, IsTrue, codes}
+use Rattle.std.specs.Ordering.{on, then_cmp}
+use Rattle.sqlite_value.specs.declared.value.Value.{Value}
+use Rattle.sqlite_value.specs.Order.{Row, column, value_cmp}
+use Rattle.sqlite_trees.specs.declared.store.Store.{Ghosts}
+use Rattle.sqlite.specs.Held.{Held, state}
+use Rattle.sqlite.specs.State.{HasCleanDisk, Survives}
+use Rattle.escrow_cells.specs.Step.{same, is_in, is_of}
+
+-- the cells of the row of a key, each by its place and its value, in order of place
+pub record AreOfRow (table key : Value) (cells : List Row) (answer : List Row) : Type 0 where
+  pub same_cells : IsPermutation (map (λ c. column c 2 ∷ column c 3 ∷ []) (filter (is_of table key) cells)) answer
+  pub in_order : IsSorted (on (λ r. column r 0) value_cmp) answer
+
+-- the cells of a table, each by its key, its place and its value, in order of key and place
+pub record AreOfTable (table : Value) (cells : List Row) (answer : List Row) : Type 0 where
+  pub same_cells : IsPermutation (map (λ c. column c 1 ∷ column c 2 ∷ column c 3 ∷ []) (filter (is_in table) cells)) answer
+  pub in_order : IsSorted (then_cmp (on (λ r. column r 0) value_cmp) (on (λ r. column r 1) value_cmp)) answer
+
+-- the keys of a table's cells at one place
+pub record AreKeys (table place : Value) (cells : List Row) (answer : List Row) : Type 0 where
+  pub same_keys : IsPermutation (map (λ c. column c 1 ∷ []) (filter (λ c. is_in table c && same (column c 2) place) cells)) answer
+
+-- the rows of TAB, in order of ID
+pub record AreTabs (tabs : List Row) (answer : List Row) : Type 0 where
+  pub same_tabs : IsPermutation tabs answer
+  pub in_order : IsSorted (on (λ r. column r 0) value_cmp) answer
+
+-- a call that only reads leaves a connection outside a transaction, and the store as it was
+pub record Rests {S : Type 0} (g : Ghosts S) (old new : Held S) : Type 0 where
+  pub outside : new.in_transaction ≡ false
+  pub same : HasCleanDisk (state g new) → IsTrue (state g new).is_open → (state g new).now ≡ (state g old).now
+  pub was_open : HasCleanDisk (state g new) → IsTrue (state g new).is_open → IsTrue (state g old).is_open
+  pub survives : Survives (state g old) (state g new) (λ _. ⊥)
+
+-- the texts of the queries that give rows one at a time
+abbrev pub table_text : List ℕ
+table_text = codes "SELECT K, C, V FROM CELL WHERE TAB = ?1 ORDER BY K, C"
+
+abbrev pub keys_text : List ℕ
+keys_text = codes "SELECT K FROM CELL WHERE TAB = ?1 AND C = ?2"

@@ -1,0 +1,48 @@
+-- Believed: what a store holds.
+use Rattle.std.specs.Prelude.{◌≡◌, false, List, [], ◌∷◌, map, IsTrue}
+use Rattle.std.specs.List.{AllByRecursion}
+use Rattle.std.specs.Ordering.{is_eq}
+use Rattle.sqlite_value.specs.declared.value.Value.{Value}
+use Rattle.sqlite_value.specs.Order.{Row, column, value_cmp}
+use Rattle.sqlite_trees.specs.Tree.{IsAscending, rowid}
+use Rattle.sqlite_trees.specs.View.{is_int}
+use Rattle.sqlite_schema.specs.declared.schema.Table.{Table}
+use Rattle.sqlite_schema.specs.declared.schema.Index.{Index}
+use Rattle.sqlite_schema.specs.declared.schema.View.{View}
+use Rattle.sqlite_schema.specs.declared.schema.Schema.{Schema}
+use Rattle.sqlite.specs.Effect.{Database, IsDatabase}
+use Rattle.escrow_cells.specs.Tables.{beside, meta_tree, tab_tree, cell_tree}
+
+-- the rows of META: K and V
+abbrev pub metas : Database → List Row
+metas db = map (λ r. column r 1 ∷ column r 2 ∷ []) (db.trees meta_tree)
+
+-- the rows of TAB: ID, NAME and DDL; the ID is SQLite's own number of the row
+abbrev pub tabs : Database → List Row
+tabs db = map (λ r. rowid r ∷ column r 2 ∷ column r 3 ∷ []) (db.trees tab_tree)
+
+-- the rows of CELL: TAB, K, C and V
+abbrev pub cells : Database → List Row
+cells db = map (λ r. column r 1 ∷ column r 2 ∷ column r 3 ∷ column r 4 ∷ []) (db.trees cell_tree)
+
+-- the first three tables are META, TAB and CELL, as their texts make them
+pub record HasTables (schema : Schema) : Type 0 where
+  pub more : List Table
+  pub indexes : List Index
+  pub views : List View
+  pub is : schema ≡ beside more indexes views
+
+-- SQLite numbers rows by whole numbers, and no number comes twice
+pub record AreNumbered (rows : List Row) : Type 0 where
+  pub whole : AllByRecursion (λ r. IsTrue (is_int (rowid r))) rows
+  pub apart : IsAscending (λ a b. is_eq (value_cmp (rowid a) (rowid b)) ≡ false) rows
+
+-- A store: a database of SQLite with the three tables, and without foreign keys, which would let a write
+-- to one table reach another.
+pub record IsStore (db : Database) : Type 0 where
+  pub tables : HasTables db.schema
+  pub sound : IsDatabase db
+  pub no_keys : AllByRecursion (λ (t : Table). t.references ≡ []) db.schema.tables
+  pub metas_numbered : AreNumbered (db.trees meta_tree)
+  pub tabs_numbered : AreNumbered (db.trees tab_tree)
+  pub cells_numbered : AreNumbered (db.trees cell_tree)

@@ -1,0 +1,131 @@
+//! The statements that write, each inside a transaction.
+ghost use Rattle.std.specs.Prelude.{◌≡◌, [], ◌∷◌, IsTrue, OnOk};
+ghost use Rattle.sqlite.specs.Held.{state};
+ghost use Rattle.sqlite.specs.State.{HasCleanDisk, KeepsCommit, Survives};
+ghost use Rattle.escrow_cells.specs.declared.step.Step.TheVariants as step;
+ghost use Rattle.escrow_cells.specs.Inside.{HasDone};
+
+use crate::datum::Datum;
+use crate::step::Step;
+use sqlite::types::ToSql;
+use sqlite::{Alter, Error, Transaction, params};
+
+/// Puts a new cell.
+fn insert_cell<S: Alter>(
+    tx: &mut Transaction<'_, S>,
+    table: i64,
+    key: Datum<'_>,
+    place: i64,
+    value: Datum<'_>,
+) -> Result<usize, Error>
+    ensures same_reference { tx.new.conn.ghost_name ≡ tx.old.conn.ghost_name }
+    ensures done { HasCleanDisk (state S.Store tx.new.conn.now) → IsTrue (state S.Store tx.old.conn.now).in_transaction → OnOk result (HasDone (step.InsertCell table key.entry place value.entry ∷ []) (state S.Store tx.old.conn.now) (state S.Store tx.new.conn.now)) }
+    ensures kept { HasCleanDisk (state S.Store tx.new.conn.now) → KeepsCommit (state S.Store tx.old.conn.now) (state S.Store tx.new.conn.now) }
+    ensures survives { Survives (state S.Store tx.old.conn.now) (state S.Store tx.new.conn.now) (λ _. ⊥) }
+{
+    tx.execute(
+        "INSERT INTO CELL VALUES (?1, ?2, ?3, ?4)",
+        params![table, key, place, value],
+    )
+}
+
+/// Puts another value in a cell that stands.
+fn set_cell<S: Alter>(
+    tx: &mut Transaction<'_, S>,
+    table: i64,
+    key: Datum<'_>,
+    place: i64,
+    value: Datum<'_>,
+) -> Result<usize, Error>
+    ensures same_reference { tx.new.conn.ghost_name ≡ tx.old.conn.ghost_name }
+    ensures done { HasCleanDisk (state S.Store tx.new.conn.now) → IsTrue (state S.Store tx.old.conn.now).in_transaction → OnOk result (HasDone (step.SetCell table key.entry place value.entry ∷ []) (state S.Store tx.old.conn.now) (state S.Store tx.new.conn.now)) }
+    ensures kept { HasCleanDisk (state S.Store tx.new.conn.now) → KeepsCommit (state S.Store tx.old.conn.now) (state S.Store tx.new.conn.now) }
+    ensures survives { Survives (state S.Store tx.old.conn.now) (state S.Store tx.new.conn.now) (λ _. ⊥) }
+{
+    tx.execute(
+        "UPDATE CELL SET V = ?4 WHERE TAB = ?1 AND K = ?2 AND C = ?3",
+        params![table, key, place, value],
+    )
+}
+
+/// Takes out the cells of the row of a key.
+fn delete_row<S: Alter>(
+    tx: &mut Transaction<'_, S>,
+    table: i64,
+    key: Datum<'_>,
+) -> Result<usize, Error>
+    ensures same_reference { tx.new.conn.ghost_name ≡ tx.old.conn.ghost_name }
+    ensures done { HasCleanDisk (state S.Store tx.new.conn.now) → IsTrue (state S.Store tx.old.conn.now).in_transaction → OnOk result (HasDone (step.DeleteRow table key.entry ∷ []) (state S.Store tx.old.conn.now) (state S.Store tx.new.conn.now)) }
+    ensures kept { HasCleanDisk (state S.Store tx.new.conn.now) → KeepsCommit (state S.Store tx.old.conn.now) (state S.Store tx.new.conn.now) }
+    ensures survives { Survives (state S.Store tx.old.conn.now) (state S.Store tx.new.conn.now) (λ _. ⊥) }
+{
+    tx.execute(
+        "DELETE FROM CELL WHERE TAB = ?1 AND K = ?2",
+        params![table, key],
+    )
+}
+
+/// Takes out the cells of a table.
+fn delete_cells<S: Alter>(tx: &mut Transaction<'_, S>, table: i64) -> Result<usize, Error>
+    ensures same_reference { tx.new.conn.ghost_name ≡ tx.old.conn.ghost_name }
+    ensures done { HasCleanDisk (state S.Store tx.new.conn.now) → IsTrue (state S.Store tx.old.conn.now).in_transaction → OnOk result (HasDone (step.DeleteCells table ∷ []) (state S.Store tx.old.conn.now) (state S.Store tx.new.conn.now)) }
+    ensures kept { HasCleanDisk (state S.Store tx.new.conn.now) → KeepsCommit (state S.Store tx.old.conn.now) (state S.Store tx.new.conn.now) }
+    ensures survives { Survives (state S.Store tx.old.conn.now) (state S.Store tx.new.conn.now) (λ _. ⊥) }
+{
+    tx.execute("DELETE FROM CELL WHERE TAB = ?1", params![table])
+}
+
+/// Puts a new table.
+fn insert_tab<S: Alter>(
+    tx: &mut Transaction<'_, S>,
+    id: i64,
+    name: &str,
+    text: &str,
+) -> Result<usize, Error>
+    ensures same_reference { tx.new.conn.ghost_name ≡ tx.old.conn.ghost_name }
+    ensures done { HasCleanDisk (state S.Store tx.new.conn.now) → IsTrue (state S.Store tx.old.conn.now).in_transaction → OnOk result (HasDone (step.InsertTab id name.entry text.entry ∷ []) (state S.Store tx.old.conn.now) (state S.Store tx.new.conn.now)) }
+    ensures kept { HasCleanDisk (state S.Store tx.new.conn.now) → KeepsCommit (state S.Store tx.old.conn.now) (state S.Store tx.new.conn.now) }
+    ensures survives { Survives (state S.Store tx.old.conn.now) (state S.Store tx.new.conn.now) (λ _. ⊥) }
+{
+    tx.execute("INSERT INTO TAB VALUES (?1, ?2, ?3)", params![id, name, text])
+}
+
+/// Takes out a table's name and text.
+fn delete_tab<S: Alter>(tx: &mut Transaction<'_, S>, id: i64) -> Result<usize, Error>
+    ensures same_reference { tx.new.conn.ghost_name ≡ tx.old.conn.ghost_name }
+    ensures done { HasCleanDisk (state S.Store tx.new.conn.now) → IsTrue (state S.Store tx.old.conn.now).in_transaction → OnOk result (HasDone (step.DeleteTab id ∷ []) (state S.Store tx.old.conn.now) (state S.Store tx.new.conn.now)) }
+    ensures kept { HasCleanDisk (state S.Store tx.new.conn.now) → KeepsCommit (state S.Store tx.old.conn.now) (state S.Store tx.new.conn.now) }
+    ensures survives { Survives (state S.Store tx.old.conn.now) (state S.Store tx.new.conn.now) (λ _. ⊥) }
+{
+    tx.execute("DELETE FROM TAB WHERE ID = ?1", params![id])
+}
+
+/// Does one step.
+pub(crate) fn do_step<S: Alter>(
+    tx: &mut Transaction<'_, S>,
+    step: &Step<'_>,
+) -> Result<usize, Error>
+    ensures same_reference { tx.new.conn.ghost_name ≡ tx.old.conn.ghost_name }
+    ensures done { HasCleanDisk (state S.Store tx.new.conn.now) → IsTrue (state S.Store tx.old.conn.now).in_transaction → OnOk result (HasDone (step.now ∷ []) (state S.Store tx.old.conn.now) (state S.Store tx.new.conn.now)) }
+    ensures kept { HasCleanDisk (state S.Store tx.new.conn.now) → KeepsCommit (state S.Store tx.old.conn.now) (state S.Store tx.new.conn.now) }
+    ensures survives { Survives (state S.Store tx.old.conn.now) (state S.Store tx.new.conn.now) (λ _. ⊥) }
+{
+    match *step {
+        Step::InsertCell {
+            table,
+            key,
+            place,
+            value,
+        } => insert_cell(tx, table, key, place, value),
+        Step::SetCell {
+            table,
+            key,
+            place,
+            value,
+        } => set_cell(tx, table, key, place, value),
+        Step::DeleteRow { table, key } => delete_row(tx, table, key),
+        Step::DeleteCells { table } => delete_cells(tx, table),
+        Step::InsertTab { id, name, text } => insert_tab(tx, id, name, text),
+        Step::DeleteTab { id } => delete_tab(tx, id),
+    }
+}
