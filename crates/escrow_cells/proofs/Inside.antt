@@ -1,0 +1,124 @@
+-- What a statement does inside a transaction.
+use Rattle.std.proofs.Common.{◌≡◌, ℕ, List, [], ◌∷◌, ◌⊎◌, false, Bool, cond, Option, ℤ, slice_get, Some, None, Ok, Err, Result, OnOk, IsTrue, refl, sym, ap, ◌∙◌, subst, inl, inr}
+use Rattle.std.proofs.lemmas.Bool.{cases_Bool}
+use Rattle.std.specs.List.{AllByRecursion, flat_map, filter_map}
+use Rattle.sqlite_value.specs.Order.{Row}
+use Rattle.sqlite_trees.specs.Tree.{Trees}
+use Rattle.sqlite_schema.specs.declared.schema.Keys.{Keys}
+use Rattle.sqlite_schema.specs.declared.schema.Keys.TheVariants.{Enforced}
+use Rattle.sqlite_schema.specs.declared.schema.Table.{Table}
+use Rattle.sqlite_schema.specs.declared.schema.Schema.{Schema}
+use Rattle.sqlite_schema.specs.declared.program.Program.{Program}
+use Rattle.sqlite_schema.specs.declared.command.Source.{Source}
+use Rattle.sqlite_schema.specs.declared.command.Command.{Command}
+use Rattle.sqlite_schema.specs.declared.command.Command.TheVariants.{Insert, Update, Delete}
+use Rattle.sqlite_rules.specs.declared.error.Rowids.TheVariants.{Chosen, Above, Given}
+use Rattle.sqlite_rules.specs.Calls.{ids_of}
+use Rattle.sqlite_rules.specs.Edit.{Edit, edit_of, taken_by, Applies}
+use Rattle.sqlite_rules.specs.Action.{Work, works, work_for, Writes}
+use Rattle.sqlite.specs.declared.error.Error.{Error}
+use Rattle.sqlite.specs.Effect.{Database, IsDatabase, Answers, IsSource}
+use Rattle.sqlite.specs.Does.{Tally, OnRows, WritesRows, Concludes}
+use Rattle.sqlite.specs.Rows.{Task, Counts, Written, Edited, rowids_for, count_of, stamped}
+use Rattle.sqlite.specs.State.{State, KeepsCommit, Executes, ExecutesInside, Writes as Wrote, mode_of}
+use Rattle.sqlite.proofs.InsideLemmas.{inside_keeps}
+use Rattle.sqlite.proofs.Callers.{one_step}
+use Rattle.escrow_cells.specs.declared.step.Step.{Step}
+use Rattle.escrow_cells.specs.Step.{Does}
+use Rattle.escrow_cells.specs.Inside.{HasDone}
+
+module _ (sql : List ℕ) (params : Row) (old new : State) where
+  -- inside a transaction nothing is committed, and outside of one nothing is done
+  pub keeps_commit : (r : Result ℕ Error) → (old.in_transaction ≡ false → new ≡ old) → (IsTrue old.in_transaction → ExecutesInside 0 sql params old new r) → KeepsCommit old new
+  keeps_commit r ended runs = elim (cases_Bool old.in_transaction) [
+    | inl inside ↦ inside_keeps old new 0 false sql params r (runs inside)
+    | inr outside ↦ rw (ended outside) (record { was_open = λ h. h; committed = λ _. refl })
+  ]
+
+  -- a statement that is done leaves the transaction open, so what it does to the database is left to show
+  pub has_done : (steps : List Step) (r : Result ℕ Error) → ((n : ℕ) → Executes sql params old new (Ok n) → Does steps old.now new.now) → ExecutesInside 0 sql params old new r → OnOk r (HasDone steps old new)
+  has_done steps (Ok n) does h = record { inside = h.1.mode; is_open = h.1.is_open; does = does n h.0 }
+  has_done steps (Err e) does h = tt
+
+-- ---- one edit
+
+-- A database was changed by one edit, and no foreign key acted.
+pub record Edits (old new : Database) (edit : Edit) : Type 0 where
+  pub schema : new.schema ≡ old.schema
+  pub sound : IsDatabase new
+  pub applies : Applies old.schema Enforced old.trees edit new.trees
+
+no_work : (schema : Schema) (keys : Keys) (depth tree : ℕ) (olds news : List Row) (tables : List Table) → AllByRecursion (λ (t : Table). t.references ≡ []) tables
+    → flat_map (λ (child : Table). filter_map (work_for schema keys depth tree olds news child) child.references) tables ≡ []
+no_work schema keys depth tree olds news [] none = refl
+no_work schema keys depth tree olds news (t ∷ tables) none = rw (none.0, no_work schema keys depth tree olds news tables none.1) refl
+
+-- where no table has a foreign key, a write is its one edit
+pub no_works : (schema : Schema) (keys : Keys) (depth tree : ℕ) (olds news : List Row) → AllByRecursion (λ (t : Table). t.references ≡ []) schema.tables → works schema keys depth tree olds news ≡ []
+no_works schema keys depth tree olds news none = no_work schema keys depth tree olds news schema.tables none
+
+pub applied : (schema : Schema) (keys : Keys) (db next : Trees) (edit : Edit) → AllByRecursion (λ (t : Table). t.references ≡ []) schema.tables → Edited schema keys db edit (Ok next) → Applies schema keys db edit next
+applied schema keys db next edit none h = one_step schema keys db next edit (no_works schema keys 0 edit.table.tree (taken_by db edit) edit.news none) h
+
+-- a part that gave a value did not stop on the way
+pub went : {B E R : Type 0} {b : B} {Stops : E → Type 0} → ((stop : E) × Stops stop × (Ok b ≡ Err stop)) ⊎ R → R
+went (inl stopped) = absurd (let e = stopped.2 in cc)
+went (inr on) = on
+
+pub same_value : {B E : Type 0} {a b : B} → ◌≡◌ {A = Result B E} (Ok a) (Ok b) → a ≡ b
+same_value e = cc
+
+-- what a statement on the rows of a table leaves is what it wrote, under the same schema
+pub concluded : (task : Task) (command : Command) (s : State) (db : Trees) (tally : Tally) (after : Database) → OnRows task (mode_of s) None command db (Ok (tally, after))
+    → (w : Written) × WritesRows task db command (Ok w) × (after ≡ record { schema = task.schema; trees = w.trees })
+concluded task command s db tally after h =
+    let all = went h in
+    (all.0, all.1, ap (λ (p : Tally × Database). p.1) (same_value (went (went all.2).2).2))
+
+-- a table without AUTOINCREMENT
+uncounted : (task : Task) (db next : Trees) (counter : Option Row) (top : ℤ) → task.table.is_counted ≡ false → Counts task db counter top (Ok next) → next ≡ db
+uncounted task db next counter top is h = same_value (rw is at h)
+
+module _ (old new : State) (table : Table) (at : ℕ) (got : slice_get old.now.schema.tables at ≡ Some table) (none : AllByRecursion (λ (t : Table). t.references ≡ []) old.now.schema.tables)
+    (text : List ℕ) (params : Row) (count : ℕ) where
+  abbrev task : Task
+  task = record { limit = old.step_limit; keys = Enforced; schema = old.now.schema; table = table; params = params }
+
+  edits : (edit : Edit) (w : Written) (next : Trees) → IsDatabase new.now → Edited old.now.schema Enforced old.now.trees edit (Ok next) → w.trees ≡ next → new.now ≡ record { schema = old.now.schema; trees = w.trees }
+      → Edits old.now new.now edit
+  edits edit w next sound made same is =
+      let db : new.now ≡ record { schema = old.now.schema; trees = next } = is ∙ ap (λ t. record { schema = old.now.schema; trees = t }) same in
+      record {
+        schema = ap (λ (d : Database). d.schema) db;
+        sound = sound;
+        applies = rw db (applied old.now.schema Enforced old.now.trees next edit none made);
+      }
+
+  pub updates : (q : Program) → Wrote old new None (Update at q) text params count
+      → (rows : List Row) × Answers old.now q params rows × Edits old.now new.now (edit_of old.now.trees table (ids_of rows) Given 1 rows)
+  updates q w =
+      let all = concluded task (Update at q) old old.now.trees w.tally new.now (rw got at w.changed) in
+      let queried = went all.1 in
+      let written = went queried.2 in
+      (queried.0, queried.1, edits _ all.0 written.0 w.sound written.1 (ap (λ (it : Written). it.trees) (same_value written.2)) all.2)
+
+  pub deletes : (q : Program) → Wrote old new None (Delete at q) text params count
+      → (rows : List Row) × Answers old.now q params rows × Edits old.now new.now (edit_of old.now.trees table (ids_of rows) Given 0 [])
+  deletes q w =
+      let all = concluded task (Delete at q) old old.now.trees w.tally new.now (rw got at w.changed) in
+      let queried = went all.1 in
+      let written = went queried.2 in
+      (queried.0, queried.1, edits _ all.0 written.0 w.sound written.1 (ap (λ (it : Written). it.trees) (same_value written.2)) all.2)
+
+  pub inserts : (from : Source) → table.is_counted ≡ false → Wrote old new None (Insert at from) text params count
+      → (rows : List Row) × IsSource old.now (stamped table params) from rows × Edits old.now new.now (edit_of old.now.trees table [] Chosen 0 rows)
+  inserts from plain w =
+      let all = concluded task (Insert at from) old old.now.trees w.tally new.now (rw got at w.changed) in
+      let given = went all.1 in
+      let counter = went given.2 in
+      let written = went counter.2 in
+      let counted = went written.2 in
+      let chosen : rowids_for table (count_of counter.0) ≡ Chosen = ap (λ b. cond b (Above (count_of counter.0)) Chosen) plain in
+      let made = subst (λ r. Edited old.now.schema Enforced old.now.trees (edit_of old.now.trees table [] r 0 given.0) (Ok written.0)) chosen written.1 in
+      let same = uncounted task _ counted.0 counter.0 _ plain counted.1 in
+      (given.0, given.1, edits _ all.0 written.0 w.sound made (ap (λ (it : Written). it.trees) (same_value counted.2) ∙ same) all.2)
