@@ -1,3 +1,5 @@
-mod Texts
 pub mod Inside
+mod Insert
 pub mod Makes
+mod Put
+mod Texts
