@@ -1,13 +1,11 @@
 -- What the two INSERTs of a step write.
-use Rattle.std.proofs.Common.{◌≡◌, ◌≢◌, ℕ, ℤ, Bool, true, false, not, cond, List, [], ◌∷◌, codes, Ok, IsTrue, refl, ◌∙◌, subst}
+use Rattle.std.proofs.Common.{◌≡◌, ◌≢◌, ℕ, ℤ, Bool, true, false, cond, List, [], ◌∷◌, codes, Ok, IsPermutation, refl, ◌∙◌, subst}
 use Rattle.std.specs.List.{AllByRecursion}
-use Rattle.std.proofs.lemmas.Bool.{and_parts, not-true}
 use Rattle.std.proofs.lemmas.List.Sorted.{IsPermutation-refl, IsPermutation-map}
 use Rattle.sqlite_value.specs.declared.value.Value.{Value}
 use Rattle.sqlite_value.specs.declared.value.Value.TheVariants.{Null, Int, Text}
 use Rattle.sqlite_value.specs.Order.{Row, column}
-use Rattle.sqlite_trees.specs.Tree.{Trees, rowid, put_row}
-use Rattle.sqlite_trees.specs.View.{is_int}
+use Rattle.sqlite_trees.specs.Tree.{Trees, rowid}
 use Rattle.sqlite_sql.specs.Ops.{unary}
 use Rattle.sqlite_sql.specs.Term.{Term, lit, col}
 use Rattle.sqlite_schema.specs.declared.schema.Keys.TheVariants.{Enforced}
@@ -19,7 +17,7 @@ use Rattle.sqlite_schema.specs.declared.command.Source.TheVariants.{Values}
 use Rattle.sqlite_schema.specs.declared.command.Command.TheVariants.{Insert}
 use Rattle.sqlite_rules.specs.declared.error.Rowids.TheVariants.{Chosen}
 use Rattle.sqlite_rules.specs.Cast.{cast, cast_row}
-use Rattle.sqlite_rules.specs.Edit.{edit_of, with_rowid, is_taken, Applies}
+use Rattle.sqlite_rules.specs.Edit.{edit_of, with_rowid, Applies}
 use Rattle.sqlite_tied.specs.Compute.{everything}
 use Rattle.sqlite.specs.Listing.{understood}
 use Rattle.sqlite.specs.Effect.{Database, IsDatabase}
@@ -33,7 +31,7 @@ use Rattle.escrow_cells.specs.Tables.{beside, meta_tree, tab_tree, cell_tree, ta
 use Rattle.escrow_cells.specs.Store.{AreNumbered, IsStore, tabs, cells}
 use Rattle.escrow_cells.specs.Step.{kept, Holds, Does}
 use Rattle.escrow_cells.proofs.Inside.{Edits, inserts}
-use Rattle.escrow_cells.proofs.Put.{put_moves, numbered_put}
+use Rattle.escrow_cells.proofs.Makes.{put_beside, numbered_edited}
 
 abbrev pub cell_insert : List ℕ
 cell_insert = codes "INSERT INTO CELL VALUES (?1, ?2, ?3, ?4)"
@@ -82,21 +80,19 @@ made db table values = with_rowid Chosen (db table.tree) (cast_row table values)
 pub record Adds (tree : ℕ) (row : Row) (old new : Database) : Type 0 where
   pub schema : new.schema ≡ old.schema
   pub sound : IsDatabase new
-  pub whole : IsTrue (is_int (rowid row))
-  pub free : is_taken (old.trees tree) row ≡ false
-  pub added : new.trees tree ≡ put_row row (old.trees tree)
+  pub added : IsPermutation (row ∷ old.trees tree) (new.trees tree)
+  pub numbered : AreNumbered (old.trees tree) → AreNumbered (new.trees tree)
   pub others : AllByRecursion (λ (t : Table). t.tree ≢ tree → new.trees t.tree ≡ old.trees t.tree) old.schema.tables
 
 adds_one : (old new : Database) (table : Table) (values : Row) (rows : List Row) → rows ≡ values ∷ [] → Edits old new (edit_of old.trees table [] Chosen 0 rows) → Adds table.tree (made old.trees table values) old new
 adds_one old new table values rows one edits =
-    let row = made old.trees table values in
+    let edit = edit_of old.trees table [] Chosen 0 (values ∷ []) in
     let a = subst (λ rs. Applies old.schema Enforced old.trees (edit_of old.trees table [] Chosen 0 rs) new.trees) one edits.applies in
     record {
       schema = edits.schema;
       sound = edits.sound;
-      whole = (and_parts (is_int (rowid row)) true a.keyed).0;
-      free = not-true _ (and_parts (not (is_taken (old.trees table.tree) row)) true a.fresh).0;
-      added = a.rows;
+      added = rw a.rows (put_beside edit.news (old.trees table.tree) a.fresh);
+      numbered = λ were. rw a.rows (numbered_edited old.trees edit a.keyed a.fresh were);
       others = a.tables;
     }
 
@@ -132,17 +128,14 @@ still_store old new it sound same of_meta of_tab of_cell = record {
 }
 
 module _ (old new : Database) (it : IsStore old) (row : Row) where
-  numbered_added : (tree : ℕ) → Adds tree row old new → AreNumbered (old.trees tree) → AreNumbered (new.trees tree)
-  numbered_added tree a were = rw a.added (numbered_put row _ a.whole a.free were)
-
   cell_added : Adds cell_tree row old new → Holds (record { cells = cell_of row ∷ cells old; tabs = tabs old }) old new
   cell_added a =
       let others = rw it.tables.is at a.others in
       let metas_same : new.trees meta_tree ≡ old.trees meta_tree = others.0 (λ e. cc) in
       let tabs_same : new.trees tab_tree ≡ old.trees tab_tree = others.1.0 (λ e. cc) in
       record {
-        store = still_store old new it a.sound a.schema (rw metas_same it.metas_numbered) (rw tabs_same it.tabs_numbered) (numbered_added cell_tree a it.cells_numbered);
-        cells_are = rw a.added (IsPermutation-map cell_of _ _ (put_moves row (old.trees cell_tree) a.free));
+        store = still_store old new it a.sound a.schema (rw metas_same it.metas_numbered) (rw tabs_same it.tabs_numbered) (a.numbered it.cells_numbered);
+        cells_are = IsPermutation-map cell_of _ _ a.added;
         tabs_are = rw tabs_same (IsPermutation-refl _);
         metas_are = rw metas_same refl;
       }
@@ -153,9 +146,9 @@ module _ (old new : Database) (it : IsStore old) (row : Row) where
       let metas_same : new.trees meta_tree ≡ old.trees meta_tree = others.0 (λ e. cc) in
       let cells_same : new.trees cell_tree ≡ old.trees cell_tree = others.1.1.0 (λ e. cc) in
       record {
-        store = still_store old new it a.sound a.schema (rw metas_same it.metas_numbered) (numbered_added tab_tree a it.tabs_numbered) (rw cells_same it.cells_numbered);
+        store = still_store old new it a.sound a.schema (rw metas_same it.metas_numbered) (a.numbered it.tabs_numbered) (rw cells_same it.cells_numbered);
         cells_are = rw cells_same (IsPermutation-refl _);
-        tabs_are = rw a.added (IsPermutation-map tab_of _ _ (put_moves row (old.trees tab_tree) a.free));
+        tabs_are = IsPermutation-map tab_of _ _ a.added;
         metas_are = rw metas_same refl;
       }
 

@@ -1,5 +1,4 @@
 pub mod Inside
 mod Insert
 pub mod Makes
-mod Put
 mod Texts
