@@ -1,4 +1,6 @@
-pub mod Inside
+mod AllOrNone
 mod Insert
+pub mod Inside
 pub mod Makes
+mod Steps
 mod Texts

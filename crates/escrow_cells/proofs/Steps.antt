@@ -1,0 +1,42 @@
+-- Steps compose, although cells and tables are known up to their order.
+use Rattle.std.proofs.Common.{List, [], ◌∷◌, ◌++◌, fold, refl, sym, ◌∙◌, subst}
+use Rattle.std.specs.List.Sorted.{IsPermutation}
+use Rattle.std.proofs.lemmas.List.Sorted.{IsPermutation-refl, IsPermutation-trans, IsPermutation-cons, IsPermutation-map}
+use Rattle.std.proofs.lemmas.List.Sums.{fold-append}
+use Rattle.sqlite_trees.proofs.ListLemmas.{IsPermutation-filter}
+use Rattle.sqlite.specs.Effect.{Database}
+use Rattle.escrow_cells.specs.declared.step.Step.{Step}
+use Rattle.escrow_cells.specs.declared.step.Step.TheVariants as step
+use Rattle.escrow_cells.specs.Step.{Contents, contents, done, Holds, Does}
+
+-- the same cells and the same tables, in any order
+record AreAlike (c d : Contents) : Type 0 where
+  cells : IsPermutation c.cells d.cells
+  tabs : IsPermutation c.tabs d.tabs
+
+-- a step does the same whatever the order
+done_alike : (c d : Contents) (s : Step) → AreAlike c d → AreAlike (done c s) (done d s)
+done_alike c d (step.InsertCell table key place value) h = record { cells = IsPermutation-cons _ _ _ h.cells; tabs = h.tabs }
+done_alike c d (step.SetCell table key place value) h = record { cells = IsPermutation-map _ _ _ h.cells; tabs = h.tabs }
+done_alike c d (step.DeleteRow table key) h = record { cells = IsPermutation-filter _ _ _ h.cells; tabs = h.tabs }
+done_alike c d (step.DeleteCells table) h = record { cells = IsPermutation-filter _ _ _ h.cells; tabs = h.tabs }
+done_alike c d (step.InsertTab id name text) h = record { cells = h.cells; tabs = IsPermutation-cons _ _ _ h.tabs }
+done_alike c d (step.DeleteTab id) h = record { cells = h.cells; tabs = IsPermutation-filter _ _ _ h.tabs }
+
+-- no step changes nothing
+pub does_none : (db : Database) → Does [] db db
+does_none db h = record { store = h; cells_are = IsPermutation-refl _; tabs_are = IsPermutation-refl _; metas_are = refl }
+
+-- one step more
+pub does_more : (steps : List Step) (s : Step) (old mid new : Database) → Does steps old mid → Does (s ∷ []) mid new → Does (steps ++ s ∷ []) old new
+does_more steps s old mid new before one h =
+    let first = before h in
+    let last = one first.store in
+    let same = done_alike (fold done (contents old) steps) (contents mid) s (record { cells = first.cells_are; tabs = first.tabs_are }) in
+    let whole : Holds (done (fold done (contents old) steps) s) old new = record {
+      store = last.store;
+      cells_are = IsPermutation-trans _ _ _ same.cells last.cells_are;
+      tabs_are = IsPermutation-trans _ _ _ same.tabs last.tabs_are;
+      metas_are = last.metas_are ∙ first.metas_are;
+    } in
+    subst (λ c. Holds c old new) (sym (fold-append done (contents old) steps (s ∷ []))) whole
