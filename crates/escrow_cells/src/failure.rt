@@ -34,3 +34,14 @@ impl From<AllocError> for Failure {
         Failure::Memory
     }
 }
+
+impl std::fmt::Display for Failure {
+    fn fmt<W: std::fmt::Write>(&self, f: &mut std::fmt::Formatter<W>) -> std::fmt::Result {
+        f.write_str(match self {
+            Failure::Memory => "out of memory",
+            Failure::Store => "the store refused a call",
+        })
+    }
+}
+
+impl std::error::Error for Failure {}
