@@ -21,10 +21,13 @@ use Rattle.sqlite.specs.Effect.{Database, IsDatabase, Answers, IsSource}
 use Rattle.sqlite.specs.Does.{Tally, OnRows, WritesRows, Concludes}
 use Rattle.sqlite.specs.Rows.{Task, Counts, Written, Edited, rowids_for, count_of, stamped}
 use Rattle.sqlite.specs.State.{State, KeepsCommit, Executes, ExecutesInside, Writes as Wrote, mode_of}
+use Rattle.sqlite.specs.Values.{bound_value}
 use Rattle.sqlite.proofs.InsideLemmas.{inside_keeps}
 use Rattle.sqlite.proofs.Callers.{one_step}
 use Rattle.escrow_cells.specs.declared.step.Step.{Step}
-use Rattle.escrow_cells.specs.Step.{Does}
+use Rattle.escrow_cells.specs.declared.datum.Datum.{Datum}
+use Rattle.escrow_cells.specs.declared.datum.Datum.TheVariants as datum
+use Rattle.escrow_cells.specs.Step.{kept, Does}
 use Rattle.escrow_cells.specs.Inside.{HasDone}
 
 module _ (sql : List ℕ) (params : Row) (old new : State) where
@@ -39,6 +42,15 @@ module _ (sql : List ℕ) (params : Row) (old new : State) where
   pub has_done : (steps : List Step) (r : Result ℕ Error) → ((n : ℕ) → Executes sql params old new (Ok n) → Does steps old.now new.now) → ExecutesInside 0 sql params old new r → OnOk r (HasDone steps old new)
   has_done steps (Ok n) does h = record { inside = h.1.mode; is_open = h.1.is_open; does = does n h.0 }
   has_done steps (Err e) does h = tt
+
+-- a parameter is bound as it is kept
+pub bound_kept : (d : Datum) → bound_value (kept d) ≡ kept d
+bound_kept (datum.Number n) = refl
+bound_kept (datum.Text t) = refl
+
+-- what a statement does under parameters that are equal
+pub under : (sql : List ℕ) (ps qs : Row) (old new : State) (r : Result ℕ Error) → ExecutesInside 0 sql ps old new r → ps ≡ qs → ExecutesInside 0 sql qs old new r
+under sql ps qs old new r h e = subst (λ x. ExecutesInside 0 sql x old new r) e h
 
 -- ---- one edit
 

@@ -1,6 +1,9 @@
 mod AllOrNone
 mod Insert
 pub mod Inside
+mod Leaves
 pub mod Makes
+mod Matches
 mod Steps
 mod Texts
+mod Update

@@ -1,0 +1,184 @@
+-- What UPDATE makes of CELL.
+use Rattle.std.proofs.Common.{◌≡◌, ℕ, ℤ, Bool, true, false, not, ◌&&◌, cond, List, [], ◌∷◌, ◌++◌, map, filter, drop, codes, slice_get, Result, OnOk, IsPermutation, refl, sym, ap, ap₂, ◌∙◌, subst, subst₂}
+use Rattle.std.specs.List.{AllByRecursion}
+use Rattle.std.proofs.lemmas.Bool.{and_parts, not-true}
+use Rattle.std.proofs.lemmas.List.{map-append}
+use Rattle.std.proofs.lemmas.List.Sorted.{IsPermutation-map, IsPermutation-sym, IsPermutation-trans, IsPermutation-append_left, IsPermutation-filter_both}
+use Rattle.sqlite_value.specs.declared.value.Value.{Value}
+use Rattle.sqlite_value.specs.declared.value.Value.TheVariants.{Null, Int, Real, Text, Blob}
+use Rattle.sqlite_value.specs.Order.{Row, column}
+use Rattle.sqlite_trees.specs.Tree.{rowid}
+use Rattle.sqlite_trees.proofs.ListLemmas.{map-map, all_weaker, IsPermutation-same}
+use Rattle.sqlite_sql.specs.Ops.{unary}
+use Rattle.sqlite_sql.specs.Term.{Term, col, eval_all}
+use Rattle.sqlite_schema.specs.declared.schema.Kind.TheVariants.{Integer}
+use Rattle.sqlite_schema.specs.declared.schema.Constraint.TheVariants.{Datatype}
+use Rattle.sqlite_schema.specs.declared.schema.Table.{Table}
+use Rattle.sqlite_schema.specs.declared.schema.Index.{Index}
+use Rattle.sqlite_schema.specs.declared.schema.View.{View}
+use Rattle.sqlite_schema.specs.declared.schema.Schema.{Schema}
+use Rattle.sqlite_schema.specs.declared.command.Command.TheVariants.{Update}
+use Rattle.sqlite_schema.specs.Rules.{is_of as has_kind, are_typed, passes as obeys}
+use Rattle.sqlite_rules.specs.declared.error.Rowids.TheVariants.{Given}
+use Rattle.sqlite_rules.specs.Cast.{cast, cast_row}
+use Rattle.sqlite_rules.specs.Edit.{put_all, are_fresh, without_all, numbered}
+use Rattle.sqlite_rules.specs.Calls.{ids_of}
+use Rattle.sqlite_rules.proofs.ListLemmas.{all_has, all_from, has_filtered}
+use Rattle.sqlite_rules.proofs.PlaceLemmas.{given}
+use Rattle.sqlite_tied.specs.Compute.{everything}
+use Rattle.sqlite.specs.declared.error.Error.{Error}
+use Rattle.sqlite.specs.Effect.{Database}
+use Rattle.sqlite.specs.Listing.{understood}
+use Rattle.sqlite.specs.State.{State, ExecutesInside}
+use Rattle.sqlite.proofs.Callers.{IsPlain, command_of, runs_as}
+use Rattle.escrow_cells.specs.declared.datum.Datum.{Datum}
+use Rattle.escrow_cells.specs.declared.step.Step.TheVariants as step
+use Rattle.escrow_cells.specs.Tables.{beside, cell}
+use Rattle.escrow_cells.specs.Store.{IsStore, AreNumbered, cells}
+use Rattle.escrow_cells.specs.Step.{kept, same, is_at, with_value}
+use Rattle.escrow_cells.specs.Inside.{HasDone}
+use Rattle.escrow_cells.proofs.Inside.{has_done, updates}
+use Rattle.escrow_cells.proofs.Makes.{put_beside, left_is}
+use Rattle.escrow_cells.proofs.Leaves.{holds_cells}
+use Rattle.escrow_cells.proofs.Matches.{equals, plain_query, passes, matched}
+
+abbrev pub set_text : List ℕ
+set_text = codes "UPDATE CELL SET V = ?4 WHERE TAB = ?1 AND K = ?2 AND C = ?3"
+
+abbrev at_tests : List Term
+at_tests = equals 1 0 ∷ equals 2 1 ∷ equals 3 2 ∷ []
+
+-- the rowid, and then the row with the new value
+abbrev set_terms : List Term
+set_terms = col 1 0 ∷ col 1 0 ∷ col 1 1 ∷ col 1 2 ∷ col 1 3 ∷ col 0 3 ∷ []
+
+module _ (more : List Table) (indexes : List Index) (views : List View) where
+  set_is : command_of (understood (beside more indexes views) set_text) ≡ Update 2 (record { lets = []; body = plain_query 4 at_tests set_terms })
+  unfolding understood everything
+  set_is = refl
+
+  set_plain : IsPlain (understood (beside more indexes views) set_text)
+  unfolding understood everything
+  set_plain = (refl, refl)
+
+-- ---- the values of the columns
+
+either : (b : Bool) (v : Value) → cond b v v ≡ v
+either true v = refl
+either false v = refl
+
+-- what an INTEGER column of a STRICT table holds is written as it is
+cast_held : (v : Value) → has_kind Integer v ≡ true → cast Integer v ≡ v
+unfolding unary
+cast_held Null h = either _ Null
+cast_held (Int n) h = either _ (Int n)
+cast_held (Real x) h = absurd (let e = h in cc)
+cast_held (Text t) h = absurd (let e = h in cc)
+cast_held (Blob b) h = absurd (let e = h in cc)
+
+abbrev IsWritten : Row → Type 0
+IsWritten r = (cast Integer (column r 1) ≡ column r 1) × (cast Integer (column r 3) ≡ column r 3)
+
+written : (r : Row) → are_typed cell.key 0 cell.columns (drop 1 r) ≡ true → IsWritten r
+written [] h = (cast_held Null refl, cast_held Null refl)
+written (id ∷ []) h = (cast_held Null refl, cast_held Null refl)
+written (id ∷ t ∷ []) h = (cast_held t (and_parts _ _ h).0, cast_held Null refl)
+written (id ∷ t ∷ k ∷ []) h = (cast_held t (and_parts _ _ h).0, cast_held Null refl)
+written (id ∷ t ∷ k ∷ c ∷ more) h = (cast_held t (and_parts _ _ h).0, cast_held c (and_parts _ _ (and_parts _ _ (and_parts _ _ h).1).1).0)
+
+-- the rows of CELL are written back as they are
+all_written : (db : Database) → IsStore db → AllByRecursion IsWritten (db.trees 4)
+all_written db store =
+    let rules = subst (λ (s : Schema). AllByRecursion (λ t. AllByRecursion (λ r. obeys Datatype db.schema db.trees t r ≡ true) (db.trees t.tree)) s.tables) store.tables.is (store.sound.obeys.rules Datatype) in
+    all_weaker _ IsWritten (λ r h. written r (and_parts _ _ h).0) (db.trees 4) rules.1.1.0
+
+-- ---- the list of cells
+
+abbrev cell_of : Row → Row
+cell_of r = column r 1 ∷ column r 2 ∷ column r 3 ∷ column r 4 ∷ []
+
+map_on : {X Y : Type 0} (f g : X → Y) (xs : List X) → AllByRecursion (λ x. f x ≡ g x) xs → map f xs ≡ map g xs
+map_on f g [] h = refl
+map_on f g (x ∷ xs) h = ap₂ ◌∷◌ h.0 (map_on f g xs h.1)
+
+-- the rows that pass and those that do not, each mapped in its own way
+mapped_parts : {X Y : Type 0} (p : X → Bool) (f g h : X → Y) (xs : List X) → AllByRecursion (λ x. h x ≡ f x) (filter p xs) → AllByRecursion (λ x. h x ≡ g x) (filter (λ x. not (p x)) xs)
+    → IsPermutation (map h xs) (map f (filter p xs) ++ map g (filter (λ x. not (p x)) xs))
+mapped_parts p f g h xs passed failed =
+    let both = IsPermutation-map h _ _ (IsPermutation-filter_both p (λ x. not (p x)) (λ x. refl) xs) in
+    subst (IsPermutation (map h xs)) (map-append h (filter p xs) _ ∙ ap₂ ◌++◌ (map_on h f _ passed) (map_on h g _ failed)) both
+
+three : (a b c : Bool) → (a && (b && (c && true))) ≡ ((a && b) && c)
+three true true true = refl
+three true true false = refl
+three true false c = refl
+three false b c = refl
+
+module _ (table key place value : Value) where
+  abbrev params : Row
+  params = table ∷ key ∷ place ∷ value ∷ []
+
+  abbrev found_by : Row → Row
+  found_by r = eval_all set_terms (params ∷ r ∷ [])
+
+  abbrev set_row : Row → Row
+  set_row r = cast_row cell (drop 1 (found_by r))
+
+  abbrev put : Row → Row
+  put r = with_value table key place value (cell_of r)
+
+  passes_at : (r : Row) → passes at_tests params r ≡ is_at table key place (cell_of r)
+  passes_at r = three (same (column r 1) table) (same (column r 2) key) (same (column r 3) place)
+
+  set_as_told : (r : Row) → passes at_tests params r ≡ true → IsWritten r → put r ≡ cell_of (set_row r)
+  set_as_told r at w =
+      ap (λ b. cond b (column r 1 ∷ column r 2 ∷ column r 3 ∷ value ∷ []) (cell_of r)) (sym (passes_at r) ∙ at) ∙ ap₂ (λ x y. x ∷ column r 2 ∷ y ∷ value ∷ []) (sym w.0) (sym w.1)
+
+  left_as_told : (r : Row) → not (passes at_tests params r) ≡ true → put r ≡ cell_of r
+  left_as_told r at = ap (λ b. cond b (column r 1 ∷ column r 2 ∷ column r 3 ∷ value ∷ []) (cell_of r)) (sym (passes_at r) ∙ not-true _ at)
+
+  module _ (rows found : List Row) (numbered_rows : AreNumbered rows) (held : AllByRecursion IsWritten rows) (same_rows : IsPermutation (map found_by (filter (passes at_tests params) rows)) found) where
+    abbrev left : List Row
+    left = without_all rows (ids_of found)
+
+    abbrev news : List Row
+    news = numbered Given left (map (λ s. cast_row cell (drop 1 s)) found)
+
+    abbrev taken : List Row
+    taken = filter (passes at_tests params) rows
+
+    abbrev others : List Row
+    others = filter (λ r. not (passes at_tests params r)) rows
+
+    told : IsPermutation (map put rows) (map (λ r. cell_of (set_row r)) taken ++ map cell_of others)
+    told = mapped_parts (passes at_tests params) (λ r. cell_of (set_row r)) cell_of put rows
+        (all_from _ taken (λ r h. let at = has_filtered (passes at_tests params) rows r h in set_as_told r at.1 (all_has IsWritten rows r held at.0)))
+        (all_from _ others (λ r h. left_as_told r (has_filtered (λ x. not (passes at_tests params x)) rows r h).1))
+
+    news_are : IsPermutation (map set_row taken) news
+    news_are = subst₂ IsPermutation (map-map (λ s. cast_row cell (drop 1 s)) found_by taken) (sym (given left _)) (IsPermutation-map (λ s. cast_row cell (drop 1 s)) _ found same_rows)
+
+    left_are : left ≡ others
+    left_are = left_is (passes at_tests params) found_by rows found (λ r. refl) numbered_rows same_rows
+
+    -- the cells after it are those before it, with the new value where it was asked for
+    set_rows : are_fresh left news ≡ true → IsPermutation (map (with_value table key place value) (map cell_of rows)) (map cell_of (put_all left news))
+    set_rows fresh =
+        let all = IsPermutation-trans _ _ _ (IsPermutation-append_left left _ _ news_are) (put_beside news left fresh) in
+        let shown = IsPermutation-map cell_of _ _ all in
+        let parts : map cell_of (map set_row taken ++ left) ≡ map (λ r. cell_of (set_row r)) taken ++ map cell_of others =
+            map-append cell_of (map set_row taken) left ∙ ap₂ ◌++◌ (map-map cell_of set_row taken) (ap (map cell_of) left_are) in
+        rw (map-map (with_value table key place value) cell_of rows) (IsPermutation-trans _ _ _ told (subst (λ l. IsPermutation l (map cell_of (put_all left news))) parts shown))
+
+-- UPDATE puts another value in the cell
+pub sets : (table : ℤ) (key : Datum) (place : ℤ) (value : Datum) (old new : State) (r : Result ℕ Error) → ExecutesInside 0 set_text (Int table ∷ kept key ∷ Int place ∷ kept value ∷ []) old new r
+    → OnOk r (HasDone (step.SetCell table key place value ∷ []) old new)
+sets table key place value old new r = has_done set_text (params (Int table) (kept key) (Int place) (kept value)) old new (step.SetCell table key place value ∷ []) r (λ n ran store.
+    let t = store.tables in
+    let is = set_is t.more t.indexes t.views in
+    let given_params = params (Int table) (kept key) (Int place) (kept value) in
+    let w = runs_as set_text given_params old new (beside t.more t.indexes t.views) t.is _ is (set_plain t.more t.indexes t.views) n ran in
+    let u = updates old new cell 2 (ap (λ (s : Schema). slice_get s.tables 2) t.is) store.no_keys _ given_params n _ w in
+    let found = matched old.now given_params 4 at_tests set_terms u.0 u.1 in
+    let cells_are = set_rows (Int table) (kept key) (Int place) (kept value) (old.now.trees 4) u.0 store.cells_numbered (all_written old.now store) found u.2.applies.fresh in
+    holds_cells old.now new.now _ store u.2 refl _ (rw u.2.applies.rows cells_are))
