@@ -1,4 +1,5 @@
 mod AllOrNone
+mod Delete
 mod Insert
 pub mod Inside
 mod Leaves
