@@ -1,6 +1,5 @@
 -- What the three DELETEs take out of CELL and of TAB.
-use Rattle.std.proofs.Common.{◌≡◌, ℕ, ℤ, Bool, true, false, not, ◌&&◌, List, [], ◌∷◌, map, filter, codes, slice_get, Some, Ok, Result, OnOk, IsPermutation, refl, sym, ap, ◌∙◌, subst}
-use Rattle.sqlite_value.specs.declared.value.Value.{Value}
+use Rattle.std.proofs.Common.{◌≡◌, ℕ, ℤ, Bool, true, false, not, ◌&&◌, List, [], ◌∷◌, map, filter, codes, slice_get, Some, Ok, Result, OnOk, IsPermutation, refl, sym, ap, ◌∙◌}
 use Rattle.sqlite_value.specs.declared.value.Value.TheVariants.{Int}
 use Rattle.sqlite_value.specs.Order.{Row, column}
 use Rattle.sqlite_trees.specs.Tree.{rowid}
@@ -28,7 +27,7 @@ use Rattle.escrow_cells.specs.Step.{kept, same, is_in, is_of, Holds}
 use Rattle.escrow_cells.specs.Inside.{HasDone}
 use Rattle.escrow_cells.proofs.Inside.{Edits, has_done, deletes}
 use Rattle.escrow_cells.proofs.Makes.{left_is}
-use Rattle.escrow_cells.proofs.Leaves.{holds_cells, holds_tabs}
+use Rattle.escrow_cells.proofs.Leaves.{cell_of, tab_of, holds_cells, holds_tabs}
 use Rattle.escrow_cells.proofs.Matches.{equals, plain_query, passes, matched}
 
 abbrev pub row_text : List ℕ
@@ -104,12 +103,6 @@ rows_left old new table tests params rows numbered found gone =
 shown_left : (f : Row → Row) (p q : Row → Bool) → ((r : Row) → p r ≡ q (f r)) → (rows left : List Row) → left ≡ filter (λ r. not (p r)) rows → IsPermutation (filter (λ x. not (q x)) (map f rows)) (map f left)
 shown_left f p q told rows left is =
     IsPermutation-same _ _ (filter-map (λ x. not (q x)) f rows ∙ ap (map f) (filter_same _ (λ r. not (p r)) rows (all_of (λ r. not (q (f r)) ≡ not (p r)) (λ r. ap not (sym (told r))) rows) ∙ sym is))
-
-abbrev cell_of : Row → Row
-cell_of r = column r 1 ∷ column r 2 ∷ column r 3 ∷ column r 4 ∷ []
-
-abbrev tab_of : Row → Row
-tab_of r = rowid r ∷ column r 2 ∷ column r 3 ∷ []
 
 -- a DELETE of cells
 cells_deleted : (old new : Database) (store : IsStore old) (tests : List Term) (params : Row) (is : Row → Bool) → ((r : Row) → passes tests params r ≡ is (cell_of r)) → (rows : List Row)

@@ -1,5 +1,5 @@
 -- What a statement does inside a transaction.
-use Rattle.std.proofs.Common.{◌≡◌, ℕ, List, [], ◌∷◌, ◌⊎◌, false, Bool, cond, Option, ℤ, slice_get, Some, None, Ok, Err, Result, OnOk, IsTrue, refl, sym, ap, ◌∙◌, subst, inl, inr}
+use Rattle.std.proofs.Common.{◌≡◌, ℕ, List, [], ◌∷◌, ◌⊎◌, false, cond, Option, ℤ, slice_get, Some, None, Ok, Err, Result, OnOk, IsTrue, refl, sym, ap, ◌∙◌, subst, subst₂, inl, inr}
 use Rattle.std.proofs.lemmas.Bool.{cases_Bool}
 use Rattle.std.specs.List.{AllByRecursion, flat_map, filter_map}
 use Rattle.sqlite_value.specs.Order.{Row}
@@ -15,11 +15,11 @@ use Rattle.sqlite_schema.specs.declared.command.Command.TheVariants.{Insert, Upd
 use Rattle.sqlite_rules.specs.declared.error.Rowids.TheVariants.{Chosen, Above, Given}
 use Rattle.sqlite_rules.specs.Calls.{ids_of}
 use Rattle.sqlite_rules.specs.Edit.{Edit, edit_of, taken_by, Applies}
-use Rattle.sqlite_rules.specs.Action.{Work, works, work_for, Writes}
+use Rattle.sqlite_rules.specs.Action.{works, work_for}
 use Rattle.sqlite.specs.declared.error.Error.{Error}
 use Rattle.sqlite.specs.Effect.{Database, IsDatabase, Answers, IsSource}
-use Rattle.sqlite.specs.Does.{Tally, OnRows, WritesRows, Concludes}
-use Rattle.sqlite.specs.Rows.{Task, Counts, Written, Edited, rowids_for, count_of, stamped}
+use Rattle.sqlite.specs.Does.{Tally, OnRows, WritesRows}
+use Rattle.sqlite.specs.Rows.{Task, Counts, Inserts, Sourced, Written, Edited, rowids_for, count_of, stamped}
 use Rattle.sqlite.specs.State.{State, KeepsCommit, Executes, ExecutesInside, Writes as Wrote, mode_of}
 use Rattle.sqlite.specs.Values.{bound_value}
 use Rattle.sqlite.proofs.InsideLemmas.{inside_keeps}
@@ -87,9 +87,24 @@ concluded task command s db tally after h =
     let all = went h in
     (all.0, all.1, ap (λ (p : Tally × Database). p.1) (same_value (went (went all.2).2).2))
 
--- a table without AUTOINCREMENT
-uncounted : (task : Task) (db next : Trees) (counter : Option Row) (top : ℤ) → task.table.is_counted ≡ false → Counts task db counter top (Ok next) → next ≡ db
-uncounted task db next counter top is h = same_value (rw is at h)
+module _ (task : Task) (plain : task.table.is_counted ≡ false) where
+  -- a table without AUTOINCREMENT has no count
+  uncounted : (db next : Trees) (counter : Option Row) (top : ℤ) → Counts task db counter top (Ok next) → next ≡ db
+  uncounted db next counter top h = same_value (rw plain at h)
+
+  chosen : (last : ℤ) → rowids_for task.table last ≡ Chosen
+  chosen last = ap (λ b. cond b (Above last) Chosen) plain
+
+  -- the rows are put in, and nothing else is written
+  inserted : (from : Source) (db : Trees) (w : Written) → Inserts task from db (Ok w)
+      → (rows : List Row) × Sourced task.limit (record { schema = task.schema; trees = db }) (stamped task.table task.params) from (Ok rows) × Edited task.schema task.keys db (edit_of db task.table [] Chosen 0 rows) (Ok w.trees)
+  inserted from db w h =
+      let given = went h in
+      let counter = went given.2 in
+      let written = went counter.2 in
+      let counted = went written.2 in
+      let same : w.trees ≡ written.0 = ap (λ (it : Written). it.trees) (same_value counted.2) ∙ uncounted _ counted.0 counter.0 _ counted.1 in
+      (given.0, given.1, subst₂ (λ r next. Edited task.schema task.keys db (edit_of db task.table [] r 0 given.0) (Ok next)) (chosen (count_of counter.0)) (sym same) written.1)
 
 module _ (old new : State) (table : Table) (at : ℕ) (got : slice_get old.now.schema.tables at ≡ Some table) (none : AllByRecursion (λ (t : Table). t.references ≡ []) old.now.schema.tables)
     (text : List ℕ) (params : Row) (count : ℕ) where
@@ -126,11 +141,5 @@ module _ (old new : State) (table : Table) (at : ℕ) (got : slice_get old.now.s
       → (rows : List Row) × IsSource old.now (stamped table params) from rows × Edits old.now new.now (edit_of old.now.trees table [] Chosen 0 rows)
   inserts from plain w =
       let all = concluded task (Insert at from) old old.now.trees w.tally new.now (rw got at w.changed) in
-      let given = went all.1 in
-      let counter = went given.2 in
-      let written = went counter.2 in
-      let counted = went written.2 in
-      let chosen : rowids_for table (count_of counter.0) ≡ Chosen = ap (λ b. cond b (Above (count_of counter.0)) Chosen) plain in
-      let made = subst (λ r. Edited old.now.schema Enforced old.now.trees (edit_of old.now.trees table [] r 0 given.0) (Ok written.0)) chosen written.1 in
-      let same = uncounted task _ counted.0 counter.0 _ plain counted.1 in
-      (given.0, given.1, edits _ all.0 written.0 w.sound made (ap (λ (it : Written). it.trees) (same_value counted.2) ∙ same) all.2)
+      let put = inserted task plain from old.now.trees all.0 all.1 in
+      (put.0, put.1, edits _ all.0 all.0.trees w.sound put.2 refl all.2)

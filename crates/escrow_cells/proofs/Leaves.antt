@@ -1,8 +1,8 @@
 -- What an edit of CELL or of TAB leaves of a store.
-use Rattle.std.proofs.Common.{◌≡◌, ◌≢◌, ℕ, List, [], ◌∷◌, map, IsPermutation, refl, sym, ap, ◌∙◌, subst, arith}
+use Rattle.std.proofs.Common.{◌≡◌, ◌≢◌, List, [], ◌∷◌, map, IsPermutation, sym, ap, ◌∙◌, subst, arith}
 use Rattle.std.specs.List.{AllByRecursion}
 use Rattle.sqlite_value.specs.Order.{Row, column}
-use Rattle.sqlite_trees.specs.Tree.{Trees, rowid}
+use Rattle.sqlite_trees.specs.Tree.{rowid}
 use Rattle.sqlite_trees.proofs.ListLemmas.{IsPermutation-same}
 use Rattle.sqlite_schema.specs.declared.schema.Table.{Table}
 use Rattle.sqlite_schema.specs.declared.schema.Schema.{Schema}
@@ -13,6 +13,13 @@ use Rattle.escrow_cells.specs.Store.{IsStore, HasTables, AreNumbered, metas, tab
 use Rattle.escrow_cells.specs.Step.{Holds}
 use Rattle.escrow_cells.proofs.Inside.{Edits}
 use Rattle.escrow_cells.proofs.Makes.{numbered_edited}
+
+-- a row of CELL and one of TAB, as the store's words read them
+abbrev pub cell_of : Row → Row
+cell_of r = column r 1 ∷ column r 2 ∷ column r 3 ∷ column r 4 ∷ []
+
+abbrev pub tab_of : Row → Row
+tab_of r = rowid r ∷ column r 2 ∷ column r 3 ∷ []
 
 module _ (old new : Database) (edit : Edit) (store : IsStore old) (made : Edits old new edit) where
   -- the trees of the other tables are as they were
@@ -50,7 +57,7 @@ module _ (old new : Database) (edit : Edit) (store : IsStore old) (made : Edits 
       record {
         store = store_with (rw meta_is store.metas_numbered) (rw tab_is store.tabs_numbered) (subst (λ t. AreNumbered (new.trees t)) on (numbered (rw on store.cells_numbered)));
         cells_are = same;
-        tabs_are = IsPermutation-same _ _ (ap (map (λ r. rowid r ∷ column r 2 ∷ column r 3 ∷ [])) (sym tab_is));
+        tabs_are = IsPermutation-same _ _ (ap (map tab_of) (sym tab_is));
         metas_are = same_metas meta_is;
       }
 
@@ -62,7 +69,7 @@ module _ (old new : Database) (edit : Edit) (store : IsStore old) (made : Edits 
       let cell_is = others.2 (λ e. omega (arith, on, e)) in
       record {
         store = store_with (rw meta_is store.metas_numbered) (subst (λ t. AreNumbered (new.trees t)) on (numbered (rw on store.tabs_numbered))) (rw cell_is store.cells_numbered);
-        cells_are = IsPermutation-same _ _ (ap (map (λ r. column r 1 ∷ column r 2 ∷ column r 3 ∷ column r 4 ∷ [])) (sym cell_is));
+        cells_are = IsPermutation-same _ _ (ap (map cell_of) (sym cell_is));
         tabs_are = same;
         metas_are = same_metas meta_is;
       }

@@ -1,4 +1,5 @@
 mod AllOrNone
+mod Columns
 mod Delete
 mod Insert
 pub mod Inside

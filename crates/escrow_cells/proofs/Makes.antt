@@ -1,5 +1,5 @@
 -- What an edit makes of the rows of one tree.
-use Rattle.std.proofs.Common.{◌≡◌, ℤ, Bool, true, false, not, ◌&&◌, ◌||◌, cond, List, [], ◌∷◌, ◌++◌, map, filter, Ordering, Less, Equal, Greater, IsTrue, IsPermutation, refl, sym, ap, ◌∙◌, subst, inl, inr}
+use Rattle.std.proofs.Common.{◌≡◌, ℤ, Bool, true, false, not, ◌||◌, cond, List, [], ◌∷◌, ◌++◌, map, filter, Ordering, Less, Equal, Greater, IsTrue, IsPermutation, refl, sym, ap, ◌∙◌, subst, inl, inr}
 use Rattle.std.specs.List.{AllByRecursion, list_any}
 use Rattle.std.specs.Ordering.{is_eq, match_ordering, ordering_reverse}
 use Rattle.std.proofs.lemmas.Bool.{both_ways, and_parts, or_parts, not-true, cases_Bool}
@@ -10,7 +10,7 @@ use Rattle.sqlite_value.specs.Order.{Row, value_cmp}
 use Rattle.sqlite_value.proofs.OrderLemmas.{value_cmp_total}
 use Rattle.sqlite_trees.specs.Tree.{Trees, IsAscending, rowid, has_rowid, put_row, without_rowid}
 use Rattle.sqlite_trees.specs.View.{is_int}
-use Rattle.sqlite_trees.proofs.ListLemmas.{along_permutation, all-permutation, all-filter, all_weaker, ascending-filter, filter_same}
+use Rattle.sqlite_trees.proofs.ListLemmas.{along_permutation, all-permutation, all-filter, ascending-filter, filter_same}
 use Rattle.sqlite_rules.specs.Lists.{Has}
 use Rattle.sqlite_rules.specs.Edit.{Edit, id_in, without_all, put_all, is_taken, are_fresh, have_rowids, edited, left_by}
 use Rattle.sqlite_rules.specs.Calls.{ids_of}

@@ -1,45 +1,40 @@
 -- What UPDATE makes of CELL.
 use Rattle.std.proofs.Common.{◌≡◌, ℕ, ℤ, Bool, true, false, not, ◌&&◌, cond, List, [], ◌∷◌, ◌++◌, map, filter, drop, codes, slice_get, Result, OnOk, IsPermutation, refl, sym, ap, ap₂, ◌∙◌, subst, subst₂}
 use Rattle.std.specs.List.{AllByRecursion}
-use Rattle.std.proofs.lemmas.Bool.{and_parts, not-true}
+use Rattle.std.proofs.lemmas.Bool.{not-true}
 use Rattle.std.proofs.lemmas.List.{map-append}
-use Rattle.std.proofs.lemmas.List.Sorted.{IsPermutation-map, IsPermutation-sym, IsPermutation-trans, IsPermutation-append_left, IsPermutation-filter_both}
+use Rattle.std.proofs.lemmas.List.Sorted.{IsPermutation-map, IsPermutation-trans, IsPermutation-append_left, IsPermutation-filter_both}
 use Rattle.sqlite_value.specs.declared.value.Value.{Value}
-use Rattle.sqlite_value.specs.declared.value.Value.TheVariants.{Null, Int, Real, Text, Blob}
+use Rattle.sqlite_value.specs.declared.value.Value.TheVariants.{Int}
 use Rattle.sqlite_value.specs.Order.{Row, column}
-use Rattle.sqlite_trees.specs.Tree.{rowid}
-use Rattle.sqlite_trees.proofs.ListLemmas.{map-map, all_weaker, IsPermutation-same}
-use Rattle.sqlite_sql.specs.Ops.{unary}
+use Rattle.sqlite_trees.proofs.ListLemmas.{map-map}
 use Rattle.sqlite_sql.specs.Term.{Term, col, eval_all}
-use Rattle.sqlite_schema.specs.declared.schema.Kind.TheVariants.{Integer}
-use Rattle.sqlite_schema.specs.declared.schema.Constraint.TheVariants.{Datatype}
 use Rattle.sqlite_schema.specs.declared.schema.Table.{Table}
 use Rattle.sqlite_schema.specs.declared.schema.Index.{Index}
 use Rattle.sqlite_schema.specs.declared.schema.View.{View}
 use Rattle.sqlite_schema.specs.declared.schema.Schema.{Schema}
 use Rattle.sqlite_schema.specs.declared.command.Command.TheVariants.{Update}
-use Rattle.sqlite_schema.specs.Rules.{is_of as has_kind, are_typed, passes as obeys}
 use Rattle.sqlite_rules.specs.declared.error.Rowids.TheVariants.{Given}
-use Rattle.sqlite_rules.specs.Cast.{cast, cast_row}
+use Rattle.sqlite_rules.specs.Cast.{cast_row}
 use Rattle.sqlite_rules.specs.Edit.{put_all, are_fresh, without_all, numbered}
 use Rattle.sqlite_rules.specs.Calls.{ids_of}
 use Rattle.sqlite_rules.proofs.ListLemmas.{all_has, all_from, has_filtered}
 use Rattle.sqlite_rules.proofs.PlaceLemmas.{given}
 use Rattle.sqlite_tied.specs.Compute.{everything}
 use Rattle.sqlite.specs.declared.error.Error.{Error}
-use Rattle.sqlite.specs.Effect.{Database}
 use Rattle.sqlite.specs.Listing.{understood}
 use Rattle.sqlite.specs.State.{State, ExecutesInside}
 use Rattle.sqlite.proofs.Callers.{IsPlain, command_of, runs_as}
 use Rattle.escrow_cells.specs.declared.datum.Datum.{Datum}
 use Rattle.escrow_cells.specs.declared.step.Step.TheVariants as step
 use Rattle.escrow_cells.specs.Tables.{beside, cell}
-use Rattle.escrow_cells.specs.Store.{IsStore, AreNumbered, cells}
+use Rattle.escrow_cells.specs.Store.{AreNumbered}
 use Rattle.escrow_cells.specs.Step.{kept, same, is_at, with_value}
 use Rattle.escrow_cells.specs.Inside.{HasDone}
 use Rattle.escrow_cells.proofs.Inside.{has_done, updates}
 use Rattle.escrow_cells.proofs.Makes.{put_beside, left_is}
-use Rattle.escrow_cells.proofs.Leaves.{holds_cells}
+use Rattle.escrow_cells.proofs.Columns.{IsWritten, all_written}
+use Rattle.escrow_cells.proofs.Leaves.{cell_of, holds_cells}
 use Rattle.escrow_cells.proofs.Matches.{equals, plain_query, passes, matched}
 
 abbrev pub set_text : List ℕ
@@ -61,41 +56,7 @@ module _ (more : List Table) (indexes : List Index) (views : List View) where
   unfolding understood everything
   set_plain = (refl, refl)
 
--- ---- the values of the columns
-
-either : (b : Bool) (v : Value) → cond b v v ≡ v
-either true v = refl
-either false v = refl
-
--- what an INTEGER column of a STRICT table holds is written as it is
-cast_held : (v : Value) → has_kind Integer v ≡ true → cast Integer v ≡ v
-unfolding unary
-cast_held Null h = either _ Null
-cast_held (Int n) h = either _ (Int n)
-cast_held (Real x) h = absurd (let e = h in cc)
-cast_held (Text t) h = absurd (let e = h in cc)
-cast_held (Blob b) h = absurd (let e = h in cc)
-
-abbrev IsWritten : Row → Type 0
-IsWritten r = (cast Integer (column r 1) ≡ column r 1) × (cast Integer (column r 3) ≡ column r 3)
-
-written : (r : Row) → are_typed cell.key 0 cell.columns (drop 1 r) ≡ true → IsWritten r
-written [] h = (cast_held Null refl, cast_held Null refl)
-written (id ∷ []) h = (cast_held Null refl, cast_held Null refl)
-written (id ∷ t ∷ []) h = (cast_held t (and_parts _ _ h).0, cast_held Null refl)
-written (id ∷ t ∷ k ∷ []) h = (cast_held t (and_parts _ _ h).0, cast_held Null refl)
-written (id ∷ t ∷ k ∷ c ∷ more) h = (cast_held t (and_parts _ _ h).0, cast_held c (and_parts _ _ (and_parts _ _ (and_parts _ _ h).1).1).0)
-
--- the rows of CELL are written back as they are
-all_written : (db : Database) → IsStore db → AllByRecursion IsWritten (db.trees 4)
-all_written db store =
-    let rules = subst (λ (s : Schema). AllByRecursion (λ t. AllByRecursion (λ r. obeys Datatype db.schema db.trees t r ≡ true) (db.trees t.tree)) s.tables) store.tables.is (store.sound.obeys.rules Datatype) in
-    all_weaker _ IsWritten (λ r h. written r (and_parts _ _ h).0) (db.trees 4) rules.1.1.0
-
 -- ---- the list of cells
-
-abbrev cell_of : Row → Row
-cell_of r = column r 1 ∷ column r 2 ∷ column r 3 ∷ column r 4 ∷ []
 
 map_on : {X Y : Type 0} (f g : X → Y) (xs : List X) → AllByRecursion (λ x. f x ≡ g x) xs → map f xs ≡ map g xs
 map_on f g [] h = refl

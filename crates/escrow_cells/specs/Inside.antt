@@ -1,5 +1,5 @@
 -- Helps: what private contracts say of a call inside a transaction. Nothing that callers see rests on it.
-use Rattle.std.specs.Prelude.{◌≡◌, List, IsTrue}
+use Rattle.std.specs.Prelude.{List, IsTrue}
 use Rattle.sqlite.specs.State.{State, HasCleanDisk, KeepsCommit, Survives}
 use Rattle.escrow_cells.specs.declared.step.Step.{Step}
 use Rattle.escrow_cells.specs.Step.{Does}

@@ -1,9 +1,9 @@
-use Rattle.std.proofs.Common.{ap, w64, [], ◌∷◌}
-use Rattle.std.proofs.lemmas.Int.{to_z-of_z}
+use Rattle.std.proofs.Common.{ap, [], ◌∷◌, rules}
+use Rattle.sqlite_value.specs.declared.value.Value.TheVariants.{Int, Text}
 use Rattle.sqlite.specs.Held.{state}
 use Rattle.escrow_cells.specs.declared.step.Step.TheVariants as step
 use Rattle.escrow_cells.proofs.Insert.{tab_insert, inserts_tab}
-use Rattle.escrow_cells.proofs.Inside.{has_done, keeps_commit}
+use Rattle.escrow_cells.proofs.Inside.{has_done, keeps_commit, under}
 use Rattle.escrow_cells.proofs.statement.insert_tab.Goals as goal
 
 pub returns-clause-done : goal.returns-clause-done
@@ -11,8 +11,9 @@ returns-clause-done g c clean inside =
     let a = c.args in
     let old = state g.S.Store a.tx.now.conn.now in
     let new = state g.S.Store c.execute.new.self.conn.now in
-    let ran = rw (c.params-to_sql.ensures, c.params-to_sql-2.ensures, c.params-to_sql-3.ensures, to_z-of_z w64 a.id c.ranges.id) at (c.execute.ensures.runs clean inside) in
-    has_done tab_insert _ old new (step.InsertTab a.id a.name a.text ∷ []) c.execute.result (inserts_tab old new a.id a.name.now a.text.now) ran
+    let params = Int a.id ∷ Text a.name.now ∷ Text a.text.now ∷ [] in
+    let ran = under tab_insert _ params old new c.execute.result (c.execute.ensures.runs clean inside) (search rules) in
+    has_done tab_insert params old new (step.InsertTab a.id a.name a.text ∷ []) c.execute.result (inserts_tab old new a.id a.name.now a.text.now) ran
 
 pub returns-clause-kept : goal.returns-clause-kept
 returns-clause-kept g c clean =
