@@ -47,6 +47,29 @@ goes_on steps at some old mid new within before survives keeps done =
       so_far = λ clean. subst (λ some. Does some old.now new.now) (sym (take_more steps at some within)) (does_more (take at steps) (get_or steps at some) old.now mid.now new.now (before.so_far (was clean)) (one clean).does);
     }
 
+-- a transaction that has begun goes on, and this holds of its database
+pub record Holds (Fact : Database → Type 0) (old last : State) : Type 0 where
+  pub pending : IsPending old last
+  pub inside : HasCleanDisk last → IsTrue last.in_transaction
+  pub fact : HasCleanDisk last → Fact last.now
+
+-- after the last step
+pub all_steps : (steps : List Step) (at : ℕ) (old last : State) → length steps ≤ at → GoesOn (take at steps) old last → Holds (Does steps old.now) old last
+all_steps steps at old last past goes = record {
+  pending = goes.pending;
+  inside = goes.inside;
+  fact = λ clean. subst (λ some. Does some old.now last.now) (take_all at steps past) (goes.so_far clean);
+}
+
+-- after one call in a transaction that had just begun
+pub one_call : {S : Type 0} (g : Ghosts S) (old : Held S) (Fact : Database → Type 0) (last : State) → Survives (state g (record old { in_transaction = true })) last (λ _. ⊥)
+    → (HasCleanDisk last → KeepsCommit (state g (record old { in_transaction = true })) last) → (HasCleanDisk last → IsTrue last.in_transaction × Fact last.now) → Holds Fact (state g old) last
+one_call g old Fact last survives keeps made = record {
+  pending = pending_then (state g old) (state g (record old { in_transaction = true })) last (begun g old).pending (record { survives = survives; kept = keeps });
+  inside = λ clean. (made clean).0;
+  fact = λ clean. (made clean).1;
+}
+
 -- a transaction that was rolled back: the database is as it was, also over a crash
 pub record IsUndone (old new : State) : Type 1 where
   pub same : HasCleanDisk new → IsTrue new.is_open → new.now ≡ old.now
@@ -66,25 +89,22 @@ module _ (old last new : State) (settled : IsTrue old.is_open → old.now ≡ ol
         crash = λ P. survives_then old last new _ _ P (λ _ db none. absurd none) (λ _ db none. absurd none) pending.survives quiet;
       }
 
-  -- COMMIT, after the last step
-  module _ (steps : List Step) (at : ℕ) (past : length steps ≤ at) (goes : GoesOn (take at steps) old last) (quiet : Survives last new (λ db. db ≡ last.now.trees)) where
+  -- COMMIT, after the last statement
+  module _ (Fact : Database → Type 0) (held : Holds Fact old last) (quiet : Survives last new (λ db. db ≡ last.now.trees)) where
     was_clean : HasCleanDisk new → HasCleanDisk last
     was_clean clean = omega (arith, quiet.clean)
-
-    has_done : HasCleanDisk new → Does steps old.now last.now
-    has_done clean = subst (λ some. Does some old.now last.now) (take_all at steps past) (goes.so_far (was_clean clean))
 
     -- where it fails, it rolls back
     fails : (e : Error) → HasCleanDisk new → FailsToCommit last new e → IsRolledBack last new
     fails e clean (inl h) = h.3
-    fails e clean (inr h) = absurd (both_ways last.in_transaction h.1 (goes.inside (was_clean clean)))
+    fails e clean (inr h) = absurd (both_ways last.in_transaction h.1 (held.inside (was_clean clean)))
 
     abbrev Commits : Type 0
     Commits = IsTrue last.in_transaction × Shows last new last.now last.now false × KeepsCounts last new × (new.marks ≡ [])
 
-    pub all_done : (r : Result (Unit {0}) Error) → HasCleanDisk new → OnOk r Commits → OnOk r (IsTrue new.is_open × Does steps old.now new.now)
+    pub all_done : (r : Result (Unit {0}) Error) → HasCleanDisk new → OnOk r Commits → OnOk r (IsTrue new.is_open × Fact new.now)
     all_done (Err e) clean h = tt
-    all_done (Ok x) clean h = (h.1.is_open, subst (Does steps old.now) (sym h.1.now_is) (has_done clean))
+    all_done (Ok x) clean h = (h.1.is_open, subst Fact (sym h.1.now_is) (held.fact (was_clean clean)))
 
     -- after a COMMIT a crash leaves what was committed
     pub durable : (r : Result (Unit {0}) Error) → ((trees : Trees) → IsTrue new.is_open → new.may_leave trees → trees ≡ new.committed.trees) → HasCleanDisk new
@@ -96,14 +116,14 @@ module _ (old last new : State) (settled : IsTrue old.is_open → old.now ≡ ol
     none_done (Ok x) clean is_open h = tt
     none_done (Err e) clean is_open h =
         let back = fails e clean h in
-        let kept = goes.pending.kept (was_clean clean) in
+        let kept = held.pending.kept (was_clean clean) in
         let was = back.was_open is_open in
         (back.undone is_open).0 ∙ kept.committed was ∙ sym (settled (kept.was_open was))
 
     pub was_open : (r : Result (Unit {0}) Error) → HasCleanDisk new → IsTrue new.is_open → OnOk r Commits → IfErr r (FailsToCommit last new) → IsTrue old.is_open
-    was_open (Ok x) clean is_open ok err = (goes.pending.kept (was_clean clean)).was_open ok.1.was_open
-    was_open (Err e) clean is_open ok err = (goes.pending.kept (was_clean clean)).was_open ((fails e clean err).was_open is_open)
+    was_open (Ok x) clean is_open ok err = (held.pending.kept (was_clean clean)).was_open ok.1.was_open
+    was_open (Err e) clean is_open ok err = (held.pending.kept (was_clean clean)).was_open ((fails e clean err).was_open is_open)
 
-    -- a crash inside leaves what it left before, or all the steps
-    pub crash : Survives old new (λ trees. (db : Database) × Does steps old.now db × (trees ≡ db.trees))
-    crash = survives_then old last new _ _ _ (λ _ db none. absurd none) (λ clean db is. (last.now, has_done clean, is)) goes.pending.survives quiet
+    -- a crash inside leaves what it left before, or what the transaction made
+    pub crash : Survives old new (λ trees. (db : Database) × Fact db × (trees ≡ db.trees))
+    crash = survives_then old last new _ _ _ (λ _ db none. absurd none) (λ clean db is. (last.now, held.fact (was_clean clean), is)) held.pending.survives quiet

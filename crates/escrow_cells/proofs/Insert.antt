@@ -66,7 +66,7 @@ abbrev pub made : Trees → Table → Row → Row
 made db table values = with_rowid Chosen (db table.tree) (cast_row table values)
 
 -- a tree after an INSERT of one row
-added : (old new : Database) (table : Table) (values : Row) → Edits old new (edit_of old.trees table [] Chosen 0 (values ∷ [])) → IsPermutation (made old.trees table values ∷ old.trees table.tree) (new.trees table.tree)
+pub added : (old new : Database) (table : Table) (values : Row) → Edits old new (edit_of old.trees table [] Chosen 0 (values ∷ [])) → IsPermutation (made old.trees table values ∷ old.trees table.tree) (new.trees table.tree)
 added old new table values e = rw e.applies.rows (put_beside (made old.trees table values ∷ []) (old.trees table.tree) e.applies.fresh)
 
 same_rest : (b : Bool) (x y : Value) (values : Row) → cell_of (cond b (x ∷ values) (y ∷ values)) ≡ cell_of (y ∷ values)

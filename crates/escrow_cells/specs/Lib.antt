@@ -1,3 +1,4 @@
+pub mod Making
 pub mod Failure
 pub mod Inside
 pub mod Read

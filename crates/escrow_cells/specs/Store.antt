@@ -1,7 +1,8 @@
 -- Believed: what a store holds.
-use Rattle.std.specs.Prelude.{◌≡◌, false, List, [], ◌∷◌, map, IsTrue}
+use Rattle.std.specs.Prelude.{◌≡◌, false, pos, List, [], ◌∷◌, map, codes, IsTrue}
 use Rattle.std.specs.List.{AllByRecursion}
 use Rattle.std.specs.Ordering.{is_eq}
+use Rattle.sqlite_value.specs.declared.value.Value.TheVariants.{Int, Text}
 use Rattle.sqlite_value.specs.Order.{Row, column, value_cmp}
 use Rattle.sqlite_trees.specs.Tree.{IsAscending, rowid}
 use Rattle.sqlite_trees.specs.View.{is_int}
@@ -10,7 +11,7 @@ use Rattle.sqlite_schema.specs.declared.schema.Index.{Index}
 use Rattle.sqlite_schema.specs.declared.schema.View.{View}
 use Rattle.sqlite_schema.specs.declared.schema.Schema.{Schema}
 use Rattle.sqlite.specs.Effect.{Database, IsDatabase}
-use Rattle.escrow_cells.specs.Tables.{beside, meta_tree, tab_tree, cell_tree}
+use Rattle.escrow_cells.specs.Tables.{no_schema, beside, meta_tree, tab_tree, cell_tree}
 
 -- the rows of META: K and V
 abbrev pub metas : Database → List Row
@@ -45,3 +46,18 @@ pub record IsStore (db : Database) : Type 0 where
   pub metas_numbered : AreNumbered (db.trees meta_tree)
   pub tabs_numbered : AreNumbered (db.trees tab_tree)
   pub cells_numbered : AreNumbered (db.trees cell_tree)
+
+-- the rows of META in each store: it has the format 1
+abbrev pub format : List Row
+format = (Text (codes "format") ∷ Int (pos 1) ∷ []) ∷ []
+
+-- a store without tables of its own
+pub record IsEmpty (db : Database) : Type 0 where
+  pub store : IsStore db
+  pub metas_are : metas db ≡ format
+  pub tabs_are : tabs db ≡ []
+  pub cells_are : cells db ≡ []
+
+-- a store is made of a database without objects
+abbrev pub Creates : Database → Database → Type 0
+Creates old new = old.schema ≡ no_schema → IsEmpty new

@@ -65,3 +65,7 @@ cell = table_of (codes "CELL") cell_tree (filled (codes "TAB") kind.Integer ∷ 
 -- the schema of a store: the three tables, and whatever objects were made after them
 abbrev pub beside : List Table → List Index → List View → Schema
 beside more indexes views = record { tables = meta ∷ tab ∷ cell ∷ more; indexes = indexes; views = views }
+
+-- the schema of a database without objects
+abbrev pub no_schema : Schema
+no_schema = record { tables = []; indexes = []; views = [] }

@@ -4,6 +4,7 @@
 //! Its one contract: a list of steps is done whole, or not at all, also over a crash ([`run`]).
 #![tactic(auto)]
 
+mod creation;
 mod datum;
 mod failure;
 mod read;
@@ -11,6 +12,7 @@ mod transaction;
 mod statement;
 mod step;
 
+pub use creation::create;
 pub use datum::Datum;
 pub use failure::Failure;
 pub use read::{key_cells, row_cells, tabs, table_cells};

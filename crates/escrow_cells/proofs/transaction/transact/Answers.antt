@@ -2,7 +2,7 @@ use Rattle.std.proofs.Common.{◌≡◌, refl, ◌∙◌, rules}
 use Rattle.sqlite.specs.Effect.{Database}
 use Rattle.sqlite.specs.Held.{state}
 use Rattle.escrow_cells.specs.Step.{Does}
-use Rattle.escrow_cells.proofs.AllOrNone.{begun, goes_on, undone, all_done, none_done, was_open, durable, crash}
+use Rattle.escrow_cells.proofs.AllOrNone.{begun, goes_on, all_steps, undone, all_done, none_done, was_open, durable, crash}
 use Rattle.escrow_cells.proofs.transaction.transact.Goals as goal
 
 pub loop-step-init : goal.loop-step-init
@@ -35,25 +35,25 @@ returns-in_err-do_step-clause-crash g c =
 
 pub returns-clause-all : goal.returns-clause-all
 returns-clause-all g c =
-    let done = all_done _ _ _ c.requires.settled _ _ c.loop-step-test.false c.loop-step.invariant.goes_on c.commit.ensures.survives c.commit.result in
+    let done = all_done _ _ _ c.requires.settled _ (all_steps _ _ _ _ c.loop-step-test.false c.loop-step.invariant.goes_on) c.commit.ensures.survives c.commit.result in
     search (rules, done, c.commit.ensures.ok)
 
 pub returns-clause-none : goal.returns-clause-none
 returns-clause-none g c =
-    let none = none_done _ _ _ c.requires.settled _ _ c.loop-step-test.false c.loop-step.invariant.goes_on c.commit.ensures.survives c.commit.result in
+    let none = none_done _ _ _ c.requires.settled _ (all_steps _ _ _ _ c.loop-step-test.false c.loop-step.invariant.goes_on) c.commit.ensures.survives c.commit.result in
     search (rules, none, c.commit.ensures.err)
 
 pub returns-clause-was_open : goal.returns-clause-was_open
 returns-clause-was_open g c =
-    let was = was_open _ _ _ c.requires.settled _ _ c.loop-step-test.false c.loop-step.invariant.goes_on c.commit.ensures.survives c.commit.result in
+    let was = was_open _ _ _ c.requires.settled _ (all_steps _ _ _ _ c.loop-step-test.false c.loop-step.invariant.goes_on) c.commit.ensures.survives c.commit.result in
     search (rules, was, c.commit.ensures.ok, c.commit.ensures.err)
 
 pub returns-clause-durable : goal.returns-clause-durable
 returns-clause-durable g c =
-    let left = durable _ _ _ c.requires.settled _ _ c.loop-step-test.false c.loop-step.invariant.goes_on c.commit.ensures.survives c.commit.result (g.met.S.Store.settled c.commit.new.self.0.store) in
+    let left = durable _ _ _ c.requires.settled _ (all_steps _ _ _ _ c.loop-step-test.false c.loop-step.invariant.goes_on) c.commit.ensures.survives c.commit.result (g.met.S.Store.settled c.commit.new.self.0.store) in
     search (rules, left, c.commit.ensures.ok)
 
 pub returns-clause-crash : goal.returns-clause-crash
 returns-clause-crash g c =
-    let left = crash _ _ _ c.requires.settled _ _ c.loop-step-test.false c.loop-step.invariant.goes_on c.commit.ensures.survives in
+    let left = crash _ _ _ c.requires.settled _ (all_steps _ _ _ _ c.loop-step-test.false c.loop-step.invariant.goes_on) c.commit.ensures.survives in
     search (rules, left)

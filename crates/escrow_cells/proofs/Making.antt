@@ -1,0 +1,72 @@
+-- What the three CREATEs make, and the row of META.
+use Rattle.std.proofs.Common.{◌≡◌, ℕ, false, Bool, List, [], ◌∷◌, ◌++◌, codes, Some, None, Ok, Err, Result, OnOk, refl, sym, ap, subst, ◌∙◌}
+use Rattle.std.specs.List.{AllByRecursion}
+use Rattle.sqlite_trees.specs.Tree.{Trees}
+use Rattle.sqlite_trees.proofs.ListLemmas.{all-append, all_both}
+use Rattle.sqlite_schema.specs.declared.schema.Table.{Table}
+use Rattle.sqlite_schema.specs.declared.schema.Schema.{Schema}
+use Rattle.sqlite_schema.specs.declared.command.Command.TheVariants.{CreateTable}
+use Rattle.sqlite_resolve.specs.Compile.{table_defined_by}
+use Rattle.sqlite_catalog.specs.Change.{created, next_tree}
+use Rattle.sqlite_tied.specs.Compute.{everything}
+use Rattle.sqlite.specs.Listing.{understood}
+use Rattle.sqlite.specs.Effect.{Database}
+use Rattle.sqlite.specs.Does.{Tally, lacks_sequence}
+use Rattle.sqlite.specs.State.{State, Writes, Executes, ExecutesInside}
+use Rattle.sqlite.specs.declared.error.Error.{Error}
+use Rattle.sqlite.proofs.Callers.{IsPlain, command_of, statement_of, runs_as}
+use Rattle.escrow_cells.specs.Tables.{no_schema, meta, tab, cell, meta_text, tab_text, cell_text}
+use Rattle.escrow_cells.specs.Making.{with_meta, with_tab, with_cell, IsBare, HasMade}
+use Rattle.escrow_cells.proofs.Inside.{went, same_value}
+use Rattle.escrow_cells.proofs.Texts.{meta_is, tab_is, cell_is}
+
+-- the text is that of a CREATE of this table, under this schema
+record IsCreate (schema : Schema) (text : List ℕ) (table : Table) : Type 0 where
+  command : command_of (understood schema text) ≡ CreateTable
+  whole : statement_of text (understood schema text) ≡ text
+  plain : IsPlain (understood schema text)
+  defined : table_defined_by text ≡ Ok table
+  counts : lacks_sequence (created schema table) ≡ false
+
+meta_create : IsCreate no_schema meta_text meta
+unfolding understood everything
+meta_create = record { command = refl; whole = refl; plain = (refl, refl); defined = meta_is; counts = refl }
+
+tab_create : IsCreate with_meta tab_text (record tab { tree = 0 })
+unfolding understood everything
+tab_create = record { command = refl; whole = refl; plain = (refl, refl); defined = tab_is; counts = refl }
+
+cell_create : IsCreate with_tab cell_text (record cell { tree = 0 })
+unfolding understood everything
+cell_create = record { command = refl; whole = refl; plain = (refl, refl); defined = cell_is; counts = refl }
+
+-- a transaction inside of which a statement was done goes on
+pub has_made : (sql : List ℕ) (params : _) (old new : State) (Fact : Type 0) (r : Result ℕ Error) → ((n : ℕ) → Executes sql params old new (Ok n) → Fact) → ExecutesInside 0 sql params old new r → OnOk r (HasMade new Fact)
+has_made sql params old new Fact (Ok n) made h = record { inside = h.1.mode; is_open = h.1.is_open; fact = made n h.0 }
+has_made sql params old new Fact (Err e) made h = tt
+
+module _ (schema : Schema) (text : List ℕ) (table : Table) (is : IsCreate schema text table) (old new : State) (count : ℕ) where
+  creates : Executes text [] old new (Ok count) → IsBare schema old.now → IsBare (created schema table) new.now
+  creates h bare =
+      let has = bare.schema_is in
+      let w = subst (λ t. Writes old new None CreateTable t [] count) is.whole (runs_as text [] old new schema has CreateTable is.command is.plain count h) in
+      let all = went w.changed in
+      let first = went all.1 in
+      let made = first.1 in
+      let same : made.table ≡ table = same_value (sym made.defined ∙ is.defined) in
+      let after : first.0.schema ≡ created schema table = made.is ∙ ap (λ s. created s made.table) has ∙ ap (created schema) same in
+      let plain : lacks_sequence first.0.schema ≡ false = ap lacks_sequence after ∙ is.counts in
+      let now : new.now ≡ first.0 = ap (λ (p : Tally × Database). p.1) (same_value all.2) ∙ same_value (rw plain at first.2) in
+      let kept = all_both (λ (t : Table). first.0.trees t.tree ≡ old.now.trees t.tree) (λ (t : Table). old.now.trees t.tree ≡ []) (λ (t : Table). first.0.trees t.tree ≡ []) (λ t e none. e ∙ none) schema.tables
+          (subst (λ (s : Schema). AllByRecursion (λ (t : Table). first.0.trees t.tree ≡ old.now.trees t.tree) s.tables) has made.others) bare.bare in
+      let empty : first.0.trees (next_tree schema) ≡ [] = subst (λ s. first.0.trees (next_tree s) ≡ []) has made.empty in
+      rw now (record { schema_is = after; bare = all-append (λ (t : Table). first.0.trees t.tree ≡ []) schema.tables _ kept (empty, tt) })
+
+pub creates_meta : (old new : State) (count : ℕ) → Executes meta_text [] old new (Ok count) → IsBare no_schema old.now → IsBare with_meta new.now
+creates_meta = creates no_schema meta_text meta meta_create
+
+pub creates_tab : (old new : State) (count : ℕ) → Executes tab_text [] old new (Ok count) → IsBare with_meta old.now → IsBare with_tab new.now
+creates_tab = creates with_meta tab_text (record tab { tree = 0 }) tab_create
+
+pub creates_cell : (old new : State) (count : ℕ) → Executes cell_text [] old new (Ok count) → IsBare with_tab old.now → IsBare with_cell new.now
+creates_cell = creates with_tab cell_text (record cell { tree = 0 }) cell_create

@@ -1,0 +1,30 @@
+-- Helps: what private contracts say of a store that is being made. Nothing that callers see rests on it.
+use Rattle.std.specs.Prelude.{◌≡◌, [], IsTrue}
+use Rattle.std.specs.List.{AllByRecursion}
+use Rattle.sqlite_schema.specs.declared.schema.Table.{Table}
+use Rattle.sqlite_schema.specs.declared.schema.Schema.{Schema}
+use Rattle.sqlite_catalog.specs.Change.{created}
+use Rattle.sqlite.specs.Effect.{Database}
+use Rattle.sqlite.specs.State.{State}
+use Rattle.escrow_cells.specs.Tables.{no_schema, meta, tab, cell}
+
+-- the schema after each CREATE
+abbrev pub with_meta : Schema
+with_meta = created no_schema meta
+
+abbrev pub with_tab : Schema
+with_tab = created with_meta tab
+
+abbrev pub with_cell : Schema
+with_cell = created with_tab cell
+
+-- a database with this schema, whose tables have no rows
+pub record IsBare (schema : Schema) (db : Database) : Type 0 where
+  pub schema_is : db.schema ≡ schema
+  pub bare : AllByRecursion (λ (t : Table). db.trees t.tree ≡ []) schema.tables
+
+-- the transaction goes on, and a fact holds
+pub record HasMade (new : State) (Fact : Type 0) : Type 0 where
+  pub inside : IsTrue new.in_transaction
+  pub is_open : IsTrue new.is_open
+  pub fact : Fact
