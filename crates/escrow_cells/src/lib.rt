@@ -8,13 +8,13 @@ mod creation;
 mod datum;
 mod failure;
 mod read;
-mod transaction;
 mod statement;
 mod step;
+mod transaction;
 
 pub use creation::create;
 pub use datum::Datum;
 pub use failure::Failure;
-pub use read::{key_cells, row_cells, tabs, table_cells};
-pub use transaction::run;
+pub use read::{key_cells, row_cells, table_cells, tabs};
 pub use step::Step;
+pub use transaction::run;
