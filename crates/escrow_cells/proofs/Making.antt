@@ -1,6 +1,7 @@
 -- What the three CREATEs make, and the row of META.
-use Rattle.std.proofs.Common.{◌≡◌, ℕ, false, List, [], None, Ok, Err, Result, OnOk, refl, sym, ap, subst, ◌∙◌}
+use Rattle.std.proofs.Common.{◌≡◌, ℕ, true, false, List, [], None, Ok, Err, Result, OnOk, IsTrue, refl, sym, ap, subst, ◌∙◌}
 use Rattle.std.specs.List.{AllByRecursion}
+use Rattle.sqlite_trees.specs.declared.store.Store.{Ghosts}
 use Rattle.sqlite_trees.proofs.ListLemmas.{all-append, all_both}
 use Rattle.sqlite_schema.specs.declared.schema.Table.{Table}
 use Rattle.sqlite_schema.specs.declared.schema.Schema.{Schema}
@@ -11,11 +12,14 @@ use Rattle.sqlite_tied.specs.Compute.{everything}
 use Rattle.sqlite.specs.Listing.{understood}
 use Rattle.sqlite.specs.Effect.{Database}
 use Rattle.sqlite.specs.Does.{Tally, lacks_sequence}
-use Rattle.sqlite.specs.State.{State, Writes, Executes, ExecutesInside}
+use Rattle.sqlite.specs.Held.{Held, state}
+use Rattle.sqlite.specs.State.{State, HasCleanDisk, KeepsCommit, Survives, Writes, Executes, ExecutesInside}
 use Rattle.sqlite.specs.declared.error.Error.{Error}
 use Rattle.sqlite.proofs.Callers.{IsPlain, command_of, statement_of, runs_as}
 use Rattle.escrow_cells.specs.Tables.{no_schema, meta, tab, cell, meta_text, tab_text, cell_text}
+use Rattle.escrow_cells.specs.Store.{IsEmpty, Creates}
 use Rattle.escrow_cells.specs.Making.{with_meta, with_tab, with_cell, IsBare, HasMade}
+use Rattle.escrow_cells.proofs.AllOrNone.{Holds, one_call}
 use Rattle.escrow_cells.proofs.Inside.{went, same_value}
 use Rattle.escrow_cells.proofs.Texts.{meta_is, tab_is, cell_is}
 
@@ -69,3 +73,11 @@ creates_tab = creates with_meta tab_text (record tab { tree = 0 }) tab_create
 
 pub creates_cell : (old new : State) (count : ℕ) → Executes cell_text [] old new (Ok count) → IsBare with_tab old.now → IsBare with_cell new.now
 creates_cell = creates with_tab cell_text (record cell { tree = 0 }) cell_create
+
+-- in a transaction that had just begun the tables and their row were made
+pub made_in : {S : Type 0} (g : Ghosts S) (old start : Held S) (last : State) → start ≡ record old { in_transaction = true } → Survives (state g start) last (λ _. ⊥)
+    → (HasCleanDisk last → KeepsCommit (state g start) last) → (HasCleanDisk last → IsTrue start.in_transaction → HasMade last (IsBare no_schema (state g start).now → IsEmpty last.now))
+    → Holds (Creates (state g old).now) (state g old) last
+made_in g old start last begun survives keeps made =
+    let done = λ (clean : HasCleanDisk last). rw begun at (made clean (rw begun refl)) in
+    one_call g old _ last (rw begun at survives) (rw begun at keeps) (λ clean. ((done clean).inside, λ none. (done clean).fact (record { schema_is = none; bare = tt })))

@@ -1,7 +1,8 @@
 //! The three tables of a store, in SQLite: what each statement makes of their rows, a list of steps in
 //! one transaction, and what is read.
 //!
-//! Its one contract: a list of steps is done whole, or not at all, also over a crash ([`run`]).
+//! Its two contracts: a list of steps is done whole, or not at all, also over a crash ([`run`]), and so is
+//! a new store made ([`create`]).
 #![tactic(auto)]
 
 mod creation;
