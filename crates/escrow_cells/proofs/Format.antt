@@ -1,14 +1,18 @@
 -- The row of META that says the format.
-use Rattle.std.proofs.Common.{◌≡◌, ℕ, pos, Bool, true, false, cond, List, [], ◌∷◌, codes, Ok, refl, ap, ◌∙◌}
+use Rattle.std.proofs.Common.{◌≡◌, ℕ, pos, Bool, true, false, cond, List, [], ◌∷◌, codes, Ok, IsPermutation, refl, ap, subst, ◌∙◌}
+use Rattle.std.proofs.lemmas.Bool.{and_parts}
 use Rattle.sqlite_value.specs.declared.value.Value.{Value}
 use Rattle.sqlite_value.specs.declared.value.Value.TheVariants.{Null, Int, Text}
 use Rattle.sqlite_value.specs.Order.{Row, column}
-use Rattle.sqlite_trees.specs.Tree.{Trees}
+use Rattle.sqlite_trees.specs.Tree.{Trees, rowid}
+use Rattle.sqlite_trees.specs.View.{is_int}
 use Rattle.sqlite_sql.specs.Term.{Term, lit}
 use Rattle.sqlite_schema.specs.declared.schema.Kind.TheVariants.{Integer}
 use Rattle.sqlite_schema.specs.declared.command.Source.TheVariants.{Values}
 use Rattle.sqlite_schema.specs.declared.command.Command.TheVariants.{Insert}
+use Rattle.sqlite_rules.specs.declared.error.Rowids.TheVariants.{Chosen}
 use Rattle.sqlite_rules.specs.Cast.{cast}
+use Rattle.sqlite_rules.specs.Edit.{edit_of}
 use Rattle.sqlite_tied.specs.Compute.{everything}
 use Rattle.sqlite.specs.Listing.{understood}
 use Rattle.sqlite.specs.Effect.{Database}
@@ -17,8 +21,9 @@ use Rattle.sqlite.proofs.Callers.{IsPlain, command_of, statement_of, runs_as, on
 use Rattle.escrow_cells.specs.Tables.{meta_tree, tab_tree, cell_tree, meta}
 use Rattle.escrow_cells.specs.Store.{AreNumbered, IsEmpty}
 use Rattle.escrow_cells.specs.Making.{with_cell, IsBare}
-use Rattle.escrow_cells.proofs.Inside.{inserts}
-use Rattle.escrow_cells.proofs.Insert.{Adds, made, adds_one, cast_number}
+use Rattle.escrow_cells.proofs.Columns.{cast_held}
+use Rattle.escrow_cells.proofs.Inside.{Edits, inserts}
+use Rattle.escrow_cells.proofs.Insert.{made, added}
 
 abbrev pub format_insert : List ℕ
 format_insert = codes "INSERT INTO META VALUES ('format', 1)"
@@ -45,29 +50,33 @@ same_rest true x y values = refl
 same_rest false x y values = refl
 
 made_meta : (db : Trees) → meta_of (made db meta format_values) ≡ Text (codes "format") ∷ Int (pos 1) ∷ []
-made_meta db = same_rest _ _ (cast Integer Null) (Text (codes "format") ∷ cast Integer (Int (pos 1)) ∷ []) ∙ rw (cast_number (pos 1))
+made_meta db = same_rest _ _ (cast Integer Null) (Text (codes "format") ∷ cast Integer (Int (pos 1)) ∷ []) ∙ rw (cast_held (Int (pos 1)) refl)
 
 none_numbered : AreNumbered []
 none_numbered = record { whole = tt; apart = tt }
 
-format_added : (old new : Database) (row : Row) → IsBare with_cell old → meta_of row ≡ Text (codes "format") ∷ Int (pos 1) ∷ [] → Adds meta_tree row old new → IsEmpty new
-format_added old new row bare shape a =
-    let others = rw bare.schema_is at a.others in
+abbrev Adds : Database → Database → Type 0
+Adds old new = Edits old new (edit_of old.trees meta [] Chosen 0 (format_values ∷ []))
+
+format_added : (old new : Database) → IsBare with_cell old → Adds old new → IsEmpty new
+format_added old new bare a =
+    let row = made old.trees meta format_values in
+    let others = rw bare.schema_is at a.applies.tables in
     let was : old.trees meta_tree ≡ [] = bare.bare.0 in
     let tabs_none : new.trees tab_tree ≡ [] = others.1.0 (λ e. cc) ∙ bare.bare.1.0 in
     let cells_none : new.trees cell_tree ≡ [] = others.1.1.0 (λ e. cc) ∙ bare.bare.1.1.0 in
-    let one : new.trees meta_tree ≡ row ∷ [] = one_permutation row _ (rw was at a.added) in
+    let one : new.trees meta_tree ≡ row ∷ [] = one_permutation row _ (subst (λ rows. IsPermutation (row ∷ rows) (new.trees meta_tree)) was (added old new meta format_values a)) in
     let schema : new.schema ≡ with_cell = a.schema ∙ bare.schema_is in
     record {
       store = record {
         tables = record { more = []; indexes = with_cell.indexes; views = []; is = schema };
         sound = a.sound;
         no_keys = rw schema (refl, (refl, (refl, tt)));
-        metas_numbered = a.numbered (rw was none_numbered);
+        metas_numbered = rw one (record { whole = ((and_parts (is_int (rowid row)) true a.applies.keyed).0, tt); apart = (tt, tt) });
         tabs_numbered = rw tabs_none none_numbered;
         cells_numbered = rw cells_none none_numbered;
       };
-      metas_are = rw one (ap (λ r. r ∷ []) shape);
+      metas_are = rw one (ap (λ r. r ∷ []) (made_meta old.trees));
       tabs_are = rw tabs_none refl;
       cells_are = rw cells_none refl;
     }
@@ -78,5 +87,4 @@ inserts_format old new count h bare =
     let text = statement_of format_insert (understood with_cell format_insert) in
     let w = runs_as format_insert [] old new with_cell has (Insert 0 (Values format_terms 3)) format_insert_is format_insert_plain count h in
     let given = inserts old new meta 0 (rw has refl) (rw has (refl, (refl, (refl, tt)))) text [] count (Values format_terms 3) refl w in
-    let adds = adds_one old.now new.now meta format_values given.0 given.1.1 given.2 in
-    format_added old.now new.now _ bare (made_meta old.now.trees) adds
+    format_added old.now new.now bare (subst (λ rows. Edits old.now new.now (edit_of old.now.trees meta [] Chosen 0 rows)) given.1.1 given.2)
