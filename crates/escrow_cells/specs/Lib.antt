@@ -1,6 +1,7 @@
 pub mod Making
 pub mod Failure
 pub mod Inside
+pub mod Query
 pub mod Read
 pub mod Step
 pub mod Store

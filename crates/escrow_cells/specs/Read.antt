@@ -1,5 +1,5 @@
 -- Believed: what is read of a store.
-use Rattle.std.specs.Prelude.{◌≡◌, ℕ, false, List, [], ◌∷◌, map, filter, ◌&&◌, IsPermutation, IsSorted, IsTrue, codes}
+use Rattle.std.specs.Prelude.{◌≡◌, false, List, [], ◌∷◌, ◌++◌, map, filter, ◌&&◌, IsPermutation, IsSorted, IsTrue}
 use Rattle.std.specs.Ordering.{on, then_cmp}
 use Rattle.sqlite_value.specs.declared.value.Value.{Value}
 use Rattle.sqlite_value.specs.Order.{Row, column, value_cmp}
@@ -34,9 +34,6 @@ pub record Rests {S : Type 0} (g : Ghosts S) (old new : Held S) : Type 0 where
   pub was_open : HasCleanDisk (state g new) → IsTrue (state g new).is_open → IsTrue (state g old).is_open
   pub survives : Survives (state g old) (state g new) (λ _. ⊥)
 
--- the texts of the queries that give rows one at a time
-abbrev pub table_text : List ℕ
-table_text = codes "SELECT K, C, V FROM CELL WHERE TAB = ?1 ORDER BY K, C"
-
-abbrev pub keys_text : List ℕ
-keys_text = codes "SELECT K FROM CELL WHERE TAB = ?1 AND C = ?2"
+-- a sink that had taken some rows has then taken those of an answer too
+abbrev pub Takes : {K : Type 0} → (K → List Row → Type 0) → (List Row → Type 0) → K → K → Type 0
+Takes HasTaken IsAnswer old new = (before : List Row) → HasTaken old before → (rows : List Row) × IsAnswer rows × HasTaken new (before ++ rows)

@@ -1,24 +1,70 @@
-//! What is read. Each call changes nothing.
-ghost use Rattle.std.specs.Prelude.{◌≡◌, pos, false, [], ◌∷◌, IsTrue, IfOk, OnOk};
+//! What is read. Each call changes nothing, and refuses a connection that is inside a transaction.
+ghost use Rattle.std.specs.Prelude.{◌≡◌, false, ◌&&◌, length, filter, IsTrue, IfOk, OnOk};
 ghost use Rattle.sqlite_value.specs.declared.value.Value.TheVariants.{Int};
+ghost use Rattle.sqlite_value.specs.Order.{column};
 ghost use Rattle.sqlite.specs.Held.{state};
-ghost use Rattle.sqlite.specs.State.{HasCleanDisk, Survives, IsUnchanged};
-ghost use Rattle.sqlite.specs.Given.{HasGiven};
-ghost use Rattle.escrow_cells.specs.Step.{kept};
+ghost use Rattle.sqlite.specs.State.{HasCleanDisk, Shown};
+ghost use Rattle.sqlite.specs.Values.{bound};
+ghost use Rattle.escrow_cells.specs.Step.{kept, same, is_in};
 ghost use Rattle.escrow_cells.specs.Store.{IsStore, cells, tabs};
-ghost use Rattle.escrow_cells.specs.Read.{AreOfRow, AreKeys, AreTabs, table_text, keys_text, Rests};
+ghost use Rattle.escrow_cells.specs.Read.{AreOfRow, AreOfTable, AreKeys, AreTabs, Rests, Takes};
+ghost use Rattle.escrow_cells.specs.Query.{OnlyReads};
 
 use crate::datum::Datum;
-use sqlite::types::ToSql;
-use sqlite::{Alter, Connection, Error, Row, Rows, params};
+use crate::failure::Failure;
+use crate::sink::{Counter, Sink};
+use sqlite::types::{ToSql, ValueRef};
+use sqlite::{Alter, Connection, Row, params};
+
+/// All rows of a query.
+fn read_all<S: Alter>(
+    conn: &mut Connection<S>,
+    sql: &str,
+    params: &[ValueRef<'_>],
+) -> Result<Vec<Row>, Failure>
+    requires { OnlyReads sql.now }
+    ensures shown { HasCleanDisk (state S.Store conn.new) → IfOk result (λ rows. Shown sql.now (bound params.now) (state S.Store conn.old) (state S.Store conn.new) rows.items) }
+    ensures rests { conn.old.in_transaction ≡ false → Rests S.Store conn.old conn.new }
+    ensures is_open { HasCleanDisk (state S.Store conn.new) → OnOk result (IsTrue (state S.Store conn.new).is_open) }
+{
+    if !conn.is_autocommit() {
+        return Err(Failure::Store);
+    }
+    Ok(conn.query_all(sql, params)?)
+}
+
+/// The rows of a query, each given to a sink as it is read.
+fn read_each<S: Alter, K: Sink>(
+    conn: &mut Connection<S>,
+    sql: &str,
+    params: &[ValueRef<'_>],
+    sink: &mut K,
+) -> Result<(), Failure>
+    requires { OnlyReads sql.now }
+    ensures taken { HasCleanDisk (state S.Store conn.new) → OnOk result (Takes K.has_taken (Shown sql.now (bound params.now) (state S.Store conn.old) (state S.Store conn.new)) sink.old sink.new) }
+    ensures rests { conn.old.in_transaction ≡ false → Rests S.Store conn.old conn.new }
+    ensures is_open { HasCleanDisk (state S.Store conn.new) → OnOk result (IsTrue (state S.Store conn.new).is_open) }
+{
+    if !conn.is_autocommit() {
+        return Err(Failure::Store);
+    }
+    let mut rows = conn.query(sql, params)?;
+    'rows: for _ in 0..u64::MAX {
+        let Some(row) = rows.next()? else {
+            return Ok(());
+        };
+        sink.take(row)?;
+    }
+    Err(Failure::Store)
+}
 
 /// The rows of TAB, in order of ID: each has its ID, its NAME and its DDL.
-pub fn tabs<S: Alter>(conn: &mut Connection<S>) -> Result<Vec<Row>, Error>
+pub fn tabs<S: Alter>(conn: &mut Connection<S>) -> Result<Vec<Row>, Failure>
     ensures rows { HasCleanDisk (state S.Store conn.new) → IfOk result (λ rows. IsStore (state S.Store conn.old).now → AreTabs (tabs (state S.Store conn.old).now) rows.items) }
     ensures rests { conn.old.in_transaction ≡ false → Rests S.Store conn.old conn.new }
     ensures is_open { HasCleanDisk (state S.Store conn.new) → OnOk result (IsTrue (state S.Store conn.new).is_open) }
 {
-    conn.query_all("SELECT ID, NAME, DDL FROM TAB ORDER BY ID", &[])
+    read_all(conn, "SELECT ID, NAME, DDL FROM TAB ORDER BY ID", &[])
 }
 
 /// The cells of the row of a key, in order of place: each has its place and its value.
@@ -26,34 +72,67 @@ pub fn row_cells<S: Alter>(
     conn: &mut Connection<S>,
     table: i64,
     key: Datum<'_>,
-) -> Result<Vec<Row>, Error>
+) -> Result<Vec<Row>, Failure>
     ensures rows { HasCleanDisk (state S.Store conn.new) → IfOk result (λ rows. IsStore (state S.Store conn.old).now → AreOfRow (Int table) (kept key.entry) (cells (state S.Store conn.old).now) rows.items) }
     ensures rests { conn.old.in_transaction ≡ false → Rests S.Store conn.old conn.new }
     ensures is_open { HasCleanDisk (state S.Store conn.new) → OnOk result (IsTrue (state S.Store conn.new).is_open) }
 {
-    conn.query_all(
+    read_all(
+        conn,
         "SELECT C, V FROM CELL WHERE TAB = ?1 AND K = ?2 ORDER BY C",
         params![table, key],
     )
 }
 
-/// Begins to read the cells of a table, in order of key and place: each has its key, its place and its
+/// Gives a sink the cells of a table, in order of key and place: each has its key, its place and its
 /// value.
-pub fn table_cells<S: Alter>(conn: &mut Connection<S>, table: i64) -> Result<Rows<'_, S>, Error> {
-    conn.query(
+pub fn table_cells<S: Alter, K: Sink>(
+    conn: &mut Connection<S>,
+    table: i64,
+    sink: &mut K,
+) -> Result<(), Failure>
+    ensures rows { HasCleanDisk (state S.Store conn.new) → OnOk result (IsStore (state S.Store conn.old).now → Takes K.has_taken (AreOfTable (Int table) (cells (state S.Store conn.old).now)) sink.old sink.new) }
+    ensures rests { conn.old.in_transaction ≡ false → Rests S.Store conn.old conn.new }
+    ensures is_open { HasCleanDisk (state S.Store conn.new) → OnOk result (IsTrue (state S.Store conn.new).is_open) }
+{
+    read_each(
+        conn,
         "SELECT K, C, V FROM CELL WHERE TAB = ?1 ORDER BY K, C",
         params![table],
+        sink,
     )
 }
 
-/// Begins to read the keys of a table's cells at one place.
-pub fn key_cells<S: Alter>(
+/// Gives a sink the keys of a table's cells at one place, in any order.
+pub fn key_cells<S: Alter, K: Sink>(
     conn: &mut Connection<S>,
     table: i64,
     place: i64,
-) -> Result<Rows<'_, S>, Error> {
-    conn.query(
+    sink: &mut K,
+) -> Result<(), Failure>
+    ensures rows { HasCleanDisk (state S.Store conn.new) → OnOk result (IsStore (state S.Store conn.old).now → Takes K.has_taken (AreKeys (Int table) (Int place) (cells (state S.Store conn.old).now)) sink.old sink.new) }
+    ensures rests { conn.old.in_transaction ≡ false → Rests S.Store conn.old conn.new }
+    ensures is_open { HasCleanDisk (state S.Store conn.new) → OnOk result (IsTrue (state S.Store conn.new).is_open) }
+{
+    read_each(
+        conn,
         "SELECT K FROM CELL WHERE TAB = ?1 AND C = ?2",
         params![table, place],
+        sink,
     )
+}
+
+/// How many cells of a table are at one place.
+pub fn count_keys<S: Alter>(
+    conn: &mut Connection<S>,
+    table: i64,
+    place: i64,
+) -> Result<usize, Failure>
+    ensures count { HasCleanDisk (state S.Store conn.new) → IfOk result (λ n. IsStore (state S.Store conn.old).now → n ≡ length (filter (λ c. is_in (Int table) c && same (column c 2) (Int place)) (cells (state S.Store conn.old).now))) }
+    ensures rests { conn.old.in_transaction ≡ false → Rests S.Store conn.old conn.new }
+    ensures is_open { HasCleanDisk (state S.Store conn.new) → OnOk result (IsTrue (state S.Store conn.new).is_open) }
+{
+    let mut counter = Counter { rows: 0 };
+    key_cells(conn, table, place, &mut counter)?;
+    Ok(counter.rows)
 }
