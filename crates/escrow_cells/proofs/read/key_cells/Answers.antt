@@ -19,4 +19,4 @@ returns-clause-rows g c clean =
     let new = state g.S.Store c.read_each.new.conn in
     let params = Int a.table ∷ Int a.place ∷ [] in
     taken_answers g.K.Sink.has_taken keys_text _ params old new _ _ (IsStore old.now) (AreKeys (Int a.table) (Int a.place) (cells old.now)) (keys_shown (Int a.table) (Int a.place) old new) c.read_each.result
-        (c.read_each.ensures.taken clean) (search rules)
+    (c.read_each.ensures.taken clean) (search rules)

@@ -20,4 +20,4 @@ returns-clause-rows g c clean =
     let new = state g.S.Store c.read_all.new.conn in
     let params = Int a.table ∷ kept a.key ∷ [] in
     all_answers (λ rows. rows.items) row_text _ params old new (IsStore old.now) (AreOfRow (Int a.table) (kept a.key) (cells old.now)) (row_shown (Int a.table) (kept a.key) old new) c.read_all.result
-        (c.read_all.ensures.shown clean) (search (rules, bound_kept))
+    (c.read_all.ensures.shown clean) (search (rules, bound_kept))

@@ -19,4 +19,4 @@ returns-clause-rows g c clean =
     let new = state g.S.Store c.read_each.new.conn in
     let params = Int a.table ∷ [] in
     taken_answers g.K.Sink.has_taken table_text _ params old new _ _ (IsStore old.now) (AreOfTable (Int a.table) (cells old.now)) (table_shown (Int a.table) old new) c.read_each.result
-        (c.read_each.ensures.taken clean) (search rules)
+    (c.read_each.ensures.taken clean) (search rules)
