@@ -47,7 +47,7 @@ pub stopped_unserved : (count : ℕ) (script old_bytes new_bytes : Option (List 
 stopped_unserved count None old_bytes new_bytes wrote = tt
 stopped_unserved count (Some bytes) old_bytes new_bytes wrote = (
   empty_states count,
-  stopped fault.Memory (empty_states count) (empty_states count) (Some bytes) (Some bytes) old_bytes new_bytes tt (stood_unwritten (empty_states count) (Some bytes) old_bytes new_bytes wrote),
+  stopped fault.Memory (empty_states count) (empty_states count) (Some bytes) (Some bytes) old_bytes new_bytes [] tt (stood_unwritten (empty_states count) (Some bytes) old_bytes new_bytes wrote),
 )
 
 -- nor where the words couldn't be read for want of memory

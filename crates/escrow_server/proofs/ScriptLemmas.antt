@@ -1,6 +1,6 @@
 -- A line that comes in pieces.
 use Rattle.std.proofs.Common.{◌≡◌, ℕ, zero, suc, ◌+◌, ◌-◌, ◌≤◌, ◌<◌, min, List, [], ◌∷◌, ◌++◌, length, take, drop, arith, refl, sym, ap, subst, ◌∙◌}
-use Rattle.std.proofs.Common.{Bool, true, false, not, eqb, length-append, Option, Some, None}
+use Rattle.std.proofs.Common.{Bool, true, false, not, ◌&&◌, nat_lt, eqb, length-append, Option, Some, None}
 use Rattle.std.specs.Prelude.{⊤}
 use Rattle.std.specs.List.{slice_range, position_or_len}
 use Rattle.std.proofs.Math.Seq.{take-append-add}
@@ -10,7 +10,7 @@ use Rattle.std.proofs.lemmas.List.{nil_from_length, take_all, take_min, drop-tak
 use Rattle.escrow_server.specs.Line.{onto_first, lines_of}
 use Rattle.std.specs.Io.KnownBytes.{Consumes, IsAtEnd}
 use Rattle.escrow_server.specs.declared.limits.TheConstants.{MAX_LINE}
-use Rattle.escrow_server.specs.Script.{is_feed, left, Spends, TakesLine, Moves}
+use Rattle.escrow_server.specs.Script.{is_feed, left, has_line, Spends, TakesLine, Moves}
 
 -- what is kept of a line and the bytes behind it
 pub keeps : (line bytes : List ℕ) (most room : ℕ) → room + length line ≡ most → line ++ take (min room (length bytes)) bytes ≡ take most (line ++ bytes)
@@ -217,6 +217,16 @@ none_by_test empty n len e same h = omega (arith, eqb-true n 0 (sym e ∙ not-fa
 -- WHAT A SCRIPT MAY STILL HAVE
 
 -- what a reader gave in two turns
+and_false : (a : Bool) → (a && false) ≡ true → ⊥
+and_false true e = cc
+and_false false e = cc
+
+-- a line that is in hand is taken
+pub in_hand_taken : (found : Bool) (reads : ℕ) (unread rest line kept : List ℕ) → found ≡ false → Moves found unread rest line kept → has_line reads unread ≡ true → ⊥
+in_hand_taken found reads unread rest line kept is_false moved has =
+    let none : nat_lt (position_or_len is_feed unread) (length unread) ≡ false = sym moved.is_found ∙ is_false in
+    and_false (nat_lt 0 reads) (rw none at has)
+
 pub spends_more : (bytes mid rest : Option (List ℕ)) (old now new : ℕ) → Spends bytes mid old now → Spends mid rest now new → Spends bytes rest old new
 spends_more None mid rest old now new a b = tt
 spends_more (Some bytes) None rest old now new a b = absurd a

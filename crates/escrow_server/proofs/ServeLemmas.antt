@@ -1,5 +1,5 @@
 -- What is written piece by piece, and lines that are served one by one.
-use Rattle.std.proofs.Common.{◌≡◌, ◌≢◌, ℕ, ◌+◌, ◌<◌, ◌≤◌, List, [], ◌∷◌, ◌++◌, length, take, drop, Option, Some, None, arith, refl, sym, ap, subst, ◌∙◌, append_assoc, inl, inr}
+use Rattle.std.proofs.Common.{◌≡◌, ◌≢◌, ◌⊎◌, ℕ, ◌+◌, ◌<◌, ◌≤◌, List, [], ◌∷◌, ◌++◌, length, take, drop, Option, Some, None, arith, refl, sym, ap, subst, subst₂, ◌∙◌, append_assoc, inl, inr}
 use Rattle.std.specs.Prelude.{Result, Ok, Err, OnErr, IfOk, IfErr, IsErrAnd, slice_get, slice_set, option_map, IfSome, Bool, true, false, ⊤}
 use Rattle.std.specs.Io.KnownBytes.{Appends, IsAtEnd}
 use Rattle.std.proofs.lemmas.List.{append-nil, take_all, take_at, take-append-drop, length-take, length-drop, length-map, map-set}
@@ -72,25 +72,36 @@ rests_at_start : (bytes : Option (List ℕ)) → Rests [] bytes bytes
 rests_at_start None = tt
 rests_at_start (Some bytes) = refl
 
--- How a script stands: some of its lines were served, and what they write was written.
-pub record Stood (states new : List State) (script rest old_bytes new_bytes : Option (List ℕ)) : Type 0 where
+-- How a script stands: some of its lines were served, what they write was written but for what is
+-- gathered.
+pub record Stood (states new : List State) (script rest old_bytes new_bytes : Option (List ℕ)) (gathered : List ℕ) : Type 0 where
   pub served : List (List ℕ)
-  pub out : List ℕ
-  pub serves : ServesLines states served out new
-  pub appends : Appends old_bytes new_bytes out
+  pub written : List ℕ
+  pub serves : ServesLines states served (written ++ gathered) new
+  pub appends : Appends old_bytes new_bytes written
   pub rests : Rests served script rest
 
-pub stood_unwritten : (states : List State) (script old_bytes new_bytes : Option (List ℕ)) → Appends old_bytes new_bytes [] → Stood states states script script old_bytes new_bytes
+pub stood_unwritten : (states : List State) (script old_bytes new_bytes : Option (List ℕ)) → Appends old_bytes new_bytes [] → Stood states states script script old_bytes new_bytes []
 stood_unwritten states script old_bytes new_bytes wrote = record {
   served = [];
-  out = [];
+  written = [];
   serves = (refl, refl);
   appends = wrote;
   rests = rests_at_start script;
 }
 
-pub stood_at_start : (states : List State) (script bytes : Option (List ℕ)) → Stood states states script script bytes bytes
+pub stood_at_start : (states : List State) (script bytes : Option (List ℕ)) → Stood states states script script bytes bytes []
 stood_at_start states script bytes = stood_unwritten states script bytes bytes (appends_none bytes)
+
+-- nothing is read and nothing is gathered
+pub stood_begun : (states : List State) (script bytes : Option (List ℕ)) (unread gathered : List ℕ) → unread ≡ [] → gathered ≡ []
+    → Stood states states script (left unread script) bytes bytes gathered
+stood_begun states None bytes unread gathered none_unread none_gathered =
+    subst (Stood states states None (left unread None) bytes bytes) (sym none_gathered) (stood_at_start states None bytes)
+stood_begun states (Some script) bytes unread gathered none_unread none_gathered =
+    let same : ◌≡◌ {A = Option (List ℕ)} (Some script) (left unread (Some script)) = ap (λ (u : List ℕ). Some (u ++ script)) (sym none_unread) in
+    subst (Stood states states (Some script) (left unread (Some script)) bytes bytes) (sym none_gathered)
+    (subst (λ rest. Stood states states (Some script) rest bytes bytes []) same (stood_at_start states (Some script) bytes))
 
 -- the next line of a script, of which 4,097 bytes are kept
 record Next (script rest new_rest : Option (List ℕ)) (kept : List ℕ) (served : List (List ℕ)) : Type 0 where
@@ -128,76 +139,84 @@ turn_of found kept line first mid mid' new rest new_rest is_true is_line is_mid 
       subst (λ (m : Databases). ServesBytes (states_of m) kept first (states_of new)) is_mid with_line;
 }
 
--- one line more is served and written
-pub turn_served : (states mid : List State) (new back : Databases) (script rest new_rest old_bytes mid_bytes new_bytes : Option (List ℕ)) (first : List ℕ)
-    → Turn mid (states_of new) rest new_rest first → back ≡ new → Stood states mid script rest old_bytes mid_bytes → Appends mid_bytes new_bytes first
-    → Stood states (states_of back) script new_rest old_bytes new_bytes
-turn_served states mid new back script rest new_rest old_bytes mid_bytes new_bytes first turn same stood wrote =
+-- one line more is served, and what it writes is gathered
+pub turn_served : (states mid : List State) (new back : Databases) (script rest new_rest old_bytes new_bytes : Option (List ℕ)) (gathered first all : List ℕ)
+    → Turn mid (states_of new) rest new_rest first → back ≡ new → all ≡ gathered ++ first → Stood states mid script rest old_bytes new_bytes gathered
+    → Stood states (states_of back) script new_rest old_bytes new_bytes all
+turn_served states mid new back script rest new_rest old_bytes new_bytes gathered first all turn same is_all stood =
     let next = next_of script rest new_rest turn.kept stood.served turn.short turn.taken stood.rests in
     let step = serves_kept mid (states_of new) next.line turn.kept first next.is_kept turn.step in
-    subst (λ (n : Databases). Stood states (states_of n) script new_rest old_bytes new_bytes) (sym same)
+    let whole = serves_more states mid (states_of new) stood.served next.line (stood.written ++ gathered) first stood.serves step in
+    subst₂ (λ (n : Databases) (a : List ℕ). Stood states (states_of n) script new_rest old_bytes new_bytes a) (sym same) (sym is_all)
     (record {
       served = stood.served ++ next.line ∷ [];
-      out = stood.out ++ first;
-      serves = serves_more states mid (states_of new) stood.served next.line stood.out first stood.serves step;
-      appends = appends_more old_bytes mid_bytes new_bytes stood.out first stood.appends wrote;
+      written = stood.written;
+      serves = subst (λ (o : List ℕ). ServesLines states (stood.served ++ next.line ∷ []) o (states_of new)) (append_assoc stood.written gathered first) whole;
+      appends = stood.appends;
       rests = next.rests;
     })
 
--- a fault between two lines
-pub stopped : (why : ServeFault) (states new : List State) (script rest old_bytes new_bytes : Option (List ℕ)) → Leaves why []
-    → Stood states new script rest old_bytes new_bytes → IfSome script (λ bytes. StopsWithin why bytes states new old_bytes new_bytes)
-stopped why states new None rest old_bytes new_bytes leaves stood = tt
-stopped why states new (Some bytes) None old_bytes new_bytes leaves stood = absurd stood.rests
-stopped why states new (Some bytes) (Some rest) old_bytes new_bytes leaves stood = record {
+-- what was gathered is written
+pub stood_written : (states new : List State) (script rest old_bytes mid_bytes new_bytes : Option (List ℕ)) (gathered left_over : List ℕ)
+    → Stood states new script rest old_bytes mid_bytes gathered → Appends mid_bytes new_bytes gathered → left_over ≡ []
+    → Stood states new script rest old_bytes new_bytes left_over
+stood_written states new script rest old_bytes mid_bytes new_bytes gathered left_over stood wrote none =
+    let whole : stood.written ++ gathered ≡ (stood.written ++ gathered) ++ left_over = sym (append-nil (stood.written ++ gathered)) ∙ ap (λ (l : List ℕ). (stood.written ++ gathered) ++ l) (sym none) in
+    record {
+      served = stood.served;
+      written = stood.written ++ gathered;
+      serves = subst (λ (o : List ℕ). ServesLines states stood.served o new) whole stood.serves;
+      appends = appends_more old_bytes mid_bytes new_bytes stood.written gathered stood.appends wrote;
+      rests = stood.rests;
+    }
+
+-- a fault, at which what was gathered isn't written
+pub stopped : (why : ServeFault) (states new : List State) (script rest old_bytes new_bytes : Option (List ℕ)) (gathered : List ℕ) → Leaves why gathered
+    → Stood states new script rest old_bytes new_bytes gathered → IfSome script (λ bytes. StopsWithin why bytes states new old_bytes new_bytes)
+stopped why states new None rest old_bytes new_bytes gathered leaves stood = tt
+stopped why states new (Some bytes) None old_bytes new_bytes gathered leaves stood = absurd stood.rests
+stopped why states new (Some bytes) (Some rest) old_bytes new_bytes gathered leaves stood = record {
   served = stood.served;
   unserved = lines_of rest;
-  written = stood.out;
-  unwritten = [];
+  written = stood.written;
+  unwritten = gathered;
   lines = stood.rests;
-  serves = subst (λ (o : List ℕ). ServesLines states stood.served o new) (sym (append-nil stood.out)) stood.serves;
+  serves = stood.serves;
   appends = stood.appends;
   leaves = leaves;
 }
 
--- a fault while a line's reply is written, of which a front was written
-stopped_in_reply : (why : ServeFault) (states mid new : List State) (script rest new_rest old_bytes mid_bytes new_bytes : Option (List ℕ)) (front back : List ℕ)
-    → Leaves why back → Turn mid new rest new_rest (front ++ back) → Stood states mid script rest old_bytes mid_bytes → Appends mid_bytes new_bytes front
-    → IfSome script (λ bytes. StopsWithin why bytes states new old_bytes new_bytes)
-stopped_in_reply why states mid new None rest new_rest old_bytes mid_bytes new_bytes front back leaves turn stood wrote = tt
-stopped_in_reply why states mid new (Some bytes) rest None old_bytes mid_bytes new_bytes front back leaves turn stood wrote =
-    let next = next_of (Some bytes) rest None turn.kept stood.served turn.short turn.taken stood.rests in
-    absurd next.rests
-stopped_in_reply why states mid new (Some bytes) rest (Some more) old_bytes mid_bytes new_bytes front back leaves turn stood wrote =
-    let next = next_of (Some bytes) rest (Some more) turn.kept stood.served turn.short turn.taken stood.rests in
-    let step = serves_kept mid new next.line turn.kept (front ++ back) next.is_kept turn.step in
-    let whole = serves_more states mid new stood.served next.line stood.out (front ++ back) stood.serves step in
-    record {
-      served = stood.served ++ next.line ∷ [];
-      unserved = lines_of more;
-      written = stood.out ++ front;
-      unwritten = back;
-      lines = next.rests;
-      serves = subst (λ (o : List ℕ). ServesLines states (stood.served ++ next.line ∷ []) o new) (sym (append_assoc stood.out front back)) whole;
-      appends = appends_more old_bytes mid_bytes new_bytes stood.out front stood.appends wrote;
-      leaves = leaves;
-    }
+-- a front of what was gathered is written
+stood_in_front : (states new : List State) (script rest old_bytes mid_bytes new_bytes : Option (List ℕ)) (front back : List ℕ)
+    → Stood states new script rest old_bytes mid_bytes (front ++ back) → Appends mid_bytes new_bytes front → Stood states new script rest old_bytes new_bytes back
+stood_in_front states new script rest old_bytes mid_bytes new_bytes front back stood wrote = record {
+  served = stood.served;
+  written = stood.written ++ front;
+  serves = subst (λ (o : List ℕ). ServesLines states stood.served o new) (sym (append_assoc stood.written front back)) stood.serves;
+  appends = appends_more old_bytes mid_bytes new_bytes stood.written front stood.appends wrote;
+  rests = stood.rests;
+}
 
--- a turn whose reply was written in front only
-pub turn_stopped : (why : ServeFault) (states mid : List State) (new back : Databases) (script rest new_rest old_bytes mid_bytes new_bytes : Option (List ℕ)) (first : List ℕ) (len : ℕ)
-    → Leaves why (drop len first) → Turn mid (states_of new) rest new_rest first → back ≡ new → Stood states mid script rest old_bytes mid_bytes
-    → Appends mid_bytes new_bytes (take len first) → IfSome script (λ bytes. StopsWithin why bytes states (states_of back) old_bytes new_bytes)
-turn_stopped why states mid new back script rest new_rest old_bytes mid_bytes new_bytes first len leaves turn same stood wrote =
-    let whole : first ≡ take len first ++ drop len first = sym (take-append-drop len first) in
-    let parted = subst (λ (f : List ℕ). Turn mid (states_of new) rest new_rest f) whole turn in
-    subst (λ (n : Databases). IfSome script (λ bytes. StopsWithin why bytes states (states_of n) old_bytes new_bytes)) (sym same)
-    (stopped_in_reply why states mid (states_of new) script rest new_rest old_bytes mid_bytes new_bytes (take len first) (drop len first) leaves parted stood wrote)
+-- a fault of the writer, which took a front of what was gathered
+pub stopped_writing : (why : ServeFault) (states new : List State) (script rest old_bytes mid_bytes new_bytes : Option (List ℕ)) (gathered : List ℕ) (len : ℕ)
+    → Leaves why (drop len gathered) → Stood states new script rest old_bytes mid_bytes gathered → Appends mid_bytes new_bytes (take len gathered)
+    → IfSome script (λ bytes. StopsWithin why bytes states new old_bytes new_bytes)
+stopped_writing why states new script rest old_bytes mid_bytes new_bytes gathered len leaves stood wrote =
+    let whole : gathered ≡ take len gathered ++ drop len gathered = sym (take-append-drop len gathered) in
+    let parted = subst (λ (g : List ℕ). Stood states new script rest old_bytes mid_bytes g) whole stood in
+    stopped why states new script rest old_bytes new_bytes (drop len gathered) leaves
+    (stood_in_front states new script rest old_bytes mid_bytes new_bytes (take len gathered) (drop len gathered) parted wrote)
 
 -- of a fault that isn't the writer's, nothing is left to write
 pub leaves_nothing : (why : ServeFault) → why ≢ fault.Write → Leaves why []
 leaves_nothing fault.Read other = refl
 leaves_nothing fault.Write other = absurd (other refl)
 leaves_nothing fault.Memory other = tt
+
+-- at a fault nothing is gathered, or memory was refused
+pub leaves_gathered : (why : ServeFault) (gathered : List ℕ) → why ≢ fault.Write → (gathered ≡ []) ⊎ (why ≡ fault.Memory) → Leaves why gathered
+leaves_gathered why gathered other (inl none) = subst (Leaves why) (sym none) (leaves_nothing why other)
+leaves_gathered why gathered other (inr memory) = subst (λ w. Leaves w gathered) (sym memory) tt
 
 -- what is left at a fault of the writer
 pub leaves_some : (why : ServeFault) (bytes : List ℕ) (len : ℕ) → why ≡ fault.Write → len < length bytes → Leaves why (drop len bytes)
@@ -234,7 +253,7 @@ within_limit bytes (Some rest) old new spends ended = omega (arith, spends, ap l
 
 -- at the script's end its reader is at its end
 pub ended : (states new : List State) (script rest remaining old_bytes new_bytes : Option (List ℕ)) (found : Bool) (kept unread : List ℕ) → found ≡ false
-    → TakesLine found rest (left unread remaining) kept → Stood states new script rest old_bytes new_bytes → IfSome script (λ bytes. IsAtEnd remaining)
+    → TakesLine found rest (left unread remaining) kept → Stood states new script rest old_bytes new_bytes [] → IfSome script (λ bytes. IsAtEnd remaining)
 ended states new None rest remaining old_bytes new_bytes found kept unread is_false taken stood = tt
 ended states new (Some bytes) None remaining old_bytes new_bytes found kept unread is_false taken stood = absurd stood.rests
 ended states new (Some bytes) (Some rest) None old_bytes new_bytes found kept unread is_false taken stood = tt
@@ -244,7 +263,7 @@ ended states new (Some bytes) (Some rest) (Some more) old_bytes new_bytes found 
 
 -- and all its lines are served
 stood_at_end : (states new : List State) (bytes : List ℕ) (rest more remaining old_bytes new_bytes : Option (List ℕ)) (kept : List ℕ) (now : ℕ)
-    → Stood states new (Some bytes) rest old_bytes new_bytes → TakesLine false rest more kept → Spends (Some bytes) remaining MAX_SCRIPT now → IsAtEnd remaining
+    → Stood states new (Some bytes) rest old_bytes new_bytes [] → TakesLine false rest more kept → Spends (Some bytes) remaining MAX_SCRIPT now → IsAtEnd remaining
     → ServesWhole bytes states new old_bytes new_bytes
 stood_at_end states new bytes None more remaining old_bytes new_bytes kept now stood taken spends at_end = absurd stood.rests
 stood_at_end states new bytes (Some rest) None remaining old_bytes new_bytes kept now stood taken spends at_end = absurd taken
@@ -252,13 +271,14 @@ stood_at_end states new bytes (Some rest) (Some more) remaining old_bytes new_by
     let all : stood.served ≡ lines_of bytes = sym (stood.rests ∙ ap (λ (ls : List (List ℕ)). stood.served ++ ls) taken.0 ∙ append-nil stood.served) in
     record {
       limit = within_limit bytes remaining MAX_SCRIPT now spends at_end;
-      out = stood.out;
-      output = subst (λ (ls : List (List ℕ)). ServesLines states ls stood.out new) all stood.serves;
+      out = stood.written;
+      output = subst (λ (ls : List (List ℕ)). ServesLines states ls stood.written new) all
+          (subst (λ (o : List ℕ). ServesLines states stood.served o new) (append-nil stood.written) stood.serves);
       appends = stood.appends;
     }
 
 pub finished : (states new : List State) (script rest remaining old_bytes new_bytes : Option (List ℕ)) (found : Bool) (kept unread : List ℕ) (now : ℕ) → found ≡ false
-    → TakesLine found rest (left unread remaining) kept → Stood states new script rest old_bytes new_bytes → Spends script remaining MAX_SCRIPT now
+    → TakesLine found rest (left unread remaining) kept → Stood states new script rest old_bytes new_bytes [] → Spends script remaining MAX_SCRIPT now
     → IfSome script (λ bytes. ServesWhole bytes states new old_bytes new_bytes)
 finished states new None rest remaining old_bytes new_bytes found kept unread now is_false taken stood spends = tt
 finished states new (Some bytes) rest remaining old_bytes new_bytes found kept unread now is_false taken stood spends =
@@ -288,3 +308,18 @@ state_at databases place database found = slice_get-map state_in databases place
 
 pub states_after : (databases : Databases) (place : ℕ) (database : Seen) → states_of (slice_set databases place database) ≡ slice_set (states_of databases) place (state_in database)
 states_after databases place database = map-set state_in databases place database
+
+-- nothing is gathered where no line is in hand; where one is, a fault is want of memory
+pub waits_for_none : (in_hand : Bool) (gathered : List ℕ) (why : ServeFault) → (in_hand ≡ false → gathered ≡ []) → (in_hand ≡ true → why ≡ fault.Memory)
+    → (gathered ≡ []) ⊎ (why ≡ fault.Memory)
+waits_for_none true gathered why waits cause = inr (cause refl)
+waits_for_none false gathered why waits cause = inl (waits refl)
+
+-- where there was no next line, none was in hand
+pub nothing_waits : (found in_hand : Bool) (gathered : List ℕ) → found ≡ false → (in_hand ≡ true → found ≡ true) → (in_hand ≡ false → gathered ≡ []) → gathered ≡ []
+nothing_waits found true gathered is_false taken waits = absurd (let e = sym is_false ∙ taken refl in cc)
+nothing_waits found false gathered is_false taken waits = waits refl
+
+-- a test tells that a line is in hand
+pub read_without : (tested in_hand : Bool) → tested ≡ in_hand → tested ≡ true → in_hand ≡ false → ⊥
+read_without tested in_hand same found none = let e : true ≡ false = sym found ∙ same ∙ none in cc

@@ -1,5 +1,5 @@
 -- Helps: how the lines of a script are read.
-use Rattle.std.specs.Prelude.{◌≡◌, ℕ, ◌+◌, ◌==◌, Bool, true, false, nat_lt, Option, Some, None, List, [], ◌∷◌, ◌++◌, length, take, drop, ⊤}
+use Rattle.std.specs.Prelude.{◌≡◌, ℕ, ◌+◌, ◌==◌, ◌&&◌, Bool, true, false, nat_lt, Option, Some, None, List, [], ◌∷◌, ◌++◌, length, take, drop, ⊤}
 use Rattle.std.specs.Io.KnownBytes.{prepend_known}
 use Rattle.std.specs.List.{position_or_len}
 use Rattle.escrow_server.specs.Line.{lines_of}
@@ -8,6 +8,10 @@ use Rattle.escrow_server.specs.declared.limits.TheConstants.{MAX_LINE}
 -- a line feed
 abbrev pub is_feed : ℕ → Bool
 is_feed b = b == 10
+
+-- a line is in hand: reads are left, and a line feed stands among the bytes that were read and aren't taken
+abbrev pub has_line : ℕ → List ℕ → Bool
+has_line reads unread = nat_lt 0 reads && nat_lt (position_or_len is_feed unread) (length unread)
 
 -- the bytes that a script has left: those that were read and aren't taken, and those of its reader,
 -- where these are known

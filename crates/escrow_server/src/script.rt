@@ -24,7 +24,7 @@ pub(crate) struct Script {
 }
 
 impl Script {
-    ghost use Rattle.escrow_server.specs.Script.{left, Spends, TakesLine, Moves};
+    ghost use Rattle.escrow_server.specs.Script.{left, has_line, Spends, TakesLine, Moves};
 
     /// A script of which nothing is read.
     pub(crate) fn new(alloc: Global) -> Result<Script, AllocError>
@@ -47,13 +47,24 @@ impl Script {
         self.line.as_slice()
     }
 
-    /// Takes the next line, and answers whether there was one.
+    /// Whether the next line is in hand, so that it is taken without a read.
+    pub(crate) fn has_line(&self) -> bool
+        ensures { result ≡ has_line self.now.reads_left self.now.unread }
+    {
+        let bytes = self.unread.as_slice();
+        self.reads_left > 0 && line_len(bytes) < bytes.len()
+    }
+
+    /// Takes the next line, and answers whether there was one. A line that is in hand is taken, or memory
+    /// is refused.
     pub(crate) fn next_line<R: Read>(&mut self, reader: &mut R) -> Result<bool, ServeFault>
         ensures taken { IfOk result (λ found. TakesLine found (left self.old.unread (R.remaining reader.old))
             (left self.new.unread (R.remaining reader.new)) self.new.line.items) }
         ensures less { IfOk result (λ found. found ≡ true →
             self.new.bytes_left + length self.new.unread < self.old.bytes_left + length self.old.unread) }
         ensures spent { OnOk result (Spends (R.remaining reader.old) (R.remaining reader.new) self.old.bytes_left self.new.bytes_left) }
+        ensures in_hand { IfOk result (λ found. has_line self.old.reads_left self.old.unread ≡ true → found ≡ true) }
+        ensures cause { IfErr result (λ fault. has_line self.old.reads_left self.old.unread ≡ true → fault ≡ ServeFault.Memory) }
         // The writer has no part in it.
         ensures kind { IfErr result (λ fault. fault ≢ ServeFault.Write) }
     {

@@ -1,4 +1,4 @@
-ghost use Rattle.std.specs.Prelude.{◌≡◌, ◌≤◌, ◌<◌, List, ℕ, length, take, vec_len, OnOk, OnErr, IfOk, IfErr, IfSome};
+ghost use Rattle.std.specs.Prelude.{◌≡◌, ◌≤◌, ◌<◌, ◌++◌, [], List, ℕ, length, take, vec_len, OnOk, OnErr, IfOk, IfErr, IfSome};
 ghost use Rattle.std.specs.Io.KnownBytes.{Appends, IsAtEnd};
 ghost use Rattle.escrow_sql.specs.declared.statement.Statement.{Statement};
 ghost use Rattle.escrow_core.specs.Step.{StepOrRefusal};
@@ -16,8 +16,12 @@ use escrow_sql::{ParseFault, Request, parse};
 use std::alloc::{AllocError, Global};
 use std::io::{Read, Write};
 
-/// Serves a script: reads its lines in order, serves each in the database that it names, and writes
-/// its reply before the next line is read. There are 1 to 16 databases.
+/// How many bytes of replies are gathered at most before they are written, but for the last reply.
+const MOST_GATHERED: usize = 65_536;
+
+/// Serves a script: reads its lines in order, and serves each in the database that it names. Replies
+/// are gathered while the next line is in hand, and written before the reader is asked for more, so
+/// that whoever waits for a reply has it. There are 1 to 16 databases.
 ///
 /// After a fault the lines served so far stand in the databases, and what was written is a front of
 /// their replies.
@@ -40,10 +44,38 @@ pub fn serve_script<R: Read, W: Write>(
         StopsWithin fault script (states_of databases.old.items) (states_of databases.new.items) (W.contents writer.old) (W.contents writer.new))) }
 {
     let mut script = Script::new(alloc)?;
+    let mut replies = Vec::new(alloc);
     while script.next_line(reader)? {
         let reply = serve_line(alloc, databases.as_mut_slice(), script.line())?;
-        write_whole(writer, reply.as_slice())?;
+        gather(&mut replies, reply)?;
+        if replies.len() >= MOST_GATHERED || !script.has_line() {
+            write_gathered(writer, &mut replies)?;
+        }
     }
+    Ok(())
+}
+
+/// Adds a reply to those that are gathered.
+fn gather(replies: &mut Vec<u8>, reply: Vec<u8>) -> Result<(), AllocError>
+    ensures ok { OnOk result (replies.new.items ≡ replies.old.items ++ reply.items) }
+    ensures err { OnErr result (replies.new.items ≡ replies.old.items) }
+{
+    if replies.is_empty() {
+        *replies = reply;
+        return Ok(());
+    }
+    replies.extend_from_slice(reply.as_slice())
+}
+
+/// Writes what is gathered, or a front of it.
+fn write_gathered<W: Write>(writer: &mut W, replies: &mut Vec<u8>) -> Result<(), ServeFault>
+    ensures ok { OnOk result (Appends (W.contents writer.old) (W.contents writer.new) replies.old.items) }
+    ensures none { OnOk result (replies.new.items ≡ []) }
+    ensures err { OnErr result ((len : ℕ) × (len < length replies.old.items) × Appends (W.contents writer.old) (W.contents writer.new) (take len replies.old.items)) }
+    ensures kind { IfErr result (λ fault. fault ≡ ServeFault.Write) }
+{
+    write_whole(writer, replies.as_slice())?;
+    replies.clear();
     Ok(())
 }
 

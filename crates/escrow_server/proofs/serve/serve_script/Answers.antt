@@ -1,9 +1,8 @@
-use Rattle.std.proofs.Common.{List, ℕ, ◌<◌, length, take, arith, subst}
-use Rattle.std.specs.Io.KnownBytes.{Appends}
+use Rattle.std.proofs.Common.{rules, [], ◌++◌, arith, subst, refl}
 use Rattle.escrow_server.specs.declared.fault.ServeFault.TheVariants as fault
 use Rattle.escrow_server.specs.Output.{states_of}
-use Rattle.escrow_server.specs.Script.{left}
-use Rattle.escrow_server.proofs.ServeLemmas.{stood_at_start, stopped, finished, ended, turn_of, turn_served, turn_stopped, put_back, at_fault, appends_none, leaves_nothing, leaves_some}
+use Rattle.escrow_server.specs.Script.{left, has_line}
+use Rattle.escrow_server.proofs.ServeLemmas.{Stood, stood_at_start, stood_begun, stood_written, stopped, stopped_writing, finished, ended, turn_of, turn_served, put_back, at_fault, leaves_gathered, leaves_some, waits_for_none, nothing_waits, read_without}
 use Rattle.escrow_server.proofs.ScriptLemmas.{spends_more}
 use Rattle.escrow_server.specs.declared.limits.TheConstants.{MAX_SCRIPT}
 use Rattle.escrow_server.proofs.serve.serve_script.Goals as goal
@@ -14,73 +13,134 @@ returns-in_err-script-clause-fault g c =
     let script = g.R.Read.remaining c.args.reader.now in
     let bytes = g.W.Write.contents c.args.writer.now in
     at_fault c.from_residual.result fault.Memory _ c.from_residual.ensures.1
-    (stopped fault.Memory states states script script bytes bytes tt (stood_at_start states script bytes))
+    (stopped fault.Memory states states script script bytes bytes [] tt (stood_at_start states script bytes))
+
+pub loop-replies-init : goal.loop-replies-init
+loop-replies-init g c =
+    let made = c.in_ok-script.ensures in
+    record {
+      count = refl;
+      stood = stood_begun (states_of c.args.databases.now.items) (g.R.Read.remaining c.args.reader.now) (g.W.Write.contents c.args.writer.now) c.in_ok-script.script.unread c.new-replies.result.items
+          made.0 c.new-replies.ensures.items;
+      waits = λ _. c.new-replies.ensures.items;
+      spent = search rules;
+    }
 
 pub returns-in_err-next_line-clause-fault : goal.returns-in_err-next_line-clause-fault
 returns-in_err-next_line-clause-fault g c =
     let why = c.in_err-next_line.field-0.0 in
+    let next = c.in_err-next_line.ensures in
+    let stood = c.loop-replies.invariant.stood in
     at_fault c.from_residual-in_err-next_line.result why _ c.from_residual-in_err-next_line.ensures.1
-    (stopped why (states_of c.args.databases.now.items) (states_of c.loop-script.databases.items) (g.R.Read.remaining c.args.reader.now) _
-    (g.W.Write.contents c.args.writer.now) (g.W.Write.contents c.loop-script.writer) (leaves_nothing why c.in_err-next_line.ensures.kind) c.loop-script.invariant.stood)
+    (stopped why (states_of c.args.databases.now.items) (states_of c.loop-replies.databases.items) (g.R.Read.remaining c.args.reader.now) _
+    (g.W.Write.contents c.args.writer.now) (g.W.Write.contents c.loop-replies.writer) c.loop-replies.replies.items
+    (leaves_gathered why c.loop-replies.replies.items next.kind
+    (waits_for_none (has_line c.loop-replies.script.reads_left c.loop-replies.script.unread) c.loop-replies.replies.items why c.loop-replies.invariant.waits next.cause)) stood)
 
 pub returns-in_err-reply-clause-fault : goal.returns-in_err-reply-clause-fault
 returns-in_err-reply-clause-fault g c =
     let next = c.in_ok-next_line.ensures in
     let served = c.in_err-reply.ensures in
-    let mid = c.loop-script.databases.items in
+    let mid = c.loop-replies.databases.items in
     let new = c.serve_line.new.databases in
     let turn = turn_of c.in_ok-next_line.field-0 c.next_line.new.self.line.items c.line.result.now served.err.0 mid c.as_mut_slice.result.now new _ _
     c.if-branch.true c.line.ensures.value c.as_mut_slice.ensures.value c.line.ensures.within next.taken served.err.1 in
+    let stood = turn_served (states_of c.args.databases.now.items) (states_of mid) new _ (g.R.Read.remaining c.args.reader.now) _ _
+    (g.W.Write.contents c.args.writer.now) (g.W.Write.contents c.loop-replies.writer) c.loop-replies.replies.items served.err.0 (c.loop-replies.replies.items ++ served.err.0)
+    turn (put_back new mid c.loop-replies.databases.len (omega arith)) refl c.loop-replies.invariant.stood in
     at_fault c.from_residual-in_err-reply.result fault.Memory _ c.from_residual-in_err-reply.ensures.1
-    (turn_stopped fault.Memory (states_of c.args.databases.now.items) (states_of mid) new _ (g.R.Read.remaining c.args.reader.now) _ _
-    (g.W.Write.contents c.args.writer.now) (g.W.Write.contents c.loop-script.writer) (g.W.Write.contents c.loop-script.writer) served.err.0 0
-    tt turn (put_back new mid c.loop-script.databases.len (omega arith)) c.loop-script.invariant.stood (appends_none (g.W.Write.contents c.loop-script.writer)))
+    (stopped fault.Memory (states_of c.args.databases.now.items) _ (g.R.Read.remaining c.args.reader.now) _
+    (g.W.Write.contents c.args.writer.now) (g.W.Write.contents c.loop-replies.writer) _ tt stood)
 
-pub returns-in_err-write_whole-clause-fault : goal.returns-in_err-write_whole-clause-fault
-returns-in_err-write_whole-clause-fault g c =
+pub returns-in_err-gather-clause-fault : goal.returns-in_err-gather-clause-fault
+returns-in_err-gather-clause-fault g c =
     let next = c.in_ok-next_line.ensures in
     let served = c.in_ok-reply.ensures in
-    let wrote = c.in_err-write_whole.ensures in
-    let why = c.in_err-write_whole.field-0.0 in
-    let mid = c.loop-script.databases.items in
+    let mid = c.loop-replies.databases.items in
     let new = c.serve_line.new.databases in
-    let reply = c.in_ok-reply.reply.items in
-    let turn = turn_of c.in_ok-next_line.field-0 c.next_line.new.self.line.items c.line.result.now reply mid c.as_mut_slice.result.now new _ _
+    let turn = turn_of c.in_ok-next_line.field-0 c.next_line.new.self.line.items c.line.result.now c.in_ok-reply.reply.items mid c.as_mut_slice.result.now new _ _
     c.if-branch.true c.line.ensures.value c.as_mut_slice.ensures.value c.line.ensures.within next.taken served.ok in
-    let front = subst (λ (b : List ℕ). (len : ℕ) × (len < length b) × Appends (g.W.Write.contents c.loop-script.writer) (g.W.Write.contents c.write_whole.new.writer) (take len b)) c.as_slice.ensures.value wrote.err in
-    at_fault c.from_residual-in_err-write_whole.result why _ c.from_residual-in_err-write_whole.ensures.1
-    (turn_stopped why (states_of c.args.databases.now.items) (states_of mid) new _ (g.R.Read.remaining c.args.reader.now) _ _
-    (g.W.Write.contents c.args.writer.now) (g.W.Write.contents c.loop-script.writer) (g.W.Write.contents c.write_whole.new.writer) reply front.0
-    (leaves_some why reply front.0 wrote.kind front.1) turn (put_back new mid c.loop-script.databases.len (omega arith)) c.loop-script.invariant.stood front.2)
+    let stood = turn_served (states_of c.args.databases.now.items) (states_of mid) new _ (g.R.Read.remaining c.args.reader.now) _ _
+    (g.W.Write.contents c.args.writer.now) (g.W.Write.contents c.loop-replies.writer) c.loop-replies.replies.items c.in_ok-reply.reply.items (c.loop-replies.replies.items ++ c.in_ok-reply.reply.items)
+    turn (put_back new mid c.loop-replies.databases.len (omega arith)) refl c.loop-replies.invariant.stood in
+    at_fault c.from_residual-in_err-gather.result fault.Memory _ c.from_residual-in_err-gather.ensures.1
+    (stopped fault.Memory (states_of c.args.databases.now.items) _ (g.R.Read.remaining c.args.reader.now) _
+    (g.W.Write.contents c.args.writer.now) (g.W.Write.contents c.loop-replies.writer) _ tt stood)
 
-pub loop-script-preserved : goal.loop-script-preserved
-loop-script-preserved g c =
+pub returns-in_err-write_gathered-clause-fault : goal.returns-in_err-write_gathered-clause-fault
+returns-in_err-write_gathered-clause-fault g c =
     let next = c.in_ok-next_line.ensures in
     let served = c.in_ok-reply.ensures in
-    let wrote = c.in_ok-write_whole.ensures in
-    let stood = c.loop-script.invariant.stood in
-    let mid = c.loop-script.databases.items in
+    let wrote = c.in_err-write_gathered.ensures in
+    let why = c.in_err-write_gathered.field-0.0 in
+    let mid = c.loop-replies.databases.items in
+    let new = c.serve_line.new.databases in
+    let turn = turn_of c.in_ok-next_line.field-0 c.next_line.new.self.line.items c.line.result.now c.in_ok-reply.reply.items mid c.as_mut_slice.result.now new _ _
+    c.if-branch.true c.line.ensures.value c.as_mut_slice.ensures.value c.line.ensures.within next.taken served.ok in
+    let stood = turn_served (states_of c.args.databases.now.items) (states_of mid) new _ (g.R.Read.remaining c.args.reader.now) _ _
+    (g.W.Write.contents c.args.writer.now) (g.W.Write.contents c.loop-replies.writer) c.loop-replies.replies.items c.in_ok-reply.reply.items c.gather.new.replies.items
+    turn (put_back new mid c.loop-replies.databases.len (omega arith)) c.in_ok-gather.ensures.ok c.loop-replies.invariant.stood in
+    at_fault c.from_residual-in_err-write_gathered.result why _ c.from_residual-in_err-write_gathered.ensures.1
+    (stopped_writing why (states_of c.args.databases.now.items) _ (g.R.Read.remaining c.args.reader.now) _
+    (g.W.Write.contents c.args.writer.now) (g.W.Write.contents c.loop-replies.writer) (g.W.Write.contents c.write_gathered.new.writer) c.gather.new.replies.items wrote.err.0
+    (leaves_some why c.gather.new.replies.items wrote.err.0 wrote.kind wrote.err.1) stood wrote.err.2)
+
+pub loop-replies-preserved-in-loop-replies : goal.loop-replies-preserved-in-loop-replies
+loop-replies-preserved-in-loop-replies g c =
+    let next = c.in_ok-next_line.ensures in
+    let served = c.in_ok-reply.ensures in
+    let wrote = c.in_ok-write_gathered.ensures in
+    let mid = c.loop-replies.databases.items in
     let new = c.serve_line.new.databases in
     let turn = turn_of c.in_ok-next_line.field-0 c.next_line.new.self.line.items c.line.result.now c.in_ok-reply.reply.items mid c.as_mut_slice.result.now new
-    (left c.loop-script.script.unread (g.R.Read.remaining c.loop-script.reader)) (left c.next_line.new.self.unread (g.R.Read.remaining c.next_line.new.reader))
+    (left c.loop-replies.script.unread (g.R.Read.remaining c.loop-replies.reader)) (left c.next_line.new.self.unread (g.R.Read.remaining c.next_line.new.reader))
     c.if-branch.true c.line.ensures.value c.as_mut_slice.ensures.value c.line.ensures.within next.taken served.ok in
+    let stood = turn_served (states_of c.args.databases.now.items) (states_of mid) new _ (g.R.Read.remaining c.args.reader.now)
+    (left c.loop-replies.script.unread (g.R.Read.remaining c.loop-replies.reader)) (left c.next_line.new.self.unread (g.R.Read.remaining c.next_line.new.reader))
+    (g.W.Write.contents c.args.writer.now) (g.W.Write.contents c.loop-replies.writer) c.loop-replies.replies.items c.in_ok-reply.reply.items c.gather.new.replies.items
+    turn (put_back new mid c.loop-replies.databases.len (omega arith)) c.in_ok-gather.ensures.ok c.loop-replies.invariant.stood in
+    let written = stood_written (states_of c.args.databases.now.items) _ (g.R.Read.remaining c.args.reader.now) _
+    (g.W.Write.contents c.args.writer.now) (g.W.Write.contents c.loop-replies.writer) (g.W.Write.contents c.write_gathered.new.writer) c.gather.new.replies.items c.write_gathered.new.replies.items stood wrote.ok wrote.none in
     record {
-      count = c.loop-script.invariant.count;
-      stood = turn_served (states_of c.args.databases.now.items) (states_of mid) new _ (g.R.Read.remaining c.args.reader.now)
-          (left c.loop-script.script.unread (g.R.Read.remaining c.loop-script.reader)) (left c.next_line.new.self.unread (g.R.Read.remaining c.next_line.new.reader))
-          (g.W.Write.contents c.args.writer.now) (g.W.Write.contents c.loop-script.writer) (g.W.Write.contents c.write_whole.new.writer)
-          c.in_ok-reply.reply.items turn (put_back new mid c.loop-script.databases.len (omega arith)) stood
-          (subst (λ (b : List ℕ). Appends (g.W.Write.contents c.loop-script.writer) (g.W.Write.contents c.write_whole.new.writer) b) c.as_slice.ensures.value wrote.ok);
-      spent = spends_more _ _ _ MAX_SCRIPT c.loop-script.script.bytes_left c.next_line.new.self.bytes_left c.loop-script.invariant.spent next.spent;
+      count = c.loop-replies.invariant.count;
+      stood = written;
+      waits = λ _. wrote.none;
+      spent = spends_more _ _ _ MAX_SCRIPT c.loop-replies.script.bytes_left c.next_line.new.self.bytes_left c.loop-replies.invariant.spent next.spent;
+    }
+
+pub loop-replies-preserved : goal.loop-replies-preserved
+loop-replies-preserved g c =
+    let next = c.in_ok-next_line.ensures in
+    let served = c.in_ok-reply.ensures in
+    let mid = c.loop-replies.databases.items in
+    let new = c.serve_line.new.databases in
+    let turn = turn_of c.in_ok-next_line.field-0 c.next_line.new.self.line.items c.line.result.now c.in_ok-reply.reply.items mid c.as_mut_slice.result.now new
+    (left c.loop-replies.script.unread (g.R.Read.remaining c.loop-replies.reader)) (left c.next_line.new.self.unread (g.R.Read.remaining c.next_line.new.reader))
+    c.if-branch.true c.line.ensures.value c.as_mut_slice.ensures.value c.line.ensures.within next.taken served.ok in
+    let stood = turn_served (states_of c.args.databases.now.items) (states_of mid) new _ (g.R.Read.remaining c.args.reader.now)
+    (left c.loop-replies.script.unread (g.R.Read.remaining c.loop-replies.reader)) (left c.next_line.new.self.unread (g.R.Read.remaining c.next_line.new.reader))
+    (g.W.Write.contents c.args.writer.now) (g.W.Write.contents c.loop-replies.writer) c.loop-replies.replies.items c.in_ok-reply.reply.items c.gather.new.replies.items
+    turn (put_back new mid c.loop-replies.databases.len (omega arith)) c.in_ok-gather.ensures.ok c.loop-replies.invariant.stood in
+    record {
+      count = c.loop-replies.invariant.count;
+      stood = stood;
+      waits = λ none. absurd (read_without c.has_line.result (has_line c.next_line.new.self.reads_left c.next_line.new.self.unread) c.has_line.ensures c.if-not-has_line.false none);
+      spent = spends_more _ _ _ MAX_SCRIPT c.loop-replies.script.bytes_left c.next_line.new.self.bytes_left c.loop-replies.invariant.spent next.spent;
     }
 
 pub returns-clause-output : goal.returns-clause-output
 returns-clause-output g c =
     let next = c.in_ok-next_line.ensures in
-    let spent = spends_more _ _ _ MAX_SCRIPT c.loop-script.script.bytes_left c.next_line.new.self.bytes_left c.loop-script.invariant.spent next.spent in
-    finished _ _ _ _ _ _ _ c.in_ok-next_line.field-0 c.next_line.new.self.line.items c.next_line.new.self.unread c.next_line.new.self.bytes_left c.if-branch.false next.taken c.loop-script.invariant.stood spent
+    let spent = spends_more _ _ _ MAX_SCRIPT c.loop-replies.script.bytes_left c.next_line.new.self.bytes_left c.loop-replies.invariant.spent next.spent in
+    let none = nothing_waits c.in_ok-next_line.field-0 (has_line c.loop-replies.script.reads_left c.loop-replies.script.unread) c.loop-replies.replies.items c.if-branch.false next.in_hand c.loop-replies.invariant.waits in
+    let stood = subst (Stood (states_of c.args.databases.now.items) _ (g.R.Read.remaining c.args.reader.now) _ (g.W.Write.contents c.args.writer.now) (g.W.Write.contents c.loop-replies.writer))
+    none c.loop-replies.invariant.stood in
+    finished _ _ _ _ _ _ _ c.in_ok-next_line.field-0 c.next_line.new.self.line.items c.next_line.new.self.unread c.next_line.new.self.bytes_left c.if-branch.false next.taken stood spent
 
 pub returns-clause-end : goal.returns-clause-end
 returns-clause-end g c =
     let next = c.in_ok-next_line.ensures in
-    ended _ _ _ _ _ _ _ c.in_ok-next_line.field-0 c.next_line.new.self.line.items c.next_line.new.self.unread c.if-branch.false next.taken c.loop-script.invariant.stood
+    let none = nothing_waits c.in_ok-next_line.field-0 (has_line c.loop-replies.script.reads_left c.loop-replies.script.unread) c.loop-replies.replies.items c.if-branch.false next.in_hand c.loop-replies.invariant.waits in
+    let stood = subst (Stood (states_of c.args.databases.now.items) _ (g.R.Read.remaining c.args.reader.now) _ (g.W.Write.contents c.args.writer.now) (g.W.Write.contents c.loop-replies.writer))
+    none c.loop-replies.invariant.stood in
+    ended _ _ _ _ _ _ _ c.in_ok-next_line.field-0 c.next_line.new.self.line.items c.next_line.new.self.unread c.if-branch.false next.taken stood

@@ -1,7 +1,7 @@
 use Rattle.std.proofs.Common.{◌≡◌, ◌++◌, ℕ, length, arith, not, sym, subst, ◌∙◌}
 use Rattle.escrow_server.specs.Script.{Spends}
 use Rattle.std.specs.Prelude.{vec_len}
-use Rattle.escrow_server.proofs.ScriptLemmas.{turn_takes, turn_goes_on, turn_reads, turn_ends, some_by_test, none_by_test, spends_more, spends_read}
+use Rattle.escrow_server.proofs.ScriptLemmas.{in_hand_taken, turn_takes, turn_goes_on, turn_reads, turn_ends, some_by_test, none_by_test, spends_more, spends_read}
 use Rattle.escrow_server.proofs.script.Script.next_line.Goals as goal
 
 pub returns-then-branch-clause-taken : goal.returns-then-branch-clause-taken
@@ -45,6 +45,7 @@ loop-self-preserved g c =
       spent =
           spends_more _ _ _ c.args.self.now.bytes_left c.loop-self.self.bytes_left c.fill.new.self.bytes_left c.loop-self.invariant.spent
           (spends_read _ _ c.fill.new.self.unread c.loop-self.self.bytes_left c.fill.new.self.bytes_left c.in_ok-fill.field-0 read.read read.count (read.bytes ∙ turn.bytes));
+      in_hand = λ has. absurd (in_hand_taken c.in_ok-take_front.field-0 c.loop-self.self.reads_left c.loop-self.self.unread _ _ _ c.if-branch.false turn.moved (c.loop-self.invariant.in_hand has));
       fewer = omega (arith, read.count, read.bytes, turn.bytes, turn.less, same_len);
     }
 
