@@ -50,6 +50,25 @@ impl Write for FailingWriter {
     }
 }
 
+/// Takes all bytes, and counts the calls.
+#[derive(Drop)]
+struct CountingWriter {
+    taken: Vec<u8>,
+    calls: u32,
+}
+
+impl Write for CountingWriter {
+    fn write(&mut self, buf: &[u8]) -> Result<usize> {
+        self.taken.extend_from_slice(buf)?;
+        self.calls = self.calls.saturating_add(1);
+        Ok(buf.len())
+    }
+
+    fn flush(&mut self) -> Result<()> {
+        Ok(())
+    }
+}
+
 /// Gives a script of so many bytes: comments of 4,096 bytes each, and as its last line a statement.
 #[derive(Drop)]
 struct LongReader {
@@ -171,5 +190,56 @@ fn longest_script(rt: HostRuntime) -> std::result::Result<(), Fail> {
                 .starts_with(out.as_slice())
         );
     }
+    Ok(())
+}
+
+/// Lines that come together are answered together, by one write, and lines that come one by one are
+/// answered one by one.
+#[test]
+fn one_write_a_read(rt: HostRuntime) -> std::result::Result<(), Fail> {
+    let alloc = rt.alloc();
+    let mut script = String::new(alloc);
+    for _line in 0..100u8 {
+        script.push_str("bank.1: COMMIT\n")?;
+    }
+    for (at_a_time, calls) in [(1500, 1), (150, 10), (15, 100), (5, 100)] {
+        let mut reader = SlowReader {
+            rest: script.as_bytes(),
+            at_a_time,
+            fails: false,
+        };
+        let mut writer = CountingWriter {
+            taken: Vec::new(alloc),
+            calls: 0,
+        };
+        serve(alloc, 1, &mut reader, &mut writer)?;
+        assert_eq!(rt; writer.calls, calls, "{at_a_time} bytes at a time");
+        assert_eq!(rt; writer.taken.len(), 2300);
+    }
+    Ok(())
+}
+
+/// Replies that are gathered past 65,536 bytes are written though a line is in hand: the longest read has
+/// lines for more.
+#[test]
+fn long_replies_are_written_in_pieces(rt: HostRuntime) -> std::result::Result<(), Fail> {
+    let alloc = rt.alloc();
+    let mut script = String::from_str(
+        alloc,
+        "bank.1: CREATE TABLE T (ID INTEGER PRIMARY KEY, N INTEGER RESERVABLE)\n",
+    )?;
+    for key in 0..200u8 {
+        write!(script, "bank.1: INSERT INTO T VALUES ({key}, 999999999999999)\n")?;
+    }
+    for _line in 0..100u8 {
+        script.push_str("bank.1: SELECT * FROM T\n")?;
+    }
+    let mut writer = CountingWriter {
+        taken: Vec::new(alloc),
+        calls: 0,
+    };
+    serve(alloc, 1, &mut script.as_bytes(), &mut writer)?;
+    assert!(rt; writer.taken.len() > 500_000);
+    assert!(rt; 8 <= writer.calls && writer.calls <= 16, "{} calls", writer.calls);
     Ok(())
 }
