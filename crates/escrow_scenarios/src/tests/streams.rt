@@ -229,7 +229,10 @@ fn long_replies_are_written_in_pieces(rt: HostRuntime) -> std::result::Result<()
         "bank.1: CREATE TABLE T (ID INTEGER PRIMARY KEY, N INTEGER RESERVABLE)\n",
     )?;
     for key in 0..200u8 {
-        write!(script, "bank.1: INSERT INTO T VALUES ({key}, 999999999999999)\n")?;
+        write!(
+            script,
+            "bank.1: INSERT INTO T VALUES ({key}, 999999999999999)\n"
+        )?;
     }
     for _line in 0..100u8 {
         script.push_str("bank.1: SELECT * FROM T\n")?;
@@ -240,6 +243,10 @@ fn long_replies_are_written_in_pieces(rt: HostRuntime) -> std::result::Result<()
     };
     serve(alloc, 1, &mut script.as_bytes(), &mut writer)?;
     assert!(rt; writer.taken.len() > 500_000);
-    assert!(rt; 8 <= writer.calls && writer.calls <= 16, "{} calls", writer.calls);
+    assert!(rt;
+        8 <= writer.calls && writer.calls <= 16,
+        "{} calls",
+        writer.calls
+    );
     Ok(())
 }
