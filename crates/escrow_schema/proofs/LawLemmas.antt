@@ -104,7 +104,7 @@ few_checks table is_table =
     omega (arith, length-append p.written (range_checks table.columns))
 
 -- RESERVABLE columns of a table are of numbers
-numeric_columns : (table : TableDef) → IsTable table → NumericColumns table.columns
+pub numeric_columns : (table : TableDef) → IsTable table → NumericColumns table.columns
 numeric_columns table is_table = numeric_each (reservables table.columns) (rules_of table is_table).numeric
 
 pub rows_of_table : RowsOfTable

@@ -1,5 +1,6 @@
 pub mod AskedLemmas
 pub mod AssignedLemmas
+pub mod BackLemmas
 pub mod CatalogLemmas
 pub mod CheckLemmas
 pub mod ColumnLemmas

@@ -1,6 +1,6 @@
 ghost use Rattle.std.specs.Prelude.{◌≡◌, ◌&&◌, if◌then◌else◌, None, Some, int_le, pos, unsigned_abs};
 
-use escrow_num::{Amount, Name};
+use escrow_num::{Amount, Name, Text, Value};
 use escrow_sql::{Literal, TypeText};
 
 /// The type of a column: the set of the values that it can hold.
@@ -14,6 +14,7 @@ pub enum ColumnType {
 
 impl ColumnType {
     ghost use Rattle.escrow_num.specs.Amount.{IsAmount};
+    ghost use Rattle.escrow_num.specs.declared.value.Value.TheVariants as value;
     ghost use Rattle.escrow_schema.specs.Column.{fits, is_numeric, type_of, top_of, value_of};
     ghost use Rattle.escrow_schema.specs.Typed.{IsType};
 
@@ -71,15 +72,44 @@ impl ColumnType {
         requires { IsType self.now }
         ensures { result ≡ fits self.now (value_of literal.now) }
     {
-        match (self, literal) {
-            (ColumnType::Number { .. }, Literal::Number(number)) => {
-                -self.top() <= number.get() && number.get() <= self.top()
-            }
-            (ColumnType::Varchar2 { bytes }, Literal::Text(text)) => {
+        match literal {
+            Literal::Number(number) => self.holds_number(*number),
+            Literal::Text(text) => self.holds_text(text),
+        }
+    }
+
+    /// Whether a value fits the type, as the literal that it is does.
+    pub(crate) fn holds(&self, value: &Value) -> bool
+        requires { IsType self.now }
+        ensures { result ≡ fits self.now value.now }
+    {
+        match value {
+            Value::Number(number) => self.holds_number(*number),
+            Value::Text(text) => self.holds_text(text),
+        }
+    }
+
+    /// Whether a number fits the type.
+    fn holds_number(&self, number: Amount) -> bool
+        requires { IsType self.now }
+        ensures { result ≡ fits self.now (value.Number number) }
+    {
+        match self {
+            ColumnType::Number { .. } => -self.top() <= number.get() && number.get() <= self.top(),
+            ColumnType::Varchar2 { .. } => false,
+        }
+    }
+
+    /// Whether a text fits the type.
+    fn holds_text(&self, text: &Text) -> bool
+        ensures { result ≡ fits self.now (value.Text text.now) }
+    {
+        match self {
+            ColumnType::Number { .. } => false,
+            ColumnType::Varchar2 { bytes } => {
                 let length = text.as_str().len();
                 1 <= length && length <= usize::from(*bytes)
             }
-            _ => false,
         }
     }
 }

@@ -1,15 +1,16 @@
-ghost use Rattle.std.specs.Prelude.{◌≡◌, ◌↔◌, ◌++◌, ◌⊎◌, ◌||◌, ◌==◌, ◌<◌, [], ◌∷◌, None, Some, IfOk, IfErr, IsErrOf, IsSome, IsTrue, OnOk, is_some, length, option_copied, option_map, option_to_list, if◌then◌else◌};
+ghost use Rattle.std.specs.Prelude.{◌≡◌, ◌↔◌, ◌++◌, ◌⊎◌, None, Some, IfOk, IfErr, IsErrOf, IsSome, OnOk, is_some, option_copied, option_map, option_to_list};
 ghost use Rattle.escrow_schema.specs.Asked.{asked_values, is_list, literal_for, value_at, values_at};
 ghost use Rattle.escrow_schema.specs.Column.{value_of};
 ghost use Rattle.escrow_schema.specs.Definition.{IsTable};
-ghost use Rattle.escrow_schema.specs.Fit.{amounts_of, inserted_row, literal_beside, number_in, plain_of, row_with};
+ghost use Rattle.escrow_schema.specs.Fit.{inserted_row, literal_beside};
 ghost use Rattle.escrow_schema.specs.Typed.{IsType, TypedColumns};
 
 use crate::column::Column;
 use crate::literal::value_of;
+use crate::row::row_with;
 use crate::rules::are_distinct;
 use crate::table::TableDef;
-use escrow_num::{Amount, Name, Refusal, Row, RowName, Seq, Value};
+use escrow_num::{Name, Refusal, Row, Value};
 use escrow_sql::{InsertText, Literal};
 use std::alloc::{AllocError, Global};
 
@@ -136,92 +137,5 @@ fn push_value(
     if let Some(literal) = literal_for(text, place, &column.name) {
         values.push(value_of(alloc, literal)?)?;
     }
-    Ok(())
-}
-
-/// The row of values that fit the table.
-fn row_with(alloc: Global, table: &TableDef, values: &[Value]) -> Result<Row, AllocError>
-    requires as_many { length table.now.columns ≡ length values.now }
-    requires key { table.now.key < length values.now }
-    ensures { IfOk result (λ row. row_with table.now values.now ≡ Some row) }
-{
-    let columns = table.columns.as_slice();
-    Ok(Row {
-        name: RowName {
-            table: table.name,
-            key: values[table.key].copy(alloc)?,
-        },
-        amounts: Seq::from_vec(amounts_of(alloc, columns, values)?),
-        plain: Seq::from_vec(plain_of(alloc, columns, values, table.key)?),
-    })
-}
-
-/// The amounts of the RESERVABLE columns, in column order.
-fn amounts_of(
-    alloc: Global,
-    columns: &[Column],
-    values: &[Value],
-) -> Result<Vec<Amount>, AllocError>
-    requires { length columns.now ≡ length values.now }
-    ensures { IfOk result (λ amounts. amounts.items ≡ amounts_of columns.now values.now) }
-{
-    let mut amounts = Vec::new(alloc);
-    for (i, column) in columns.iter().enumerate() {
-        push_amount(&mut amounts, column, &values[i])?;
-    }
-    Ok(amounts)
-}
-
-/// Adds the amount of a RESERVABLE column.
-fn push_amount(amounts: &mut Vec<Amount>, column: &Column, value: &Value) -> Result<(), AllocError>
-    ensures { OnOk result (amounts.new.items ≡ amounts.old.items ++ (if column.now.reservable then number_in value.now ∷ [] else [])) }
-{
-    if column.reservable {
-        amounts.push(number_in(value))?;
-    }
-    Ok(())
-}
-
-/// The number that a value is; no text is a value of a RESERVABLE column.
-fn number_in(value: &Value) -> Amount
-    ensures { result ≡ number_in value.now }
-{
-    match value {
-        Value::Number(amount) => *amount,
-        Value::Text(_) => Amount::new(0).unwrap(),
-    }
-}
-
-/// The values of the other columns but the key, in column order.
-fn plain_of(
-    alloc: Global,
-    columns: &[Column],
-    values: &[Value],
-    key: usize,
-) -> Result<Vec<Value>, AllocError>
-    requires { length columns.now ≡ length values.now }
-    ensures { IfOk result (λ plain. plain.items ≡ plain_of columns.now values.now 0 key) }
-{
-    let mut plain = Vec::new(alloc);
-    for (i, column) in columns.iter().enumerate() {
-        push_plain(alloc, &mut plain, column, &values[i], i == key)?;
-    }
-    Ok(plain)
-}
-
-/// Adds the value of a column that is neither RESERVABLE nor the key.
-fn push_plain(
-    alloc: Global,
-    plain: &mut Vec<Value>,
-    column: &Column,
-    value: &Value,
-    is_key: bool,
-) -> Result<(), AllocError>
-    ensures { OnOk result (plain.new.items ≡ plain.old.items ++ (if column.now.reservable || is_key then [] else value.now ∷ [])) }
-{
-    if column.reservable || is_key {
-        return Ok(());
-    }
-    plain.push(value.copy(alloc)?)?;
     Ok(())
 }

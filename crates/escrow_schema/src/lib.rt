@@ -4,7 +4,8 @@
 //!
 //! [`define`] gives the table that a text defines, and refuses exactly where a rule of definitions
 //! is broken. [`Catalog`] keeps such tables in order of name. [`fit_row`] and [`plan_update`] refuse
-//! exactly what doesn't fit the table, before they take memory. [`print_table`]'s text is read back
+//! exactly what doesn't fit the table, before they take memory. [`values_of`] and [`row_of`] turn a row
+//! into its values and back. [`print_table`]'s text is read back
 //! as the same table.
 #![tactic(auto)]
 
@@ -23,6 +24,7 @@ mod ranges;
 mod row;
 mod rules;
 mod table;
+mod values;
 
 pub use catalog::Catalog;
 pub use column::{Column, ColumnType};
@@ -32,9 +34,10 @@ pub use key::check_key;
 pub use literal::is_value;
 pub use plan::{Plan, plan_update};
 pub use print::print_table;
-pub use row::values_of;
+pub use row::row_of;
 pub use rules::{names_of, reservable_names};
 pub use table::TableDef;
+pub use values::values_of;
 
 #[cfg(test)]
 mod tests;

@@ -4,7 +4,7 @@ ghost use Rattle.escrow_schema.specs.Definition.{IsTable};
 use crate::tests::{
     GOODS, amount, answer, expect_answers, number, push_value, push_word, statement, table, text,
 };
-use crate::{TableDef, fit_row, is_value, values_of};
+use crate::{TableDef, fit_row, is_value, row_of, values_of};
 use escrow_num::{Row, Value};
 use escrow_sql::{Literal, Statement};
 use std::alloc::Global;
@@ -172,6 +172,35 @@ fn tells_values_of_literals(rt: HostRuntime) -> Result<(), Fail> {
         assert!(rt; is_value(&word, &text(alloc, "seven")?));
         assert!(rt; !is_value(&word, &text(alloc, "SEVEN")?));
         assert!(rt; !is_value(&word, &number(&rt, 7)));
+    }
+    Ok(())
+}
+
+/// The row of values of GOODS, a dash for none.
+fn row_shown(rt: &impl Abort, alloc: Global, values: &[Value]) -> Result<String, Fail> {
+    let goods = table(rt, alloc, GOODS)?;
+    match row_of(alloc, &goods, values)? {
+        Some(row) => shown(alloc, &row),
+        None => Ok(String::from_str(alloc, "-")?),
+    }
+}
+
+#[test]
+fn makes_rows_of_values(rt: HostRuntime) -> Result<(), Fail> {
+    let alloc = rt.alloc();
+    for (label, code, row) in [
+        ("four", "x", "GOODS 'x' 500 'four' 99"),
+        ("fours", "x", "-"),
+        ("four", "", "-"),
+    ] {
+        let values = vec![in alloc;
+            text(alloc, label)?,
+            number(&rt, 99),
+            number(&rt, 500),
+            text(alloc, code)?,
+        ]?;
+        assert_eq!(rt; row_shown(&rt, alloc, values.as_slice())?.as_str(), row);
+        assert_eq!(rt; row_shown(&rt, alloc, &values[..3])?.as_str(), "-");
     }
     Ok(())
 }

@@ -1,6 +1,6 @@
 use Rattle.std.proofs.Common.{◌≡◌, ◌≤◌, ◌++◌, drop}
 use Rattle.escrow_schema.specs.Fit.{values_from, values_of}
-use Rattle.escrow_schema.proofs.row.values_of.Given as goal
+use Rattle.escrow_schema.proofs.values.values_of.Given as goal
 
 abbrev pub invariant-loop-i : goal.invariant-loop-i
 invariant-loop-i l =

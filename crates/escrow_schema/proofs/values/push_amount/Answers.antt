@@ -1,7 +1,7 @@
 use Rattle.std.proofs.Common.{◌≡◌, Some, None, ap, append-nil, refl, ◌∙◌, sym}
 use Rattle.std.specs.Prelude.{option_copied, slice_get}
 use Rattle.escrow_schema.proofs.ValuesLemmas.{item_from, none_from}
-use Rattle.escrow_schema.proofs.row.push_amount.Goals as goal
+use Rattle.escrow_schema.proofs.values.push_amount.Goals as goal
 
 pub returns-in_ok-push : goal.returns-in_ok-push
 returns-in_ok-push c =

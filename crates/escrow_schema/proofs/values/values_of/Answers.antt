@@ -1,8 +1,8 @@
 use Rattle.std.proofs.Common.{◌≡◌, ◌<◌, arith, get_or, length, subst}
 use Rattle.escrow_schema.specs.Fit.{values_of}
 use Rattle.escrow_schema.proofs.ValuesLemmas.{amount_next, key_next, plain_next}
-use Rattle.escrow_schema.proofs.row.values_of.Goals as goal
-use Rattle.escrow_schema.proofs.row.values_of.Goals.{then-column+in_ok-push_amount, else-column+then-i-table+in_ok-copy+in_ok-push, else-column+else-i-table+in_ok-push_plain}
+use Rattle.escrow_schema.proofs.values.values_of.Goals as goal
+use Rattle.escrow_schema.proofs.values.values_of.Goals.{then-column+in_ok-push_amount, else-column+then-i-table+in_ok-copy+in_ok-push, else-column+else-i-table+in_ok-push_plain}
 
 pub loop-i-preserved : goal.loop-i-preserved
 loop-i-preserved c =

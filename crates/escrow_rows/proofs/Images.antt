@@ -1,0 +1,36 @@
+-- What steps make of an image.
+use Rattle.std.proofs.Common.{List, map, fold, flat_map, ◌∙◌, IsPermutation}
+use Rattle.std.proofs.lemmas.List.Sorted.{IsPermutation-trans}
+use Rattle.sqlite.specs.Effect.{Database}
+use Rattle.escrow_num.specs.declared.row.Row.{Row}
+use Rattle.escrow_cells.specs.declared.step.Step.{Step}
+use Rattle.escrow_cells.specs.Step.{Contents, contents, done, Does}
+use Rattle.escrow_rows.specs.declared.stored.StoredTable.{StoredTable}
+use Rattle.escrow_rows.specs.Image.{IsImage, AreTables, AreRows, tab_row, cells_of}
+use Rattle.escrow_rows.specs.Changes.{Stands, TurnsRows}
+
+-- the rows of CELL and of TAB are those of tables and rows, in any order
+pub record Encodes (tables : List StoredTable) (rows : List Row) (c : Contents) : Type 0 where
+  pub tabs_are : IsPermutation (map tab_row tables) c.tabs
+  pub cells_are : IsPermutation (flat_map (cells_of tables) rows) c.cells
+
+-- steps that turn the contents of one image into those of another turn the image into that
+pub image_after : (steps : List Step) (tables after : List StoredTable) (rows turned : List Row) (old new : Database) → Does steps old new
+    → (Encodes tables rows (contents old) → Encodes after turned (fold done (contents old) steps)) → IsImage tables rows old → IsImage after turned new
+image_after steps tables after rows turned old new does turns image =
+    let holds = does image.store in
+    let is = turns (record { tabs_are = image.tabs_are; cells_are = image.cells_are }) in
+    record {
+      store = holds.store;
+      format_is = holds.metas_are ∙ image.format_is;
+      tabs_are = IsPermutation-trans _ _ _ is.tabs_are holds.tabs_are;
+      cells_are = IsPermutation-trans _ _ _ is.cells_are holds.cells_are;
+    }
+
+-- the same, of a call that names one of the tables and leaves them all
+pub rows_after : (steps : List Step) (s : StoredTable) (after : List Row → List Row) (old new : Database) → Does steps old new
+    → ((tables : List StoredTable) (rows : List Row) → AreTables tables → AreRows tables rows → Stands tables s
+    → (c : Contents) → Encodes tables rows c → Encodes tables (after rows) (fold done c steps))
+    → TurnsRows s after old new
+rows_after steps s after old new does turns tables rows are of stands =
+    image_after steps tables tables rows (after rows) old new does (turns tables rows are of stands (contents old))

@@ -1,0 +1,11 @@
+pub mod Cells
+pub mod Found
+pub mod ImageDelete
+pub mod ImageInsert
+pub mod ImageTables
+pub mod Images
+pub mod Order
+pub mod Places
+pub mod Runs
+pub mod Same
+pub mod ViewLemmas

@@ -1,0 +1,49 @@
+-- Believed: what each reading call answers of an image.
+use Rattle.std.specs.Prelude.{◌≡◌, ℕ, ℤ, Option, List, [], ◌∷◌, map, find, length, IsTrue, IsPermutation}
+use Rattle.std.specs.Ordering.{is_lt, int_cmp}
+use Rattle.sqlite.specs.Effect.{Database}
+use Rattle.sqlite.specs.State.{State, HasCleanDisk}
+use Rattle.escrow_num.specs.Ascending.{IsAscending}
+use Rattle.escrow_num.specs.declared.row.Row.{Row}
+use Rattle.escrow_num.specs.declared.value.RowName.{RowName}
+use Rattle.escrow_num.specs.declared.value.Value.{Value}
+use Rattle.escrow_num.specs.Order.{same_row}
+use Rattle.escrow_schema.specs.Print.{canonical}
+use Rattle.escrow_rows.specs.declared.stored.StoredTable.{StoredTable}
+use Rattle.escrow_rows.specs.declared.listed.ListedTable.{ListedTable}
+use Rattle.escrow_rows.specs.Image.{IsImage, AreTables, AreRows, rows_of}
+use Rattle.escrow_rows.specs.Changes.{Stands, name_in}
+
+-- a store that can be used: its disk has returned what was written, and no fault has shut it
+abbrev pub IsUsable : State → Type 0
+IsUsable s = HasCleanDisk s × IsTrue s.is_open
+
+-- the row of a name
+abbrev pub row_named : List Row → RowName → Option Row
+row_named rows name = find (λ row. same_row row.name name) rows
+
+-- an answer is this one of the rows, whatever tables and rows the database is the image of, one of them
+-- a table that is named
+abbrev pub Tells : {A : Type 0} → StoredTable → (List Row → A) → Database → A → Type 0
+Tells s of db answer = (tables : List StoredTable) (rows : List Row) → AreTables tables → AreRows tables rows → Stands tables s → IsImage tables rows db → answer ≡ of rows
+
+-- the row of a key in a table, if it is there
+abbrev pub TellsRow : StoredTable → Value → Database → Option Row → Type 0
+TellsRow s key = Tells s (λ rows. row_named rows (name_in s key))
+
+-- the rows of a table, in order of key
+abbrev pub TellsRows : StoredTable → Database → List Row → Type 0
+TellsRows s = Tells s (λ rows. rows_of rows s.table.name)
+
+-- how many rows a table has
+abbrev pub TellsCount : StoredTable → Database → ℕ → Type 0
+TellsCount s = Tells s (λ rows. length (rows_of rows s.table.name))
+
+-- a table as TAB lists it
+abbrev pub listing : StoredTable → ListedTable
+listing s = record { id = s.id; name = s.table.name; text = canonical s.table }
+
+-- the tables as TAB lists them, in order of their numbers
+pub record TellsTables (db : Database) (answer : List ListedTable) : Type 0 where
+  pub listed : (tables : List StoredTable) (rows : List Row) → IsImage tables rows db → IsPermutation (map listing tables) answer
+  pub in_order : (tables : List StoredTable) (rows : List Row) → AreTables tables → IsImage tables rows db → IsAscending (λ a b. is_lt (int_cmp a.id b.id)) answer

@@ -1,0 +1,100 @@
+-- Believed: what each writing call makes of an image.
+use Rattle.std.specs.Prelude.{◌≡◌, ℕ, ℤ, IsPermutation, Bool, not, if◌then◌else◌, Option, Some, unwrap_or, option_map, List, [], ◌∷◌, map, filter, fold, bytes_eq}
+use Rattle.std.specs.List.{AllByRecursion}
+use Rattle.std.specs.Ordering.{is_lt}
+use Rattle.sqlite.specs.Effect.{Database}
+use Rattle.escrow_num.specs.declared.row.Row.{Row}
+use Rattle.escrow_num.specs.declared.value.RowName.{RowName}
+use Rattle.escrow_num.specs.declared.value.Value.{Value}
+use Rattle.escrow_num.specs.Order.{same_row, row_cmp}
+use Rattle.escrow_schema.specs.Fit.{IsRowOf}
+use Rattle.escrow_rows.specs.declared.stored.StoredTable.{StoredTable}
+use Rattle.escrow_rows.specs.declared.amounts.NewAmounts.{NewAmounts}
+use Rattle.escrow_rows.specs.Image.{IsImage, AreTables, AreRows, stored_named}
+
+-- a table is one of those that stand
+abbrev pub Stands : List StoredTable → StoredTable → Type 0
+Stands tables s = stored_named tables s.table.name ≡ Some s
+
+-- whatever tables and rows a database was the image of, one of them a table that is named, it is now that
+-- of the same tables and of these rows
+abbrev pub TurnsRows : StoredTable → (List Row → List Row) → Database → Database → Type 0
+TurnsRows s after old new =
+    (tables : List StoredTable) (rows : List Row) → AreTables tables → AreRows tables rows → Stands tables s → IsImage tables rows old → IsImage tables (after rows) new
+
+-- the name of the row of a key, in a table
+abbrev pub name_in : StoredTable → Value → RowName
+name_in s key = record { table = s.table.name; key = key }
+
+-- a row put among the rows, in their order
+abbrev pub with_row : Row → List Row → List Row
+with_row row [] = row ∷ []
+with_row row (other ∷ rest) = if is_lt (row_cmp row.name other.name) then row ∷ other ∷ rest else other ∷ with_row row rest
+
+-- the rows without the one of a name
+abbrev pub without_row : RowName → List Row → List Row
+without_row name rows = filter (λ row. not (same_row row.name name)) rows
+
+-- the rows without those of a table
+abbrev pub without_rows_of : List ℕ → List Row → List Row
+without_rows_of table rows = filter (λ row. not (bytes_eq row.name.table table)) rows
+
+-- the items, each replaced by the one beside it where there is one
+abbrev pub replaced : {A : Type 0} → List (Option A) → List A → List A
+replaced [] items = items
+replaced (new ∷ news) [] = []
+replaced (new ∷ news) (x ∷ items) = unwrap_or new x ∷ replaced news items
+
+-- a row with plain values replaced where it is the one of a name, else as it is
+abbrev pub with_values : RowName → List (Option Value) → Row → Row
+with_values name values row = if same_row row.name name then record row { plain = replaced values row.plain } else row
+
+-- the rows with plain values of one of them replaced
+abbrev pub with_plain : RowName → List (Option Value) → List Row → List Row
+with_plain name values rows = map (with_values name values) rows
+
+-- a row with amounts replaced where it is the one of a name, else as it is
+abbrev pub with_new_amounts : RowName → List (Option ℤ) → Row → Row
+with_new_amounts name amounts row = if same_row row.name name then record row { amounts = replaced amounts row.amounts } else row
+
+-- the rows with amounts of one of them replaced
+abbrev pub with_amounts : RowName → List (Option ℤ) → List Row → List Row
+with_amounts name amounts rows = map (with_new_amounts name amounts) rows
+
+-- INSERT: the row is put among the rows of its table
+abbrev pub Inserts : StoredTable → Row → Database → Database → Type 0
+Inserts s row = TurnsRows s (with_row row)
+
+-- UPDATE of plain columns: values of the row of a key are replaced
+abbrev pub SetsPlain : StoredTable → Value → List (Option Value) → Database → Database → Type 0
+SetsPlain s key values = TurnsRows s (with_plain (name_in s key) values)
+
+-- DELETE: the row of a key is taken out
+abbrev pub Deletes : StoredTable → Value → Database → Database → Type 0
+Deletes s key = TurnsRows s (without_row (name_in s key))
+
+-- new amounts, one after another, each of the row of a key
+abbrev pub put_all : List NewAmounts → List Row → List Row
+put_all news rows = fold (λ rows new. with_amounts (name_in new.table.now new.key.now) new.amounts.now rows) rows news
+
+-- COMMIT: amounts of rows are replaced
+abbrev pub PutsAmounts : List NewAmounts → Database → Database → Type 0
+PutsAmounts news old new =
+    (tables : List StoredTable) (rows : List Row) → AreTables tables → AreRows tables rows → AllByRecursion (λ (n : NewAmounts). Stands tables n.table.now) news
+    → IsImage tables rows old → IsImage tables (put_all news rows) new
+
+-- CREATE TABLE: one more table stands, without rows; the tables are named in any order
+abbrev pub Creates : StoredTable → Database → Database → Type 0
+Creates s old new =
+    (tables after : List StoredTable) (rows : List Row) → AreTables tables → AreRows tables rows → IsPermutation (s ∷ tables) after → AreTables after
+    → IsImage tables rows old → IsImage after rows new
+
+-- the tables of other names
+abbrev pub without_stored : List ℕ → List StoredTable → List StoredTable
+without_stored name tables = filter (λ s. not (bytes_eq s.table.name name)) tables
+
+-- DROP TABLE: a table and its rows are taken out
+abbrev pub Drops : StoredTable → Database → Database → Type 0
+Drops s old new =
+    (tables : List StoredTable) (rows : List Row) → AreTables tables → AreRows tables rows → Stands tables s
+    → IsImage tables rows old → IsImage (without_stored s.table.name tables) (without_rows_of s.table.name rows) new

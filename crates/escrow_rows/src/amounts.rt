@@ -1,0 +1,78 @@
+ghost use Rattle.std.specs.Prelude.{◌≡◌, ◌<◌, ◌-◌, ◌^◌, IsTrue, OnOk, OnErr};
+ghost use Rattle.sqlite.specs.Held.{state};
+ghost use Rattle.sqlite.specs.State.{HasCleanDisk, Survives};
+ghost use Rattle.sqlite.specs.Effect.{Database};
+ghost use Rattle.escrow_rows.specs.Answers.{IsUsable};
+ghost use Rattle.escrow_rows.specs.Changes.{PutsAmounts};
+
+use crate::store::RowStore;
+use crate::stored::StoredTable;
+use escrow_cells::{Datum, Failure, Step, run};
+use escrow_num::{Amount, Value};
+use sqlite::Alter;
+use std::alloc::{AllocError, Global};
+
+/// New amounts of the row of a key.
+#[derive(Clone, Copy, Debug)]
+pub struct NewAmounts<'a> {
+    /// The row's table.
+    pub table: &'a StoredTable,
+    /// Its key.
+    pub key: &'a Value,
+    /// For each RESERVABLE column, in column order, its new amount, or `None` where it stays.
+    pub amounts: &'a [Option<Amount>],
+}
+
+impl<S: Alter> RowStore<S> {
+    /// Puts new amounts into rows, in one transaction.
+    pub fn put_amounts(&mut self, alloc: Global, news: &[NewAmounts<'_>]) -> Result<(), Failure>
+        ensures done { HasCleanDisk (state S.Store self.new) → OnOk result (IsTrue (state S.Store self.new).is_open × PutsAmounts news.now (state S.Store self.old).now (state S.Store self.new).now) }
+        ensures refused { HasCleanDisk (state S.Store self.new) → IsTrue (state S.Store self.new).is_open → OnErr result ((state S.Store self.new).now ≡ (state S.Store self.old).now) }
+        ensures usable { IsUsable (state S.Store self.new) → IsUsable (state S.Store self.old) }
+        ensures crash { Survives (state S.Store self.old) (state S.Store self.new) (λ trees. (db : Database) × PutsAmounts news.now (state S.Store self.old).now db × (trees ≡ db.trees)) }
+    {
+        let steps = all_steps(alloc, news)?;
+        run(&mut self.conn, steps.as_slice())
+    }
+}
+
+/// The steps that put new amounts.
+fn all_steps<'a>(alloc: Global, news: &[NewAmounts<'a>]) -> Result<Vec<Step<'a>>, AllocError> {
+    let mut steps = Vec::new(alloc);
+    for new in news {
+        push_steps(&mut steps, new)?;
+    }
+    Ok(steps)
+}
+
+/// Adds the steps that put new amounts into one row.
+fn push_steps<'a>(steps: &mut Vec<Step<'a>>, new: &NewAmounts<'a>) -> Result<(), AllocError> {
+    let mut at = 0;
+    for (i, column) in new.table.table.columns.as_slice().iter().enumerate() {
+        if column.reservable {
+            push_step(steps, new, i, at)?;
+            at += 1;
+        }
+    }
+    Ok(())
+}
+
+/// Adds the step that puts a new amount, if there is one, into the column at a place from 0.
+fn push_step<'a>(
+    steps: &mut Vec<Step<'a>>,
+    new: &NewAmounts<'a>,
+    place: usize,
+    at: usize,
+) -> Result<(), AllocError>
+    requires { place < 2 ^ 63 - 1 }
+{
+    if let Some(Some(amount)) = new.amounts.get(at) {
+        steps.push(Step::SetCell {
+            table: new.table.id,
+            key: crate::datum::datum(new.key),
+            place: place as i64 + 1,
+            value: Datum::Number(amount.get()),
+        })?;
+    }
+    Ok(())
+}

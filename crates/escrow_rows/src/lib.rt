@@ -1,0 +1,23 @@
+//! The rows of a database in SQLite: each table stands in TAB by its canonical text, and each row in CELL,
+//! one cell for each column.
+//!
+//! Its one contract: each writing call turns an image of tables and rows into that of what it names, or
+//! leaves the store as it was.
+#![tactic(auto)]
+
+mod amounts;
+mod datum;
+mod delete;
+mod insert;
+pub mod laws;
+mod listed;
+mod plain;
+mod store;
+mod stored;
+mod tables;
+
+pub use amounts::NewAmounts;
+pub use escrow_cells::Failure;
+pub use listed::ListedTable;
+pub use store::RowStore;
+pub use stored::StoredTable;

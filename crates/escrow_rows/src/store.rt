@@ -1,0 +1,49 @@
+use sqlite::{Alter, Connection};
+use std::marker::Model;
+
+/// The rows of a database, in a store that SQLite writes to.
+#[derive(Drop)]
+pub struct RowStore<S: Alter> {
+    pub(crate) conn: Connection<S>,
+}
+
+impl<S: Alter> Model for RowStore<S> {
+    ghost use Rattle.std.specs.Prelude.{◌≡◌, false};
+    ghost use Rattle.sqlite.specs.Held.{Held, held_code};
+
+    ghost Value = { Held S };
+
+    ghost coded = { held_code S.code };
+
+    ghost view = { λ r. r.conn };
+
+    ghost invariant = { λ r. r.conn.in_transaction ≡ false };
+}
+
+impl<S: Alter> RowStore<S> {
+    ghost use Rattle.std.specs.Prelude.{◌≡◌, false};
+
+    /// The rows in the store of a connection that is outside a transaction. Makes no store call.
+    pub fn over(conn: Connection<S>) -> Self
+        requires { conn.in_transaction ≡ false }
+        ensures { result ≡ conn }
+    {
+        RowStore { conn }
+    }
+
+    /// The connection. Makes no store call.
+    pub fn into_connection(self) -> Connection<S>
+        ensures same { result ≡ self }
+        ensures outside { result.in_transaction ≡ false }
+    {
+        self.conn
+    }
+
+    /// Limits the steps that a statement of the store may take; with `None` there is no limit. A call
+    /// that would take more fails with [`Failure::Store`](crate::Failure::Store), and changes nothing.
+    pub fn set_step_limit(&mut self, limit: Option<u64>)
+        ensures { self.new ≡ record self.old { step_limit = limit } }
+    {
+        self.conn.set_step_limit(limit);
+    }
+}

@@ -1,0 +1,15 @@
+use escrow_schema::TableDef;
+
+/// A table that stands in a store: its number there, and its definition.
+#[derive(Debug, Drop)]
+pub struct StoredTable {
+    /// The number, from 1 on.
+    pub id: i64,
+    /// The definition.
+    pub table: TableDef,
+}
+
+impl StoredTable {
+    /// The most rows of a table.
+    pub const MAX_ROWS: usize = 65_536;
+}
