@@ -1,10 +1,16 @@
-ghost use Rattle.std.specs.Prelude.{◌≡◌, ◌<◌, ◌-◌, ◌^◌, IsTrue, OnOk, OnErr};
+ghost use Rattle.std.specs.Prelude.{◌≡◌, IsTrue, IfOk, OnOk, OnErr, drop, fold, option_map};
 ghost use Rattle.sqlite.specs.Held.{state};
 ghost use Rattle.sqlite.specs.State.{HasCleanDisk, Survives};
 ghost use Rattle.sqlite.specs.Effect.{Database};
+ghost use Rattle.escrow_num.specs.declared.value.Value.TheVariants.{Number};
+ghost use Rattle.escrow_cells.specs.Step.{Contents, done, kept};
 ghost use Rattle.escrow_rows.specs.Answers.{IsUsable};
 ghost use Rattle.escrow_rows.specs.Changes.{PutsAmounts};
+ghost use Rattle.escrow_rows.specs.Image.{stored};
+ghost use Rattle.escrow_rows.specs.Inside.{all_on, amounts_on, first_new, on_cells};
 
+use crate::cell::push_cell;
+use crate::datum::datum;
 use crate::store::RowStore;
 use crate::stored::StoredTable;
 use escrow_cells::{Datum, Failure, Step, run};
@@ -37,7 +43,9 @@ impl<S: Alter> RowStore<S> {
 }
 
 /// The steps that put new amounts.
-fn all_steps<'a>(alloc: Global, news: &[NewAmounts<'a>]) -> Result<Vec<Step<'a>>, AllocError> {
+fn all_steps<'a>(alloc: Global, news: &[NewAmounts<'a>]) -> Result<Vec<Step<'a>>, AllocError>
+    ensures { IfOk result (λ steps. (c : Contents) → fold done c steps.items ≡ all_on news.now c) }
+{
     let mut steps = Vec::new(alloc);
     for new in news {
         push_steps(&mut steps, new)?;
@@ -46,33 +54,31 @@ fn all_steps<'a>(alloc: Global, news: &[NewAmounts<'a>]) -> Result<Vec<Step<'a>>
 }
 
 /// Adds the steps that put new amounts into one row.
-fn push_steps<'a>(steps: &mut Vec<Step<'a>>, new: &NewAmounts<'a>) -> Result<(), AllocError> {
+fn push_steps<'a>(steps: &mut Vec<Step<'a>>, new: &NewAmounts<'a>) -> Result<(), AllocError>
+    ensures { OnOk result ((c : Contents) → fold done c steps.new.items ≡ on_cells (amounts_on new.now) (fold done c steps.old.items)) }
+{
     let mut at = 0;
     for (i, column) in new.table.table.columns.as_slice().iter().enumerate() {
         if column.reservable {
-            push_step(steps, new, i, at)?;
+            push_cell(
+                steps,
+                new.table.id,
+                datum(new.key),
+                i,
+                amount_at(new.amounts, at),
+            )?;
             at += 1;
         }
     }
     Ok(())
 }
 
-/// Adds the step that puts a new amount, if there is one, into the column at a place from 0.
-fn push_step<'a>(
-    steps: &mut Vec<Step<'a>>,
-    new: &NewAmounts<'a>,
-    place: usize,
-    at: usize,
-) -> Result<(), AllocError>
-    requires { place < 2 ^ 63 - 1 }
+/// The new amount at a place, if there is one.
+fn amount_at(amounts: &[Option<Amount>], at: usize) -> Option<Datum<'static>>
+    ensures { option_map kept result ≡ option_map stored (option_map Number (first_new (drop at amounts.now))) }
 {
-    if let Some(Some(amount)) = new.amounts.get(at) {
-        steps.push(Step::SetCell {
-            table: new.table.id,
-            key: crate::datum::datum(new.key),
-            place: place as i64 + 1,
-            value: Datum::Number(amount.get()),
-        })?;
+    match amounts.get(at) {
+        Some(Some(amount)) => Some(Datum::Number(amount.get())),
+        _ => None,
     }
-    Ok(())
 }

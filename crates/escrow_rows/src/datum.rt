@@ -28,9 +28,7 @@ pub(crate) fn read_value(alloc: Global, value: ValueRef<'_>) -> Result<Option<Va
     match value {
         ValueRef::Int(number) => Ok(Amount::new(number).map(Value::Number)),
         ValueRef::Text(bytes) => match std::str::from_utf8(bytes) {
-            Ok(text) => Ok(Some(Value::Text(Text::from_string(String::from_str(
-                alloc, text,
-            )?)))),
+            Ok(text) => Ok(Some(Value::Text(Text::from_string(String::from_str(alloc, text)?)))),
             Err(_) => Ok(None),
         },
         _ => Ok(None),

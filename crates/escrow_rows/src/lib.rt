@@ -6,12 +6,15 @@
 #![tactic(auto)]
 
 mod amounts;
+mod cell;
+mod count;
 mod datum;
 mod delete;
 mod insert;
 pub mod laws;
 mod listed;
 mod plain;
+mod row;
 mod store;
 mod stored;
 mod tables;

@@ -1,9 +1,13 @@
-ghost use Rattle.std.specs.Prelude.{◌<◌, ◌-◌, ◌^◌};
+ghost use Rattle.std.specs.Prelude.{◌≡◌, IfOk, drop, option_map};
+ghost use Rattle.escrow_cells.specs.Step.{kept};
+ghost use Rattle.escrow_rows.specs.Image.{stored};
+ghost use Rattle.escrow_rows.specs.Inside.{Change, first_new, plain_on};
 
+use crate::cell::push_cell;
 use crate::datum::datum;
 use crate::store::RowStore;
 use crate::stored::StoredTable;
-use escrow_cells::{Failure, Step, run};
+use escrow_cells::{Datum, Failure, Step, run};
 use escrow_num::Value;
 use sqlite::Alter;
 use std::alloc::{AllocError, Global};
@@ -41,35 +45,26 @@ fn plain_steps<'a>(
     table: &StoredTable,
     key: &'a Value,
     values: &'a [Option<Value>],
-) -> Result<Vec<Step<'a>>, AllocError> {
+) -> Result<Vec<Step<'a>>, AllocError>
+    ensures { IfOk result (λ steps. Change steps.items (plain_on table.now key.now values.now)) }
+{
     let mut steps = Vec::new(alloc);
     let mut at = 0;
     for (i, column) in table.table.columns.as_slice().iter().enumerate() {
         if !column.reservable && i != table.table.key {
-            push_step(&mut steps, table.id, key, i, values.get(at))?;
+            push_cell(&mut steps, table.id, datum(key), i, plain_at(values, at))?;
             at += 1;
         }
     }
     Ok(steps)
 }
 
-/// Adds the step that puts a new value, if there is one, into the column at a place from 0.
-fn push_step<'a>(
-    steps: &mut Vec<Step<'a>>,
-    table: i64,
-    key: &'a Value,
-    place: usize,
-    value: Option<&'a Option<Value>>,
-) -> Result<(), AllocError>
-    requires { place < 2 ^ 63 - 1 }
+/// The new value at a place, if there is one.
+fn plain_at(values: &[Option<Value>], at: usize) -> Option<Datum<'_>>
+    ensures { option_map kept result ≡ option_map stored (first_new (drop at values.now)) }
 {
-    if let Some(Some(value)) = value {
-        steps.push(Step::SetCell {
-            table,
-            key: datum(key),
-            place: place as i64 + 1,
-            value: datum(value),
-        })?;
+    match values.get(at) {
+        Some(Some(value)) => Some(datum(value)),
+        _ => None,
     }
-    Ok(())
 }

@@ -1,0 +1,94 @@
+-- New values, column by column.
+use Rattle.std.proofs.Common.{◌≡◌, ℕ, ℤ, suc, ◌+◌, ◌==◌, Option, Some, None, List, [], ◌∷◌, ◌++◌, map, take, drop, length, refl, ap, inl, inr, arith}
+use Rattle.std.proofs.lemmas.Bool.{cases_Bool}
+use Rattle.std.specs.Prelude.{option_map}
+use Rattle.escrow_num.specs.declared.value.Value.{Value}
+use Rattle.escrow_num.specs.declared.value.Value.TheVariants as value
+use Rattle.escrow_schema.specs.declared.column.Column.{Column}
+use Rattle.escrow_schema.specs.Column.{reservables}
+use Rattle.escrow_schema.specs.Fit.{plains, values_from}
+use Rattle.escrow_rows.specs.Changes.{replaced}
+use Rattle.escrow_rows.specs.Inside.{new_plain, new_amounts, first_new}
+
+-- a list that isn't empty, by its first item and the rest
+by_head : {A : Type 0} (P : List A → Type 0) (xs : List A) (n : ℕ) → length xs ≡ suc n → ((x : A) (rest : List A) → length rest ≡ n → P (x ∷ rest)) → P xs
+by_head P [] n e h = absurd (omega arith)
+by_head P (x ∷ rest) n e h = h x rest (omega arith)
+
+-- a row's values with its plain values replaced are its values, each replaced by its column's
+pub plain_replaced : (columns : List Column) (place at : ℕ) (key : Value) (amounts : List ℤ) (plain : List Value) (news : List (Option Value))
+    → length amounts ≡ length (reservables columns) → length plain ≡ length (plains columns place at)
+    → values_from columns place at key amounts (replaced news plain) ≡ replaced (new_plain columns place at news) (values_from columns place at key amounts plain)
+plain_replaced [] place at key amounts plain news many enough = refl
+plain_replaced (column ∷ columns) place at key amounts plain news many enough =
+    elim (cases_Bool column.reservable) [
+      | inl r ↦ (let more : length amounts ≡ suc (length (reservables columns)) = rw r at many in
+          let same : length plain ≡ length (plains columns (place + 1) at) = rw r at enough in
+          rw r (by_head
+          (λ (rest : List ℤ). map value.Number (take 1 rest) ++ values_from columns (place + 1) at key (drop 1 rest) (replaced news plain)
+          ≡ replaced (None ∷ new_plain columns (place + 1) at news) (map value.Number (take 1 rest) ++ values_from columns (place + 1) at key (drop 1 rest) plain))
+          amounts (length (reservables columns)) more
+          (λ a rest left. ap (λ (vs : List Value). value.Number a ∷ vs) (plain_replaced columns (place + 1) at key rest plain news left same))))
+      | inr r ↦ (let left : length amounts ≡ length (reservables columns) = rw r at many in
+          elim (cases_Bool (place == at)) [
+            | inl here ↦ (let same : length plain ≡ length (plains columns (place + 1) at) = rw (r, here) at enough in
+                rw (r, here) (ap (λ (vs : List Value). key ∷ vs) (plain_replaced columns (place + 1) at key amounts plain news left same)))
+            | inr there ↦ (let more : length plain ≡ suc (length (plains columns (place + 1) at)) = rw (r, there) at enough in
+                rw (r, there) (by_head
+                (λ (ps : List Value). take 1 (replaced news ps) ++ values_from columns (place + 1) at key amounts (drop 1 (replaced news ps))
+                ≡ replaced (first_new news ∷ new_plain columns (place + 1) at (drop 1 news)) (take 1 ps ++ values_from columns (place + 1) at key amounts (drop 1 ps)))
+                plain (length (plains columns (place + 1) at)) more
+                (λ p ps same. first_plain column columns place at key amounts p ps news
+                (λ others. plain_replaced columns (place + 1) at key amounts ps others left same))))
+          ])
+    ]
+  where
+    first_plain : (column : Column) (columns : List Column) (place at : ℕ) (key : Value) (amounts : List ℤ) (p : Value) (ps : List Value) (news : List (Option Value))
+        → ((others : List (Option Value)) → values_from columns (place + 1) at key amounts (replaced others ps) ≡ replaced (new_plain columns (place + 1) at others) (values_from columns (place + 1) at key amounts ps))
+        → take 1 (replaced news (p ∷ ps)) ++ values_from columns (place + 1) at key amounts (drop 1 (replaced news (p ∷ ps)))
+        ≡ replaced (first_new news ∷ new_plain columns (place + 1) at (drop 1 news)) (p ∷ values_from columns (place + 1) at key amounts ps)
+    first_plain column columns place at key amounts p ps [] h = ap (λ (vs : List Value). p ∷ vs) (h [])
+    first_plain column columns place at key amounts p ps (None ∷ news) h = ap (λ (vs : List Value). p ∷ vs) (h news)
+    first_plain column columns place at key amounts p ps (Some v ∷ news) h = ap (λ (vs : List Value). v ∷ vs) (h news)
+
+-- a row's values with its amounts replaced are its values, each replaced by its column's
+pub amounts_replaced : (columns : List Column) (place at : ℕ) (key : Value) (amounts : List ℤ) (plain : List Value) (news : List (Option ℤ))
+    → length amounts ≡ length (reservables columns) → length plain ≡ length (plains columns place at)
+    → values_from columns place at key (replaced news amounts) plain ≡ replaced (new_amounts columns news) (values_from columns place at key amounts plain)
+amounts_replaced [] place at key amounts plain news many enough = refl
+amounts_replaced (column ∷ columns) place at key amounts plain news many enough =
+    elim (cases_Bool column.reservable) [
+      | inl r ↦ (let more : length amounts ≡ suc (length (reservables columns)) = rw r at many in
+          let same : length plain ≡ length (plains columns (place + 1) at) = rw r at enough in
+          rw r (by_head
+          (λ (rest : List ℤ). map value.Number (take 1 (replaced news rest)) ++ values_from columns (place + 1) at key (drop 1 (replaced news rest)) plain
+          ≡ replaced (option_map value.Number (first_new news) ∷ new_amounts columns (drop 1 news)) (map value.Number (take 1 rest) ++ values_from columns (place + 1) at key (drop 1 rest) plain))
+          amounts (length (reservables columns)) more
+          (λ a rest left. first_amount columns place at key a rest plain news
+          (λ others. amounts_replaced columns (place + 1) at key rest plain others left same))))
+      | inr r ↦ (let left : length amounts ≡ length (reservables columns) = rw r at many in
+          elim (cases_Bool (place == at)) [
+            | inl here ↦ (let same : length plain ≡ length (plains columns (place + 1) at) = rw (r, here) at enough in
+                rw (r, here) (ap (λ (vs : List Value). key ∷ vs) (amounts_replaced columns (place + 1) at key amounts plain news left same)))
+            | inr there ↦ (let more : length plain ≡ suc (length (plains columns (place + 1) at)) = rw (r, there) at enough in
+                rw (r, there) (by_head
+                (λ (ps : List Value). take 1 ps ++ values_from columns (place + 1) at key (replaced news amounts) (drop 1 ps)
+                ≡ replaced (None ∷ new_amounts columns news) (take 1 ps ++ values_from columns (place + 1) at key amounts (drop 1 ps)))
+                plain (length (plains columns (place + 1) at)) more
+                (λ p ps same. ap (λ (vs : List Value). p ∷ vs) (amounts_replaced columns (place + 1) at key amounts ps news left same))))
+          ])
+    ]
+  where
+    first_amount : (columns : List Column) (place at : ℕ) (key : Value) (a : ℤ) (rest : List ℤ) (plain : List Value) (news : List (Option ℤ))
+        → ((others : List (Option ℤ)) → values_from columns (place + 1) at key (replaced others rest) plain ≡ replaced (new_amounts columns others) (values_from columns (place + 1) at key rest plain))
+        → map value.Number (take 1 (replaced news (a ∷ rest))) ++ values_from columns (place + 1) at key (drop 1 (replaced news (a ∷ rest))) plain
+        ≡ replaced (option_map value.Number (first_new news) ∷ new_amounts columns (drop 1 news)) (value.Number a ∷ values_from columns (place + 1) at key rest plain)
+    first_amount columns place at key a rest plain [] h = ap (λ (vs : List Value). value.Number a ∷ vs) (h [])
+    first_amount columns place at key a rest plain (None ∷ news) h = ap (λ (vs : List Value). value.Number a ∷ vs) (h news)
+    first_amount columns place at key a rest plain (Some n ∷ news) h = ap (λ (vs : List Value). value.Number n ∷ vs) (h news)
+
+-- replacing items leaves as many
+pub length_replaced : {A : Type 0} (news : List (Option A)) (xs : List A) → length (replaced news xs) ≡ length xs
+length_replaced [] xs = refl
+length_replaced (new ∷ news) [] = refl
+length_replaced (new ∷ news) (x ∷ xs) = ap suc (length_replaced news xs)

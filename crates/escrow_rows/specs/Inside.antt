@@ -1,0 +1,63 @@
+-- Helps: what private contracts say of steps that put values into cells. Nothing that callers see rests on it.
+use Rattle.std.specs.Prelude.{◌≡◌, ℕ, ℤ, pos, ◌+◌, ◌+ℤ◌, ◌==◌, ◌||◌, if◌then◌else◌, Option, Some, None, option_map, List, [], ◌∷◌, map, fold, drop}
+use Rattle.sqlite_value.specs.declared.value.Value.{Value as Sql}
+use Rattle.sqlite_value.specs.declared.value.Value.TheVariants as sql
+use Rattle.sqlite_value.specs.Order.{Row as SqlRow}
+use Rattle.escrow_num.specs.declared.value.Value.{Value}
+use Rattle.escrow_num.specs.declared.value.Value.TheVariants.{Number}
+use Rattle.escrow_schema.specs.declared.column.Column.{Column}
+use Rattle.escrow_cells.specs.declared.step.Step.{Step}
+use Rattle.escrow_cells.specs.Step.{Contents, done, with_value}
+use Rattle.escrow_rows.specs.declared.stored.StoredTable.{StoredTable}
+use Rattle.escrow_rows.specs.declared.amounts.NewAmounts.{NewAmounts}
+use Rattle.escrow_rows.specs.Image.{stored}
+
+-- contents with each cell changed by a function
+abbrev pub on_cells : (SqlRow → SqlRow) → Contents → Contents
+on_cells f c = record c { cells = map f c.cells }
+
+-- steps, one after another, change each cell by a function
+abbrev pub Change : List Step → (SqlRow → SqlRow) → Type 0
+Change steps f = (c : Contents) → fold done c steps ≡ on_cells f c
+
+-- a cell with the new value, if there is one, where it is the one at a place of the row of a key
+abbrev pub put_value : ℤ → Sql → ℤ → Option Sql → SqlRow → SqlRow
+put_value id key place None cell = cell
+put_value id key place (Some v) cell = with_value (sql.Int id) key (sql.Int place) v cell
+
+-- a cell with the new values of the row of a key, of which the first is for the cell at a place
+abbrev pub put_values : ℤ → Sql → ℤ → List (Option Value) → SqlRow → SqlRow
+put_values id key place [] cell = cell
+put_values id key place (v ∷ vs) cell = put_values id key (place +ℤ pos 1) vs (put_value id key place (option_map stored v) cell)
+
+-- the first of new values, if there is one
+abbrev pub first_new : {A : Type 0} → List (Option A) → Option A
+first_new [] = None
+first_new (new ∷ news) = new
+
+-- the new value, or none, of each column, where the first stands at a place: those of plain columns in
+-- their order, none for the others
+abbrev pub new_plain : List Column → ℕ → ℕ → List (Option Value) → List (Option Value)
+new_plain [] place at news = []
+new_plain (column ∷ columns) place at news =
+    if column.reservable || place == at then None ∷ new_plain columns (place + 1) at news
+    else first_new news ∷ new_plain columns (place + 1) at (drop 1 news)
+
+-- the new value, or none, of each column: those of RESERVABLE columns in their order, none for the others
+abbrev pub new_amounts : List Column → List (Option ℤ) → List (Option Value)
+new_amounts [] news = []
+new_amounts (column ∷ columns) news =
+    if column.reservable then option_map Number (first_new news) ∷ new_amounts columns (drop 1 news)
+    else None ∷ new_amounts columns news
+
+-- a cell with new plain values of the row of a key of a table
+abbrev pub plain_on : StoredTable → Value → List (Option Value) → SqlRow → SqlRow
+plain_on s key news = put_values s.id (stored key) (pos 1) (new_plain s.table.columns 0 s.table.key news)
+
+-- a cell with new amounts of the row of a key of a table
+abbrev pub amounts_on : NewAmounts → SqlRow → SqlRow
+amounts_on new = put_values new.table.now.id (stored new.key.now) (pos 1) (new_amounts new.table.now.table.columns new.amounts.now)
+
+-- contents with new amounts, one after another
+abbrev pub all_on : List NewAmounts → Contents → Contents
+all_on news c = fold (λ c new. on_cells (amounts_on new) c) c news

@@ -1,0 +1,27 @@
+-- Helps: what private contracts say of cells that are read. Nothing that callers see rests on it.
+use Rattle.std.specs.Prelude.{◌≡◌, ℕ, pos, ◌+◌, Option, Some, None, List, [], ◌∷◌}
+use Rattle.sqlite_value.specs.declared.value.Value.TheVariants as sql
+use Rattle.sqlite_value.specs.Order.{Row as SqlRow}
+use Rattle.escrow_num.specs.declared.row.Row.{Row}
+use Rattle.escrow_num.specs.declared.value.Value.{Value}
+use Rattle.escrow_schema.specs.declared.table.TableDef.{TableDef}
+use Rattle.escrow_schema.specs.Fit.{IsRowOf, row_with}
+use Rattle.escrow_rows.specs.Image.{stored}
+
+-- values, each by its place, of which the first stands at a place
+abbrev pub placed : ℕ → List Value → List SqlRow
+placed place [] = []
+placed place (v ∷ vs) = (sql.Int (pos place) ∷ stored v ∷ []) ∷ placed (place + 1) vs
+
+-- cells are those of the row of a key in a table, each by its place and its value
+pub record AreCellsOf (table : TableDef) (key : Value) (cells : List SqlRow) (row : Row) : Type 0 where
+  pub values : List Value
+  pub placed_so : cells ≡ placed 1 values
+  pub made : row_with table values ≡ Some row
+  pub is_row : IsRowOf table row
+  pub key_is : row.name.key ≡ key
+
+-- the row that cells are, if there are any
+abbrev pub IsFound : TableDef → Value → List SqlRow → Option Row → Type 0
+IsFound table key cells None = cells ≡ []
+IsFound table key cells (Some row) = AreCellsOf table key cells row
