@@ -1,5 +1,5 @@
 -- Believed: what each writing call makes of an image.
-use Rattle.std.specs.Prelude.{◌≡◌, ℕ, ℤ, IsPermutation, Bool, not, if◌then◌else◌, Option, Some, unwrap_or, option_map, List, [], ◌∷◌, map, filter, fold, bytes_eq}
+use Rattle.std.specs.Prelude.{◌≡◌, ℕ, ℤ, IsPermutation, not, if◌then◌else◌, Option, Some, unwrap_or, List, [], ◌∷◌, map, filter, fold, bytes_eq}
 use Rattle.std.specs.List.{AllByRecursion}
 use Rattle.std.specs.Ordering.{is_lt}
 use Rattle.sqlite.specs.Effect.{Database}
@@ -7,7 +7,6 @@ use Rattle.escrow_num.specs.declared.row.Row.{Row}
 use Rattle.escrow_num.specs.declared.value.RowName.{RowName}
 use Rattle.escrow_num.specs.declared.value.Value.{Value}
 use Rattle.escrow_num.specs.Order.{same_row, row_cmp}
-use Rattle.escrow_schema.specs.Fit.{IsRowOf}
 use Rattle.escrow_rows.specs.declared.stored.StoredTable.{StoredTable}
 use Rattle.escrow_rows.specs.declared.amounts.NewAmounts.{NewAmounts}
 use Rattle.escrow_rows.specs.Image.{IsImage, AreTables, AreRows, stored_named}
