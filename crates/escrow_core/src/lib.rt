@@ -23,6 +23,3 @@ mod spreads;
 pub use database::Database;
 pub use event::Event;
 pub use reply::{CheckBounds, ColumnBounds, ColumnChange, Failure, JournalEntry, Reply};
-
-#[cfg(test)]
-mod tests;

@@ -38,6 +38,3 @@ pub use row::row_of;
 pub use rules::{names_of, reservable_names};
 pub use table::TableDef;
 pub use values::values_of;
-
-#[cfg(test)]
-mod tests;

@@ -3,7 +3,7 @@ ghost use Rattle.std.specs.Prelude.{IfOk};
 ghost use Rattle.escrow_schema.specs.Definition.{IsTable};
 
 use crate::tests::{name, number_of, table};
-use crate::{Catalog, TableDef};
+use escrow_schema::{Catalog, TableDef};
 use std::alloc::Global;
 use std::process::Abort;
 use std::test::Fail;

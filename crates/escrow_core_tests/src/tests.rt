@@ -1,7 +1,7 @@
 mod bounds;
 mod savepoints;
 
-use crate::{Database, Event, Reply};
+use escrow_core::{Database, Event, Reply};
 use escrow_num::{Amount, Breach, Name, Refusal, Seq, Session, Side, Text, Value, Wide};
 use escrow_sql::{Request, Statement, parse};
 use std::alloc::{AllocError, Global};

@@ -1,5 +1,5 @@
 //! The checks that definitions declare.
-use crate::TableDef;
+use escrow_schema::TableDef;
 use crate::tests::{answer, expect_answers, push_word, table};
 use escrow_checks::Check;
 use std::alloc::Global;

@@ -5,7 +5,7 @@ mod rows;
 ghost use Rattle.std.specs.Prelude.{IfOk};
 ghost use Rattle.escrow_schema.specs.Definition.{IsTable};
 
-use crate::{TableDef, define, fit_row, plan_update};
+use escrow_schema::{TableDef, define, fit_row, plan_update};
 use escrow_num::{Amount, Name, Refusal, Seq, Text, Value};
 use escrow_sql::{
     CheckText, ColumnMark, ColumnText, Comparison, Condition, CreateText, InsertText, Item,

@@ -1,5 +1,5 @@
 use crate::tests::{SHOP, TAKE_30, account, name, serve_all, session};
-use crate::{ColumnChange, JournalEntry, Reply};
+use escrow_core::{ColumnChange, JournalEntry, Reply};
 use escrow_num::{Amount, Name, Refusal, RowName, Seq, Value};
 use escrow_sql::Statement;
 use std::alloc::{AllocError, Global};

@@ -1,5 +1,5 @@
 use crate::tests::{TAKE_30, account, name, names, number, serve, serve_all, session, statement};
-use crate::{CheckBounds, ColumnBounds, Database, Reply};
+use escrow_core::{CheckBounds, ColumnBounds, Database, Reply};
 use escrow_num::{Amount, Breach, Refusal, Seq, Side, Span, Wide};
 use std::alloc::{AllocError, Global};
 use std::process::Abort;
