@@ -6,6 +6,7 @@ pub mod ImageInsert
 pub mod ImageSet
 pub mod ImageTables
 pub mod Images
+pub mod Listings
 pub mod News
 pub mod OneRow
 pub mod Order
@@ -13,6 +14,7 @@ pub mod PlacedCells
 pub mod Places
 pub mod Pushes
 pub mod Puts
+pub mod Rising
 pub mod RowRead
 pub mod Runs
 pub mod Same

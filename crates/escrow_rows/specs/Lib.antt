@@ -3,6 +3,7 @@ pub mod Changes
 pub mod Image
 pub mod Inside
 pub mod Laws
+pub mod Listing
 pub mod Placed
 pub mod Steps
 pub mod View

@@ -1,7 +1,11 @@
+ghost use Rattle.std.specs.Prelude.{◌≡◌, ◌++◌, [], ◌∷◌, map, IfOk, OnOk};
+ghost use Rattle.escrow_rows.specs.declared.listed.ListedTable.{ListedTable as Listed};
+ghost use Rattle.escrow_rows.specs.Listing.{listed_row};
+
 use crate::listed::ListedTable;
 use crate::store::RowStore;
 use crate::stored::StoredTable;
-use escrow_cells::{Failure, Step, run};
+use escrow_cells::{Failure, Step, run, tabs};
 use escrow_num::Text;
 use escrow_schema::print_table;
 use sqlite::{Alter, Row};
@@ -53,4 +57,54 @@ impl<S: Alter> RowStore<S> {
             ],
         )
     }
+
+    /// The tables, in order of their numbers.
+    pub fn tables(&mut self, alloc: Global) -> Result<Vec<ListedTable>, Failure>
+        ensures told { HasCleanDisk (state S.Store self.new) → IfOk result (λ listed. IsTrue (state S.Store self.new).is_open × TellsTables (state S.Store self.old).now listed.items) }
+        ensures same { HasCleanDisk (state S.Store self.new) → IsTrue (state S.Store self.new).is_open → (state S.Store self.new).now ≡ (state S.Store self.old).now }
+        ensures usable { IsUsable (state S.Store self.new) → IsUsable (state S.Store self.old) }
+        ensures crash { Survives (state S.Store self.old) (state S.Store self.new) (λ _. ⊥) }
+    {
+        let rows = tabs(&mut self.conn)?;
+        listed_tables(alloc, rows.as_slice())
+    }
+}
+
+/// The tables that rows of TAB list.
+fn listed_tables(alloc: Global, rows: &[Row]) -> Result<Vec<ListedTable>, Failure>
+    ensures { IfOk result (λ tables. rows.now ≡ map listed_row tables.items) }
+{
+    let mut tables = Vec::new(alloc);
+    for row in rows {
+        push_table(&mut tables, row)?;
+    }
+    Ok(tables)
+}
+
+/// Adds the table that a row of TAB lists.
+fn push_table(tables: &mut Vec<ListedTable>, row: &Row) -> Result<(), Failure>
+    ensures { OnOk result ((t : Listed) × (row.now ≡ listed_row t) × (tables.new.items ≡ tables.old.items ++ t ∷ [])) }
+{
+    let table = listed_table(row)?;
+    match tables.push(table) {
+        Ok(()) => Ok(()),
+        Err(_) => Err(Failure::Memory),
+    }
+}
+
+/// The table that a row of TAB lists.
+fn listed_table(row: &Row) -> Result<ListedTable, Failure>
+    ensures { IfOk result (λ t. row.now ≡ listed_row t) }
+{
+    if row.column_count() != 3 {
+        return Err(Failure::Store);
+    }
+    let id: i64 = row.get(0)?;
+    let name: String = row.get(1)?;
+    let text: String = row.get(2)?;
+    Ok(ListedTable {
+        id,
+        name: Text::from_string(name),
+        text: Text::from_string(text),
+    })
 }
