@@ -135,4 +135,4 @@ deletes_tab id old new r = has_done tab_text (Int id ∷ []) old new (step.Delet
     let gone = deleted tab_text params old new store 1 tab of_id (ap (λ (s : Schema). slice_get s.tables 1) t.is) (rw t.is (tab_is t.more t.indexes t.views)) (rw t.is (tab_plain t.more t.indexes t.views)) n ran in
     let left = rows_left old.now new.now tab of_id params gone.0 store.tabs_numbered gone.1 gone.2 in
     holds_tabs old.now new.now _ store gone.2 refl _
-        (shown_left tab_of (passes of_id params) (λ x. same (column x 0) (Int id)) (λ r. last (same (rowid r) (Int id))) (old.now.trees tab_tree) (new.now.trees tab_tree) left))
+    (shown_left tab_of (passes of_id params) (λ x. same (column x 0) (Int id)) (λ r. last (same (rowid r) (Int id))) (old.now.trees tab_tree) (new.now.trees tab_tree) left))

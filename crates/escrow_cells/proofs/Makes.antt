@@ -80,7 +80,7 @@ put_beside [] rows fresh = IsPermutation-refl rows
 put_beside (n ∷ news) rows fresh =
     let parts = and_parts _ _ fresh in
     IsPermutation-trans _ _ _ (IsPermutation-sym _ _ (IsPermutation-middle news n rows))
-        (IsPermutation-trans _ _ _ (IsPermutation-append_right news _ _ (put_one n rows (not-true _ parts.0))) (put_beside news (put_row n rows) parts.1))
+    (IsPermutation-trans _ _ _ (IsPermutation-append_right news _ _ (put_one n rows (not-true _ parts.0))) (put_beside news (put_row n rows) parts.1))
 
 none_tied : (new : Row) (rows : List Row) → is_taken rows new ≡ false → AreApartFrom new rows
 none_tied new [] free = tt

@@ -52,7 +52,7 @@ matched db params tree tests terms rows h =
     let q = plain_query tree tests terms in
     let a : IsAnswer q (overlay db.trees []) params rows = h.answer Null in
     let staged : a.staged ≡ map (λ r. params ∷ r ∷ []) (filter (passes tests params) (db.trees tree)) =
-        a.grouped ∙ kept_rows (passes tests params) (λ r. params ∷ r ∷ []) (overlay db.trees [] tree) ∙ ap (λ l. map (λ r. params ∷ r ∷ []) (filter (passes tests params) l)) (stands_alone db.trees tree) in
+    a.grouped ∙ kept_rows (passes tests params) (λ r. params ∷ r ∷ []) (overlay db.trees [] tree) ∙ ap (λ l. map (λ r. params ∷ r ∷ []) (filter (passes tests params) l)) (stands_alone db.trees tree) in
     let kept = a.distinct ∙ ap (map (output q)) staged ∙ map-map (output q) _ _ in
     let shown = IsPermutation-map (λ (o : Output). o.1) a.kept a.ordered a.same in
     subst (λ l. IsPermutation l rows) (ap (map (λ (o : Output). o.1)) kept ∙ map-map _ _ _) (rw (a.shown) shown)

@@ -14,4 +14,3 @@ tab_is = refl
 pub cell_is : table_defined_by cell_text ≡ Ok (record cell { tree = 0 })
 unfolding everything
 cell_is = refl
-

@@ -128,7 +128,7 @@ module _ (table key place value : Value) where
         let all = IsPermutation-trans _ _ _ (IsPermutation-append_left left _ _ news_are) (put_beside news left fresh) in
         let shown = IsPermutation-map cell_of _ _ all in
         let parts : map cell_of (map set_row taken ++ left) ≡ map (λ r. cell_of (set_row r)) taken ++ map cell_of others =
-            map-append cell_of (map set_row taken) left ∙ ap₂ ◌++◌ (map-map cell_of set_row taken) (ap (map cell_of) left_are) in
+        map-append cell_of (map set_row taken) left ∙ ap₂ ◌++◌ (map-map cell_of set_row taken) (ap (map cell_of) left_are) in
         rw (map-map (with_value table key place value) cell_of rows) (IsPermutation-trans _ _ _ told (subst (λ l. IsPermutation l (map cell_of (put_all left news))) parts shown))
 
 -- UPDATE puts another value in the cell

@@ -87,7 +87,10 @@ fn insert_tab<S: Alter>(
     ensures kept { HasCleanDisk (state S.Store tx.new.conn.now) → KeepsCommit (state S.Store tx.old.conn.now) (state S.Store tx.new.conn.now) }
     ensures survives { Survives (state S.Store tx.old.conn.now) (state S.Store tx.new.conn.now) (λ _. ⊥) }
 {
-    tx.execute("INSERT INTO TAB VALUES (?1, ?2, ?3)", params![id, name, text])
+    tx.execute(
+        "INSERT INTO TAB VALUES (?1, ?2, ?3)",
+        params![id, name, text],
+    )
 }
 
 /// Takes out a table's name and text.

@@ -18,9 +18,14 @@ pub enum Step<'a> {
         value: Datum<'a>,
     },
     /// The cells of the row of a key are taken out.
-    DeleteRow { table: i64, key: Datum<'a> },
+    DeleteRow {
+        table: i64,
+        key: Datum<'a>,
+    },
     /// The cells of a table are taken out.
-    DeleteCells { table: i64 },
+    DeleteCells {
+        table: i64,
+    },
     /// A new table: its number, its name and the text that defines it.
     InsertTab {
         id: i64,
@@ -28,5 +33,7 @@ pub enum Step<'a> {
         text: &'a str,
     },
     /// A table's name and text are taken out.
-    DeleteTab { id: i64 },
+    DeleteTab {
+        id: i64,
+    },
 }

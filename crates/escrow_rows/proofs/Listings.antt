@@ -136,5 +136,8 @@ module _ {S : Type 0} (g : Ghosts S) (inside old new : Held S) (same_conn : insi
   tables_told_of items read shown r same_rows opened of_tab h =
       let of_old = subst (λ (c : Held S). IsStore (state g c).now → AreTabs (tabs (state g c).now) read) same_conn of_tab in
       IfOk-weaker r (λ v. shown ≡ map listed_row (items v)) _
-      (λ v made. (opened, tells_tables (state g old).now (items v)
-      (subst (λ (rows : List SqlRow). IsStore (state g old).now → AreTabs (tabs (state g old).now) rows) (sym same_rows ∙ made) of_old))) h
+      (λ v made. (
+        opened,
+        tells_tables (state g old).now (items v)
+            (subst (λ (rows : List SqlRow). IsStore (state g old).now → AreTabs (tabs (state g old).now) rows) (sym same_rows ∙ made) of_old),
+      )) h

@@ -5,8 +5,8 @@ mod rows;
 ghost use Rattle.std.specs.Prelude.{IfOk};
 ghost use Rattle.escrow_schema.specs.Definition.{IsTable};
 
-use escrow_schema::{TableDef, define, fit_row, plan_update};
 use escrow_num::{Amount, Name, Refusal, Seq, Text, Value};
+use escrow_schema::{TableDef, define, fit_row, plan_update};
 use escrow_sql::{
     CheckText, ColumnMark, ColumnText, Comparison, Condition, CreateText, InsertText, Item,
     Request, Statement, Term, Test, TypeText, UpdateText, parse,

@@ -1,7 +1,7 @@
 //! The checks that definitions declare.
-use escrow_schema::TableDef;
 use crate::tests::{answer, expect_answers, push_word, table};
 use escrow_checks::Check;
+use escrow_schema::TableDef;
 use std::alloc::Global;
 use std::process::Abort;
 use std::test::Fail;

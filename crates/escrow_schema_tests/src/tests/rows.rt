@@ -4,8 +4,8 @@ ghost use Rattle.escrow_schema.specs.Definition.{IsTable};
 use crate::tests::{
     GOODS, amount, answer, expect_answers, number, push_value, push_word, statement, table, text,
 };
-use escrow_schema::{TableDef, fit_row, is_value, row_of, values_of};
 use escrow_num::{Row, Value};
+use escrow_schema::{TableDef, fit_row, is_value, row_of, values_of};
 use escrow_sql::{Literal, Statement};
 use std::alloc::Global;
 use std::process::Abort;
