@@ -8,6 +8,4 @@ mod files;
 #[cfg(test)]
 mod limits;
 #[cfg(test)]
-mod rows;
-#[cfg(test)]
 mod stores;
