@@ -1,4 +1,4 @@
-//! Tests of stores: cells, and the rows that they make.
+//! Tests of stores: the cells in them, in memory and in a file.
 #![tactic(auto)]
 
 #[cfg(test)]
