@@ -89,6 +89,3 @@ fn make_plan(alloc: Global, table: &TableDef, text: &UpdateText) -> Result<Plan,
         Ok(Plan::Plain { key, values })
     }
 }
-
-#[cfg(test)]
-mod tests;

@@ -180,6 +180,3 @@ fn push_condition(
     push_form(alloc, text, names, check.coeffs.as_slice())?;
     push_limits(alloc, text, &check.span)
 }
-
-#[cfg(test)]
-mod tests;

@@ -1,5 +1,7 @@
 mod catalog;
 mod checks;
+mod plan;
+mod print;
 mod rows;
 
 ghost use Rattle.std.specs.Prelude.{IfOk};

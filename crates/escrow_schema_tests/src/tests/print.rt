@@ -1,6 +1,6 @@
-use crate::print_table;
 use crate::tests::table;
 use escrow_num::Text;
+use escrow_schema::print_table;
 use std::alloc::Global;
 use std::process::Abort;
 use std::test::Fail;

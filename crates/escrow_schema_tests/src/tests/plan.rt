@@ -1,8 +1,8 @@
 ghost use Rattle.escrow_schema.specs.Definition.{IsTable};
 
 use crate::tests::{ACCOUNTS, expect_answers, push_value, push_word, statement, table};
-use crate::{Plan, TableDef, plan_update};
 use escrow_num::{Changes, Value};
+use escrow_schema::{Plan, TableDef, plan_update};
 use escrow_sql::Statement;
 use std::alloc::Global;
 use std::process::Abort;
