@@ -1,6 +1,6 @@
-pub mod Making
 pub mod Failure
 pub mod Inside
+pub mod Making
 pub mod Query
 pub mod Read
 pub mod Step

@@ -6,6 +6,7 @@ use Rattle.std.specs.Ordering.{int_eq}
 use Rattle.std.proofs.lemmas.Bool.{both_ways, cases_Bool, not-true}
 use Rattle.std.proofs.lemmas.Bool.Decides.{same_from_decides, Decides-int_eq}
 use Rattle.std.proofs.lemmas.List.Elements.{filter-append}
+use Rattle.std.proofs.lemmas.Option.{same_Some}
 use Rattle.std.proofs.lemmas.Slice.Eq.{bytes_eq-Decides}
 use Rattle.sqlite_value.specs.declared.value.Value.TheVariants as sql
 use Rattle.sqlite_value.specs.Order.{Row as SqlRow, column}
@@ -98,6 +99,16 @@ row_in tables row = go (stored_named tables row.name.table) refl
             cells = ap (λ o. unwrap_or (option_map (λ s. cells_in s row) o) []) e;
           },
         )
+
+-- a row of the name of a table that stands is one of that table, with its cells
+pub row_of_stored : (tables : List StoredTable) (s : StoredTable) (row : Row) → Stands tables s → HasTable tables row → row.name.table ≡ s.table.name
+    → IsRowOf s.table row × (cells_of tables row ≡ cells_in s row)
+row_of_stored tables s row stands of named =
+    let found = row_in tables row of in
+    let same : found.0 ≡ s = same_Some found.0 s (sym found.1.found ∙ ap (stored_named tables) named ∙ stands) in (
+      subst (λ (t : StoredTable). IsRowOf t.table row) same found.1.fits,
+      found.1.cells ∙ ap (λ (t : StoredTable). cells_in t row) same,
+    )
 
 -- whether a row's cells are of a table, or of the row of a key in it
 pub is_in_row : (tables : List StoredTable) (s : StoredTable) (row : Row) → AreTables tables → Has tables s → HasTable tables row

@@ -28,11 +28,11 @@ pieces_same f g [] h = refl
 pieces_same f g (x ∷ xs) h = rw (h.0, pieces_same f g xs h.1)
 
 -- the items of a list are those of any of its orders
-has_permutation : {A : Type 0} (xs ys : List A) → IsPermutation xs ys → (x : A) → Has xs x → Has ys x
+pub has_permutation : {A : Type 0} (xs ys : List A) → IsPermutation xs ys → (x : A) → Has xs x → Has ys x
 has_permutation xs ys same x h = all_has (Has ys) xs (all-permutation (Has ys) ys xs (IsPermutation-sym xs ys same) (has_all (Has ys) ys (λ y k. k))) x h
 
 -- a table that was found among the tables is found among more of them
-still_found : (tables after : List StoredTable) (name : List ℕ) (t : StoredTable) → AreTables after → ((x : StoredTable) → Has tables x → Has after x)
+pub still_found : (tables after : List StoredTable) (name : List ℕ) (t : StoredTable) → AreTables after → ((x : StoredTable) → Has tables x → Has after x)
     → stored_named tables name ≡ Some t → stored_named after name ≡ Some t
 still_found tables after name t are more found =
     let test : StoredTable → Bool = λ s. bytes_eq s.table.name name in
@@ -72,7 +72,7 @@ find_filter p q implies (x ∷ xs) =
     ]
 
 -- a table of another name is found among those of other names
-found_without : (tables : List StoredTable) (name other : List ℕ) → bytes_eq other name ≡ false → stored_named (without_stored name tables) other ≡ stored_named tables other
+pub found_without : (tables : List StoredTable) (name other : List ℕ) → bytes_eq other name ≡ false → stored_named (without_stored name tables) other ≡ stored_named tables other
 found_without tables name other apart =
     find_filter (λ s. bytes_eq s.table.name other) (λ s. not (bytes_eq s.table.name name))
     (λ s e. ap not (ap (λ n. bytes_eq n name) (name_same s.table.name other e) ∙ apart)) tables

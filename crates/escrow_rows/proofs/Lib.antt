@@ -1,11 +1,13 @@
 pub mod Cells
 pub mod Counts
 pub mod Found
+pub mod Gathering
 pub mod ImageDelete
 pub mod ImageInsert
 pub mod ImageSet
 pub mod ImageTables
 pub mod Images
+pub mod KeyedCells
 pub mod Listings
 pub mod News
 pub mod OneRow
@@ -18,4 +20,5 @@ pub mod Rising
 pub mod RowRead
 pub mod Runs
 pub mod Same
+pub mod TableRead
 pub mod ViewLemmas

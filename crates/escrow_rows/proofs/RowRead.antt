@@ -3,7 +3,7 @@ use Rattle.std.proofs.Common.{◌≡◌, ◌<◌, ℤ, IsTrue, Result, Option, S
 use Rattle.std.specs.Prelude.{IfOk, option_to_list}
 use Rattle.std.proofs.lemmas.List.{nil_from_length}
 use Rattle.std.proofs.lemmas.List.Sorted.{IsPermutation-map, IsPermutation-trans, length_permutation}
-use Rattle.std.proofs.lemmas.Option.{none-some, same_Some}
+use Rattle.std.proofs.lemmas.Option.{none-some}
 use Rattle.std.proofs.lemmas.Result.{IfOk-weaker}
 use Rattle.sqlite_value.specs.declared.value.Value.{Value as Sql}
 use Rattle.sqlite_value.specs.declared.value.Value.TheVariants as sql
@@ -27,10 +27,10 @@ use Rattle.escrow_cells.specs.Step.{is_of}
 use Rattle.escrow_cells.specs.Store.{IsStore, cells}
 use Rattle.escrow_rows.specs.declared.stored.StoredTable.{StoredTable}
 use Rattle.escrow_rows.specs.Answers.{row_named, TellsRow}
-use Rattle.escrow_rows.specs.Image.{stored, cells_in, cells_of, stored_named, AreTables, AreRows, HasTable}
+use Rattle.escrow_rows.specs.Image.{stored, cells_in, cells_of, AreTables, AreRows, HasTable}
 use Rattle.escrow_rows.specs.Changes.{Stands, name_in}
 use Rattle.escrow_rows.specs.Placed.{placed, IsFound}
-use Rattle.escrow_rows.proofs.Cells.{filter_pieces, is_of_row, row_in, stands_has}
+use Rattle.escrow_rows.proofs.Cells.{filter_pieces, is_of_row, row_of_stored, stands_has}
 use Rattle.escrow_rows.proofs.OneRow.{rows_named}
 use Rattle.escrow_rows.proofs.PlacedCells.{cells_placed, in_place, length-placed, permuted_same}
 
@@ -57,15 +57,10 @@ row_there : (tables : List StoredTable) (rows : List Row) (s : StoredTable) (key
     → IsRowOf s.table row × (cells_of tables row ≡ cells_in s row)
 row_there tables rows s key row of stands e =
     let found = find_has (λ (r : Row). same_row r.name (name_in s key)) rows row e in
-    let in_table = row_in tables row (all_has (HasTable tables) rows of.of_tables row found.0) in
-    let named : row.name.table ≡ s.table.name = ap (λ n. n.table) (row_same row.name (name_in s key) found.1) in
-    let same : in_table.0 ≡ s = same_Some in_table.0 s (sym in_table.1.found ∙ ap (stored_named tables) named ∙ stands) in (
-      subst (λ (t : StoredTable). IsRowOf t.table row) same in_table.1.fits,
-      in_table.1.cells ∙ ap (λ (t : StoredTable). cells_in t row) same,
-    )
+    row_of_stored tables s row stands (all_has (HasTable tables) rows of.of_tables row found.0) (ap (λ n. n.table) (row_same row.name (name_in s key) found.1))
 
 -- no values make no row
-no_row : (table : TableDef) (row : Row) → row_with table [] ≡ Some row → ⊥
+pub no_row : (table : TableDef) (row : Row) → row_with table [] ≡ Some row → ⊥
 no_row table row e = none-some row e
 
 -- where no row has the name, no cell is read, and no row is made

@@ -1,5 +1,5 @@
 -- Believed: what each reading call answers of an image.
-use Rattle.std.specs.Prelude.{◌≡◌, ℕ, ℤ, Option, List, [], ◌∷◌, map, find, length, IsTrue, IsPermutation}
+use Rattle.std.specs.Prelude.{◌≡◌, ℕ, Option, List, map, find, length, IsTrue, IsPermutation}
 use Rattle.std.specs.Ordering.{is_lt, int_cmp}
 use Rattle.sqlite.specs.Effect.{Database}
 use Rattle.sqlite.specs.State.{State, HasCleanDisk}

@@ -1,5 +1,5 @@
 -- Believed: when a store is the image of tables and rows.
-use Rattle.std.specs.Prelude.{◌≡◌, ◌≤◌, ℕ, ℤ, pos, ◌+ℤ◌, Bool, not, Option, option_map, unwrap_or, IsSomeAnd, List, [], ◌∷◌, length, map, filter, find, codes, bytes_eq, IsTrue, int_le, IsPermutation}
+use Rattle.std.specs.Prelude.{◌≡◌, ◌≤◌, ℕ, ℤ, pos, ◌+ℤ◌, Bool, not, Option, option_map, unwrap_or, IsSomeAnd, List, [], ◌∷◌, length, map, filter, find, bytes_eq, IsTrue, int_le, IsPermutation}
 use Rattle.std.specs.List.{AllByRecursion, flat_map}
 use Rattle.std.specs.Ordering.{is_lt, int_eq}
 use Rattle.sqlite_value.specs.declared.value.Value.{Value as Sql}
@@ -17,7 +17,7 @@ use Rattle.escrow_schema.specs.declared.catalog.TheConstants.Catalog.{MAX_TABLES
 use Rattle.escrow_schema.specs.Definition.{IsTable}
 use Rattle.escrow_schema.specs.Fit.{IsRowOf, values_of}
 use Rattle.escrow_schema.specs.Print.{canonical}
-use Rattle.escrow_cells.specs.Store.{IsStore, metas, tabs, cells}
+use Rattle.escrow_cells.specs.Store.{IsStore, format, metas, tabs, cells}
 use Rattle.escrow_rows.specs.declared.stored.StoredTable.{StoredTable}
 use Rattle.escrow_rows.specs.declared.stored.TheConstants.StoredTable.{MAX_ROWS}
 
@@ -30,10 +30,6 @@ stored (Text t) = sql.Text t
 abbrev pub CanBeHeld : Value → Type 0
 CanBeHeld (Number z) = IsAmount z
 CanBeHeld (Text t) = IsUtf8 t
-
--- what META holds: one row, the version of the format
-abbrev pub format : List SqlRow
-format = (sql.Text (codes "format") ∷ sql.Int (pos 1) ∷ []) ∷ []
 
 -- a table's row in TAB: its number, its name, and its canonical text
 abbrev pub tab_row : StoredTable → SqlRow

@@ -1,5 +1,6 @@
 pub mod Answers
 pub mod Changes
+pub mod Gathered
 pub mod Image
 pub mod Inside
 pub mod Laws

@@ -4,7 +4,7 @@ ghost use Rattle.escrow_cells.specs.Step.{kept};
 ghost use Rattle.escrow_rows.specs.Image.{stored, CanBeHeld};
 ghost use Rattle.escrow_num.specs.declared.value.Value.{Value as HeldValue};
 
-use escrow_cells::Datum;
+use escrow_cells::{Datum, Failure};
 use escrow_num::{Amount, Text, Value};
 use sqlite_value::value::ValueRef;
 use std::alloc::{AllocError, Global};
@@ -21,7 +21,7 @@ pub(crate) fn datum(value: &Value) -> Datum<'_>
 
 /// The value that a cell holds, or `None` where it holds none that a column can hold: a number past the
 /// limit of amounts, a text that isn't UTF-8, or neither.
-pub(crate) fn read_value(alloc: Global, value: ValueRef<'_>) -> Result<Option<Value>, AllocError>
+fn read_value(alloc: Global, value: ValueRef<'_>) -> Result<Option<Value>, AllocError>
     ensures some { IfOk result (λ found. IfSome found (λ v. stored v ≡ owned value.entry)) }
     ensures none { result ≡ Ok None → (v : HeldValue) → CanBeHeld v → stored v ≢ owned value.entry }
 {
@@ -32,5 +32,15 @@ pub(crate) fn read_value(alloc: Global, value: ValueRef<'_>) -> Result<Option<Va
             Err(_) => Ok(None),
         },
         _ => Ok(None),
+    }
+}
+
+/// The value that a cell holds. One that no column can hold is refused.
+pub(crate) fn held(alloc: Global, value: ValueRef<'_>) -> Result<Value, Failure>
+    ensures { IfOk result (λ v. stored v ≡ owned value.entry) }
+{
+    match read_value(alloc, value)? {
+        Some(value) => Ok(value),
+        None => Err(Failure::Store),
     }
 }

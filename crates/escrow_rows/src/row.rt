@@ -5,7 +5,7 @@ ghost use Rattle.escrow_schema.specs.Definition.{IsTable};
 ghost use Rattle.escrow_rows.specs.Image.{stored};
 ghost use Rattle.escrow_rows.specs.Placed.{placed, IsFound};
 
-use crate::datum::{datum, read_value};
+use crate::datum::{datum, held};
 use crate::store::RowStore;
 use crate::stored::StoredTable;
 use escrow_cells::{Failure, row_cells};
@@ -100,8 +100,5 @@ fn read_cell(alloc: Global, cell: &sqlite::Row, place: usize) -> Result<Value, F
     if cell.column_count() != 2 || at != place as i64 {
         return Err(Failure::Store);
     }
-    match read_value(alloc, cell.get_ref(1)?)? {
-        Some(value) => Ok(value),
-        None => Err(Failure::Store),
-    }
+    held(alloc, cell.get_ref(1)?)
 }
