@@ -31,7 +31,7 @@ pub use column::{Column, ColumnType};
 pub use definition::define;
 pub use fit::fit_row;
 pub use key::check_key;
-pub use literal::is_value;
+pub use literal::{is_value, value_of};
 pub use plan::{Plan, plan_update};
 pub use print::print_table;
 pub use row::row_of;

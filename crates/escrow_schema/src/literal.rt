@@ -19,7 +19,7 @@ pub fn is_value(literal: &Literal, value: &Value) -> bool
 }
 
 /// The value that a literal is. Only a text takes memory.
-pub(crate) fn value_of(alloc: Global, literal: &Literal) -> Result<Value, AllocError>
+pub fn value_of(alloc: Global, literal: &Literal) -> Result<Value, AllocError>
     ensures { IfOk result (λ v. v ≡ value_of literal.now) }
 {
     match literal {

@@ -1,0 +1,128 @@
+-- DROP TABLE: the tables that are held, without one of them and its rows.
+use Rattle.std.proofs.Common.{◌≡◌, ◌≤◌, ℕ, pos, int_le, Bool, true, false, not, List, [], ◌∷◌, length, map, filter, Option, Some, sym, ap, subst, ◌∙◌, inl, inr, arith, bytes_eq, position, remove}
+use Rattle.std.specs.Prelude.{IsSomeAnd, IsTrue}
+use Rattle.std.specs.Ordering.{int_eq}
+use Rattle.std.proofs.lemmas.Bool.{cases_Bool, not-true}
+use Rattle.std.proofs.lemmas.List.Sums.{count_by-le-length, length-filter}
+use Rattle.sqlite_trees.proofs.ListLemmas.{all-filter, all_from_map, filter-filter, filter-map}
+use Rattle.sqlite_trees.specs.declared.store.Store.{Ghosts}
+use Rattle.sqlite.specs.Effect.{Database}
+use Rattle.sqlite.specs.Held.{Held, state}
+use Rattle.escrow_num.specs.declared.row.Row.{Row}
+use Rattle.escrow_num.proofs.Ascending.{ascending_filter}
+use Rattle.escrow_num.proofs.Items.{Has, all_has, has_all, has_filter}
+use Rattle.escrow_num.proofs.Orders.{name_same}
+use Rattle.escrow_schema.specs.declared.table.TableDef.{TableDef}
+use Rattle.escrow_schema.specs.Catalog.{IsCatalog, without_table}
+use Rattle.escrow_schema.specs.Definition.{IsTable}
+use Rattle.escrow_schema.specs.Fit.{IsRowOf}
+use Rattle.escrow_schema.proofs.CatalogLemmas.{Once, once_named, taken_out, without_one}
+use Rattle.escrow_rows.specs.declared.stored.StoredTable.{StoredTable}
+use Rattle.escrow_rows.specs.Changes.{Drops, without_rows_of, without_stored}
+use Rattle.escrow_rows.specs.Image.{AreTables, AreRows, HasTable, rows_of}
+use Rattle.escrow_rows.specs.View.{rows_in}
+use Rattle.escrow_rows.proofs.ImageTables.{found_without}
+use Rattle.escrow_tables.specs.declared.counted.Counted.{Counted}
+use Rattle.escrow_tables.specs.Calls.{Writes}
+use Rattle.escrow_tables.specs.Inside.{HasCount, IsHeld, Keeps, catalog_of, stored_of}
+use Rattle.escrow_tables.proofs.Named.{IsNamed}
+use Rattle.escrow_tables.proofs.Writing.{Changes, keeps_on, seen, writes}
+
+-- the tables of other names
+abbrev pub without_counted : List ℕ → List Counted → List Counted
+without_counted name tables = filter (λ (c : Counted). not (bytes_eq c.stored.table.name name)) tables
+
+catalog_without : (name : List ℕ) (tables : List Counted) → catalog_of (without_counted name tables) ≡ without_table name (catalog_of tables)
+catalog_without name tables = sym (filter-map (λ (t : TableDef). not (bytes_eq t.name name)) (λ (c : Counted). c.stored.table) tables)
+
+stored_without : (name : List ℕ) (tables : List Counted) → stored_of (without_counted name tables) ≡ without_stored name (stored_of tables)
+stored_without name tables = sym (filter-map (λ (s : StoredTable). not (bytes_eq s.table.name name)) (λ (c : Counted). c.stored) tables)
+
+-- where one item at most is of a test, so is one at most that maps to it
+once_through : {A B : Type 0} (p : B → Bool) (f : A → B) (xs : List A) → Once p (map f xs) → Once (λ x. p (f x)) xs
+once_through p f [] h = tt
+once_through p f (x ∷ xs) h = ((λ e. all_from_map (λ y. p y ≡ false) f xs (h.0 e)), once_through p f xs h.1)
+
+-- without the table at the place of a name those of other names are left
+pub taken_at : (tables slice : List Counted) (name : List ℕ) (place : ℕ) (c : Counted) → IsCatalog (catalog_of tables) → slice ≡ tables
+    → Some place ≡ position (λ (c : Counted). bytes_eq c.stored.table.name name) slice → remove tables place ≡ without_counted name tables
+taken_at tables slice name place c catalog same at =
+    let p : Counted → Bool = λ c. bytes_eq c.stored.table.name name in
+    let once = once_through (λ (t : TableDef). bytes_eq t.name name) (λ (c : Counted). c.stored.table) tables (once_named (catalog_of tables) name catalog.order) in
+    (taken_out p tables place c once (sym (subst (λ (ts : List Counted). Some place ≡ position p ts) same at))).1
+
+-- what passes a test among what passes another is no more than what passes it
+fewer : {A : Type 0} (p q : A → Bool) (xs : List A) → length (filter p (filter q xs)) ≤ length (filter p xs)
+fewer p q [] = omega arith
+fewer p q (x ∷ xs) =
+    let rest = fewer p q xs in
+    elim (cases_Bool (q x)) [
+      | inl kept ↦ rw kept (elim (cases_Bool (p x)) [ inl t ↦ rw t (omega arith) | inr f ↦ rw f rest ])
+      | inr out ↦ rw out (elim (cases_Bool (p x)) [ inl t ↦ rw t (omega arith) | inr f ↦ rw f rest ])
+    ]
+
+-- the others can stand together
+fewer_tables : (name : List ℕ) (tables : List StoredTable) → AreTables tables → AreTables (without_stored name tables)
+fewer_tables name tables are =
+    let kept : StoredTable → Bool = λ s. not (bytes_eq s.table.name name) in
+    record {
+      defined = all-filter (λ (s : StoredTable). IsTable s.table) kept tables are.defined;
+      from_one = all-filter (λ (s : StoredTable). IsTrue (int_le (pos 1) s.id)) kept tables are.from_one;
+      ids_apart = ascending_filter (λ (a b : StoredTable). not (int_eq a.id b.id)) kept tables are.ids_apart;
+      names_apart = ascending_filter (λ (a b : StoredTable). not (bytes_eq a.table.name b.table.name)) kept tables are.names_apart;
+      few = omega (arith, are.few, length-filter kept tables, count_by-le-length kept tables);
+    }
+
+-- rows of the others are rows of theirs
+fewer_rows : (name : List ℕ) (tables : List StoredTable) (rows : List Row) → AreRows tables rows → AreRows (without_stored name tables) (without_rows_of name rows)
+fewer_rows name tables rows of =
+    let kept : Row → Bool = λ row. not (bytes_eq row.name.table name) in
+    let has : (row : Row) → Has (without_rows_of name rows) row → HasTable (without_stored name tables) row = λ row k.
+    let passes = has_filter kept rows row k in
+    subst (λ (o : Option StoredTable). IsSomeAnd o (λ s. IsRowOf s.table row)) (sym (found_without tables name row.name.table (not-true (bytes_eq row.name.table name) passes.1)))
+    (all_has (HasTable tables) rows of.of_tables row passes.0) in
+    record {
+      of_tables = has_all (HasTable (without_stored name tables)) (without_rows_of name rows) has;
+      row_order = ascending_filter _ kept rows of.row_order;
+      few_rows = λ table. omega (arith, of.few_rows table, fewer (λ (row : Row). bytes_eq row.name.table table) kept rows);
+    }
+
+-- a table of another name has the rows that it had
+rows_of_other : (name other : List ℕ) (rows : List Row) → bytes_eq other name ≡ false → rows_of (without_rows_of name rows) other ≡ rows_of rows other
+rows_of_other name other rows apart =
+    filter-filter (λ (row : Row). bytes_eq row.name.table other) (λ (row : Row). not (bytes_eq row.name.table name))
+    (λ row e. ap not (ap (λ (n : List ℕ). bytes_eq n name) (name_same row.name.table other e) ∙ apart)) rows
+
+module _ (tables : List Counted) (name : List ℕ) (c : Counted) (named : IsNamed tables name c) (are : AreTables (stored_of tables)) where
+  without_are : AreTables (stored_of (without_counted name tables))
+  without_are = subst AreTables (sym (stored_without name tables)) (fewer_tables name (stored_of tables) are)
+
+  -- the others are held, with their rows
+  held_less : (rows : List Row) (old db : Database) → IsHeld tables rows old → Drops c.stored old db → IsHeld (without_counted name tables) (without_rows_of name rows) db
+  held_less rows old db held makes =
+      let image = makes (stored_of tables) rows are held.are_rows named.stands held.image in
+      let count : (t : Counted) → Has (without_counted name tables) t → HasCount (without_rows_of name rows) t = λ t k.
+      let passes = has_filter (λ (o : Counted). not (bytes_eq o.stored.table.name name)) tables t k in
+      all_has (HasCount rows) tables held.counts t passes.0
+      ∙ ap length (sym (rows_of_other name t.stored.table.name rows (not-true (bytes_eq t.stored.table.name name) passes.1))) in
+      record {
+        are_rows = subst (λ (ts : List StoredTable). AreRows ts (without_rows_of name rows)) (sym (stored_without name tables)) (fewer_rows name (stored_of tables) rows held.are_rows);
+        image = rw (stored_without name tables, ← named.name_is) image;
+        counts = has_all (HasCount (without_rows_of name rows)) (without_counted name tables) count;
+      }
+
+  module _ {S : Type 0} (g : Ghosts S) (old new : Held S) (is_done : Bool) (it : Changes g old new (Drops c.stored) is_done) (fields : List Counted)
+      (keeps : Keeps (state g old) tables) (if_done : is_done ≡ true → fields ≡ without_counted name tables) (if_not : is_done ≡ false → fields ≡ tables) where
+    pub drop_writes : Writes g (seen g old tables) (seen g new fields) is_done (without_table name (catalog_of tables)) (without_rows_of name (rows_in (stored_of tables) (state g old).now))
+    drop_writes =
+        let rows = rows_in (stored_of tables) (state g old).now in
+        subst (λ (catalog : List TableDef). Writes g (seen g old tables) (seen g new fields) is_done catalog (without_rows_of name rows)) (catalog_without name tables)
+        (writes g old new (Drops c.stored) is_done it tables (without_counted name tables) fields (without_rows_of name rows) keeps without_are
+        (λ usable db makes. held_less rows (state g old).now db (keeps.held usable) makes) if_done if_not)
+
+    pub drop_keeps : Keeps (state g new) fields
+    drop_keeps =
+        let rows = rows_in (stored_of tables) (state g old).now in
+        keeps_on g old new (Drops c.stored) is_done it tables (without_counted name tables) fields (without_rows_of name rows) keeps without_are
+        (λ usable db makes. held_less rows (state g old).now db (keeps.held usable) makes) if_done if_not
+        (subst IsCatalog (sym (catalog_without name tables)) (without_one (catalog_of tables) name keeps.is_catalog))

@@ -1,0 +1,110 @@
+-- The table at a place, and how many rows each table has after a change of one of them.
+use Rattle.std.proofs.Common.{◌≡◌, ◌<◌, ℕ, zero, suc, Bool, true, false, List, [], ◌∷◌, Some, ap, arith, bytes_eq, find, get_or, inl, inr, length, map, position, set, subst, sym, ◌∙◌}
+use Rattle.std.specs.Prelude.{IsTrue, not}
+use Rattle.std.specs.List.{AllByRecursion}
+use Rattle.std.proofs.lemmas.Bool.{both_ways, cond-false, cond-true, not-true}
+use Rattle.std.proofs.lemmas.List.{set-get_or}
+use Rattle.std.proofs.lemmas.List.Quantifiers.{position-Some}
+use Rattle.std.proofs.Math.Seq.{map-set_same}
+use Rattle.sqlite_trees.proofs.ListLemmas.{all_both, all_weaker}
+use Rattle.escrow_num.proofs.Items.{Has, all_has}
+use Rattle.escrow_num.proofs.Orders.{same_name}
+use Rattle.escrow_num.specs.Ascending.{IsAscending}
+use Rattle.escrow_num.specs.declared.row.Row.{Row}
+use Rattle.escrow_rows.specs.Image.{AreTables, rows_of}
+use Rattle.escrow_rows.specs.declared.stored.StoredTable.{StoredTable}
+use Rattle.escrow_tables.specs.Inside.{HasCount, catalog_of, stored_of}
+use Rattle.escrow_tables.specs.declared.counted.Counted.{Counted}
+use Rattle.escrow_tables.proofs.Named.{IsNamed, is_named}
+
+-- the first item that passes is found
+find_at : {A : Type 0} (p : A → Bool) (xs : List A) (i : ℕ) (d : A) → i < length xs → p (get_or xs i d) ≡ true → ((k : ℕ) → k < i → p (get_or xs k d) ≡ false) → find p xs ≡ Some (get_or xs i d)
+find_at p [] i d within passes before = absurd (omega arith)
+find_at p (x ∷ xs) zero d within passes before = cond-true (p x) (Some x) (find p xs) passes
+find_at p (x ∷ xs) (suc i) d within passes before =
+    cond-false (p x) (Some x) (find p xs) (before 0 (omega arith)) ∙ find_at p xs i d (omega arith) passes (λ k below. before (suc k) (omega arith))
+
+-- a table stands at a place, and it is the one of a name
+pub record IsPlaced (tables : List Counted) (name : List ℕ) (place : ℕ) (c : Counted) : Type 0 where
+  pub within : place < length tables
+  pub item : c ≡ get_or tables place c
+  pub named : IsNamed tables name c
+
+-- what is found in a slice of the tables
+pub is_placed : (tables slice : List Counted) (name : List ℕ) (place : ℕ) (c : Counted) → slice ≡ tables → Some place ≡ position (λ (c : Counted). bytes_eq c.stored.table.name name) slice
+    → c ≡ get_or tables place c → IsPlaced tables name place c
+is_placed tables slice name place c same at item =
+    let p : Counted → Bool = λ c. bytes_eq c.stored.table.name name in
+    let first = position-Some p tables place c (sym (subst (λ (ts : List Counted). Some place ≡ position p ts) same at)) in
+    let found = find_at p tables place c first.0 first.1 first.2 in
+    record { within = first.0; item = item; named = is_named tables name c (ap Some item ∙ sym found) }
+
+-- the tables, with another number of rows of the one at a place
+abbrev pub recounted : List Counted → ℕ → Counted → ℕ → List Counted
+recounted tables place c n = set tables place (record { stored = c.stored; rows = n })
+
+module _ (tables : List Counted) (name : List ℕ) (place : ℕ) (c : Counted) (placed : IsPlaced tables name place c) where
+  pub stored_recounted : (n : ℕ) → stored_of (recounted tables place c n) ≡ stored_of tables
+  stored_recounted n = map-set_same (λ (c : Counted). c.stored) tables place (record { stored = c.stored; rows = n }) c (ap (λ (c : Counted). c.stored) placed.item)
+
+  pub catalog_recounted : (n : ℕ) → catalog_of (recounted tables place c n) ≡ catalog_of tables
+  catalog_recounted n = map-set_same (λ (c : Counted). c.stored.table) tables place (record { stored = c.stored; rows = n }) c (ap (λ (c : Counted). c.stored.table) placed.item)
+
+  -- with its own number of rows nothing changes
+  pub recounted_itself : recounted tables place c c.rows ≡ tables
+  recounted_itself = ap (set tables place) placed.item ∙ set-get_or tables place c
+
+-- what holds of the image of each item
+all_unmap : {A B : Type 0} (P : B → Type 0) (f : A → B) (xs : List A) → AllByRecursion P (map f xs) → AllByRecursion (λ x. P (f x)) xs
+all_unmap P f [] h = tt
+all_unmap P f (x ∷ xs) h = (h.0, all_unmap P f xs h.1)
+
+-- no two tables have one name
+abbrev pub AreApart : List Counted → Type 0
+AreApart = IsAscending (λ (a b : Counted). not (bytes_eq a.stored.table.name b.stored.table.name))
+
+apart_by : (tables : List Counted) → IsAscending (λ (a b : StoredTable). not (bytes_eq a.table.name b.table.name)) (stored_of tables) → AreApart tables
+apart_by [] h = tt
+apart_by (c ∷ tables) h =
+    (all_unmap (λ (s : StoredTable). IsTrue (not (bytes_eq c.stored.table.name s.table.name))) (λ (c : Counted). c.stored) tables h.0, apart_by tables h.1)
+
+pub apart : (tables : List Counted) → AreTables (stored_of tables) → AreApart tables
+apart tables are = apart_by tables are.names_apart
+
+other_name : (a b : List ℕ) → IsTrue (not (bytes_eq a b)) → ¬ (a ≡ b)
+other_name a b differ e = both_ways (bytes_eq a b) (not-true (bytes_eq a b) differ) (subst (λ (n : List ℕ). bytes_eq a n ≡ true) e (same_name a))
+
+-- an item at a place is one of the items
+has_at : {A : Type 0} (xs : List A) (i : ℕ) (x : A) → i < length xs → x ≡ get_or xs i x → Has xs x
+has_at [] i x within at = absurd (omega arith)
+has_at (y ∷ ys) zero x within at = inl (sym at)
+has_at (y ∷ ys) (suc i) x within at = inr (has_at ys i x (omega arith) at)
+
+module _ (rows new : List Row) (c : Counted) (n : ℕ) (others : (name : List ℕ) → ¬ (name ≡ c.stored.table.name) → length (rows_of new name) ≡ length (rows_of rows name))
+    (own : n ≡ length (rows_of new c.stored.table.name)) where
+  other_count : (t : Counted) → ¬ (t.stored.table.name ≡ c.stored.table.name) → HasCount rows t → HasCount new t
+  other_count t differ h = h ∙ sym (others t.stored.table.name differ)
+
+  counts_at : (tables : List Counted) (place : ℕ) → place < length tables → c ≡ get_or tables place c → AreApart tables
+      → AllByRecursion (HasCount rows) tables → AllByRecursion (HasCount new) (recounted tables place c n)
+  counts_at [] place within at apart h = absurd (omega arith)
+  counts_at (t ∷ ts) zero within at apart h =
+      let later = all_both
+      (λ (u : Counted). IsTrue (not (bytes_eq t.stored.table.name u.stored.table.name))) (HasCount rows) (HasCount new)
+      (λ u differ k. other_count u (λ e. other_name t.stored.table.name u.stored.table.name differ (ap (λ (c : Counted). c.stored.table.name) (sym at) ∙ sym e)) k)
+      ts apart.0 h.1 in
+      (own, later)
+  counts_at (t ∷ ts) (suc i) within at apart h =
+      let has = has_at ts i c (omega arith) at in
+      let differ = all_has (λ (u : Counted). IsTrue (not (bytes_eq t.stored.table.name u.stored.table.name))) ts apart.0 c has in
+      (other_count t (other_name t.stored.table.name c.stored.table.name differ) h.0, counts_at ts i (omega arith) at apart.1 h.1)
+
+  -- each table has as many rows as are counted, where those of other names have as many as they had
+  pub counts_after : (tables : List Counted) (name : List ℕ) (place : ℕ) → IsPlaced tables name place c → AreTables (stored_of tables)
+      → AllByRecursion (HasCount rows) tables → AllByRecursion (HasCount new) (recounted tables place c n)
+  counts_after tables name place placed are = counts_at tables place placed.within placed.item (apart tables are)
+
+-- the same, where each table has as many rows as it had
+pub counts_same : (rows new : List Row) → ((name : List ℕ) → length (rows_of new name) ≡ length (rows_of rows name)) → (tables : List Counted)
+    → AllByRecursion (HasCount rows) tables → AllByRecursion (HasCount new) tables
+counts_same rows new same = all_weaker (HasCount rows) (HasCount new) (λ c h. h ∙ sym (same c.stored.table.name))

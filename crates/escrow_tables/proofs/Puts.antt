@@ -1,0 +1,139 @@
+-- New amounts put into rows, one after another.
+use Rattle.std.proofs.Common.{◌≡◌, ℤ, Bool, true, false, ◌||◌, List, [], ◌∷◌, ◌++◌, map, fold, Some, refl, sym, ap, ap₂, ◌∙◌, subst, inl, inr}
+use Rattle.std.specs.List.{AllByRecursion, list_any}
+use Rattle.std.proofs.lemmas.Bool.{cases_Bool}
+use Rattle.std.proofs.lemmas.List.{map-id}
+use Rattle.std.proofs.lemmas.List.Folds.{fold-map, list_any-append}
+use Rattle.std.proofs.lemmas.List.Sorted.{IsPermutation-refl}
+use Rattle.sqlite_trees.proofs.ListLemmas.{all_weaker}
+use Rattle.escrow_num.specs.declared.reservation.Reservation.{Reservation}
+use Rattle.escrow_num.specs.declared.row.Row.{Row}
+use Rattle.escrow_num.specs.declared.value.RowName.{RowName}
+use Rattle.escrow_num.specs.Ascending.{IsAscending}
+use Rattle.escrow_num.specs.Order.{same_row}
+use Rattle.escrow_num.proofs.Items.{Has, has_all}
+use Rattle.escrow_num.proofs.Orders.{row_same, same_row_itself}
+use Rattle.escrow_checks.specs.Form.{changed, all_changed}
+use Rattle.escrow_rows.specs.declared.amounts.NewAmounts.{NewAmounts}
+use Rattle.escrow_rows.specs.Answers.{row_named}
+use Rattle.escrow_rows.specs.Changes.{replaced, with_new_amounts, with_amounts, put_all}
+use Rattle.escrow_rows.specs.Image.{row_before}
+use Rattle.escrow_rows.proofs.Found.{find_permutation, one_row}
+use Rattle.escrow_tables.specs.Applied.{changes_to, row_after, applied}
+use Rattle.escrow_tables.specs.Puts.{Put, put_by, row_of, IsFor}
+use Rattle.escrow_tables.proofs.Changed.{changed_nil, changes_other, replaced_twice}
+
+-- puts on a row, one after another
+abbrev pub all_into : List Put → Row → Row
+all_into puts row = fold (λ row put. with_new_amounts (row_of put) put.amounts row) row puts
+
+-- a put is of a row
+abbrev IsOf : Row → Put → Bool
+IsOf row put = same_row row.name (row_of put)
+
+-- puts on rows are those on each row
+put_rows : (puts : List Put) (rows : List Row) → fold (λ rs put. with_amounts (row_of put) put.amounts rs) rows puts ≡ map (all_into puts) rows
+put_rows [] rows = sym (map-id rows)
+put_rows (put ∷ puts) rows = put_rows puts (with_amounts (row_of put) put.amounts rows) ∙ twice rows
+  where
+    twice : (rows : List Row) → map (all_into puts) (with_amounts (row_of put) put.amounts rows) ≡ map (all_into (put ∷ puts)) rows
+    twice [] = refl
+    twice (row ∷ rows) = ap (λ rest. all_into (put ∷ puts) row ∷ rest) (twice rows)
+
+pub put_all_rows : (news : List NewAmounts) (rows : List Row) → put_all news rows ≡ map (all_into (map put_by news)) rows
+put_all_rows news rows =
+    sym (fold-map (λ (rs : List Row) (put : Put). with_amounts (row_of put) put.amounts rs) put_by rows news) ∙ put_rows (map put_by news) rows
+
+-- a put of a row gives it these amounts
+abbrev Gives : Row → List ℤ → Put → Type 0
+Gives row after put = IsOf row put ≡ true → replaced put.amounts row.amounts ≡ after
+
+-- a row that has its amounts after the puts keeps them
+all_kept : (puts : List Put) (row : Row) (after : List ℤ) → AllByRecursion (Gives row after) puts → all_into puts (record row { amounts = after }) ≡ record row { amounts = after }
+all_kept [] row after gives = refl
+all_kept (put ∷ puts) row after gives = elim (cases_Bool (IsOf row put)) [
+  | inl here ↦ (let same : replaced put.amounts after ≡ after = subst (λ zs. replaced put.amounts zs ≡ zs) (gives.0 here) (replaced_twice put.amounts row.amounts) in
+      rw (here, same) (all_kept puts row after gives.1))
+  | inr there ↦ rw there (all_kept puts row after gives.1)
+]
+
+-- a row that a put is of has them in the end
+all_given : (puts : List Put) (row : Row) (after : List ℤ) → AllByRecursion (Gives row after) puts → list_any (IsOf row) puts ≡ true
+    → all_into puts row ≡ record row { amounts = after }
+all_given [] row after gives some = absurd (cc)
+all_given (put ∷ puts) row after gives some = elim (cases_Bool (IsOf row put)) [
+  | inl here ↦ rw (here, gives.0 here) (all_kept puts row after gives.1)
+  | inr there ↦ (let later = rw there at some in rw there (all_given puts row after gives.1 later))
+]
+
+-- another one stays
+none_given : (puts : List Put) (row : Row) → list_any (IsOf row) puts ≡ false → all_into puts row ≡ row
+none_given [] row none = refl
+none_given (put ∷ puts) row none = elim (cases_Bool (IsOf row put)) [
+  | inl here ↦ absurd (let t = rw here at none in cc)
+  | inr there ↦ (let later = rw there at none in rw there (none_given puts row later))
+]
+
+-- a row that no put is of has no reservation
+no_reservation : (puts : List Put) (row : Row) (r : Reservation) → list_any (IsOf row) puts ≡ false → IsFor puts r → same_row row.name r.row ≡ false
+no_reservation puts row r none for = elim (cases_Bool (same_row row.name r.row)) [
+  | inl same ↦ absurd (let some = subst (λ (n : RowName). list_any (λ put. same_row n (row_of put)) puts ≡ true) (sym (row_same row.name r.row same)) for in cc)
+  | inr other ↦ other
+]
+
+-- a row without reservations keeps its amounts
+no_changes : (row : Row) (reservations : List Reservation) (amounts : List ℤ) → AllByRecursion (λ r. same_row row.name r.row ≡ false) reservations
+    → all_changed amounts (map (changes_to row) reservations) ≡ amounts
+no_changes row [] amounts none = refl
+no_changes row (r ∷ reservations) amounts none =
+    ap (λ zs. all_changed zs (map (changes_to row) reservations)) (ap (changed amounts) (changes_other row r none.0) ∙ changed_nil amounts)
+    ∙ no_changes row reservations amounts none.1
+
+-- functions that make the same of each item make the same of a list
+map_each : {A : Type 0} (f g : A → A) (xs : List A) → AllByRecursion (λ x. f x ≡ g x) xs → map f xs ≡ map g xs
+map_each f g [] same = refl
+map_each f g (x ∷ xs) same = ap₂ ◌∷◌ same.0 (map_each f g xs same.1)
+
+-- one of the rows is found by its name
+row_itself : (rows : List Row) (row : Row) → IsAscending row_before rows → Has rows row → row_named rows row.name ≡ Some row
+row_itself rows row order has = find_permutation (λ other. same_row other.name row.name) rows rows row (IsPermutation-refl rows) (one_row rows row order has)
+
+-- puts that are those of the reservations, row by row, and are of each reservation's row apply them
+pub puts_apply : (puts : List Put) (rows : List Row) (reservations : List Reservation) → IsAscending row_before rows → AllByRecursion (IsFor puts) reservations
+    → AllByRecursion (λ put. (row : Row) → row_named rows (row_of put) ≡ Some row → replaced put.amounts row.amounts ≡ (row_after reservations row).amounts) puts
+    → map (all_into puts) rows ≡ applied rows reservations
+puts_apply puts rows reservations order for tell = map_each (all_into puts) (row_after reservations) rows (has_all _ rows each)
+  where
+    each : (row : Row) → Has rows row → all_into puts row ≡ row_after reservations row
+    each row has = elim (cases_Bool (list_any (IsOf row) puts)) [
+      | inl some ↦ all_given puts row (row_after reservations row).amounts
+          (all_weaker _ (Gives row (row_after reservations row).amounts)
+          (λ put told here. told row (ap (row_named rows) (sym (row_same row.name (row_of put) here)) ∙ row_itself rows row order has)) puts tell) some
+      | inr none ↦ none_given puts row none
+          ∙ sym (ap (λ (zs : List ℤ). record row { amounts = zs }) (no_changes row reservations row.amounts
+          (all_weaker (IsFor puts) (λ r. same_row row.name r.row ≡ false) (λ r. no_reservation puts row r none) reservations for)))
+    ]
+
+-- one more put
+pub for_more : (puts : List Put) (put : Put) (reservations : List Reservation) → AllByRecursion (IsFor puts) reservations → AllByRecursion (IsFor (puts ++ put ∷ [])) reservations
+for_more puts put reservations = all_weaker (IsFor puts) (IsFor (puts ++ put ∷ []))
+    (λ r for. list_any-append (λ p. same_row r.row (row_of p)) puts (put ∷ []) ∙ ap (λ b. b || list_any (λ p. same_row r.row (row_of p)) (put ∷ [])) for) reservations
+
+-- it is of the row that it names
+pub for_itself : (puts : List Put) (put : Put) (r : Reservation) → row_of put ≡ r.row → IsFor (puts ++ put ∷ []) r
+for_itself puts put r is =
+    let here : same_row r.row (row_of put) ≡ true = subst (λ (n : RowName). same_row r.row n ≡ true) (sym is) (same_row_itself r.row) in
+    list_any-append (λ p. same_row r.row (row_of p)) puts (put ∷ []) ∙ rw here (or_true (list_any (λ p. same_row r.row (row_of p)) puts))
+  where
+    or_true : (b : Bool) → (b || true) ≡ true
+    or_true true = refl
+    or_true false = refl
+
+-- puts of the row of one reservation are of that of another one of the row
+pub for_same : (puts : List Put) (reservations : List Reservation) (r : Reservation) → list_any (λ other. same_row other.row r.row) reservations ≡ true
+    → AllByRecursion (IsFor puts) reservations → IsFor puts r
+for_same puts [] r named for = absurd (cc)
+for_same puts (other ∷ reservations) r named for = elim (cases_Bool (same_row other.row r.row)) [
+  | inl same ↦ subst (λ (n : RowName). list_any (λ put. same_row n (row_of put)) puts ≡ true) (row_same other.row r.row same) for.0
+  | inr apart ↦ (let later = rw apart at named in for_same puts reservations r later for.1)
+]

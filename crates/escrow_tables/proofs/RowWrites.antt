@@ -1,0 +1,118 @@
+-- INSERT, DELETE and UPDATE of plain columns: a change of the rows of one table.
+use Rattle.std.proofs.Common.{◌+◌, ◌-◌, ◌<◌, ◌≡◌, ℕ, ◌∙◌, Bool, true, false, List, None, Option, ap, arith, length, min, subst, sym}
+use Rattle.std.specs.Prelude.{IsSome}
+use Rattle.std.specs.List.{AllByRecursion}
+use Rattle.sqlite_trees.proofs.ListLemmas.{all_weaker}
+use Rattle.sqlite_trees.specs.declared.store.Store.{Ghosts}
+use Rattle.sqlite.specs.Effect.{Database}
+use Rattle.sqlite.specs.Held.{Held, state}
+use Rattle.escrow_num.proofs.Items.{all_has}
+use Rattle.escrow_num.specs.declared.row.Row.{Row}
+use Rattle.escrow_num.specs.declared.value.RowName.{RowName}
+use Rattle.escrow_num.specs.declared.value.Value.{Value}
+use Rattle.escrow_schema.specs.Catalog.{IsCatalog}
+use Rattle.escrow_schema.specs.declared.table.TableDef.{TableDef}
+use Rattle.escrow_rows.specs.Answers.{IsUsable, row_named}
+use Rattle.escrow_rows.specs.Changes.{TurnsRows, with_plain, with_row, without_row}
+use Rattle.escrow_rows.specs.Image.{AreRows, AreTables, HasTable as StoredHas, IsImage, rows_of}
+use Rattle.escrow_rows.specs.View.{rows_in}
+use Rattle.escrow_rows.specs.declared.stored.StoredTable.{StoredTable}
+use Rattle.escrow_rows.specs.declared.stored.TheConstants.StoredTable.{MAX_ROWS}
+use Rattle.escrow_tables.specs.Calls.{Writes}
+use Rattle.escrow_tables.specs.Committed.{HasTable}
+use Rattle.escrow_tables.specs.Inside.{HasCount, IsHeld, Keeps, catalog_of, stored_of}
+use Rattle.escrow_tables.specs.declared.counted.Counted.{Counted}
+use Rattle.escrow_tables.proofs.Named.{stored_has}
+use Rattle.escrow_tables.proofs.NewRows.{are_rows_kept, are_rows_plain, are_rows_with, count_plain, one_less, one_more, others_with, others_without}
+use Rattle.escrow_tables.proofs.Placed.{IsPlaced, catalog_recounted, counts_after, counts_same, recounted, recounted_itself, stored_recounted}
+use Rattle.escrow_tables.proofs.Writing.{Changes, keeps_on, seen, writes}
+
+-- what is held of rows after a change of those of a table
+pub record Turned (tables : List Counted) (place : ℕ) (c : Counted) (n : ℕ) (rows : List Row) : Type 0 where
+  pub are_rows : AreRows (stored_of tables) rows
+  pub counts : AllByRecursion (HasCount rows) (recounted tables place c n)
+
+-- The rows of the table at a place change, and it has then n; the field that counts them has this number where
+-- the call is done, and otherwise the one that it had.
+module _ {S : Type 0} (g : Ghosts S) (old new : Held S) (tables : List Counted) (name : List ℕ) (place : ℕ) (c : Counted) (placed : IsPlaced tables name place c) (after : List Row → List Row) (n : ℕ)
+    (keeps : Keeps (state g old) tables) (turned : IsUsable (state g old) → Turned tables place c n (after (rows_in (stored_of tables) (state g old).now)))
+    (is_done : Bool) (it : Changes g old new (TurnsRows c.stored after) is_done) (count : ℕ) (if_done : is_done ≡ true → count ≡ n) (if_not : is_done ≡ false → count ≡ c.rows) where
+  are_after : AreTables (stored_of (recounted tables place c n))
+  are_after = subst AreTables (sym (stored_recounted tables name place c placed n)) keeps.are_tables
+
+  fields_done : is_done ≡ true → recounted tables place c count ≡ recounted tables place c n
+  fields_done e = ap (recounted tables place c) (if_done e)
+
+  fields_not : is_done ≡ false → recounted tables place c count ≡ tables
+  fields_not e = ap (recounted tables place c) (if_not e) ∙ recounted_itself tables name place c placed
+
+  -- the call turns what is held into what is held after it
+  turns : IsUsable (state g old) → (db : Database) → TurnsRows c.stored after (state g old).now db
+      → IsHeld (recounted tables place c n) (after (rows_in (stored_of tables) (state g old).now)) db
+  turns usable db change =
+      let rows = rows_in (stored_of tables) (state g old).now in
+      let stays = sym (stored_recounted tables name place c placed n) in
+      let held = keeps.held usable in
+      let made = turned usable in
+      record {
+        are_rows = subst (λ (ts : List StoredTable). AreRows ts (after rows)) stays made.are_rows;
+        image = subst (λ (ts : List StoredTable). IsImage ts (after rows) db) stays (change (stored_of tables) rows keeps.are_tables held.are_rows placed.named.stands held.image);
+        counts = made.counts;
+      }
+
+  pub row_writes : Writes g (seen g old tables) (seen g new (recounted tables place c count)) is_done (catalog_of tables) (after (rows_in (stored_of tables) (state g old).now))
+  row_writes =
+      let rows = after (rows_in (stored_of tables) (state g old).now) in
+      let fields = recounted tables place c count in
+      subst (λ (catalog : List TableDef). Writes g (seen g old tables) (seen g new fields) is_done catalog rows) (catalog_recounted tables name place c placed n)
+      (writes g old new (TurnsRows c.stored after) is_done it tables (recounted tables place c n) fields rows keeps are_after turns fields_done fields_not)
+
+  pub row_keeps : Keeps (state g new) (recounted tables place c count)
+  row_keeps =
+      keeps_on g old new (TurnsRows c.stored after) is_done it tables (recounted tables place c n) (recounted tables place c count) (after (rows_in (stored_of tables) (state g old).now)) keeps
+      are_after turns fields_done fields_not (subst IsCatalog (sym (catalog_recounted tables name place c placed n)) keeps.is_catalog)
+
+module _ (tables : List Counted) (name : List ℕ) (place : ℕ) (c : Counted) (placed : IsPlaced tables name place c) (are : AreTables (stored_of tables))
+    (rows : List Row) (are_rows : AreRows (stored_of tables) rows) (counts : AllByRecursion (HasCount rows) tables) where
+  -- a table has as many rows as are counted
+  has_count : c.rows ≡ length (rows_of rows name)
+  has_count = all_has (HasCount rows) tables counts c placed.named.has ∙ ap (λ (n : List ℕ). length (rows_of rows n)) placed.named.name_is
+
+  -- the counts after a change of the number of its rows
+  new_counts : (new : List Row) (n : ℕ) → ((other : List ℕ) → ¬ (other ≡ name) → length (rows_of new other) ≡ length (rows_of rows other)) → n ≡ length (rows_of new name)
+      → AllByRecursion (HasCount new) (recounted tables place c n)
+  new_counts new n others own =
+      counts_after rows new c n (λ other differ. others other (λ e. differ (e ∙ sym placed.named.name_is))) (own ∙ ap (λ (n : List ℕ). length (rows_of new n)) (sym placed.named.name_is))
+      tables name place placed are counts
+
+pub insert_turns : (tables : List Counted) (place : ℕ) (c : Counted) (row : Row) (n limit : ℕ) → IsPlaced tables row.name.table place c → AreTables (stored_of tables)
+    → (rows : List Row) → AreRows (stored_of tables) rows → AllByRecursion (HasCount rows) tables → HasTable (catalog_of tables) row → row_named rows row.name ≡ None
+    → length (rows_of rows row.name.table) < MAX_ROWS → MAX_ROWS < limit → n ≡ min (c.rows + 1) limit → Turned tables place c n (with_row row rows)
+insert_turns tables place c row n limit placed are rows are_rows counts fits new room large more =
+    let had = has_count tables row.name.table place c placed are rows are_rows counts in
+    let one = one_more row rows in
+    record {
+      are_rows = are_rows_with (stored_of tables) row rows are_rows (stored_has tables row fits) new room;
+      counts = new_counts tables row.name.table place c placed are rows are_rows counts (with_row row rows) n (others_with row rows) (omega arith);
+    }
+
+pub delete_turns : (tables : List Counted) (place : ℕ) (c : Counted) (name : RowName) (n : ℕ) → IsPlaced tables name.table place c → AreTables (stored_of tables)
+    → (rows : List Row) → AreRows (stored_of tables) rows → AllByRecursion (HasCount rows) tables → IsSome (row_named rows name) → n ≡ c.rows - 1
+    → Turned tables place c n (without_row name rows)
+delete_turns tables place c name n placed are rows are_rows counts has less =
+    let had = has_count tables name.table place c placed are rows are_rows counts in
+    let one = one_less rows name are_rows.row_order has in
+    record {
+      are_rows = are_rows_kept (stored_of tables) _ rows are_rows;
+      counts = new_counts tables name.table place c placed are rows are_rows counts (without_row name rows) n
+          (λ other differ. others_without rows name other are_rows.row_order has differ) (omega arith);
+    }
+
+pub plain_turns : (tables : List Counted) (place : ℕ) (c : Counted) (name : RowName) (values : List (Option Value)) → IsPlaced tables name.table place c
+    → (rows : List Row) → AreRows (stored_of tables) rows → AllByRecursion (HasCount rows) tables → AllByRecursion (HasTable (catalog_of tables)) (with_plain name values rows)
+    → Turned tables place c c.rows (with_plain name values rows)
+plain_turns tables place c name values placed rows are_rows counts fit = record {
+  are_rows = are_rows_plain (stored_of tables) name values rows are_rows (all_weaker (HasTable (catalog_of tables)) (StoredHas (stored_of tables)) (stored_has tables) (with_plain name values rows) fit);
+  counts = subst (AllByRecursion (HasCount (with_plain name values rows))) (sym (recounted_itself tables name.table place c placed))
+      (counts_same rows (with_plain name values rows) (count_plain name values rows) tables counts);
+}

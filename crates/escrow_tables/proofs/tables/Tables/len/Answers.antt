@@ -1,0 +1,11 @@
+use Rattle.sqlite.specs.Held.{state}
+use Rattle.escrow_rows.specs.View.{rows_in}
+use Rattle.escrow_tables.specs.Inside.{stored_of}
+use Rattle.escrow_tables.proofs.Named.{rows_of_catalog}
+use Rattle.escrow_tables.proofs.tables.Tables.len.Goals as goal
+
+pub returns-clause-rows : goal.returns-clause-rows
+returns-clause-rows g c =
+    let tables = c.self.inside.tables.items in
+    let rows = rows_in (stored_of tables) (state g.S.Store c.self.inside.store).now in
+    rw (← c.self.view_is) (λ usable. rows_of_catalog tables rows (c.self.invariant.held usable).are_rows)

@@ -1,0 +1,37 @@
+-- Helps: what the fields of the tables of a database hold.
+use Rattle.std.specs.Prelude.{◌≡◌, List, map, length}
+use Rattle.std.specs.List.{AllByRecursion}
+use Rattle.sqlite.specs.Effect.{Database}
+use Rattle.sqlite.specs.State.{State}
+use Rattle.escrow_num.specs.declared.row.Row.{Row}
+use Rattle.escrow_schema.specs.declared.table.TableDef.{TableDef}
+use Rattle.escrow_schema.specs.Catalog.{IsCatalog}
+use Rattle.escrow_rows.specs.declared.stored.StoredTable.{StoredTable}
+use Rattle.escrow_rows.specs.Answers.{IsUsable}
+use Rattle.escrow_rows.specs.Image.{IsImage, AreTables, AreRows, rows_of}
+use Rattle.escrow_rows.specs.View.{rows_in}
+use Rattle.escrow_tables.specs.declared.counted.Counted.{Counted}
+
+-- the tables, without their numbers of rows
+abbrev pub stored_of : List Counted → List StoredTable
+stored_of tables = map (λ c. c.stored) tables
+
+-- their definitions
+abbrev pub catalog_of : List Counted → List TableDef
+catalog_of tables = map (λ c. c.stored.table) tables
+
+-- a table has as many rows as are counted
+abbrev pub HasCount : List Row → Counted → Type 0
+HasCount rows c = c.rows ≡ length (rows_of rows c.stored.table.name)
+
+-- a database is the image of the tables, of rows of theirs, and these are counted
+pub record IsHeld (tables : List Counted) (rows : List Row) (db : Database) : Type 0 where
+  pub are_rows : AreRows (stored_of tables) rows
+  pub image : IsImage (stored_of tables) rows db
+  pub counts : AllByRecursion (HasCount rows) tables
+
+-- what the fields keep: the tables whatever the store is like, and the rows where it can be used
+pub record Keeps (s : State) (tables : List Counted) : Type 0 where
+  pub are_tables : AreTables (stored_of tables)
+  pub is_catalog : IsCatalog (catalog_of tables)
+  pub held : IsUsable s → IsHeld tables (rows_in (stored_of tables) s.now) s.now

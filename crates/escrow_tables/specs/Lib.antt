@@ -1,0 +1,6 @@
+pub mod Applied
+pub mod Calls
+pub mod Committed
+pub mod Inside
+pub mod Puts
+pub mod Told

@@ -1,0 +1,55 @@
+-- Helps: what COMMIT reads, and what it puts into rows.
+use Rattle.std.specs.Prelude.{◌≡◌, ℤ, true, Option, Some, List}
+use Rattle.std.specs.List.{AllByRecursion, list_any}
+use Rattle.sqlite.specs.Effect.{Database}
+use Rattle.sqlite.specs.State.{State, Survives}
+use Rattle.escrow_num.specs.declared.reservation.Reservation.{Reservation}
+use Rattle.escrow_num.specs.declared.row.Row.{Row}
+use Rattle.escrow_num.specs.declared.value.RowName.{RowName}
+use Rattle.escrow_num.specs.declared.value.Value.{Value}
+use Rattle.escrow_num.specs.Order.{same_row}
+use Rattle.escrow_rows.specs.declared.amounts.NewAmounts.{NewAmounts}
+use Rattle.escrow_rows.specs.declared.stored.StoredTable.{StoredTable}
+use Rattle.escrow_rows.specs.Answers.{IsUsable, row_named}
+use Rattle.escrow_rows.specs.Changes.{Stands, name_in, replaced}
+use Rattle.escrow_rows.specs.Image.{IsImage, AreTables, AreRows}
+use Rattle.escrow_tables.specs.Applied.{row_after}
+use Rattle.escrow_tables.specs.declared.apply.Change.{Change}
+
+-- calls only read: where the store can be used after them it holds what it held, and a crash leaves what it
+-- might have left before
+pub record Looks (old new : State) : Type 0 where
+  pub same : IsUsable new → new.now ≡ old.now
+  pub usable : IsUsable new → IsUsable old
+  pub survives : Survives old new (λ _. ⊥)
+
+-- new amounts of the row of a key
+pub record Put : Type 0 where
+  pub table : StoredTable
+  pub key : Value
+  pub amounts : List (Option ℤ)
+
+abbrev pub put_by : NewAmounts → Put
+put_by n = record { table = n.table.now; key = n.key.now; amounts = n.amounts.now }
+
+abbrev pub put_of : Change → Put
+put_of c = record { table = c.table.now; key = c.key.now; amounts = c.amounts }
+
+-- the row that they are of
+abbrev pub row_of : Put → RowName
+row_of put = name_in put.table put.key
+
+-- new amounts are of the row of a reservation
+abbrev pub IsFor : List Put → Reservation → Type 0
+IsFor puts r = list_any (λ put. same_row r.row (row_of put)) puts ≡ true
+
+-- new amounts are of tables that stand, and of each reservation's row
+pub record ArePuts (tables : List StoredTable) (reservations : List Reservation) (puts : List Put) : Type 0 where
+  pub stand : AllByRecursion (λ put. Stands tables put.table) puts
+  pub rows : AllByRecursion (IsFor puts) reservations
+
+-- new amounts are those that reservations give to the row, as the database has it
+abbrev pub TellsPut : List StoredTable → List Reservation → Database → Put → Type 0
+TellsPut tables reservations db put =
+    (rows : List Row) (row : Row) → AreTables tables → AreRows tables rows → IsImage tables rows db
+    → row_named rows (row_of put) ≡ Some row → replaced put.amounts row.amounts ≡ (row_after reservations row).amounts

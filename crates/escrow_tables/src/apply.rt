@@ -1,0 +1,189 @@
+ghost use Rattle.std.specs.Prelude.{◌≡◌, ◌++◌, ◌∷◌, [], ◌+ℤ◌, map, length, IfOk, IfSome, OnOk, IsTrue};
+ghost use Rattle.std.specs.List.{AllByRecursion, list_any};
+ghost use Rattle.sqlite.specs.Held.{state};
+ghost use Rattle.sqlite.specs.State.{HasCleanDisk};
+ghost use Rattle.escrow_num.specs.Order.{same_row};
+ghost use Rattle.escrow_num.specs.Reservation.{counted};
+ghost use Rattle.escrow_checks.specs.Form.{changed};
+ghost use Rattle.escrow_rows.specs.Answers.{IsUsable};
+ghost use Rattle.escrow_rows.specs.Changes.{Stands, replaced};
+ghost use Rattle.escrow_rows.specs.Image.{AreTables};
+ghost use Rattle.escrow_tables.specs.Applied.{row_after};
+ghost use Rattle.escrow_tables.specs.Inside.{stored_of};
+ghost use Rattle.escrow_tables.specs.Puts.{Looks, ArePuts, TellsPut, put_by, put_of, row_of};
+
+use crate::counted::Counted;
+use crate::tables::{Tables, find_counted};
+use escrow_num::{Amount, Reservation, Row, RowName, Seq, Value};
+use escrow_rows::{Failure, NewAmounts, RowStore, StoredTable};
+use sqlite::Alter;
+use std::alloc::{AllocError, Global};
+
+/// What reservations make of the row of a key: for each RESERVABLE column its new amount, or none where it
+/// stays.
+#[derive(Debug, Drop)]
+struct Change<'a> {
+    table: &'a StoredTable,
+    key: &'a Value,
+    amounts: Seq<Option<Amount>>,
+}
+
+impl<S: Alter> Tables<S> {
+    ghost use Rattle.std.specs.Prelude.{is_ok};
+    ghost use Rattle.escrow_tables.specs.Applied.{applied};
+    ghost use Rattle.escrow_tables.specs.Calls.{Writes};
+
+    /// COMMIT: adds the changes of reservations to the amounts of their rows, in one transaction. Each row
+    /// is read once, and each amount that changes is written once.
+    pub fn apply(&mut self, alloc: Global, reservations: &[Reservation]) -> Result<(), Failure>
+        ensures { Writes S.Store self.old self.new (is_ok result) self.old.catalog (applied self.old.rows reservations.now) }
+    {
+        let changes = changes_by(&mut self.store, alloc, &self.tables, reservations)?;
+        let news = news_of(alloc, changes.as_slice())?;
+        self.store.put_amounts(alloc, news.as_slice())
+    }
+}
+
+/// What reservations make of each row that one of them is of.
+fn changes_by<'a, S: Alter>(
+    store: &mut RowStore<S>,
+    alloc: Global,
+    tables: &'a [Counted],
+    reservations: &'a [Reservation],
+) -> Result<Vec<Change<'a>>, Failure>
+    requires { AreTables (stored_of tables.now) }
+    ensures looks { Looks (state S.Store store.old) (state S.Store store.new) }
+    ensures open { HasCleanDisk (state S.Store store.new) → IsTrue (state S.Store store.old).is_open → OnOk result (IsTrue (state S.Store store.new).is_open) }
+    ensures puts { IfOk result (λ changes. ArePuts (stored_of tables.now) reservations.now (map put_of changes.items)) }
+    ensures told { IsUsable (state S.Store store.new) → IfOk result (λ changes. AllByRecursion (TellsPut (stored_of tables.now) reservations.now (state S.Store store.old).now) (map put_of changes.items)) }
+{
+    let mut changes = Vec::new(alloc);
+    for (i, r) in reservations.iter().enumerate() {
+        if !is_named(&reservations[..i], &r.row) {
+            let change = change_of(store, alloc, tables, &r.row, reservations)?;
+            keep(&mut changes, change)?;
+        }
+    }
+    Ok(changes)
+}
+
+/// What reservations make of the row of a name. A row that isn't there, or a sum that is no amount, is a
+/// store that was changed by others.
+fn change_of<'a, S: Alter>(
+    store: &mut RowStore<S>,
+    alloc: Global,
+    tables: &'a [Counted],
+    name: &'a RowName,
+    reservations: &[Reservation],
+) -> Result<Change<'a>, Failure>
+    requires { AreTables (stored_of tables.now) }
+    ensures looks { Looks (state S.Store store.old) (state S.Store store.new) }
+    ensures open { HasCleanDisk (state S.Store store.new) → OnOk result (IsTrue (state S.Store store.new).is_open) }
+    ensures stands { IfOk result (λ change. Stands (stored_of tables.now) change.table.now) }
+    ensures row { IfOk result (λ change. row_of (put_of change) ≡ name.now) }
+    ensures told { HasCleanDisk (state S.Store store.new) → IfOk result (λ change. TellsPut (stored_of tables.now) reservations.now (state S.Store store.old).now (put_of change)) }
+{
+    let Some(counted) = find_counted(tables, name.table) else {
+        return Err(Failure::Store);
+    };
+    let Some(row) = store.row(alloc, &counted.stored, &name.key)? else {
+        return Err(Failure::Store);
+    };
+    Ok(Change {
+        table: &counted.stored,
+        key: &name.key,
+        amounts: new_amounts(alloc, &row, reservations)?,
+    })
+}
+
+/// Keeps what reservations make of a row.
+fn keep<'a>(changes: &mut Vec<Change<'a>>, change: Change<'a>) -> Result<(), AllocError>
+    ensures { OnOk result (changes.new.items ≡ changes.old.items ++ change.entry ∷ []) }
+{
+    Ok(changes.push(change)?)
+}
+
+/// The new amounts, as the store takes them.
+fn news_of<'a>(alloc: Global, changes: &'a [Change<'a>]) -> Result<Vec<NewAmounts<'a>>, AllocError>
+    ensures { IfOk result (λ news. map put_by news.items ≡ map put_of changes.now) }
+{
+    let mut news = Vec::with_capacity(alloc, changes.len())?;
+    for change in changes {
+        news.push(NewAmounts {
+            table: change.table,
+            key: change.key,
+            amounts: change.amounts.as_slice(),
+        })?;
+    }
+    Ok(news)
+}
+
+/// Whether one of the reservations is of the row of a name.
+fn is_named(reservations: &[Reservation], row: &RowName) -> bool
+    ensures { result ≡ list_any (λ r. same_row r.row row.now) reservations.now }
+{
+    reservations.iter().any(|r| r.row.is_same(row))
+}
+
+/// The new amounts that reservations give to a row, none where one stays.
+fn new_amounts(
+    alloc: Global,
+    row: &Row,
+    reservations: &[Reservation],
+) -> Result<Seq<Option<Amount>>, Failure>
+    ensures { IfOk result (λ news. replaced news row.now.amounts ≡ (row_after reservations.now row.now).amounts) }
+{
+    let mut amounts = copied(alloc, row.amounts.as_slice())?;
+    for r in reservations {
+        if row.name.is_same(&r.row) {
+            add_changes(&mut amounts, r.changes.as_slice())?;
+        }
+    }
+    Ok(differing(alloc, row.amounts.as_slice(), amounts.as_slice())?)
+}
+
+/// A copy of amounts.
+fn copied(alloc: Global, amounts: &[Amount]) -> Result<Seq<Amount>, AllocError>
+    ensures { IfOk result (λ copy. copy ≡ amounts.now) }
+{
+    let mut copy = Vec::with_capacity(alloc, amounts.len())?;
+    copy.extend_from_slice(amounts)?;
+    Ok(Seq::from_vec(copy))
+}
+
+/// Adds changes to amounts, column by column. Fails where a sum is no amount.
+fn add_changes(amounts: &mut Seq<Amount>, changes: &[Option<Amount>]) -> Result<(), Failure>
+    ensures { OnOk result (amounts.new ≡ changed amounts.old (counted changes.now)) }
+{
+    for (i, change) in changes.iter().enumerate() {
+        if i < amounts.len() {
+            let Some(sum) = sum(amounts.as_slice()[i], change.unwrap_or(Amount::ZERO)) else {
+                return Err(Failure::Store);
+            };
+            amounts.set(i, sum);
+        }
+    }
+    Ok(())
+}
+
+/// The sum of two amounts, where it is one.
+fn sum(a: Amount, b: Amount) -> Option<Amount>
+    ensures { IfSome result (λ sum. sum ≡ a +ℤ b) }
+{
+    Amount::new(a.get() + b.get())
+}
+
+/// The amounts that differ from those before, none where one is the same.
+fn differing(
+    alloc: Global,
+    before: &[Amount],
+    after: &[Amount],
+) -> Result<Seq<Option<Amount>>, AllocError>
+    ensures { IfOk result (λ news. length before.now ≡ length after.now → replaced news before.now ≡ after.now) }
+{
+    let mut news = Seq::new(alloc);
+    for (old, new) in before.iter().zip(after) {
+        news.push(if old == new { None } else { Some(*new) })?;
+    }
+    Ok(news)
+}

@@ -1,0 +1,88 @@
+ghost use Rattle.std.specs.Prelude.{◌≡◌, ◌≢◌, ◌≤◌, ◌<◌, pos, length, position, unwrap_or, insert, IfSome, int_le, IsTrue};
+ghost use Rattle.std.specs.List.{AllByRecursion, list_any};
+ghost use Rattle.std.specs.Vec.{vec_len, vec_capacity};
+ghost use Rattle.std.specs.Ordering.{int_eq, is_lt, nat_cmp};
+ghost use Rattle.std.specs.Cmp.Lexicographic.{slice_cmp};
+ghost use Rattle.escrow_tables.specs.declared.counted.Counted.{Counted as Kept};
+
+use crate::counted::Counted;
+use crate::tables::{Tables, place_of};
+use escrow_num::Name;
+use escrow_rows::{Failure, StoredTable};
+use escrow_schema::TableDef;
+use sqlite::Alter;
+use std::alloc::Global;
+
+impl<S: Alter> Tables<S> {
+    ghost use Rattle.std.specs.Prelude.{◌≡◌, ◌<◌, None, IsSome, length, is_ok};
+    ghost use Rattle.escrow_schema.specs.declared.catalog.TheConstants.Catalog.{MAX_TABLES};
+    ghost use Rattle.escrow_schema.specs.Catalog.{table_named, with_table, without_table};
+    ghost use Rattle.escrow_schema.specs.Definition.{IsTable};
+    ghost use Rattle.escrow_rows.specs.Changes.{without_rows_of};
+    ghost use Rattle.escrow_tables.specs.Calls.{Writes};
+
+    /// CREATE TABLE: puts a new table, without rows. Room for it is taken before the store is asked.
+    pub fn create(&mut self, alloc: Global, table: TableDef) -> Result<(), Failure>
+        requires table { IsTable table }
+        requires new { table_named self.old.catalog table.name ≡ None }
+        requires room { length self.old.catalog < MAX_TABLES }
+        ensures { Writes S.Store self.old self.new (is_ok result) (with_table table self.old.catalog) self.old.rows }
+    {
+        self.tables.reserve(1)?;
+        let Some(id) = free_number(&self.tables) else {
+            return Err(Failure::Store);
+        };
+        let place = place_before(&self.tables, table.name);
+        let stored = StoredTable { id, table };
+        self.store.create_table(alloc, &stored)?;
+        put(&mut self.tables, place, Counted { stored, rows: 0 });
+        Ok(())
+    }
+
+    /// DROP TABLE: takes out a table and its rows. Takes no memory of its own.
+    pub fn drop_table(&mut self, name: Name) -> Result<(), Failure>
+        requires { IsSome (table_named self.old.catalog name) }
+        ensures { Writes S.Store self.old self.new (is_ok result) (without_table name self.old.catalog) (without_rows_of name self.old.rows) }
+    {
+        let Some(place) = place_of(&self.tables, name) else {
+            return Err(Failure::Store);
+        };
+        self.store.drop_table(&self.tables[place].stored)?;
+        self.tables.remove(place);
+        Ok(())
+    }
+}
+
+/// Puts a table at a place. There is room for it.
+fn put(tables: &mut Vec<Counted>, place: usize, counted: Counted)
+    requires room { vec_len tables.old < vec_capacity tables.old }
+    requires within { place ≤ length tables.old.items }
+    ensures { tables.new.items ≡ insert tables.old.items place counted }
+{
+    let _ = tables.insert(place, counted);
+}
+
+/// The least number from 1 on that no table has. One of the first 33 is free, since there are 32 tables at
+/// most.
+fn free_number(tables: &[Counted]) -> Option<i64>
+    ensures { IfSome result (λ id. IsTrue (int_le (pos 1) id) × AllByRecursion (λ (c : Kept). c.stored.id ≢ id) tables.now) }
+{
+    (1..=33).find(|id| !has_number(tables, *id))
+}
+
+/// Whether a table has a number.
+fn has_number(tables: &[Counted], id: i64) -> bool
+    ensures { result ≡ list_any (λ (c : Kept). int_eq c.stored.id id) tables.now }
+{
+    tables.iter().any(|counted| counted.stored.id == id)
+}
+
+/// The place at which a table of this name stands in order.
+fn place_before(tables: &[Counted], name: Name) -> usize
+    ensures { result ≡ unwrap_or (position (λ (c : Kept). is_lt (slice_cmp nat_cmp name c.stored.table.name)) tables.now) (length tables.now) }
+{
+    tables
+        .iter()
+        .position(|other| name.cmp(&other.stored.table.name).is_lt())
+        .unwrap_or(tables.len())
+}

@@ -1,0 +1,122 @@
+ghost use Rattle.std.specs.Prelude.{◌≡◌, option_copied, find, bytes_eq, position};
+ghost use Rattle.escrow_tables.specs.declared.counted.Counted.{Counted as Kept};
+
+use crate::counted::Counted;
+use escrow_num::Name;
+use escrow_rows::RowStore;
+use escrow_schema::TableDef;
+use sqlite::Alter;
+use std::alloc::Global;
+use std::marker::Model;
+
+/// The tables of a database and their committed rows, in a store that SQLite writes to. How many rows a
+/// table has is kept beside the store.
+#[derive(Drop)]
+pub struct Tables<S: Alter> {
+    pub(crate) store: RowStore<S>,
+    // In order of name.
+    pub(crate) tables: Vec<Counted>,
+}
+
+impl<S: Alter> Model for Tables<S> {
+    ghost use Rattle.sqlite.specs.Held.{state};
+    ghost use Rattle.escrow_rows.specs.View.{rows_in};
+    ghost use Rattle.escrow_tables.specs.Committed.{Committed, committed_code};
+    ghost use Rattle.escrow_tables.specs.Inside.{stored_of, catalog_of, Keeps};
+
+    ghost Value = { Committed S };
+
+    ghost coded = { committed_code S.code };
+
+    ghost view = { λ t. record { store = t.store; catalog = catalog_of t.tables.items; rows = rows_in (stored_of t.tables.items) (state S.Store t.store).now } };
+
+    ghost invariant = { λ t. Keeps (state S.Store t.store) t.tables.items };
+}
+
+impl<S: Alter> Tables<S> {
+    ghost use Rattle.std.specs.Prelude.{◌≡◌, ◌↔◌, [], length, IfSome, IsSome, IsTrue, option_copied};
+    ghost use Rattle.sqlite.specs.Held.{state};
+    ghost use Rattle.escrow_schema.specs.Catalog.{table_named, IsCatalog};
+    ghost use Rattle.escrow_schema.specs.Definition.{IsTable};
+    ghost use Rattle.escrow_rows.specs.Answers.{IsUsable};
+    ghost use Rattle.escrow_rows.specs.Image.{IsImage, rows_of};
+    ghost use Rattle.escrow_tables.specs.Committed.{AreRowsOf};
+
+    /// The tables of an empty store: none. Makes no store call, and takes no memory.
+    pub fn empty(alloc: Global, store: RowStore<S>) -> Self
+        requires { IsUsable (state S.Store store) → IsImage [] [] (state S.Store store).now }
+        ensures store { result.store ≡ store }
+        ensures catalog { result.catalog ≡ [] }
+        ensures rows { IsUsable (state S.Store store) → result.rows ≡ [] }
+    {
+        Tables {
+            store,
+            tables: Vec::new(alloc),
+        }
+    }
+
+    /// How many tables there are. Makes no store call. The catalog is one at any time, and the rows are
+    /// its rows where the store can be used.
+    pub fn len(&self) -> usize
+        ensures len { result ≡ length self.now.catalog }
+        ensures catalog { IsCatalog self.now.catalog }
+        ensures rows { IsUsable (state S.Store self.now.store) → AreRowsOf self.now.catalog self.now.rows }
+    {
+        self.tables.len()
+    }
+
+    /// Whether there are no tables. Makes no store call.
+    pub fn is_empty(&self) -> bool
+        ensures { IsTrue result ↔ (self.now.catalog ≡ []) }
+    {
+        self.tables.is_empty()
+    }
+
+    /// The table of a name. Makes no store call.
+    pub fn find(&self, name: Name) -> Option<&TableDef>
+        ensures found { option_copied result ≡ table_named self.now.catalog name }
+        ensures table { IfSome result (λ table. IsTable table.now) }
+    {
+        let counted = find_counted(&self.tables, name)?;
+        Some(&counted.stored.table)
+    }
+
+    /// How many rows a table has. Makes no store call.
+    pub fn count(&self, name: Name) -> usize
+        requires { IsSome (table_named self.now.catalog name) }
+        ensures { IsUsable (state S.Store self.now.store) → result ≡ length (rows_of self.now.rows name) }
+    {
+        match find_counted(&self.tables, name) {
+            Some(counted) => counted.rows,
+            None => 0,
+        }
+    }
+
+    /// Limits the steps that a statement of the store may take; with `None` there is no limit. A call
+    /// that would take more fails with [`Failure::Store`](crate::Failure::Store), and changes nothing.
+    pub fn set_step_limit(&mut self, limit: Option<u64>)
+        ensures store { self.new.store ≡ record self.old.store { step_limit = limit } }
+        ensures catalog { self.new.catalog ≡ self.old.catalog }
+        ensures rows { self.new.rows ≡ self.old.rows }
+    {
+        self.store.set_step_limit(limit);
+    }
+}
+
+/// The table of a name.
+pub(crate) fn find_counted(tables: &[Counted], name: Name) -> Option<&Counted>
+    ensures { option_copied result ≡ find (λ (c : Kept). bytes_eq c.stored.table.name name) tables.now }
+{
+    tables
+        .iter()
+        .find(|counted| counted.stored.table.name == name)
+}
+
+/// The place of the table of a name.
+pub(crate) fn place_of(tables: &[Counted], name: Name) -> Option<usize>
+    ensures { result ≡ position (λ (c : Kept). bytes_eq c.stored.table.name name) tables.now }
+{
+    tables
+        .iter()
+        .position(|counted| counted.stored.table.name == name)
+}

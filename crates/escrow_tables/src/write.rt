@@ -1,0 +1,67 @@
+use crate::tables::{Tables, place_of};
+use escrow_num::{Row, RowName, Value};
+use escrow_rows::Failure;
+use sqlite::Alter;
+use std::alloc::Global;
+
+impl<S: Alter> Tables<S> {
+    ghost use Rattle.std.specs.Prelude.{◌≡◌, ◌<◌, None, IsSome, length, is_ok};
+    ghost use Rattle.std.specs.List.{AllByRecursion};
+    ghost use Rattle.sqlite.specs.Held.{state};
+    ghost use Rattle.escrow_schema.specs.Catalog.{table_named};
+    ghost use Rattle.escrow_rows.specs.declared.stored.TheConstants.StoredTable.{MAX_ROWS};
+    ghost use Rattle.escrow_rows.specs.Answers.{IsUsable, row_named};
+    ghost use Rattle.escrow_rows.specs.Changes.{with_row, without_row, with_plain};
+    ghost use Rattle.escrow_rows.specs.Image.{rows_of};
+    ghost use Rattle.escrow_tables.specs.Calls.{Writes};
+    ghost use Rattle.escrow_tables.specs.Committed.{HasTable};
+
+    /// INSERT: puts a new row of a table among the rows.
+    pub fn insert(&mut self, alloc: Global, row: &Row) -> Result<(), Failure>
+        requires fits { HasTable self.old.catalog row.now }
+        requires new { IsUsable (state S.Store self.old.store) → row_named self.old.rows row.now.name ≡ None }
+        requires room { IsUsable (state S.Store self.old.store) → length (rows_of self.old.rows row.now.name.table) < MAX_ROWS }
+        ensures { Writes S.Store self.old self.new (is_ok result) self.old.catalog (with_row row.now self.old.rows) }
+    {
+        let Some(place) = place_of(&self.tables, row.name.table) else {
+            return Err(Failure::Store);
+        };
+        let counted = &mut self.tables[place];
+        self.store.insert(alloc, &counted.stored, row)?;
+        counted.rows = counted.rows.saturating_add(1);
+        Ok(())
+    }
+
+    /// UPDATE of plain columns: replaces plain values of the row of a name.
+    pub fn set_plain(
+        &mut self,
+        alloc: Global,
+        name: &RowName,
+        values: &[Option<Value>],
+    ) -> Result<(), Failure>
+        requires table { IsSome (table_named self.old.catalog name.now.table) }
+        requires fits { IsUsable (state S.Store self.old.store) → AllByRecursion (HasTable self.old.catalog) (with_plain name.now values.now self.old.rows) }
+        ensures { Writes S.Store self.old self.new (is_ok result) self.old.catalog (with_plain name.now values.now self.old.rows) }
+    {
+        let Some(place) = place_of(&self.tables, name.table) else {
+            return Err(Failure::Store);
+        };
+        self.store
+            .set_plain(alloc, &self.tables[place].stored, &name.key, values)
+    }
+
+    /// DELETE: takes out the row of a name. Takes no memory of its own.
+    pub fn delete(&mut self, name: &RowName) -> Result<(), Failure>
+        requires table { IsSome (table_named self.old.catalog name.now.table) }
+        requires row { IsUsable (state S.Store self.old.store) → IsSome (row_named self.old.rows name.now) }
+        ensures { Writes S.Store self.old self.new (is_ok result) self.old.catalog (without_row name.now self.old.rows) }
+    {
+        let Some(place) = place_of(&self.tables, name.table) else {
+            return Err(Failure::Store);
+        };
+        let counted = &mut self.tables[place];
+        self.store.delete(&counted.stored, &name.key)?;
+        counted.rows = counted.rows.saturating_sub(1);
+        Ok(())
+    }
+}
