@@ -1,5 +1,5 @@
 //! A database without objects.
-ghost use Rattle.std.specs.Prelude.{◌≡◌, ◌≢◌, ◌⊎◌, ◌↔◌, false, [], Err, IsTrue, OnOk, OnErr, IfErr};
+ghost use Rattle.std.specs.Prelude.{◌≡◌, ◌≢◌, ◌⊎◌, ◌↔◌, false, [], Err, IsErr, IsTrue, OnOk, OnErr, IfErr};
 ghost use Rattle.sqlite.specs.Held.{state};
 ghost use Rattle.sqlite.specs.State.{HasCleanDisk, Survives};
 ghost use Rattle.sqlite.specs.Effect.{Database};
@@ -9,10 +9,10 @@ ghost use Rattle.escrow_cells.specs.Tables.{no_schema};
 ghost use Rattle.escrow_rows.specs.Image.{IsImage};
 ghost use Rattle.escrow_rows.specs.Answers.{IsUsable};
 ghost use Rattle.escrow_recover.specs.Found.{Founds};
-ghost use Rattle.escrow_recover.specs.Told.{told};
 
-use escrow_cells::{Failure, create};
+use escrow_cells::create;
 use escrow_num::Refusal;
+use escrow_tables::refusal_of;
 use sqlite::{Alter, Connection};
 use sqlite_schema::schema::Schema;
 
@@ -23,22 +23,12 @@ fn is_bare(schema: &Schema) -> bool
     schema.tables.is_empty() && schema.indexes.is_empty() && schema.views.is_empty()
 }
 
-/// The refusal that a failure of the store is told as.
-fn refusal_of(failure: Failure) -> Refusal
-    ensures value { result ≡ told failure }
-    ensures one { (result ≡ refusal.Memory) ⊎ (result ≡ refusal.Store) }
-{
-    match failure {
-        Failure::Memory => Refusal::Memory,
-        Failure::Store => Refusal::Store,
-    }
-}
-
 /// Makes an empty store of a database without objects. A connection that is inside a transaction is
 /// refused, and so is a database that has an object.
 pub(crate) fn make_store<S: Alter>(connection: &mut Connection<S>) -> Result<(), Refusal>
     ensures image { HasCleanDisk (state S.Store connection.new) → OnOk result (IsTrue (state S.Store connection.new).is_open × IsImage [] [] (state S.Store connection.new).now) }
     ensures foreign { result ≡ Err refusal.ForeignStore → (state S.Store connection.old).now.schema ≢ no_schema }
+    ensures refused { (state S.Store connection.old).now.schema ≢ no_schema → IsErr result }
     ensures bare { (state S.Store connection.old).now.schema ≡ no_schema → IfErr result (λ cause. (cause ≡ refusal.Memory) ⊎ (cause ≡ refusal.Store)) }
     ensures kept { HasCleanDisk (state S.Store connection.new) → IsTrue (state S.Store connection.new).is_open → OnErr result ((state S.Store connection.new).now ≡ (state S.Store connection.old).now) }
     ensures outside { OnOk result (connection.new.in_transaction ≡ false) }

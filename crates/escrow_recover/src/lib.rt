@@ -7,4 +7,4 @@
 mod bare;
 mod open;
 
-pub use open::{Opened, StoreFault, open_store};
+pub use open::{StoreFault, open_store};
