@@ -24,7 +24,7 @@ use Rattle.escrow_schema.specs.Fit.{inserted_row}
 use Rattle.escrow_schema.specs.Plan.{planned}
 use Rattle.escrow_num.specs.declared.reservation.TheConstants.Reservation.{MAX_ID}
 use Rattle.escrow_schema.specs.declared.catalog.TheConstants.Catalog.{MAX_TABLES}
-use Rattle.escrow_core.specs.declared.database.TheConstants.Database.{MAX_ROWS}
+use Rattle.escrow_rows.specs.declared.stored.TheConstants.StoredTable.{MAX_ROWS}
 use Rattle.escrow_journal.specs.declared.journal.TheConstants.Journal.{MAX_RESERVATIONS, MAX_SAVEPOINTS}
 use Rattle.escrow_journal.specs.Reservations.{own, own_savepoints}
 use Rattle.escrow_journal.specs.Savepoints.{without_savepoint}

@@ -1,5 +1,5 @@
 -- Choices of a list's items: what `sublists` lists, as a relation.
-use Rattle.std.specs.Prelude.{◌≡◌, ◌⊎◌, ℕ, zero, suc, Bool, List, [], ◌∷◌, ◌++◌, map, filter, take}
+use Rattle.std.specs.Prelude.{◌≡◌, ◌⊎◌, Bool, List, [], ◌∷◌, ◌++◌, map, filter}
 use Rattle.std.specs.List.{AllByRecursion}
 use Rattle.std.proofs.Common.{inl, inr, sym, ap, ◌∙◌, subst, refl}
 use Rattle.std.proofs.lemmas.Bool.{cond_both}
@@ -52,10 +52,6 @@ pub choice_none : {A : Type 0} (xs : List A) → IsChoice xs []
 choice_none [] = refl
 choice_none (x ∷ xs) = inl (choice_none xs)
 
-pub choice_whole : {A : Type 0} (xs : List A) → IsChoice xs xs
-choice_whole [] = refl
-choice_whole (x ∷ xs) = inr (xs, choice_whole xs, refl)
-
 -- a choice of what passes a test is a choice of the list
 pub choice_filter : {A : Type 0} (p : A → Bool) (xs chosen : List A) → IsChoice (filter p xs) chosen → IsChoice xs chosen
 choice_filter p [] chosen h = h
@@ -64,17 +60,6 @@ choice_filter {A} p (x ∷ xs) chosen h =
     let first : IsChoice (x ∷ filter p xs) chosen → IsChoice (x ∷ xs) chosen =
     elim [ inl k ↦ later k | inr k ↦ inr (k.0, choice_filter p xs k.0 k.1, k.2) ] in
     cond_both (p x) (x ∷ filter p xs) (filter p xs) (λ zs. IsChoice zs chosen → IsChoice (x ∷ xs) chosen) (λ t. first) (λ f. later) h
-
--- what passes a test is a choice of the list
-pub choice_passing : {A : Type 0} (p : A → Bool) (xs : List A) → IsChoice xs (filter p xs)
-choice_passing p xs = choice_filter p xs (filter p xs) (choice_whole (filter p xs))
-
--- a choice of the first items is a choice of the list
-pub choice_take : {A : Type 0} (i : ℕ) (xs chosen : List A) → IsChoice (take i xs) chosen → IsChoice xs chosen
-choice_take zero xs chosen h = subst (IsChoice xs) h (choice_none xs)
-choice_take (suc i) [] chosen h = h
-choice_take (suc i) (x ∷ xs) chosen (inl h) = inl (choice_take i xs chosen h)
-choice_take (suc i) (x ∷ xs) chosen (inr h) = inr (h.0, choice_take i xs h.0 h.1, h.2)
 
 -- a choice of a list and one more is a choice of the list, or one with the one more at its end
 pub choice_push : {A : Type 0} (xs : List A) (y : A) (chosen : List A) → IsChoice (xs ++ y ∷ []) chosen

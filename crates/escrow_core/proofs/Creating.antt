@@ -1,39 +1,83 @@
--- CREATE TABLE: the catalog's refusals are those that are left where the text defines a table.
-use Rattle.std.specs.Prelude.{◌≡◌, ◌⊎◌, ℕ, false, Option, Some, None, Result, Ok, Err, IfSome}
-use Rattle.std.proofs.Common.{inl, inr, refl, sym, ap, ◌∙◌}
-use Rattle.escrow_num.specs.declared.refusal.Refusal.{Refusal}
+-- CREATE TABLE: refused for what the catalog holds, or the table is put in one write.
+use Rattle.std.specs.Prelude.{◌≡◌, ◌<◌, ◌≤◌, ℕ, true, false, is_some, Some, None, [], ◌∷◌, length}
+use Rattle.std.proofs.Common.{refl, ap, ◌∙◌}
+use Rattle.std.proofs.lemmas.Bool.{le-leb, lt-leb}
+use Rattle.sqlite_trees.specs.declared.store.Store.{Ghosts}
 use Rattle.escrow_num.specs.declared.refusal.Refusal.TheVariants as refusal
-use Rattle.escrow_num.specs.Refusal.{first_refusal}
+use Rattle.escrow_num.specs.Refusal.{refuse_if}
 use Rattle.escrow_sql.specs.declared.statement.CreateText.{CreateText}
 use Rattle.escrow_sql.specs.declared.statement.Statement.TheVariants as statement
+use Rattle.escrow_cells.specs.declared.failure.Failure.{Failure}
+use Rattle.escrow_schema.specs.declared.catalog.TheConstants.Catalog.{MAX_TABLES}
 use Rattle.escrow_schema.specs.declared.table.TableDef.{TableDef}
-use Rattle.escrow_schema.specs.Catalog.{add_refusal, table_named}
+use Rattle.escrow_schema.specs.Catalog.{table_named, with_table}
 use Rattle.escrow_schema.specs.Definition.{definition_of}
-use Rattle.escrow_core.specs.declared.reply.Reply.TheVariants as reply
-use Rattle.escrow_core.specs.State.{State, is_open}
-use Rattle.escrow_core.specs.Step.{refusals, StepOrRefusal}
-use Rattle.escrow_core.specs.Turn.{turn_of}
-use Rattle.escrow_core.proofs.Served.{refused_serves}
 use Rattle.escrow_schema.proofs.LawLemmas.{name_of_table}
+use Rattle.escrow_tables.specs.Calls.{Writes}
+use Rattle.escrow_tables.specs.Committed.{Committed}
+use Rattle.escrow_tables.specs.Told.{told}
+use Rattle.escrow_txn.specs.Open.{Open}
+use Rattle.escrow_core.specs.declared.reply.Reply.TheVariants as reply
+use Rattle.escrow_core.specs.Inside.{seen_of}
+use Rattle.escrow_core.specs.Seen.{IsKept}
+use Rattle.escrow_core.specs.Serves.{Serves}
+use Rattle.escrow_core.specs.Serving.{IsRefusal, PassesEarly}
+use Rattle.escrow_core.specs.State.{State, is_open}
+use Rattle.escrow_core.specs.Step.{step}
+use Rattle.escrow_core.specs.Turn.{turn_of}
+use Rattle.escrow_core.proofs.Refusals.{passed, failed, none_there}
+use Rattle.escrow_core.proofs.Serving.{accepted_step, late_applies, none_applies, wrote, write_failed, wrote_keeps}
+use Rattle.escrow_core.proofs.ValidCreate.{create_orderly, create_valid}
 
--- the first refusal is the catalog's
-pub left_to_catalog : (s : State) (session : ℕ) (text : CreateText) (table : TableDef) → is_open session s ≡ false → table_named s.catalog text.table ≡ None
-    → definition_of text ≡ Some table → first_refusal (refusals (turn_of s session (statement.Create text))) ≡ add_refusal s.catalog table
+-- a table's name is new where no early refusal applies
+new_text : (s : State) (session : ℕ) (text : CreateText) → PassesEarly s session (statement.Create text) → table_named s.catalog text.table ≡ None
 unfolding turn_of
-left_to_catalog s session text table closed new defines =
-    let named : table_named s.catalog table.name ≡ None = ap (table_named s.catalog) (name_of_table text table defines) ∙ new in
-    rw (closed, new, defines, named) refl
+new_text s session text early =
+    let exists = refuse_if (is_some (table_named s.catalog text.table)) refusal.TableExists in
+    let closed = passed (refuse_if (is_open session s) refusal.TransactionOpen) (exists ∷ []) early in
+    none_there (table_named s.catalog text.table) (failed (is_some (table_named s.catalog text.table)) refusal.TableExists (passed exists [] closed.others).first)
 
--- it refuses nothing where it adds the table
-pub added_none : {X : Type 0} (o : Option Refusal) (result : Result X Refusal) (x : X) → IfSome o (λ e. result ≡ Err e) → result ≡ Ok x → o ≡ None
-added_none None result x refused ok = refl
-added_none (Some e) result x refused ok = let both : Ok x ≡ Err e = sym ok ∙ refused in absurd (cc)
+pub new_table : (s : State) (session : ℕ) (text : CreateText) (table : TableDef) → PassesEarly s session (statement.Create text) → definition_of text ≡ Some table
+    → table_named s.catalog table.name ≡ None
+new_table s session text table early made = ap (table_named s.catalog) (name_of_table text table made) ∙ new_text s session text early
 
--- and what it refuses is a refusal of the statement
-pub catalog_refuses : (s : State) (session : ℕ) (text : CreateText) (table : TableDef) (r : Refusal) → is_open session s ≡ false → table_named s.catalog text.table ≡ None
-    → definition_of text ≡ Some table → (add_refusal s.catalog table ≡ Some r) ⊎ (r ≡ refusal.Memory) → StepOrRefusal s session (statement.Create text) (reply.Refused r) s
+-- there are as many tables as there may be
+pub full_refused : (s : State) (session : ℕ) (text : CreateText) (table : TableDef) → PassesEarly s session (statement.Create text) → definition_of text ≡ Some table
+    → MAX_TABLES ≤ length s.catalog → IsRefusal s session (statement.Create text) refusal.TooManyTables
 unfolding turn_of
-catalog_refuses s session text table r closed new defines (inl e) =
-    refused_serves s session (statement.Create text) r (inl (left_to_catalog s session text table closed new defines ∙ e))
-catalog_refuses s session text table r closed new defines (inr e) =
-    refused_serves s session (statement.Create text) r (inr (e, rw (closed, new) refl))
+full_refused s session text table early made full =
+    late_applies s session (statement.Create text) refusal.TooManyTables early (rw (made, le-leb MAX_TABLES (length s.catalog) full) refl)
+
+-- the step where there is room for the table
+created_step : (s : State) (session : ℕ) (text : CreateText) (table : TableDef) → PassesEarly s session (statement.Create text) → definition_of text ≡ Some table
+    → length s.catalog < MAX_TABLES → step s session (statement.Create text) ≡ (reply.Created text.table, record s { catalog = with_table table s.catalog })
+unfolding turn_of
+created_step s session text table early made room =
+    accepted_step s session (statement.Create text) (none_applies s session (statement.Create text) early (rw (made, lt-leb MAX_TABLES (length s.catalog) room) refl)) ∙ rw made refl
+
+create_takes : (s : State) (session : ℕ) (text : CreateText) (f : Failure) → (turn_of s session (statement.Create text)).fails_for f ≡ true
+unfolding turn_of
+create_takes s session text f = refl
+
+module _ {S : Type 0} (g : Ghosts S) (session : ℕ) (text : CreateText) (t new : Committed S) (o : Open) (table : TableDef)
+    (early : PassesEarly (seen_of t o).state session (statement.Create text)) (made : definition_of text ≡ Some table) (room : length t.catalog < MAX_TABLES) where
+  -- the store agreed
+  pub created : Writes g t new true (with_table table t.catalog) t.rows → Serves g session (statement.Create text) (seen_of t o) (reply.Created text.table) (seen_of new o)
+  created writes =
+      let s : State = (seen_of t o).state in
+      wrote g session (statement.Create text) t new o o (reply.Created text.table) (record s { catalog = with_table table s.catalog }) refl early refl writes
+      (λ _. created_step s session text table early made room) refl
+
+  pub created_keeps : IsKept g (seen_of t o) → Writes g t new true (with_table table t.catalog) t.rows → IsKept g (seen_of new o)
+  created_keeps kept writes =
+      let s : State = (seen_of t o).state in
+      let free = new_text s session text early in
+      wrote_keeps g session (statement.Create text) t new o o (record s { catalog = with_table table s.catalog }) kept writes refl
+      (create_orderly s text table kept.orderly made free room) (λ valid _. create_valid s text table valid made free room)
+
+  -- the store refused
+  pub not_created : (f : Failure) → Writes g t new false (with_table table t.catalog) t.rows → Serves g session (statement.Create text) (seen_of t o) (reply.Refused (told f)) (seen_of new o)
+  not_created f writes =
+      let s : State = (seen_of t o).state in
+      write_failed g session (statement.Create text) t new o f (reply.Created text.table) (record s { catalog = with_table table s.catalog }) refl early (create_takes s session text f) writes
+      (λ _. created_step s session text table early made room)

@@ -1,6 +1,6 @@
 -- What SHOW JOURNAL shows, reservation by reservation.
 use Rattle.std.proofs.Common.{◌≡◌, ◌⊎◌, inl, inr, arith, ℕ, ◌+◌, ◌<◌, ℤ, Option, Some, None, List, [], ◌∷◌, ◌++◌, length, take, get_or, refl, bytes_eq}
-use Rattle.std.specs.Prelude.{map, filter}
+use Rattle.std.specs.Prelude.{map}
 use Rattle.std.proofs.lemmas.List.{map-append, take_more}
 use Rattle.std.proofs.lemmas.List.Elements.{filter-append}
 use Rattle.escrow_num.specs.declared.reservation.Reservation.{Reservation}

@@ -156,7 +156,7 @@ shown_in : (s : State) → IsValid s → (text : RowText) (table : TableDef) (ro
 unfolding columns_of checks_of
 shown_in s valid text table row named found =
     let name = named_by text.table text.row in
-    let is_table = is_table_found s valid text.table table named in
+    let is_table = is_table_found s valid.orderly text.table table named in
     let parts = split table row is_table (row_found s valid name table row named found) in
     let names = names_of (reservables table.columns) in
     let reservations = map (changes_to row) s.reservations in

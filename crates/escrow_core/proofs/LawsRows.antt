@@ -40,7 +40,7 @@ fitting : (s : State) → IsValid s → (row : Row) (o : Option TableDef) → ta
     → IsSomeAnd o (λ t. AllByRecursion (λ check. Meets check row.amounts) t.checks) → IsSomeAnd o (λ t. FitColumns t.columns (values_of t row))
 fitting s valid row None found of_table met = absurd of_table
 fitting s valid row (Some table) found is_row met =
-    values_fit table row (is_table_found s valid row.name.table table found) is_row met
+    values_fit table row (is_table_found s valid.orderly row.name.table table found) is_row met
 
 pub committed_values_fit : (s : State) → IsValid s → AllByRecursion (HasFittingValues s.catalog) s.rows
 committed_values_fit s valid =

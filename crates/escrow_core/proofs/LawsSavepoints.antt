@@ -17,7 +17,7 @@ use Rattle.escrow_journal.specs.Reservations.{own, others, other_savepoints}
 use Rattle.escrow_journal.specs.Savepoints.{is_named, savepoint_of, without_savepoint, through, is_after, not_after}
 use Rattle.escrow_core.specs.declared.event.Event.{Event}
 use Rattle.escrow_core.specs.declared.event.Event.TheVariants as event
-use Rattle.escrow_core.specs.declared.reply.Failure.{Failure}
+use Rattle.escrow_cells.specs.declared.failure.Failure.{Failure}
 use Rattle.escrow_core.specs.declared.reply.Reply.{Reply}
 use Rattle.escrow_core.specs.declared.reply.Reply.TheVariants as reply
 use Rattle.escrow_core.specs.Asked.{plan_of}

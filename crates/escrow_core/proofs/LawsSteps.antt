@@ -2,7 +2,7 @@
 use Rattle.std.specs.Prelude.{◌≡◌, ℕ, ◌+◌, ◌≤◌, true, false, is_none, option_map, unwrap_or, MatchOption, IsTrue, Option, Some, None, List, [], ◌∷◌, length}
 use Rattle.std.specs.List.{AllByRecursion}
 use Rattle.std.proofs.Common.{refl, sym, ap, subst, le_refl, ◌∙◌}
-use Rattle.std.proofs.lemmas.Bool.{and_parts, false_from_ne_true}
+use Rattle.std.proofs.lemmas.Bool.{and_parts}
 use Rattle.escrow_num.specs.declared.refusal.Refusal.{Refusal}
 use Rattle.escrow_num.specs.Refusal.{first_refusal}
 use Rattle.escrow_num.specs.Session.{IsSession}
@@ -12,11 +12,12 @@ use Rattle.escrow_core.specs.declared.event.Event.{Event}
 use Rattle.escrow_core.specs.declared.event.Event.TheVariants as event
 use Rattle.escrow_core.specs.declared.reply.Reply.{Reply}
 use Rattle.escrow_core.specs.declared.reply.Reply.TheVariants as reply
-use Rattle.escrow_core.specs.declared.reply.Failure.{Failure}
-use Rattle.escrow_core.specs.declared.reply.Failure.TheVariants as failure
+use Rattle.escrow_cells.specs.declared.failure.Failure.{Failure}
+use Rattle.escrow_cells.specs.declared.failure.Failure.TheVariants as failure
 use Rattle.escrow_core.specs.Event.{HasSession}
+use Rattle.escrow_core.specs.Promised.{asks_store, needs_nothing}
 use Rattle.escrow_core.specs.Reply.{failure_of}
-use Rattle.escrow_core.specs.Laws.{IsSeen, takes_nothing}
+use Rattle.escrow_core.specs.Laws.{IsSeen}
 use Rattle.escrow_journal.specs.Reservations.{own}
 use Rattle.escrow_core.specs.State.{State}
 use Rattle.escrow_core.specs.Step.{refusals, step, may_fail, IsStep, StepOrRefusal, IsRun}
@@ -90,30 +91,11 @@ fails s session asked f e =
     let turn = turn_of s session asked in
     (and_parts (is_none (first_refusal turn.early)) (turn.fails_for f) e).1
 
-pub fails_for_nothing : (s : State) (session : ℕ) (asked : Statement) (f : Failure) → takes_nothing asked ≡ true → (turn_of s session asked).fails_for f ≡ false
-unfolding turn_of
-fails_for_nothing s session (statement.Create text) f e = absurd (cc)
-fails_for_nothing s session (statement.Drop name) f e = refl
-fails_for_nothing s session (statement.Insert text) f e = absurd (cc)
-fails_for_nothing s session (statement.Update text) f e = absurd (cc)
-fails_for_nothing s session (statement.Delete text) f e = refl
-fails_for_nothing s session (statement.Select text) f e = absurd (cc)
-fails_for_nothing s session (statement.ShowTable name) f e = absurd (cc)
-fails_for_nothing s session (statement.ShowJournal table) f e = absurd (cc)
-fails_for_nothing s session (statement.ShowBounds text) f e = absurd (cc)
-fails_for_nothing s session (statement.Savepoint name) f e = absurd (cc)
-fails_for_nothing s session statement.Commit f e = refl
-fails_for_nothing s session statement.Rollback f e = refl
-fails_for_nothing s session (statement.RollbackTo name) f e = refl
-
-pub fails_for_memory_alone : (s : State) (session : ℕ) (asked : Statement) (answer : Reply) (new : State) (f : Failure)
+pub fails_for_what_is_asked : (s : State) (session : ℕ) (asked : Statement) (answer : Reply) (new : State) (f : Failure)
     → StepOrRefusal s session asked answer new → failure_of answer ≡ Some f
-    → (f ≡ failure.Memory) × (takes_nothing asked ≡ false)
-fails_for_memory_alone s session asked answer new f event failed =
-    let for_it = fails s session asked f (failed_with s session asked answer new f event failed).0 in (
-      (is_turn s session asked).memory f for_it,
-      false_from_ne_true (takes_nothing asked) (λ t. let none = fails_for_nothing s session asked f t in absurd (cc)),
-    )
+    → (needs_nothing s session asked ≡ false) × (f ≡ failure.Store → asks_store s session asked ≡ true)
+fails_for_what_is_asked s session asked answer new f event failed =
+    (is_turn s session asked).fails f (fails s session asked f (failed_with s session asked answer new f event failed).0)
 
 -- where an early refusal applies nothing fails, and it is the answer
 early_at : (s : State) (session : ℕ) (asked : Statement) (answer : Reply) (new : State) (r : Refusal) (o : Option Failure)

@@ -1,5 +1,5 @@
 -- UPDATE: what follows for its turn from the plan, or from why there is none.
-use Rattle.std.specs.Prelude.{◌≡◌, ◌⊎◌, ◌≤◌, ℕ, ℤ, Option, Some, Result, Ok, Err, IfErr, IsErrOf, IsOk, List, length}
+use Rattle.std.specs.Prelude.{◌≡◌, ◌⊎◌, ◌≤◌, ℕ, ℤ, true, Option, Some, None, Result, Ok, Err, IfErr, IsErrOf, IsOk, List, length}
 use Rattle.std.specs.Result.{result_ok}
 use Rattle.std.proofs.Common.{inl, inr, refl, sym, ap, subst, arith, ◌∙◌}
 use Rattle.std.proofs.lemmas.Option.{option_and_then_some}
@@ -15,15 +15,14 @@ use Rattle.escrow_schema.specs.declared.plan.Plan.TheVariants as plan
 use Rattle.escrow_schema.specs.declared.table.TableDef.{TableDef}
 use Rattle.escrow_schema.specs.Catalog.{table_named}
 use Rattle.escrow_schema.specs.Plan.{planned}
-use Rattle.escrow_core.specs.declared.reply.Reply.TheVariants as reply
+use Rattle.escrow_cells.specs.declared.failure.Failure.{Failure}
+use Rattle.escrow_cells.specs.declared.failure.Failure.TheVariants as failure
 use Rattle.escrow_core.specs.Asked.{plan_of}
-use Rattle.escrow_core.specs.Serving.{IsRefusal}
+use Rattle.escrow_core.specs.Serving.{IsAccepted, IsRefusal, PassesEarly}
 use Rattle.escrow_core.specs.State.{State}
-use Rattle.escrow_core.specs.Step.{refusals, StepOrRefusal}
+use Rattle.escrow_core.specs.Step.{refusals}
 use Rattle.escrow_core.specs.Turn.{turn_of, update_refusals}
-use Rattle.escrow_core.specs.Valid.{IsValid}
-use Rattle.escrow_core.proofs.Served.{rule_serves}
-use Rattle.escrow_core.proofs.Shapes.{is_table_found}
+use Rattle.escrow_core.proofs.Shapes.{HasOrder, is_table_found}
 use Rattle.escrow_schema.proofs.LawLemmas.{few_reservable}
 use Rattle.escrow_schema.proofs.PlanLemmas.{plans_of_whole_row}
 
@@ -39,12 +38,12 @@ planned_in s text asked is then =
     (λ table named found. then table named (ok_there (planned table text) asked found))
 
 -- what is planned has a change for at most as many columns as a check has coefficients
-pub short_plan : (s : State) (text : UpdateText) (key : Value) (changes : List (Option ℤ)) → IsValid s → plan_of s text ≡ Some (plan.Reserve key changes)
+pub short_plan : (s : State) (text : UpdateText) (key : Value) (changes : List (Option ℤ)) → HasOrder s → plan_of s text ≡ Some (plan.Reserve key changes)
     → length changes ≤ MAX_LEN
-short_plan s text key changes valid is =
+short_plan s text key changes orderly is =
     planned_in s text (plan.Reserve key changes) is (λ table named at.
     let whole = plans_of_whole_row table text key changes at in
-    let few = (few_reservable table (is_table_found s valid text.table table named)).1 in
+    let few = (few_reservable table (is_table_found s orderly text.table table named)).1 in
     omega arith)
 
 -- where there is a plan its refusals are those of the statement
@@ -53,13 +52,30 @@ late_alone : (s : State) (session : ℕ) (text : UpdateText) (asked : Plan) (tab
 unfolding turn_of
 late_alone s session text asked table named at = rw (named, at) refl
 
-pub left_to_plan : (s : State) (session : ℕ) (text : UpdateText) (asked : Plan) → plan_of s text ≡ Some asked
+left_to_plan : (s : State) (session : ℕ) (text : UpdateText) (asked : Plan) → plan_of s text ≡ Some asked
     → first_refusal (refusals (turn_of s session (statement.Update text))) ≡ first_refusal (update_refusals s session text.table asked)
 left_to_plan s session text asked is = planned_in s text asked is (late_alone s session text asked)
 
-pub plan_refuses : (s : State) (session : ℕ) (text : UpdateText) (asked : Plan) (r : Refusal) → plan_of s text ≡ Some asked
-    → first_refusal (update_refusals s session text.table asked) ≡ Some r → StepOrRefusal s session (statement.Update text) (reply.Refused r) s
-plan_refuses s session text asked r is first = rule_serves s session (statement.Update text) r (left_to_plan s session text asked is ∙ first)
+pub plan_refused : (s : State) (session : ℕ) (text : UpdateText) (asked : Plan) (r : Refusal) → plan_of s text ≡ Some asked
+    → first_refusal (update_refusals s session text.table asked) ≡ Some r → IsRefusal s session (statement.Update text) r
+plan_refused s session text asked r is first = inl (left_to_plan s session text asked is ∙ first)
+
+pub plan_accepted : (s : State) (session : ℕ) (text : UpdateText) (asked : Plan) → plan_of s text ≡ Some asked
+    → first_refusal (update_refusals s session text.table asked) ≡ None → IsAccepted s session (statement.Update text)
+plan_accepted s session text asked is none = left_to_plan s session text asked is ∙ none
+
+-- and none of them is early
+early_none : (s : State) (session : ℕ) (text : UpdateText) (asked : Plan) (table : TableDef) → table_named s.catalog text.table ≡ Some table → planned table text ≡ Ok asked
+    → PassesEarly s session (statement.Update text)
+unfolding turn_of
+early_none s session text asked table named at = rw (named, at) refl
+
+pub planned_early : (s : State) (session : ℕ) (text : UpdateText) (asked : Plan) → plan_of s text ≡ Some asked → PassesEarly s session (statement.Update text)
+planned_early s session text asked is = planned_in s text asked is (early_none s session text asked)
+
+pub update_fails : (s : State) (session : ℕ) (text : UpdateText) (f : Failure) → (turn_of s session (statement.Update text)).fails_for f ≡ true
+unfolding turn_of
+update_fails s session text f = refl
 
 -- a refusal to plan is one of the statement
 early_refuses : (s : State) (session : ℕ) (text : UpdateText) (table : TableDef) (r : Refusal) → table_named s.catalog text.table ≡ Some table → planned table text ≡ Err r
@@ -70,7 +86,7 @@ early_refuses s session text table r named at = inl (rw (named, at) refl)
 plan_wants : (s : State) (session : ℕ) (text : UpdateText) (table : TableDef) (asked : Plan) → table_named s.catalog text.table ≡ Some table → planned table text ≡ Ok asked
     → IsRefusal s session (statement.Update text) refusal.Memory
 unfolding turn_of
-plan_wants s session text table asked named at = inr (refl, rw (named, at) refl)
+plan_wants s session text table asked named at = inr (failure.Memory, refl, rw (named, at) refl)
 
 wanting : (s : State) (session : ℕ) (text : UpdateText) (table : TableDef) (asked : Result Plan Refusal) → table_named s.catalog text.table ≡ Some table → planned table text ≡ asked
     → IsOk asked → IsRefusal s session (statement.Update text) refusal.Memory

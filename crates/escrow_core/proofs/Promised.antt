@@ -1,40 +1,27 @@
 -- What is served whatever memory there is and whatever the store does.
-use Rattle.std.specs.Prelude.{◌≡◌, ℕ, true, false, is_none, MatchOption, IsTrue, Option, Some, None, List, [], ◌∷◌, ◌++◌}
-use Rattle.std.proofs.Common.{inl, inr, refl}
-use Rattle.std.proofs.lemmas.Bool.{and_parts, or_cases}
+use Rattle.std.specs.Prelude.{◌≡◌, ℕ, true, false, nat_lt, is_none, option_map, unwrap_or, MatchOption, IsTrue, Option, Some, None, List, [], ◌∷◌, ◌++◌, length}
+use Rattle.std.proofs.Common.{inl, inr, refl, sym, ap, ap₂, ◌∙◌, true≢false}
+use Rattle.std.proofs.lemmas.Bool.{and_parts, false≢true, not-true, or_cases}
+use Rattle.sqlite_trees.specs.declared.store.Store.{Ghosts}
 use Rattle.escrow_num.specs.declared.refusal.Refusal.{Refusal}
 use Rattle.escrow_num.specs.Refusal.{first_refusal}
 use Rattle.escrow_sql.specs.declared.statement.Statement.{Statement}
 use Rattle.escrow_sql.specs.declared.statement.Statement.TheVariants as statement
+use Rattle.escrow_journal.specs.Reservations.{own}
 use Rattle.escrow_core.specs.declared.reply.Reply.{Reply}
 use Rattle.escrow_core.specs.declared.reply.Reply.TheVariants as reply
-use Rattle.escrow_core.specs.declared.reply.Failure.{Failure}
-use Rattle.escrow_core.specs.Laws.{takes_nothing}
-use Rattle.escrow_core.specs.Promised.{needs_nothing, is_plain_refusal, is_promised}
+use Rattle.escrow_cells.specs.declared.failure.Failure.{Failure}
+use Rattle.escrow_core.specs.Promised.{asks_store, needs_nothing, is_plain_refusal, is_promised}
 use Rattle.escrow_core.specs.Reply.{failure_of}
+use Rattle.escrow_core.specs.Seen.{Seen}
+use Rattle.escrow_core.specs.Serves.{Serves}
 use Rattle.escrow_core.specs.State.{State}
-use Rattle.escrow_core.specs.Step.{step, may_fail, IsStep, StepOrRefusal}
+use Rattle.escrow_core.specs.Step.{step, may_fail, IsStep}
 use Rattle.escrow_core.specs.Turn.{turn_of}
-use Rattle.escrow_core.proofs.LawsSteps.{step_has, fails_for_nothing}
-use Rattle.escrow_core.proofs.Refusals.{first_among}
+use Rattle.escrow_core.proofs.LawsSteps.{step_has}
+use Rattle.escrow_core.proofs.Refusals.{first_among, first_in_front}
 use Rattle.escrow_core.proofs.TurnWords.{NeedsMore}
 use Rattle.escrow_core.proofs.Turns.{is_turn}
-
--- what needs nothing takes nothing
-takes_none : (s : State) (session : ℕ) (asked : Statement) → needs_nothing s session asked ≡ true → takes_nothing asked ≡ true
-takes_none s session (statement.Create text) e = absurd (cc)
-takes_none s session (statement.Drop name) e = absurd (cc)
-takes_none s session (statement.Insert text) e = absurd (cc)
-takes_none s session (statement.Update text) e = absurd (cc)
-takes_none s session (statement.Delete text) e = absurd (cc)
-takes_none s session (statement.Select text) e = absurd (cc)
-takes_none s session (statement.ShowTable name) e = absurd (cc)
-takes_none s session (statement.ShowJournal table) e = absurd (cc)
-takes_none s session (statement.ShowBounds text) e = absurd (cc)
-takes_none s session (statement.Savepoint name) e = absurd (cc)
-takes_none s session statement.Commit e = refl
-takes_none s session statement.Rollback e = refl
-takes_none s session (statement.RollbackTo name) e = refl
 
 -- a reply that is a refusal without need is a refusal
 plain_refused : (asked : Statement) (answer : Reply) → is_plain_refusal asked answer ≡ true → (r : Refusal) × (answer ≡ reply.Refused r)
@@ -71,22 +58,57 @@ none_plain s session asked none =
     absurd (cc))
     (λ _ e. let refused = plain_refused asked turn.reply e in (is_turn s session asked).answers refused.0 refused.1)
 
--- what is promised doesn't fail
-never_fails : (s : State) (session : ℕ) (asked : Statement) (f : Failure) → is_promised s session asked ≡ true → ¬ (may_fail s session asked f ≡ true)
-never_fails s session asked f promise = λ may.
+-- what is refused without need is refused early
+early_at : (s : State) (session : ℕ) (asked : Statement) (o : Option Refusal) → first_refusal (turn_of s session asked).early ≡ o
+    → is_plain_refusal asked (step s session asked).0 ≡ true → (r : Refusal) × (first_refusal (turn_of s session asked).early ≡ Some r)
+early_at s session asked None is plain = absurd (none_plain s session asked (ap (λ (o : Option Refusal). is_none o) is) plain)
+early_at s session asked (Some r) is plain = (r, is)
+
+-- and that refusal is the step
+early_step : (s : State) (session : ℕ) (asked : Statement) (r : Refusal) → first_refusal (turn_of s session asked).early ≡ Some r → (reply.Refused r, s) ≡ step s session asked
+early_step s session asked r first =
+    let turn = turn_of s session asked in
+    sym (ap (λ (o : Option Refusal). unwrap_or (option_map (λ (q : Refusal). (reply.Refused q, s)) o) (turn.reply, turn.next)) (first_in_front turn.early turn.late r first))
+
+-- what needs neither memory nor the store asks nothing of the store
+nothing_asked : (s : State) (session : ℕ) (asked : Statement) → needs_nothing s session asked ≡ true → asks_store s session asked ≡ false
+nothing_asked s session statement.Rollback e = refl
+nothing_asked s session (statement.RollbackTo name) e = refl
+nothing_asked s session statement.Commit e = not-true (nat_lt 0 (length (own session s.reservations))) e
+nothing_asked s session (statement.Create text) e = absurd (false≢true e)
+nothing_asked s session (statement.Drop name) e = absurd (false≢true e)
+nothing_asked s session (statement.Insert text) e = absurd (false≢true e)
+nothing_asked s session (statement.Update text) e = absurd (false≢true e)
+nothing_asked s session (statement.Delete text) e = absurd (false≢true e)
+nothing_asked s session (statement.Select text) e = absurd (false≢true e)
+nothing_asked s session (statement.ShowTable name) e = absurd (false≢true e)
+nothing_asked s session (statement.ShowBounds text) e = absurd (false≢true e)
+nothing_asked s session (statement.ShowJournal table) e = absurd (false≢true e)
+nothing_asked s session (statement.Savepoint name) e = absurd (false≢true e)
+
+-- nor does it fail
+never_fails : (s : State) (session : ℕ) (asked : Statement) (f : Failure) → needs_nothing s session asked ≡ true → ¬ (may_fail s session asked f ≡ true)
+never_fails s session asked f none = λ may.
     let turn = turn_of s session asked in
     let parts = and_parts (is_none (first_refusal turn.early)) (turn.fails_for f) may in
-    elim (or_cases (needs_nothing s session asked) (is_plain_refusal asked (step s session asked).0) promise) [
-      | inl none ↦ let for_nothing : turn.fails_for f ≡ false = fails_for_nothing s session asked f (takes_none s session asked none) in absurd (cc)
-      | inr plain ↦ none_plain s session asked parts.0 plain
-    ]
+    let needs = ((is_turn s session asked).fails f parts.1).0 in
+    absurd (true≢false (sym none ∙ needs))
 
-kept : (s : State) (session : ℕ) (asked : Statement) (answer : Reply) (new : State) (o : Option Failure) → is_promised s session asked ≡ true
+kept : (s : State) (session : ℕ) (asked : Statement) (answer : Reply) (new : State) (o : Option Failure) → needs_nothing s session asked ≡ true
     → MatchOption o (IsStep s session asked answer new) (λ f. IsTrue (may_fail s session asked f) × (new ≡ s)) → IsStep s session asked answer new
-kept s session asked answer new None promise event = event
-kept s session asked answer new (Some f) promise event = absurd (never_fails s session asked f promise event.0)
+kept s session asked answer new None none event = event
+kept s session asked answer new (Some f) none event = absurd (never_fails s session asked f none event.0)
 
--- what is promised is answered by the step
-pub promised : (s : State) (session : ℕ) (asked : Statement) (answer : Reply) (new : State) → StepOrRefusal s session asked answer new
-    → IsTrue (is_promised s session asked) → IsStep s session asked answer new
-promised s session asked answer new event promise = kept s session asked answer new (failure_of answer) promise event
+-- what is promised is answered by the step, and leaves the store
+pub promised : {S : Type 0} (g : Ghosts S) (session : ℕ) (asked : Statement) (old : Seen S) (answer : Reply) (new : Seen S) → Serves g session asked old answer new
+    → IsTrue (is_promised old.state session asked) → (new.store ≡ old.store) × IsStep old.state session asked answer new.state
+promised {S} g session asked old answer new serves promise =
+    let s = old.state in
+    elim (or_cases (needs_nothing s session asked) (is_plain_refusal asked (step s session asked).0) promise) [
+      | inl none ↦ (let left = serves.apart (nothing_asked s session asked none) in
+          (left.0, kept s session asked answer new.state (failure_of answer) none left.1))
+      | inr plain ↦ (let first = early_at s session asked (first_refusal (turn_of s session asked).early) refl plain in
+          let is = serves.early first.0 first.1 in
+          let stays : (answer, new.state) ≡ (reply.Refused first.0, s) = ap₂ (λ (a : Reply) (d : Seen S). (a, d.state)) is.0 is.1 in
+          (ap (λ (d : Seen S). d.store) is.1, record { is_step = stays ∙ early_step s session asked first.0 first.1 }))
+    ]

@@ -1,21 +1,34 @@
 -- SELECT, SHOW TABLE, SHOW JOURNAL and SHOW BOUNDS: how a call that served one meets the machine's step.
-use Rattle.std.specs.Prelude.{◌≡◌, ℕ, Option, Some, None, unwrap_or, option_map, List, []}
-use Rattle.std.proofs.Common.{refl, subst}
+use Rattle.std.specs.Prelude.{◌≡◌, ℕ, true, false, Option, Some, None, IsSome, is_none, unwrap_or, option_map, option_to_list, List, [], ◌∷◌, filter}
+use Rattle.std.proofs.Common.{inl, inr, refl, sym, ap, subst, ◌∙◌, true≢false}
 use Rattle.escrow_num.specs.declared.refusal.Refusal.TheVariants as refusal
+use Rattle.escrow_num.specs.declared.row.Row.{Row}
+use Rattle.escrow_num.specs.declared.value.RowName.{RowName}
+use Rattle.escrow_num.specs.Ascending.{IsAscending}
+use Rattle.escrow_num.specs.Order.{same_row}
+use Rattle.escrow_num.specs.Refusal.{refuse_if}
 use Rattle.escrow_sql.specs.declared.statement.RowText.{RowText}
 use Rattle.escrow_sql.specs.declared.statement.SelectText.{SelectText}
 use Rattle.escrow_sql.specs.declared.statement.Statement.TheVariants as statement
 use Rattle.escrow_schema.specs.declared.table.TableDef.{TableDef}
 use Rattle.escrow_schema.specs.Catalog.{table_named}
 use Rattle.escrow_schema.specs.Print.{canonical}
+use Rattle.escrow_cells.specs.declared.failure.Failure.{Failure}
+use Rattle.escrow_cells.specs.declared.failure.Failure.TheVariants as failure
+use Rattle.escrow_tables.specs.Told.{told}
+use Rattle.escrow_core.specs.declared.reply.Reply.{Reply}
 use Rattle.escrow_core.specs.declared.reply.Reply.TheVariants as reply
-use Rattle.escrow_core.specs.Asked.{select_reply}
-use Rattle.escrow_core.specs.Bounds.{bounds_reply}
+use Rattle.escrow_core.specs.Asked.{key_refusal_of, named_by, select_refusal_of, select_reply}
+use Rattle.escrow_core.specs.Bounds.{bounds_in, bounds_reply}
 use Rattle.escrow_core.specs.Journal.{journal_reply}
-use Rattle.escrow_core.specs.Serving.{IsAccepted}
-use Rattle.escrow_core.specs.State.{State}
+use Rattle.escrow_core.specs.Serving.{IsAccepted, IsRefusal, PassesEarly, is_known}
+use Rattle.escrow_core.specs.State.{State, row_named}
 use Rattle.escrow_core.specs.Step.{StepOrRefusal}
 use Rattle.escrow_core.specs.Turn.{turn_of}
+use Rattle.escrow_core.specs.Valid.{row_before}
+use Rattle.escrow_rows.proofs.OneRow.{rows_named}
+use Rattle.escrow_core.proofs.Refusals.{lacking, none_there, passed, some_found, there}
+use Rattle.escrow_core.proofs.Serving.{fails, late_applies, none_applies}
 use Rattle.escrow_core.proofs.Served.{rule_serves, accepted_serves, memory_serves}
 
 pub select_serves : (s : State) (session : ℕ) (text : SelectText) → IsAccepted s session (statement.Select text)
@@ -23,15 +36,81 @@ pub select_serves : (s : State) (session : ℕ) (text : SelectText) → IsAccept
 unfolding turn_of
 select_serves s session text accepted = accepted_serves s session (statement.Select text) accepted
 
+-- SELECT of a table that isn't refused early: the table is there, and none applies
+pub select_table : (s : State) (session : ℕ) (text : SelectText) → PassesEarly s session (statement.Select text) → IsSome (table_named s.catalog text.table)
+unfolding turn_of
+select_table s session text early =
+    let unknown = refuse_if (is_none (table_named s.catalog text.table)) refusal.NoSuchTable in
+    there (table_named s.catalog text.table) refusal.NoSuchTable (passed unknown (select_refusal_of s text ∷ []) early).first
+
+pub select_answers : (s : State) (session : ℕ) (text : SelectText) (answer : Reply) → PassesEarly s session (statement.Select text) → answer ≡ select_reply s text
+    → StepOrRefusal s session (statement.Select text) answer s
+unfolding turn_of
+select_answers s session text answer early is =
+    subst (λ (r : Reply). StepOrRefusal s session (statement.Select text) r s) (sym is) (select_serves s session text (none_applies s session (statement.Select text) early refl))
+
+pub select_fails : (s : State) (session : ℕ) (text : SelectText) (f : Failure) → PassesEarly s session (statement.Select text) → IsRefusal s session (statement.Select text) (told f)
+unfolding turn_of
+select_fails s session text f early = fails s session (statement.Select text) f early refl
+
+-- the rows of a name are the one that is found by it
+pub selects_one : (rows : List Row) (name : RowName) (found : Option Row) → IsAscending row_before rows → found ≡ row_named rows name
+    → option_to_list found ≡ filter (λ row. same_row row.name name) rows
+selects_one rows name found order is = ap option_to_list is ∙ sym (rows_named rows name order)
+
 pub bounds_serves : (s : State) (session : ℕ) (text : RowText) → IsAccepted s session (statement.ShowBounds text)
     → StepOrRefusal s session (statement.ShowBounds text) (bounds_reply s text) s
 unfolding turn_of
 bounds_serves s session text accepted = accepted_serves s session (statement.ShowBounds text) accepted
 
+-- SHOW BOUNDS that isn't refused early: the table is there, and only a row that isn't there is refused late
+pub bounds_table : (s : State) (session : ℕ) (text : RowText) → PassesEarly s session (statement.ShowBounds text) → IsSome (table_named s.catalog text.table)
+unfolding turn_of
+bounds_table s session text early =
+    let unknown = refuse_if (is_none (table_named s.catalog text.table)) refusal.NoSuchTable in
+    there (table_named s.catalog text.table) refusal.NoSuchTable (passed unknown (key_refusal_of s text.table text.row ∷ []) early).first
+
+pub bounds_lack : (s : State) (session : ℕ) (text : RowText) (name : RowName) → name ≡ named_by text.table text.row → PassesEarly s session (statement.ShowBounds text)
+    → None ≡ row_named s.rows name → IsRefusal s session (statement.ShowBounds text) refusal.NoSuchRow
+unfolding turn_of
+bounds_lack s session text name is early none =
+    late_applies s session (statement.ShowBounds text) refusal.NoSuchRow early
+    (lacking (row_named s.rows (named_by text.table text.row)) refusal.NoSuchRow [] (ap (row_named s.rows) (sym is) ∙ sym none))
+
+pub bounds_fails : (s : State) (session : ℕ) (text : RowText) (f : Failure) → PassesEarly s session (statement.ShowBounds text) → IsRefusal s session (statement.ShowBounds text) (told f)
+unfolding turn_of
+bounds_fails s session text f early = fails s session (statement.ShowBounds text) f early refl
+
+pub bounds_answers : (s : State) (session : ℕ) (text : RowText) (table : TableDef) (row : Row) → row.name ≡ named_by text.table text.row → PassesEarly s session (statement.ShowBounds text)
+    → table_named s.catalog text.table ≡ Some table → row_named s.rows row.name ≡ Some row
+    → StepOrRefusal s session (statement.ShowBounds text) (bounds_in s.reservations table row) s
+unfolding turn_of
+bounds_answers s session text table row same early named stands =
+    let found : row_named s.rows (named_by text.table text.row) ≡ Some row = ap (row_named s.rows) (sym same) ∙ stands in
+    let accepted = none_applies s session (statement.ShowBounds text) early (rw found refl) in
+    let is : bounds_reply s text ≡ bounds_in s.reservations table row = rw (named, found) refl in
+    subst (λ (r : Reply). StepOrRefusal s session (statement.ShowBounds text) r s) is (bounds_serves s session text accepted)
+
 pub journal_serves : (s : State) (session : ℕ) (table : Option (List ℕ)) → IsAccepted s session (statement.ShowJournal table)
     → StepOrRefusal s session (statement.ShowJournal table) (journal_reply s table) s
 unfolding turn_of
 journal_serves s session table accepted = accepted_serves s session (statement.ShowJournal table) accepted
+
+-- SHOW JOURNAL of a table that is there, or of all, and of one that isn't
+pub journal_accepted : (s : State) (session : ℕ) (table : Option (List ℕ)) → is_known s table ≡ true → IsAccepted s session (statement.ShowJournal table)
+unfolding turn_of
+journal_accepted s session None known = refl
+journal_accepted s session (Some name) known = let found = some_found (table_named s.catalog name) known in rw found.1 refl
+
+pub journal_wants : (s : State) (session : ℕ) (table : Option (List ℕ)) → is_known s table ≡ true → IsRefusal s session (statement.ShowJournal table) refusal.Memory
+unfolding turn_of
+journal_wants s session None known = inr (failure.Memory, refl, refl)
+journal_wants s session (Some name) known = let found = some_found (table_named s.catalog name) known in inr (failure.Memory, refl, rw found.1 refl)
+
+pub journal_refuses : (s : State) (session : ℕ) (table : Option (List ℕ)) → is_known s table ≡ false → IsRefusal s session (statement.ShowJournal table) refusal.NoSuchTable
+unfolding turn_of
+journal_refuses s session None unknown = absurd (true≢false unknown)
+journal_refuses s session (Some name) unknown = inl (rw (none_there (table_named s.catalog name) unknown) refl)
 
 -- SHOW TABLE of a table that isn't there, and of one that is
 pub show_refuses : (s : State) (session : ℕ) (name : List ℕ) → table_named s.catalog name ≡ None

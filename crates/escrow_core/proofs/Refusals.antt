@@ -1,5 +1,5 @@
 -- Lists of refusals: where none applies each test failed, and what holds of each holds of the first that applies.
-use Rattle.std.specs.Prelude.{◌≡◌, ℕ, ◌<◌, ◌≤◌, Bool, true, false, nat_le, nat_lt, is_some, is_none, option_map, IfSome, Option, Some, None, Result, Ok, Err, List, [], ◌∷◌, ◌++◌}
+use Rattle.std.specs.Prelude.{◌≡◌, ℕ, ◌<◌, ◌≤◌, Bool, true, false, nat_le, nat_lt, is_some, is_none, option_map, IfSome, IsSome, Option, Some, None, Result, Ok, Err, List, [], ◌∷◌, ◌++◌}
 use Rattle.std.specs.List.{AllByRecursion}
 use Rattle.std.proofs.Common.{refl, subst, arith}
 use Rattle.std.proofs.lemmas.Bool.Decides.{nat_tests}
@@ -28,6 +28,12 @@ first_in_front [] late r first = absurd (cc)
 first_in_front (None ∷ early) late r first = first_in_front early late r first
 first_in_front (Some other ∷ early) late r first = first
 
+-- the first of the late ones comes where no early one applies
+pub first_behind : (early late : List (Option Refusal)) → first_refusal early ≡ None → first_refusal (early ++ late) ≡ first_refusal late
+first_behind [] late none = refl
+first_behind (None ∷ early) late none = first_behind early late none
+first_behind (Some r ∷ early) late none = absurd (cc)
+
 -- what a test that refuses nothing says
 pub failed : (b : Bool) (r : Refusal) → refuse_if b r ≡ None → b ≡ false
 failed true r e = absurd (cc)
@@ -44,6 +50,22 @@ none_there None e = refl
 pub some_there : {A : Type 0} (o : Option A) → is_none o ≡ false → (x : A) × (o ≡ Some x)
 some_there (Some x) e = (x, refl)
 some_there None e = absurd (cc)
+
+-- what isn't refused for its lack is there, and what isn't there is refused
+pub there : {A : Type 0} (o : Option A) (r : Refusal) → refuse_if (is_none o) r ≡ None → IsSome o
+there (Some x) r e = refl
+there None r e = absurd (cc)
+
+pub standing : {A : Type 0} (o : Option A) → IsSome o → is_none o ≡ false
+standing (Some x) is = refl
+standing None is = absurd (cc)
+
+pub lacking : {A : Type 0} (o : Option A) (r : Refusal) (rest : List (Option Refusal)) → o ≡ None → first_refusal (refuse_if (is_none o) r ∷ rest) ≡ Some r
+lacking o r rest e = rw e refl
+
+pub some_found : {A : Type 0} (o : Option A) → is_some o ≡ true → (x : A) × (o ≡ Some x)
+some_found (Some x) e = (x, refl)
+some_found None e = absurd (cc)
 
 pub below : (limit n : ℕ) → nat_le limit n ≡ false → n < limit
 below limit n e = grind (arith, nat_tests)

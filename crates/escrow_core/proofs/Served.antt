@@ -6,36 +6,30 @@ use Rattle.escrow_num.specs.declared.refusal.Refusal.{Refusal}
 use Rattle.escrow_num.specs.declared.refusal.Refusal.TheVariants as refusal
 use Rattle.escrow_num.specs.declared.reservation.Savepoint.{Savepoint}
 use Rattle.escrow_num.specs.Refusal.{refuse_if, first_refusal}
-use Rattle.escrow_num.specs.declared.row.Row.{Row}
 use Rattle.escrow_sql.specs.declared.statement.Statement.{Statement}
 use Rattle.escrow_sql.specs.declared.statement.Statement.TheVariants as statement
-use Rattle.escrow_sql.specs.declared.statement.CreateText.{CreateText}
-use Rattle.escrow_sql.specs.declared.statement.InsertText.{InsertText}
 use Rattle.escrow_sql.specs.declared.statement.UpdateText.{UpdateText}
-use Rattle.escrow_sql.specs.declared.statement.RowText.{RowText}
 use Rattle.escrow_schema.specs.declared.plan.Plan.{Plan}
-use Rattle.escrow_schema.specs.declared.table.TableDef.{TableDef}
-use Rattle.escrow_schema.specs.Catalog.{with_table}
-use Rattle.escrow_schema.specs.Definition.{definition_of}
 use Rattle.escrow_core.specs.declared.reply.Reply.{Reply}
 use Rattle.escrow_core.specs.declared.reply.Reply.TheVariants as reply
-use Rattle.escrow_core.specs.declared.reply.Failure.{Failure}
-use Rattle.escrow_core.specs.declared.reply.Failure.TheVariants as failure
+use Rattle.escrow_cells.specs.declared.failure.Failure.{Failure}
+use Rattle.escrow_cells.specs.declared.failure.Failure.TheVariants as failure
+use Rattle.escrow_tables.specs.Told.{told}
 use Rattle.escrow_core.specs.Reply.{failure_of}
 use Rattle.escrow_core.specs.Serving.{IsAccepted, IsRefusal}
 use Rattle.escrow_journal.specs.declared.journal.TheConstants.Journal.{MAX_SAVEPOINTS}
 use Rattle.escrow_journal.specs.Reservations.{own, own_savepoints}
 use Rattle.escrow_journal.specs.Savepoints.{savepoint_of, without_savepoint, after}
-use Rattle.escrow_core.specs.State.{State, with_row}
+use Rattle.escrow_core.specs.State.{State}
 use Rattle.escrow_core.specs.Step.{refusals, step, may_fail, IsStep, StepOrRefusal}
-use Rattle.escrow_core.specs.Turn.{turn_of, update_reply, after_update, after_drop, after_delete, after_commit, after_rollback, after_savepoint, returned_to, after_rollback_to, released}
-use Rattle.escrow_core.specs.Asked.{row_of, plan_of}
+use Rattle.escrow_core.specs.Turn.{turn_of, update_reply, after_update, after_commit, after_rollback, after_savepoint, returned_to, after_rollback_to, released}
+use Rattle.escrow_core.specs.Asked.{plan_of}
 use Rattle.escrow_core.proofs.Refusals.{none_in_front, first_among}
 use Rattle.escrow_core.proofs.TurnWords.{IsJudged}
 use Rattle.escrow_core.proofs.Turns.{is_turn}
 
 -- a reply that is no failure is the step's
-stepped : (s : State) (session : ℕ) (asked : Statement) (answer : Reply) (new : State) → failure_of answer ≡ None
+pub stepped : (s : State) (session : ℕ) (asked : Statement) (answer : Reply) (new : State) → failure_of answer ≡ None
     → (answer, new) ≡ step s session asked → StepOrRefusal s session asked answer new
 stepped s session asked answer new succeeds is =
     subst (λ (o : Option Failure). MatchOption o (IsStep s session asked answer new) (λ f. IsTrue (may_fail s session asked f) × (new ≡ s)))
@@ -49,12 +43,18 @@ rule_serves s session asked r first =
     stepped s session asked (reply.Refused r) s (first_among IsJudged (refusals turn) (is_turn s session asked).judged r first)
     (sym (ap (λ (o : Option Refusal). unwrap_or (option_map (λ (q : Refusal). (reply.Refused q, s)) o) (turn.reply, turn.next)) first))
 
--- or out of memory
+-- a failure that the statement may meet
+told_serves : (s : State) (session : ℕ) (asked : Statement) (f : Failure) → IsTrue (may_fail s session asked f) → StepOrRefusal s session asked (reply.Refused (told f)) s
+told_serves s session asked failure.Memory may = (may, refl)
+told_serves s session asked failure.Store may = (may, refl)
+
+-- or a failure
 pub refused_serves : (s : State) (session : ℕ) (asked : Statement) (r : Refusal) → IsRefusal s session asked r
     → StepOrRefusal s session asked (reply.Refused r) s
 refused_serves s session asked r (inl by_rule) = rule_serves s session asked r by_rule
-refused_serves s session asked r (inr wanting) =
-    subst (λ (q : Refusal). StepOrRefusal s session asked (reply.Refused q) s) (sym wanting.0) (wanting.1, refl)
+refused_serves s session asked r (inr failing) =
+    let may = failing.2 in
+    subst (λ (q : Refusal). StepOrRefusal s session asked (reply.Refused q) s) (sym failing.1) (told_serves s session asked failing.0 may)
 
 -- the reply and the next state where no refusal applies
 pub accepted_serves : (s : State) (session : ℕ) (asked : Statement) → IsAccepted s session asked
@@ -72,53 +72,13 @@ memory_serves s session asked accepted wants =
     let none_early : is_none (first_refusal turn.early) ≡ true = ap (λ (o : Option Refusal). is_none o) (none_in_front turn.early turn.late accepted) in
     (and_from (is_none (first_refusal turn.early)) (turn.fails_for failure.Memory) none_early wants, refl)
 
--- CREATE TABLE, INSERT and UPDATE, each with its own reply and next state
-pub create_serves : (s : State) (session : ℕ) (text : CreateText) (table : TableDef) → IsAccepted s session (statement.Create text) → definition_of text ≡ Some table
-    → StepOrRefusal s session (statement.Create text) (reply.Created text.table) (record s { catalog = with_table table s.catalog })
-unfolding turn_of
-create_serves s session text table accepted made =
-    subst (λ (o : Option TableDef). StepOrRefusal s session (statement.Create text) (reply.Created text.table) (record s { catalog = unwrap_or (option_map (λ t. with_table t s.catalog) o) s.catalog }))
-    made (accepted_serves s session (statement.Create text) accepted)
-
-pub insert_serves : (s : State) (session : ℕ) (text : InsertText) (row : Row) → IsAccepted s session (statement.Insert text) → row_of s text ≡ Some row
-    → StepOrRefusal s session (statement.Insert text) reply.Inserted (record s { rows = with_row row s.rows })
-unfolding turn_of
-insert_serves s session text row accepted made =
-    subst (λ (o : Option Row). StepOrRefusal s session (statement.Insert text) reply.Inserted (record s { rows = unwrap_or (option_map (λ r. with_row r s.rows) o) s.rows }))
-    made (accepted_serves s session (statement.Insert text) accepted)
-
+-- UPDATE
 pub update_serves : (s : State) (session : ℕ) (text : UpdateText) (asked : Plan) → IsAccepted s session (statement.Update text) → plan_of s text ≡ Some asked
     → StepOrRefusal s session (statement.Update text) (update_reply s asked) (after_update s session text.table asked)
 unfolding turn_of
 update_serves s session text asked accepted is =
     subst (λ (o : Option Plan). StepOrRefusal s session (statement.Update text) (unwrap_or (option_map (update_reply s) o) reply.Updated) (unwrap_or (option_map (after_update s session text.table) o) s))
     is (accepted_serves s session (statement.Update text) accepted)
-
--- DROP TABLE and DELETE
-pub drop_serves : (s : State) (session : ℕ) (name : List ℕ) → IsAccepted s session (statement.Drop name)
-    → StepOrRefusal s session (statement.Drop name) (reply.Dropped name) (after_drop s name)
-unfolding turn_of
-drop_serves s session name accepted = accepted_serves s session (statement.Drop name) accepted
-
-pub delete_serves : (s : State) (session : ℕ) (text : RowText) → IsAccepted s session (statement.Delete text)
-    → StepOrRefusal s session (statement.Delete text) reply.Deleted (after_delete s text)
-unfolding turn_of
-delete_serves s session text accepted = accepted_serves s session (statement.Delete text) accepted
-
-pub create_wants : (s : State) (session : ℕ) (text : CreateText) → IsAccepted s session (statement.Create text)
-    → StepOrRefusal s session (statement.Create text) (reply.Refused refusal.Memory) s
-unfolding turn_of
-create_wants s session text accepted = memory_serves s session (statement.Create text) accepted refl
-
-pub insert_wants : (s : State) (session : ℕ) (text : InsertText) → IsAccepted s session (statement.Insert text)
-    → StepOrRefusal s session (statement.Insert text) (reply.Refused refusal.Memory) s
-unfolding turn_of
-insert_wants s session text accepted = memory_serves s session (statement.Insert text) accepted refl
-
-pub update_wants : (s : State) (session : ℕ) (text : UpdateText) → IsAccepted s session (statement.Update text)
-    → StepOrRefusal s session (statement.Update text) (reply.Refused refusal.Memory) s
-unfolding turn_of
-update_wants s session text accepted = memory_serves s session (statement.Update text) accepted refl
 
 -- COMMIT and ROLLBACK
 pub commit_serves : (s : State) (session : ℕ) → StepOrRefusal s session statement.Commit (reply.Committed (length (own session s.reservations))) (after_commit s session)

@@ -1,5 +1,5 @@
 -- The open reservations, session by session.
-use Rattle.std.proofs.Common.{◌≡◌, inl, inr, ℕ, zero, suc, ◌+◌, ◌<◌, ◌≤◌, ◌==◌, ℤ, pos, ◌+ℤ◌, Bool, true, false, cond, ◌||◌, ◌&&◌, nat_le, not, List, [], ◌∷◌, ◌++◌, length, refl, subst, arith}
+use Rattle.std.proofs.Common.{◌≡◌, inl, inr, ℕ, ◌+◌, ◌≤◌, ◌==◌, ℤ, ◌+ℤ◌, Bool, true, false, cond, ◌||◌, ◌&&◌, nat_le, not, List, [], ◌∷◌, ◌++◌, length, refl, arith}
 use Rattle.std.specs.Prelude.{map, filter}
 use Rattle.std.specs.List.{AllByRecursion, list_any}
 use Rattle.std.proofs.lemmas.Bool.{lt-leb, le-leb, or_cases, or_left, or_right}
@@ -16,8 +16,8 @@ use Rattle.escrow_journal.specs.Reservations.{own}
 use Rattle.escrow_num.proofs.Items.{has_all, all_has, has_filter}
 use Rattle.escrow_core.specs.Serving.{AreOpen, AreSpreads, IsShort}
 use Rattle.escrow_core.specs.State.{State}
-use Rattle.escrow_core.specs.Valid.{IsValid, IsReservationIn}
-use Rattle.escrow_core.proofs.Shapes.{few_reservations, short_reservations}
+use Rattle.escrow_core.specs.Valid.{IsReservationIn}
+use Rattle.escrow_core.proofs.Shapes.{HasOrder, few_reservations, short_reservations}
 
 -- the reservations of the first sessions, in order of grant
 abbrev pub first_sessions : ℕ → List Reservation → List Reservation
@@ -177,11 +177,11 @@ few_first n reservations =
     let both = length-filter_both (λ (r : Reservation). nat_le r.session n) (λ (r : Reservation). not (nat_le r.session n)) (λ _. refl) reservations in
     omega (arith, both)
 
--- the open reservations of a valid state can be walked
-pub open_ones : (s : State) → IsValid s → AreOpen s.reservations
-open_ones s valid = record {
+-- open reservations can be walked, whatever the rows are
+pub open_ones : (s : State) → HasOrder s → AreOpen s.reservations
+open_ones s orderly = record {
   sessions = has_all (λ (r : Reservation). IsSession r.session) s.reservations
-      (λ r h. (all_has (IsReservationIn s.catalog s.next_id) s.reservations valid.orderly.reservations_in r h).session);
-  short = short_reservations s valid;
-  few = few_reservations s valid;
+      (λ r h. (all_has (IsReservationIn s.catalog s.next_id) s.reservations orderly.reservations_in r h).session);
+  short = short_reservations s orderly;
+  few = few_reservations s orderly;
 }

@@ -10,7 +10,7 @@ use Rattle.escrow_core.proofs.Accepted.{savepoint_room}
 use Rattle.escrow_core.proofs.Refusals.{if_among}
 use Rattle.escrow_core.proofs.ValidEnds.{back_has, back_valid}
 use Rattle.escrow_core.proofs.ValidSavepoint.{savepoint_valid}
-use Rattle.escrow_core.proofs.TurnWords.{IsJudged, IsTurn, memory_alone, unseen}
+use Rattle.escrow_core.proofs.TurnWords.{IsJudged, IsTurn, fails_memory, unseen}
 
 pub savepoint_turn : (s : State) (session : ℕ) (name : List ℕ) → IsTurn s session (statement.Savepoint name) (turn_of s session (statement.Savepoint name))
 unfolding turn_of
@@ -19,7 +19,7 @@ savepoint_turn s session name = record {
   succeeds = refl;
   judged = (if_among IsJudged _ _ refl, tt);
   late = tt;
-  memory = memory_alone;
+  fails = fails_memory s session (statement.Savepoint name) refl;
   seen = λ _. unseen s session (statement.Savepoint name) (reply.Savepoint name) refl (λ e. absurd (cc));
   ids = λ _. le_refl _;
   next = λ _ id e. absurd (cc);
@@ -36,7 +36,7 @@ back_turn s session name =
       succeeds = refl;
       judged = (if_among IsJudged _ _ refl, tt);
       late = tt;
-      memory = λ f e. absurd (cc);
+      fails = λ f e. absurd (cc);
       seen = λ _. back_has (λ (t : State). IsSeen s session (statement.RollbackTo name) answer t.rows) s session name quiet (λ _. quiet);
       ids = λ _. back_has (λ (t : State). s.next_id ≤ t.next_id) s session name (le_refl _) (λ _. le_refl _);
       next = λ _ id e. absurd (cc);

@@ -16,7 +16,7 @@ use Rattle.escrow_core.specs.Asked.{plan_of, plan_refusal_of, row_name, reservat
 use Rattle.escrow_core.specs.Serving.{IsAccepted}
 use Rattle.escrow_core.specs.State.{State, with_plain}
 use Rattle.escrow_core.specs.Step.{refusals}
-use Rattle.escrow_core.specs.Turn.{Turn, turn_of, for_memory, granted, update_refusals, update_reply, after_update}
+use Rattle.escrow_core.specs.Turn.{Turn, turn_of, for_any, granted, update_refusals, update_reply, after_update}
 use Rattle.escrow_core.specs.Valid.{IsValid}
 use Rattle.escrow_core.proofs.Accepted.{plan_there, reserve_stands, plain_stands}
 use Rattle.escrow_core.proofs.Plans.{plan_among}
@@ -24,7 +24,7 @@ use Rattle.escrow_core.proofs.Refusals.{if_among, check_among}
 use Rattle.escrow_schema.proofs.PlanLemmas.{plans_of_whole_row, plain_plans_fit}
 use Rattle.escrow_core.proofs.ValidPlain.{plain_valid}
 use Rattle.escrow_core.proofs.ValidUpdate.{update_valid}
-use Rattle.escrow_core.proofs.TurnWords.{IsJudged, NeedsMore, IsTurn, memory_alone, unseen}
+use Rattle.escrow_core.proofs.TurnWords.{IsJudged, NeedsMore, IsTurn, fails_any, unseen}
 
 -- the turn of an UPDATE, by its plan
 abbrev update_by : State → ℕ → UpdateText → Option Plan → Turn
@@ -33,7 +33,7 @@ update_by s session text o = record {
   late = unwrap_or (option_map (update_refusals s session text.table) o) [];
   reply = unwrap_or (option_map (update_reply s) o) reply.Updated;
   next = unwrap_or (option_map (after_update s session text.table) o) s;
-  fails_for = for_memory;
+  fails_for = for_any;
 }
 
 -- a reservation that is granted leaves the state valid
@@ -69,7 +69,7 @@ update_turn_by s session text None is accepts = record {
   succeeds = refl;
   judged = (if_among IsJudged _ _ refl, (plan_among IsJudged s text refl refl refl, tt));
   late = tt;
-  memory = memory_alone;
+  fails = fails_any s session (statement.Update text) refl refl;
   seen = λ accepted. absurd (no_plan s text [] is accepted);
   ids = λ _. le_refl _;
   next = λ _ id e. absurd (cc);
@@ -101,7 +101,7 @@ update_turn_by s session text (Some (plan.Reserve key changes)) is accepts = rec
       ),
     ),
   );
-  memory = memory_alone;
+  fails = fails_any s session (statement.Update text) refl refl;
   seen = λ _. unseen s session (statement.Update text) (reply.Reserved s.next_id) refl (λ e. absurd (cc));
   ids = λ _. more s.next_id;
   next = λ _ id answered. let same : id ≡ s.next_id = cc in (same, refl);
@@ -115,7 +115,7 @@ update_turn_by s session text (Some (plan.Plain key values)) is accepts = record
     (plan_among IsJudged s text refl refl refl, (if_among IsJudged _ _ refl, (if_among IsJudged _ _ refl, tt))),
   );
   late = (if_among (NeedsMore (statement.Update text)) _ _ refl, (if_among (NeedsMore (statement.Update text)) _ _ refl, tt));
-  memory = memory_alone;
+  fails = fails_any s session (statement.Update text) refl refl;
   seen = λ _. record {
     dropped = λ name answered. absurd (cc);
     inserted = λ other asked _. absurd (cc);

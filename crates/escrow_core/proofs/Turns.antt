@@ -1,5 +1,5 @@
 -- What each statement's turn is like, one lemma a statement: what the laws of steps rest on.
-use Rattle.std.specs.Prelude.{◌≡◌, ℕ, ◌<◌, bytes_eq, false, is_none, unwrap_or, option_map, option_and_then, IfSome, Option, Some, None, List, [], length}
+use Rattle.std.specs.Prelude.{◌≡◌, ℕ, ◌<◌, Bool, true, false, not, nat_lt, if◌then◌else◌, bytes_eq, is_none, unwrap_or, option_map, option_and_then, IfSome, Option, Some, None, List, [], length}
 use Rattle.std.proofs.Common.{refl, sym, ap, subst, le_refl, ◌∙◌}
 use Rattle.escrow_num.specs.declared.refusal.Refusal.{Refusal}
 use Rattle.escrow_num.specs.declared.refusal.Refusal.TheVariants as refusal
@@ -15,7 +15,8 @@ use Rattle.escrow_sql.specs.declared.statement.RowText.{RowText}
 use Rattle.escrow_sql.specs.declared.statement.SelectText.{SelectText}
 use Rattle.escrow_schema.specs.declared.table.TableDef.{TableDef}
 use Rattle.escrow_schema.specs.Catalog.{table_named}
-use Rattle.escrow_core.specs.declared.database.TheConstants.Database.{MAX_ROWS}
+use Rattle.escrow_rows.specs.declared.stored.TheConstants.StoredTable.{MAX_ROWS}
+use Rattle.escrow_cells.specs.declared.failure.Failure.{Failure}
 use Rattle.escrow_core.specs.declared.reply.Reply.{Reply}
 use Rattle.escrow_core.specs.declared.reply.Reply.TheVariants as reply
 use Rattle.escrow_core.specs.Asked.{row_of, insert_breach, named_by, select_reply, show_reply}
@@ -26,7 +27,7 @@ use Rattle.escrow_core.specs.Reply.{failure_of}
 use Rattle.escrow_core.specs.Serving.{IsAccepted}
 use Rattle.escrow_journal.specs.Reservations.{own}
 use Rattle.escrow_core.specs.State.{State, row_named, rows_of, with_row, without_row, without_rows_of}
-use Rattle.escrow_core.specs.Turn.{turn_of, after_insert}
+use Rattle.escrow_core.specs.Turn.{turn_of, after_insert, for_any, for_nothing}
 use Rattle.escrow_core.specs.Valid.{IsValid}
 use Rattle.escrow_core.proofs.Accepted.{create_stands, insert_stands, drop_stands, delete_stands}
 use Rattle.escrow_core.proofs.Plans.{key_among, select_among}
@@ -37,7 +38,7 @@ use Rattle.escrow_core.proofs.ValidDrop.{drop_valid}
 use Rattle.escrow_core.proofs.ValidEnds.{commit_valid, rollback_valid}
 use Rattle.escrow_core.proofs.ValidInsert.{insert_valid}
 use Rattle.escrow_core.proofs.TurnSavepoints.{savepoint_turn, back_turn}
-use Rattle.escrow_core.proofs.TurnWords.{IsJudged, NeedsMore, IsTurn, memory_alone, unseen}
+use Rattle.escrow_core.proofs.TurnWords.{FailsFor, IsJudged, NeedsMore, IsTurn, fails_any, fails_memory, unseen}
 use Rattle.escrow_core.proofs.TurnUpdate.{update_turn}
 
 -- a table that is found has the name that was looked for
@@ -51,7 +52,7 @@ create_turn s session text = record {
   succeeds = refl;
   judged = (if_among IsJudged _ _ refl, (if_among IsJudged _ _ refl, (if_among IsJudged _ _ refl, (if_among IsJudged _ _ refl, tt))));
   late = (if_among (NeedsMore (statement.Create text)) _ _ refl, (if_among (NeedsMore (statement.Create text)) _ _ refl, tt));
-  memory = memory_alone;
+  fails = fails_any s session (statement.Create text) refl refl;
   seen = λ _. unseen s session (statement.Create text) (reply.Created text.table) refl (λ e. absurd (cc));
   ids = λ _. le_refl _;
   next = λ _ id e. absurd (cc);
@@ -67,7 +68,7 @@ drop_turn s session name = record {
   succeeds = refl;
   judged = (if_among IsJudged _ _ refl, (if_among IsJudged _ _ refl, (if_among IsJudged _ _ refl, tt)));
   late = tt;
-  memory = λ f e. absurd (cc);
+  fails = fails_any s session (statement.Drop name) refl refl;
   seen = λ _. record {
     dropped = λ other answered. let same : name ≡ other = cc in ap (λ (n : List ℕ). without_rows_of n s.rows) same;
     inserted = λ text is _. absurd (cc);
@@ -118,7 +119,7 @@ insert_turn s session text = record {
       (check_among (NeedsMore (statement.Insert text)) (insert_breach s text) (λ _. refl), tt),
     ),
   );
-  memory = memory_alone;
+  fails = fails_any s session (statement.Insert text) refl refl;
   seen = λ accepted.
       let stands = insert_stands s session text accepted in
       let rows : (after_insert s text).rows ≡ with_row stands.row s.rows = rw stands.made refl in
@@ -151,8 +152,8 @@ delete_turn s session text = record {
       (key_among IsJudged s text.table text.row refl refl, (if_among IsJudged _ _ refl, (if_among IsJudged _ _ refl, tt))),
     ),
   );
-  late = tt;
-  memory = λ f e. absurd (cc);
+  late = (if_among (NeedsMore (statement.Delete text)) _ _ refl, (if_among (NeedsMore (statement.Delete text)) _ _ refl, tt));
+  fails = fails_any s session (statement.Delete text) refl refl;
   seen = λ _. record {
     dropped = λ name answered. absurd (cc);
     inserted = λ other asked _. absurd (cc);
@@ -207,7 +208,7 @@ select_turn s session text =
       succeeds = shows.1;
       judged = (if_among IsJudged _ _ refl, (select_among IsJudged s text refl refl, tt));
       late = tt;
-      memory = memory_alone;
+      fails = fails_any s session (statement.Select text) refl refl;
       seen = λ _. unseen s session (statement.Select text) (select_reply s text) shows.2 (λ e. absurd (cc));
       ids = λ _. le_refl _;
       next = λ _ id e. absurd (shows.3 id e);
@@ -223,7 +224,7 @@ show_turn s session name =
       succeeds = shows.1;
       judged = (if_among IsJudged _ _ refl, tt);
       late = tt;
-      memory = memory_alone;
+      fails = fails_memory s session (statement.ShowTable name) refl;
       seen = λ _. unseen s session (statement.ShowTable name) (show_reply s name) shows.2 (λ e. absurd (cc));
       ids = λ _. le_refl _;
       next = λ _ id e. absurd (shows.3 id e);
@@ -238,8 +239,8 @@ bounds_turn s session text =
       answers = shows.0;
       succeeds = shows.1;
       judged = (if_among IsJudged _ _ refl, (key_among IsJudged s text.table text.row refl refl, (if_among IsJudged _ _ refl, tt)));
-      late = tt;
-      memory = memory_alone;
+      late = (if_among (NeedsMore (statement.ShowBounds text)) _ _ refl, tt);
+      fails = fails_any s session (statement.ShowBounds text) refl refl;
       seen = λ _. unseen s session (statement.ShowBounds text) (bounds_reply s text) shows.2 (λ e. absurd (cc));
       ids = λ _. le_refl _;
       next = λ _ id e. absurd (shows.3 id e);
@@ -258,12 +259,21 @@ journal_turn s session table = record {
   succeeds = refl;
   judged = (journal_among s table, tt);
   late = tt;
-  memory = memory_alone;
+  fails = fails_memory s session (statement.ShowJournal table) refl;
   seen = λ _. unseen s session (statement.ShowJournal table) (journal_reply s table) refl (λ e. absurd (cc));
   ids = λ _. le_refl _;
   next = λ _ id e. absurd (cc);
   valid = λ _ valid _. valid;
 }
+
+-- COMMIT fails only where its session holds a reservation
+commit_may : (s : State) (session : ℕ) (holds : Bool) → nat_lt 0 (length (own session s.reservations)) ≡ holds
+    → (f : Failure) → (if holds then for_any else for_nothing) f ≡ true → FailsFor s session statement.Commit f
+commit_may s session true is f e = (ap not is, λ _. is)
+commit_may s session false is f e = absurd (cc)
+
+commit_fails : (s : State) (session : ℕ) (f : Failure) → (if nat_lt 0 (length (own session s.reservations)) then for_any else for_nothing) f ≡ true → FailsFor s session statement.Commit f
+commit_fails s session f e = commit_may s session (nat_lt 0 (length (own session s.reservations))) refl f e
 
 commit_turn : (s : State) (session : ℕ) → IsTurn s session statement.Commit (turn_of s session statement.Commit)
 unfolding turn_of
@@ -272,7 +282,7 @@ commit_turn s session = record {
   succeeds = refl;
   judged = tt;
   late = tt;
-  memory = λ f e. absurd (cc);
+  fails = commit_fails s session;
   seen = λ _. record {
     dropped = λ name e. absurd (cc);
     inserted = λ text e. absurd (cc);
@@ -293,7 +303,7 @@ rollback_turn s session = record {
   succeeds = refl;
   judged = tt;
   late = tt;
-  memory = λ f e. absurd (cc);
+  fails = λ f e. absurd (cc);
   seen = λ _. unseen s session statement.Rollback (reply.RolledBack (length (own session s.reservations))) refl (λ e. absurd (cc));
   ids = λ _. le_refl _;
   next = λ _ id e. absurd (cc);

@@ -1,13 +1,12 @@
 -- What the table of transactions answers, beside the machine's turns.
-use Rattle.std.specs.Prelude.{◌≡◌, ◌⊎◌, ℕ, ℤ, nat_le, nat_lt, is_none, length, IfSome, Option, Some, None, unwrap_or, option_map, Result, Ok, Err, List, [], ◌∷◌}
-use Rattle.std.proofs.Common.{inl, inr, refl, sym, ap, ◌∙◌}
+use Rattle.std.specs.Prelude.{◌≡◌, ℕ, ℤ, nat_le, nat_lt, is_none, length, IfSome, Option, Some, None, unwrap_or, option_map, Result, Err, List, [], ◌∷◌}
+use Rattle.std.proofs.Common.{refl, sym, ap, ◌∙◌}
 use Rattle.escrow_num.specs.declared.refusal.Refusal.{Refusal}
 use Rattle.escrow_num.specs.declared.refusal.Refusal.TheVariants as refusal
 use Rattle.escrow_num.specs.declared.reservation.Savepoint.{Savepoint}
 use Rattle.escrow_num.specs.declared.value.Value.{Value}
 use Rattle.escrow_num.specs.Refusal.{refuse_if, first_refusal}
 use Rattle.escrow_sql.specs.declared.statement.Statement.TheVariants as statement
-use Rattle.escrow_sql.specs.declared.statement.UpdateText.{UpdateText}
 use Rattle.escrow_schema.specs.declared.plan.Plan.TheVariants as plan
 use Rattle.escrow_num.specs.declared.reservation.TheConstants.Reservation.{MAX_ID}
 use Rattle.escrow_journal.specs.declared.journal.TheConstants.Journal.{MAX_RESERVATIONS}
@@ -15,13 +14,10 @@ use Rattle.escrow_journal.specs.Reservations.{own}
 use Rattle.escrow_journal.specs.Savepoints.{savepoint_of}
 use Rattle.escrow_txn.specs.Open.{Open, grant_refusal, savepoint_refusal, cut_back}
 use Rattle.escrow_txn.specs.Open as txn
-use Rattle.escrow_core.specs.declared.reply.Reply.TheVariants as reply
 use Rattle.escrow_core.specs.Asked.{row_name, reservation_from, breach_of}
 use Rattle.escrow_core.specs.Serving.{IsAccepted}
 use Rattle.escrow_core.specs.State.{State, row_named}
-use Rattle.escrow_core.specs.Step.{StepOrRefusal}
 use Rattle.escrow_core.specs.Turn.{turn_of, update_refusals, after_rollback_to, returned_to}
-use Rattle.escrow_core.proofs.Served.{update_wants}
 
 -- what is open in a state
 abbrev pub open_in : State → Open
@@ -69,10 +65,3 @@ grant_accepted s session table key changes none =
     let ids = refuse_if (nat_lt MAX_ID s.next_id) refusal.NoMoreIds in
     let checks = option_map refusal.Check (breach_of s (reservation_from s session (row_name table key) changes)) in
     first_two row many ids (checks ∷ []) none
-
--- so what a grant is then refused for is want of memory
-pub grant_wants : (s : State) (session : ℕ) (text : UpdateText) (r : Refusal) → IsAccepted s session (statement.Update text)
-    → grant_refusal session (open_in s) ≡ None → (grant_refusal session (open_in s) ≡ Some r) ⊎ (r ≡ refusal.Memory)
-    → StepOrRefusal s session (statement.Update text) (reply.Refused r) s
-grant_wants s session text r accepted none (inl e) = let both : None ≡ Some r = sym none ∙ e in absurd (cc)
-grant_wants s session text r accepted none (inr e) = rw e (update_wants s session text accepted)

@@ -17,7 +17,7 @@ use Rattle.escrow_schema.specs.Column.{reservables}
 use Rattle.escrow_schema.specs.Definition.{definition_of}
 use Rattle.escrow_schema.specs.Fit.{IsRowOf}
 use Rattle.escrow_core.specs.State.{State, row_after, applied}
-use Rattle.escrow_core.specs.Valid.{IsValid, IsReservationIn, HasTable, MeetsChecks}
+use Rattle.escrow_core.specs.Valid.{IsValid, IsOrderly, IsReservationIn, HasTable, MeetsChecks}
 use Rattle.escrow_core.proofs.Choices.{IsChoice, choices_all}
 use Rattle.escrow_core.proofs.Safe.{safe_row, safe_rows}
 use Rattle.escrow_schema.proofs.CatalogLemmas.{with_new, with_table_put}
@@ -33,36 +33,49 @@ still_named catalog table name P new h =
           (subst (λ o. IsSomeAnd o P) (sym (find_put table_before (λ t. bytes_eq t.name name) table catalog f)) h)
     ]
 
--- CREATE TABLE keeps a valid state valid
-pub create_valid : (s : State) (text : CreateText) (table : TableDef) → IsValid s → definition_of text ≡ Some table
-    → table_named s.catalog text.table ≡ None → length s.catalog < MAX_TABLES
-    → IsValid (record s { catalog = with_table table s.catalog })
-create_valid s text table valid made new room =
-    let free : table_named s.catalog table.name ≡ None = subst (λ n. table_named s.catalog n ≡ None) (sym (name_of_table text table made)) new in
+-- a table's name is free where the name in its text is
+free_name : (catalog : List TableDef) (text : CreateText) (table : TableDef) → definition_of text ≡ Some table → table_named catalog text.table ≡ None → table_named catalog table.name ≡ None
+free_name catalog text table made new = subst (λ n. table_named catalog n ≡ None) (sym (name_of_table text table made)) new
+
+-- CREATE TABLE keeps what is in order in order
+pub create_orderly : (s : State) (text : CreateText) (table : TableDef) → IsOrderly s.catalog s.reservations s.savepoints s.next_id
+    → definition_of text ≡ Some table → table_named s.catalog text.table ≡ None → length s.catalog < MAX_TABLES
+    → IsOrderly (with_table table s.catalog) s.reservations s.savepoints s.next_id
+create_orderly s text table orderly made new room =
+    let free = free_name s.catalog text table made new in
     let catalog : List TableDef = with_table table s.catalog in
-    let Safe : List Reservation → Type 0 = λ c. AllByRecursion (MeetsChecks catalog) (applied s.rows c) in
     let still_in : (r : Reservation) → Has s.reservations r → IsReservationIn catalog s.next_id r = λ r h.
-    let was = all_has (IsReservationIn s.catalog s.next_id) s.reservations valid.orderly.reservations_in r h in
+    let was = all_has (IsReservationIn s.catalog s.next_id) s.reservations orderly.reservations_in r h in
     record {
       session = was.session;
       first = was.first;
       below = was.below;
       changes = still_named s.catalog table r.row.table (λ t. length r.changes ≡ length (reservables t.columns)) free was.changes;
     } in
+    record {
+      tables = with_new s.catalog table orderly.tables (text, made) free room;
+      reservations_in = has_all (IsReservationIn catalog s.next_id) s.reservations still_in;
+      reservation_order = orderly.reservation_order;
+      few_reservations = orderly.few_reservations;
+      savepoints_in = orderly.savepoints_in;
+      savepoint_order = orderly.savepoint_order;
+      few_savepoints = orderly.few_savepoints;
+      first_id = orderly.first_id;
+      last_id = orderly.last_id;
+    }
+
+-- and a valid state valid
+pub create_valid : (s : State) (text : CreateText) (table : TableDef) → IsValid s → definition_of text ≡ Some table
+    → table_named s.catalog text.table ≡ None → length s.catalog < MAX_TABLES
+    → IsValid (record s { catalog = with_table table s.catalog })
+create_valid s text table valid made new room =
+    let free = free_name s.catalog text table made new in
+    let catalog : List TableDef = with_table table s.catalog in
+    let Safe : List Reservation → Type 0 = λ c. AllByRecursion (MeetsChecks catalog) (applied s.rows c) in
     let meets : (c : List Reservation) → IsChoice s.reservations c → (row : Row) → Has s.rows row → MeetsChecks catalog (row_after c row) = λ c choice row h.
     still_named s.catalog table row.name.table (λ t. AllByRecursion (λ check. Meets check (row_after c row).amounts) t.checks) free (safe_row s valid c choice row h) in
     record {
-      orderly = record {
-        tables = with_new s.catalog table valid.orderly.tables (text, made) free room;
-        reservations_in = has_all (IsReservationIn catalog s.next_id) s.reservations still_in;
-        reservation_order = valid.orderly.reservation_order;
-        few_reservations = valid.orderly.few_reservations;
-        savepoints_in = valid.orderly.savepoints_in;
-        savepoint_order = valid.orderly.savepoint_order;
-        few_savepoints = valid.orderly.few_savepoints;
-        first_id = valid.orderly.first_id;
-        last_id = valid.orderly.last_id;
-      };
+      orderly = create_orderly s text table valid.orderly made new room;
       safe_rows = record {
         tables = has_all (HasTable catalog) s.rows (λ row h.
             still_named s.catalog table row.name.table (λ t. IsRowOf t row) free (all_has (HasTable s.catalog) s.rows valid.safe_rows.tables row h));

@@ -1,21 +1,41 @@
 -- The state that a database begins with.
-use Rattle.std.proofs.Common.{arith}
+use Rattle.std.proofs.Common.{List, [], sym, subst, arith}
+use Rattle.std.specs.List.{AllByRecursion}
+use Rattle.escrow_num.specs.declared.row.Row.{Row}
+use Rattle.escrow_schema.specs.declared.table.TableDef.{TableDef}
+use Rattle.escrow_schema.specs.Catalog.{IsCatalog}
+use Rattle.escrow_tables.specs.Committed.{AreRowsOf}
 use Rattle.escrow_core.specs.State.{empty}
-use Rattle.escrow_core.specs.Valid.{IsValid}
+use Rattle.escrow_core.specs.Valid.{AreSafeRows, IsOrderly, IsValid, MeetsChecks}
+use Rattle.escrow_core.proofs.Applying.{applied_none}
+
+-- where nothing is open all is in order
+pub opened_orderly : (catalog : List TableDef) → IsCatalog catalog → IsOrderly catalog [] [] 1
+opened_orderly catalog tables = record {
+  tables = tables;
+  reservations_in = tt;
+  reservation_order = tt;
+  few_reservations = λ session. omega arith;
+  savepoints_in = tt;
+  savepoint_order = tt;
+  few_savepoints = λ session. omega arith;
+  first_id = omega arith;
+  last_id = omega arith;
+}
+
+-- and rows that meet their checks are safe
+pub opened_safe : (catalog : List TableDef) (rows : List Row) → AreRowsOf catalog rows → AllByRecursion (MeetsChecks catalog) rows → AreSafeRows catalog rows []
+opened_safe catalog rows are met = record {
+  tables = are.tables;
+  row_order = are.row_order;
+  few_rows = are.few_rows;
+  reserved_rows = tt;
+  safe = (subst (λ (rs : List Row). AllByRecursion (MeetsChecks catalog) rs) (sym (applied_none rows)) met, tt);
+}
 
 -- the empty database is valid
 pub empty_valid : IsValid empty
 empty_valid = record {
-  orderly = record {
-    tables = record { tables = tt; order = tt; few = omega arith };
-    reservations_in = tt;
-    reservation_order = tt;
-    few_reservations = λ session. omega arith;
-    savepoints_in = tt;
-    savepoint_order = tt;
-    few_savepoints = λ session. omega arith;
-    first_id = omega arith;
-    last_id = omega arith;
-  };
-  safe_rows = record { tables = tt; row_order = tt; few_rows = λ table. omega arith; reserved_rows = tt; safe = (tt, tt) };
+  orderly = opened_orderly [] (record { tables = tt; order = tt; few = omega arith });
+  safe_rows = opened_safe [] [] (record { tables = tt; row_order = tt; few_rows = λ table. omega arith }) tt;
 }

@@ -11,7 +11,7 @@ use Rattle.escrow_schema.specs.declared.table.TableDef.{TableDef}
 use Rattle.escrow_schema.specs.Catalog.{table_named}
 use Rattle.escrow_schema.specs.Fit.{IsRowOf}
 use Rattle.escrow_checks.proofs.FormLemmas.{length-all_changed}
-use Rattle.escrow_core.specs.declared.database.TheConstants.Database.{MAX_ROWS}
+use Rattle.escrow_rows.specs.declared.stored.TheConstants.StoredTable.{MAX_ROWS}
 use Rattle.escrow_num.specs.Ascending.{IsAscending}
 use Rattle.escrow_journal.specs.declared.journal.TheConstants.Journal.{MAX_SAVEPOINTS}
 use Rattle.escrow_journal.specs.Reservations.{own, others, own_savepoints, other_savepoints, reservation_before, savepoint_before}
@@ -44,16 +44,19 @@ kept_orderly catalog reservations savepoints left next_id keep orderly left_in o
   last_id = orderly.last_id;
 }
 
--- so it is where a session's transaction is over
-ended_orderly : (catalog : List TableDef) (reservations : List Reservation) (savepoints : List Savepoint) (next_id session : ℕ)
-    → IsOrderly catalog reservations savepoints next_id
-    → IsOrderly catalog (others session reservations) (other_savepoints session savepoints) next_id
-ended_orderly catalog reservations savepoints next_id session orderly =
+-- so it is where a session's transaction is over: after ROLLBACK, and after COMMIT
+pub rollback_orderly : (s : State) (session : ℕ) → IsOrderly s.catalog s.reservations s.savepoints s.next_id
+    → IsOrderly s.catalog (others session s.reservations) (other_savepoints session s.savepoints) s.next_id
+rollback_orderly s session orderly =
     let other : Savepoint → Bool = λ p. not (p.session == session) in
-    kept_orderly catalog reservations savepoints (other_savepoints session savepoints) next_id (λ r. not (r.session == session)) orderly
-    (all_filter (IsSavepointIn next_id) other savepoints orderly.savepoints_in)
-    (ascending_filter savepoint_before other savepoints orderly.savepoint_order)
-    (λ k. le_trans (length-filter_filter (λ p. p.session == k) other savepoints) (orderly.few_savepoints k))
+    kept_orderly s.catalog s.reservations s.savepoints (other_savepoints session s.savepoints) s.next_id (λ r. not (r.session == session)) orderly
+    (all_filter (IsSavepointIn s.next_id) other s.savepoints orderly.savepoints_in)
+    (ascending_filter savepoint_before other s.savepoints orderly.savepoint_order)
+    (λ k. le_trans (length-filter_filter (λ p. p.session == k) other s.savepoints) (orderly.few_savepoints k))
+
+pub commit_orderly : (s : State) (session : ℕ) → IsOrderly s.catalog s.reservations s.savepoints s.next_id
+    → let after = after_commit s session in IsOrderly after.catalog after.reservations after.savepoints after.next_id
+commit_orderly = rollback_orderly
 
 -- and the rows are safe whatever is dropped
 fewer_safe : (s : State) (keep : Reservation → Bool) → IsValid s → AreSafeRows s.catalog s.rows (filter keep s.reservations)
@@ -70,22 +73,26 @@ fewer_safe s keep valid =
 -- ROLLBACK keeps a valid state valid
 pub rollback_valid : (s : State) (session : ℕ) → IsValid s → IsValid (after_rollback s session)
 rollback_valid s session valid = record {
-  orderly = ended_orderly s.catalog s.reservations s.savepoints s.next_id session valid.orderly;
+  orderly = rollback_orderly s session valid.orderly;
   safe_rows = fewer_safe s (λ r. not (r.session == session)) valid;
 }
 
 -- ROLLBACK TO too
-returned_valid : (s : State) (p : Savepoint) → IsValid s → IsValid (returned_to s p)
-returned_valid s p valid =
+returned_orderly : (s : State) (p : Savepoint) → IsOrderly s.catalog s.reservations s.savepoints s.next_id
+    → let after = returned_to s p in IsOrderly after.catalog after.reservations after.savepoints after.next_id
+returned_orderly s p orderly =
     let In : Savepoint → Type 0 = IsSavepointIn s.next_id in
     let left : List Savepoint = through p.session p.name s.savepoints in
-    record {
-      orderly = kept_orderly s.catalog s.reservations s.savepoints left s.next_id (λ r. not (is_after p r)) valid.orderly
-          (has_all In left (λ q h. all_has In s.savepoints valid.orderly.savepoints_in q (has_through p.session p.name s.savepoints q h)))
-          (through_ascending p.session p.name s.savepoints valid.orderly.savepoint_order)
-          (λ k. le_trans (length-filter_through (λ (q : Savepoint). q.session == k) p.session p.name s.savepoints) (valid.orderly.few_savepoints k));
-      safe_rows = fewer_safe s (λ r. not (is_after p r)) valid;
-    }
+    kept_orderly s.catalog s.reservations s.savepoints left s.next_id (λ r. not (is_after p r)) orderly
+    (has_all In left (λ q h. all_has In s.savepoints orderly.savepoints_in q (has_through p.session p.name s.savepoints q h)))
+    (through_ascending p.session p.name s.savepoints orderly.savepoint_order)
+    (λ k. le_trans (length-filter_through (λ (q : Savepoint). q.session == k) p.session p.name s.savepoints) (orderly.few_savepoints k))
+
+returned_valid : (s : State) (p : Savepoint) → IsValid s → IsValid (returned_to s p)
+returned_valid s p valid = record {
+  orderly = returned_orderly s p valid.orderly;
+  safe_rows = fewer_safe s (λ r. not (is_after p r)) valid;
+}
 
 -- what holds of a state and of it returned to each savepoint holds after a ROLLBACK TO
 returned_has : (P : State → Type 0) (s : State) (o : Option Savepoint) → P s → ((p : Savepoint) → P (returned_to s p)) → P (unwrap_or (option_map (returned_to s) o) s)
@@ -94,6 +101,11 @@ returned_has P s (Some p) same returned = returned p
 
 pub back_has : (P : State → Type 0) (s : State) (session : ℕ) (name : List ℕ) → P s → ((p : Savepoint) → P (returned_to s p)) → P (after_rollback_to s session name)
 back_has P s session name same returned = returned_has P s (savepoint_of session name s.savepoints) same returned
+
+pub back_orderly : (s : State) (session : ℕ) (name : List ℕ) → IsOrderly s.catalog s.reservations s.savepoints s.next_id
+    → let after = after_rollback_to s session name in IsOrderly after.catalog after.reservations after.savepoints after.next_id
+back_orderly s session name orderly =
+    back_has (λ (t : State). IsOrderly t.catalog t.reservations t.savepoints t.next_id) s session name orderly (λ p. returned_orderly s p orderly)
 
 pub back_valid : (s : State) (session : ℕ) (name : List ℕ) → IsValid s → IsValid (after_rollback_to s session name)
 back_valid s session name valid = back_has IsValid s session name valid (λ p. returned_valid s p valid)
@@ -139,7 +151,7 @@ commit_valid s session valid =
     let from = has_map (row_after mine) s.rows row h in
     subst (λ x. MeetsChecks s.catalog (row_after c x)) from.2 (meets_committed s session valid c choice from.0 from.1) in
     record {
-      orderly = ended_orderly s.catalog s.reservations s.savepoints s.next_id session valid.orderly;
+      orderly = commit_orderly s session valid.orderly;
       safe_rows = record {
         tables = map_all (HasTable s.catalog) (row_after mine) s.rows
             (has_all (λ r. HasTable s.catalog (row_after mine r)) s.rows

@@ -15,7 +15,7 @@ use Rattle.escrow_checks.specs.Grant.{Meets, broken}
 use Rattle.escrow_schema.specs.declared.table.TableDef.{TableDef}
 use Rattle.escrow_schema.specs.Catalog.{table_named}
 use Rattle.escrow_schema.specs.Fit.{IsRowOf, inserted_row}
-use Rattle.escrow_core.specs.declared.database.TheConstants.Database.{MAX_ROWS}
+use Rattle.escrow_rows.specs.declared.stored.TheConstants.StoredTable.{MAX_ROWS}
 use Rattle.escrow_core.specs.State.{State, row_named, rows_of, changes_to, row_after, applied, with_row}
 use Rattle.escrow_core.specs.Valid.{IsValid, HasTable, HasRow, MeetsChecks, row_before}
 use Rattle.escrow_num.proofs.Items.{Has, all_has, has_all, find_none}

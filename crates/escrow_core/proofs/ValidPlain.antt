@@ -17,7 +17,7 @@ use Rattle.escrow_schema.specs.declared.table.TableDef.{TableDef}
 use Rattle.escrow_schema.specs.Catalog.{table_named}
 use Rattle.escrow_schema.specs.Column.{fits}
 use Rattle.escrow_schema.specs.Fit.{IsRowOf, plains}
-use Rattle.escrow_core.specs.declared.database.TheConstants.Database.{MAX_ROWS}
+use Rattle.escrow_rows.specs.declared.stored.TheConstants.StoredTable.{MAX_ROWS}
 use Rattle.escrow_core.specs.State.{State, row_named, row_after, applied, replaced, with_values, with_plain}
 use Rattle.escrow_core.specs.Valid.{IsValid, HasTable, HasRow, MeetsChecks, row_before}
 use Rattle.escrow_core.proofs.Choices.{IsChoice, choices_all, map_all}

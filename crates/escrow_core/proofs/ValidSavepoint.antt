@@ -10,15 +10,15 @@ use Rattle.escrow_journal.specs.Reservations.{own_savepoints, savepoint_before}
 use Rattle.escrow_journal.specs.Savepoints.{is_named, without_savepoint, put_savepoint}
 use Rattle.escrow_core.specs.State.{State}
 use Rattle.escrow_core.specs.Turn.{after_savepoint}
-use Rattle.escrow_core.specs.Valid.{IsValid, IsSavepointIn}
+use Rattle.escrow_core.specs.Valid.{IsOrderly, IsSavepointIn, IsValid}
 use Rattle.escrow_core.proofs.Lengths.{length-filter_filter}
 use Rattle.escrow_core.proofs.Savepoints.{IsEarlier, has_put_savepoint, put_ascending, few_put, other_name}
 
--- SAVEPOINT keeps a valid state valid, where there is room for one more
-pub savepoint_valid : (s : State) (session : ℕ) (name : List ℕ) → IsValid s → IsSession session
-    → length (own_savepoints session (without_savepoint session name s.savepoints)) < MAX_SAVEPOINTS → IsValid (after_savepoint s session name)
-savepoint_valid s session name valid of_session room =
-    let orderly = valid.orderly in
+-- SAVEPOINT keeps what is in order, where there is room for one more
+pub savepoint_orderly : (s : State) (session : ℕ) (name : List ℕ) → IsOrderly s.catalog s.reservations s.savepoints s.next_id → IsSession session
+    → length (own_savepoints session (without_savepoint session name s.savepoints)) < MAX_SAVEPOINTS
+    → let after = after_savepoint s session name in IsOrderly after.catalog after.reservations after.savepoints after.next_id
+savepoint_orderly s session name orderly of_session room =
     let other : Savepoint → Bool = λ p. not (is_named session name p) in
     let left : List Savepoint = without_savepoint session name s.savepoints in
     let new : Savepoint = record { session = session; name = name; id = s.next_id } in
@@ -29,17 +29,20 @@ savepoint_valid s session name valid of_session room =
     let was = other_name session name s.savepoints q h in
     record { session = same; made = (each_in q was.0).within; named = was.1 same } in
     record {
-      orderly = record {
-        tables = orderly.tables;
-        reservations_in = orderly.reservations_in;
-        reservation_order = orderly.reservation_order;
-        few_reservations = orderly.few_reservations;
-        savepoints_in = has_all In (put_savepoint new left) (λ q h.
-            elim (has_put_savepoint new left q h) [ inl e ↦ subst In e new_in | inr k ↦ each_in q (has_filter other s.savepoints q k).0 ]);
-        savepoint_order = put_ascending new left last (ascending_filter savepoint_before other s.savepoints orderly.savepoint_order);
-        few_savepoints = λ k. few_put new left k (le_trans (length-filter_filter (λ (p : Savepoint). p.session == k) other s.savepoints) (orderly.few_savepoints k)) room;
-        first_id = orderly.first_id;
-        last_id = orderly.last_id;
-      };
-      safe_rows = valid.safe_rows;
+      tables = orderly.tables;
+      reservations_in = orderly.reservations_in;
+      reservation_order = orderly.reservation_order;
+      few_reservations = orderly.few_reservations;
+      savepoints_in = has_all In (put_savepoint new left) (λ q h.
+          elim (has_put_savepoint new left q h) [ inl e ↦ subst In e new_in | inr k ↦ each_in q (has_filter other s.savepoints q k).0 ]);
+      savepoint_order = put_ascending new left last (ascending_filter savepoint_before other s.savepoints orderly.savepoint_order);
+      few_savepoints = λ k. few_put new left k (le_trans (length-filter_filter (λ (p : Savepoint). p.session == k) other s.savepoints) (orderly.few_savepoints k)) room;
+      first_id = orderly.first_id;
+      last_id = orderly.last_id;
     }
+
+-- so a valid state stays valid
+pub savepoint_valid : (s : State) (session : ℕ) (name : List ℕ) → IsValid s → IsSession session
+    → length (own_savepoints session (without_savepoint session name s.savepoints)) < MAX_SAVEPOINTS → IsValid (after_savepoint s session name)
+savepoint_valid s session name valid of_session room =
+    record { orderly = savepoint_orderly s session name valid.orderly of_session room; safe_rows = valid.safe_rows }

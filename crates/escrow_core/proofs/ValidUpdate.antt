@@ -95,14 +95,14 @@ few_own reservations r session few room =
     (λ f e. omega arith) parts
 
 -- a reservation with the next id is the last in order, and takes the id
-granted_orderly : (s : State) (table : TableDef) (r : Reservation) → IsValid s → table_named s.catalog r.row.table ≡ Some table
+pub granted_orderly : (s : State) (table : TableDef) (r : Reservation) → IsOrderly s.catalog s.reservations s.savepoints s.next_id → table_named s.catalog r.row.table ≡ Some table
     → IsSession r.session → r.id ≡ s.next_id → s.next_id ≤ MAX_ID
     → length r.changes ≡ length (reservables table.columns) → length (own r.session s.reservations) < MAX_RESERVATIONS
     → IsOrderly s.catalog (s.reservations ++ r ∷ []) s.savepoints (s.next_id + 1)
-granted_orderly s table r valid named of_session next more_ids long room =
+granted_orderly s table r orderly named of_session next more_ids long room =
     let old : (x : Reservation) → Has s.reservations x → IsReservationIn s.catalog s.next_id x =
-    all_has (IsReservationIn s.catalog s.next_id) s.reservations valid.orderly.reservations_in in
-    let first : 1 ≤ s.next_id = valid.orderly.first_id in
+    all_has (IsReservationIn s.catalog s.next_id) s.reservations orderly.reservations_in in
+    let first : 1 ≤ s.next_id = orderly.first_id in
     let is_in : IsReservationIn s.catalog (s.next_id + 1) r = record {
       session = of_session;
       first = omega arith;
@@ -119,17 +119,17 @@ granted_orderly s table r valid named of_session next more_ids long room =
     let below : x.id < s.next_id = (old x h).below in
     lt-ltb x.id r.id (omega arith) in
     let savepoint_in : (p : Savepoint) → Has s.savepoints p → IsSavepointIn (s.next_id + 1) p = λ p h.
-    let was = all_has (IsSavepointIn s.next_id) s.savepoints valid.orderly.savepoints_in p h in
+    let was = all_has (IsSavepointIn s.next_id) s.savepoints orderly.savepoints_in p h in
     let within : p.id ≤ s.next_id = was.within in
     record { session = was.session; first = was.first; within = omega arith } in
     record {
-      tables = valid.orderly.tables;
+      tables = orderly.tables;
       reservations_in = has_all (IsReservationIn s.catalog (s.next_id + 1)) (s.reservations ++ r ∷ []) each_in;
-      reservation_order = ascending_push reservation_before s.reservations r valid.orderly.reservation_order in_order;
-      few_reservations = λ session. few_own s.reservations r session (valid.orderly.few_reservations session) room;
+      reservation_order = ascending_push reservation_before s.reservations r orderly.reservation_order in_order;
+      few_reservations = λ session. few_own s.reservations r session (orderly.few_reservations session) room;
       savepoints_in = has_all (IsSavepointIn (s.next_id + 1)) s.savepoints savepoint_in;
-      savepoint_order = valid.orderly.savepoint_order;
-      few_savepoints = valid.orderly.few_savepoints;
+      savepoint_order = orderly.savepoint_order;
+      few_savepoints = orderly.few_savepoints;
       first_id = omega arith;
       last_id = omega arith;
     }
@@ -156,7 +156,7 @@ update_valid s table row r valid named found of_session next more_ids long room 
           (safe_rows s.catalog s.rows (k.0 ++ r ∷ []) (meets_push s table row r valid named found safe k.0 k.1))
     ] in
     record {
-      orderly = granted_orderly s table r valid named of_session next more_ids long room;
+      orderly = granted_orderly s table r valid.orderly named of_session next more_ids long room;
       safe_rows = record {
         tables = valid.safe_rows.tables;
         row_order = valid.safe_rows.row_order;

@@ -41,11 +41,12 @@ use Rattle.escrow_core.specs.declared.event.Event.TheVariants as event
 use Rattle.escrow_core.specs.declared.reply.JournalEntry.{JournalEntry}
 use Rattle.escrow_core.specs.declared.reply.CheckBounds.{CheckBounds}
 use Rattle.escrow_core.specs.declared.reply.ColumnBounds.{ColumnBounds}
-use Rattle.escrow_core.specs.declared.reply.Failure.{Failure}
-use Rattle.escrow_core.specs.declared.reply.Failure.TheVariants as failure
+use Rattle.escrow_cells.specs.declared.failure.Failure.{Failure}
+use Rattle.escrow_cells.specs.declared.failure.Failure.TheVariants as failure
 use Rattle.escrow_core.specs.declared.reply.Reply.{Reply}
 use Rattle.escrow_core.specs.declared.reply.Reply.TheVariants as reply
 use Rattle.escrow_core.specs.Event.{HasSession}
+use Rattle.escrow_core.specs.Promised.{needs_nothing, asks_store}
 use Rattle.escrow_core.specs.Reply.{failure_of}
 use Rattle.escrow_journal.specs.Reservations.{own, others}
 use Rattle.escrow_journal.specs.Savepoints.{savepoint_of}
@@ -95,20 +96,11 @@ RefusedChangesNothing = (s : State) (session : ℕ) (asked : Statement) (r : Ref
 abbrev pub MachineNeverFails : Type 0
 MachineNeverFails = (s : State) (session : ℕ) (asked : Statement) → failure_of (step s session asked).0 ≡ None
 
--- a statement takes no memory: COMMIT, ROLLBACK, ROLLBACK TO, DELETE and DROP TABLE
-abbrev pub takes_nothing : Statement → Bool
-takes_nothing (statement.Drop name) = true
-takes_nothing (statement.Delete text) = true
-takes_nothing statement.Commit = true
-takes_nothing statement.Rollback = true
-takes_nothing (statement.RollbackTo name) = true
-takes_nothing _ = false
-
--- what fails is out of memory, and is no statement that takes none
-abbrev pub FailsForMemoryAlone : Type 0
-FailsForMemoryAlone = (s : State) (session : ℕ) (asked : Statement) (answer : Reply) (new : State) (f : Failure)
+-- what fails needs memory or the store, and what the store refuses asked it
+abbrev pub FailsForWhatIsAsked : Type 0
+FailsForWhatIsAsked = (s : State) (session : ℕ) (asked : Statement) (answer : Reply) (new : State) (f : Failure)
     → StepOrRefusal s session asked answer new → failure_of answer ≡ Some f
-    → (f ≡ failure.Memory) × (takes_nothing asked ≡ false)
+    → (needs_nothing s session asked ≡ false) × (f ≡ failure.Store → asks_store s session asked ≡ true)
 
 -- where an early refusal applies, the first of them is the answer, whatever memory there is
 abbrev pub EarlyRefusalsStand : Type 0

@@ -7,6 +7,7 @@ pub mod Laws
 pub mod Promised
 pub mod Reply
 pub mod Seen
+pub mod Serves
 pub mod Serving
 pub mod State
 pub mod Step

@@ -17,6 +17,17 @@ needs_nothing s session (statement.RollbackTo name) = true
 needs_nothing s session statement.Commit = not (nat_lt 0 (length (own session s.reservations)))
 needs_nothing s session _ = false
 
+-- a statement asks the store: all do but SAVEPOINT, ROLLBACK, ROLLBACK TO, SHOW TABLE, SHOW JOURNAL, and a
+-- COMMIT of a session that holds no reservation
+abbrev pub asks_store : State → ℕ → Statement → Bool
+asks_store s session (statement.Savepoint name) = false
+asks_store s session statement.Rollback = false
+asks_store s session (statement.RollbackTo name) = false
+asks_store s session (statement.ShowTable name) = false
+asks_store s session (statement.ShowJournal table) = false
+asks_store s session statement.Commit = nat_lt 0 (length (own session s.reservations))
+asks_store s session _ = true
+
 -- a refusal that needs neither: 20, 21, 33, 43 and 44, and 26 unless an UPDATE is refused so
 abbrev pub is_plain_refusal : Statement → Reply → Bool
 is_plain_refusal asked (reply.Refused refusal.TableExists) = true

@@ -1,11 +1,11 @@
 -- Believed: which replies are failures, and which hold memory.
-use Rattle.std.specs.Prelude.{Bool, true, false, Option, Some, None}
+use Rattle.std.specs.Prelude.{Bool, true, false, nat_lt, Option, Some, None}
 use Rattle.escrow_num.specs.declared.refusal.Refusal.{Refusal}
 use Rattle.escrow_num.specs.declared.refusal.Refusal.TheVariants as refusal
 use Rattle.escrow_core.specs.declared.reply.Reply.{Reply}
 use Rattle.escrow_core.specs.declared.reply.Reply.TheVariants as reply
-use Rattle.escrow_core.specs.declared.reply.Failure.{Failure}
-use Rattle.escrow_core.specs.declared.reply.Failure.TheVariants as failure
+use Rattle.escrow_cells.specs.declared.failure.Failure.{Failure}
+use Rattle.escrow_cells.specs.declared.failure.Failure.TheVariants as failure
 
 -- the failure that a refusal is, if it is one
 abbrev pub failure_of_refusal : Refusal → Option Failure
@@ -25,3 +25,13 @@ holds_memory (reply.Table text) = true
 holds_memory (reply.Bounds columns checks) = true
 holds_memory (reply.Journal entries) = true
 holds_memory _ = false
+
+-- a reply tells that the store was written
+abbrev pub tells_write : Reply → Bool
+tells_write (reply.Created name) = true
+tells_write (reply.Dropped name) = true
+tells_write reply.Inserted = true
+tells_write reply.Deleted = true
+tells_write reply.Updated = true
+tells_write (reply.Committed count) = nat_lt 0 count
+tells_write _ = false

@@ -7,7 +7,7 @@ use Rattle.escrow_core.specs.declared.event.Event.{Event}
 use Rattle.escrow_core.specs.declared.event.Event.TheVariants as event
 use Rattle.escrow_core.specs.declared.reply.Reply.{Reply}
 use Rattle.escrow_core.specs.declared.reply.Reply.TheVariants as reply
-use Rattle.escrow_core.specs.declared.reply.Failure.{Failure}
+use Rattle.escrow_cells.specs.declared.failure.Failure.{Failure}
 use Rattle.escrow_core.specs.Reply.{failure_of}
 use Rattle.escrow_core.specs.State.{State}
 use Rattle.escrow_core.specs.Turn.{Turn, turn_of}

@@ -1,5 +1,5 @@
 -- Believed: the table of statements.
-use Rattle.std.specs.Prelude.{ℕ, ◌+◌, Bool, true, false, nat_lt, nat_le, Option, is_some, is_none, option_map, option_and_then, unwrap_or, List, [], ◌∷◌, ◌++◌, length}
+use Rattle.std.specs.Prelude.{ℕ, ◌+◌, Bool, true, false, if◌then◌else◌, nat_lt, nat_le, Option, is_some, is_none, option_map, option_and_then, unwrap_or, List, [], ◌∷◌, ◌++◌, length}
 use Rattle.escrow_num.specs.declared.refusal.Refusal.{Refusal}
 use Rattle.escrow_num.specs.declared.refusal.Refusal.TheVariants as refusal
 use Rattle.escrow_num.specs.declared.reservation.Reservation.{Reservation}
@@ -18,12 +18,12 @@ use Rattle.escrow_schema.specs.declared.plan.Plan.{Plan}
 use Rattle.escrow_schema.specs.declared.plan.Plan.TheVariants as plan
 use Rattle.escrow_schema.specs.Catalog.{table_named, with_table, without_table}
 use Rattle.escrow_schema.specs.Definition.{definition_of}
-use Rattle.escrow_core.specs.declared.database.TheConstants.Database.{MAX_ROWS}
+use Rattle.escrow_rows.specs.declared.stored.TheConstants.StoredTable.{MAX_ROWS}
 use Rattle.escrow_journal.specs.declared.journal.TheConstants.Journal.{MAX_RESERVATIONS, MAX_SAVEPOINTS}
 use Rattle.escrow_core.specs.declared.reply.Reply.{Reply}
 use Rattle.escrow_core.specs.declared.reply.Reply.TheVariants as reply
-use Rattle.escrow_core.specs.declared.reply.Failure.{Failure}
-use Rattle.escrow_core.specs.declared.reply.Failure.TheVariants as failure
+use Rattle.escrow_cells.specs.declared.failure.Failure.{Failure}
+use Rattle.escrow_cells.specs.declared.failure.Failure.TheVariants as failure
 use Rattle.escrow_core.specs.Asked.{row_of, insert_breach, plan_of, plan_refusal_of, row_name, reservation_from, breach_of, named_by, key_refusal_of, select_refusal_of, select_reply, show_reply}
 use Rattle.escrow_core.specs.Bounds.{bounds_reply}
 use Rattle.escrow_core.specs.Journal.{journal_reply}
@@ -43,6 +43,10 @@ pub record Turn : Type 0 where
 abbrev pub for_memory : Failure → Bool
 for_memory failure.Memory = true
 for_memory failure.Store = false
+
+-- what asks the store may fail for memory, or be refused by the store
+abbrev pub for_any : Failure → Bool
+for_any f = true
 
 -- what takes nothing fails for nothing
 abbrev pub for_nothing : Failure → Bool
@@ -133,7 +137,7 @@ turn_of s session (statement.Create text) = record {
       ∷ [];
   reply = reply.Created text.table;
   next = after_create s text;
-  fails_for = for_memory;
+  fails_for = for_any;
 }
 turn_of s session (statement.Drop name) = record {
   early = refuse_if (is_open session s) refusal.TransactionOpen
@@ -143,7 +147,7 @@ turn_of s session (statement.Drop name) = record {
   late = [];
   reply = reply.Dropped name;
   next = after_drop s name;
-  fails_for = for_nothing;
+  fails_for = for_any;
 }
 turn_of s session (statement.Insert text) = record {
   early = refuse_if (is_open session s) refusal.TransactionOpen
@@ -156,7 +160,7 @@ turn_of s session (statement.Insert text) = record {
       ∷ [];
   reply = reply.Inserted;
   next = after_insert s text;
-  fails_for = for_memory;
+  fails_for = for_any;
 }
 -- an UPDATE without a plan is refused early
 turn_of s session (statement.Update text) = record {
@@ -166,19 +170,19 @@ turn_of s session (statement.Update text) = record {
   late = unwrap_or (option_map (update_refusals s session text.table) (plan_of s text)) [];
   reply = unwrap_or (option_map (update_reply s) (plan_of s text)) reply.Updated;
   next = unwrap_or (option_map (after_update s session text.table) (plan_of s text)) s;
-  fails_for = for_memory;
+  fails_for = for_any;
 }
 turn_of s session (statement.Delete text) = record {
   early = refuse_if (is_open session s) refusal.TransactionOpen
       ∷ refuse_if (is_none (table_named s.catalog text.table)) refusal.NoSuchTable
       ∷ key_refusal_of s text.table text.row
-      ∷ refuse_if (is_none (row_named s.rows (named_by text.table text.row))) refusal.NoSuchRow
+      ∷ [];
+  late = refuse_if (is_none (row_named s.rows (named_by text.table text.row))) refusal.NoSuchRow
       ∷ refuse_if (is_reserved s (named_by text.table text.row)) refusal.RowReserved
       ∷ [];
-  late = [];
   reply = reply.Deleted;
   next = after_delete s text;
-  fails_for = for_nothing;
+  fails_for = for_any;
 }
 turn_of s session (statement.Select text) = record {
   early = refuse_if (is_none (table_named s.catalog text.table)) refusal.NoSuchTable
@@ -187,7 +191,7 @@ turn_of s session (statement.Select text) = record {
   late = [];
   reply = select_reply s text;
   next = s;
-  fails_for = for_memory;
+  fails_for = for_any;
 }
 turn_of s session (statement.ShowTable name) = record {
   early = refuse_if (is_none (table_named s.catalog name)) refusal.NoSuchTable
@@ -200,12 +204,12 @@ turn_of s session (statement.ShowTable name) = record {
 turn_of s session (statement.ShowBounds text) = record {
   early = refuse_if (is_none (table_named s.catalog text.table)) refusal.NoSuchTable
       ∷ key_refusal_of s text.table text.row
-      ∷ refuse_if (is_none (row_named s.rows (named_by text.table text.row))) refusal.NoSuchRow
       ∷ [];
-  late = [];
+  late = refuse_if (is_none (row_named s.rows (named_by text.table text.row))) refusal.NoSuchRow
+      ∷ [];
   reply = bounds_reply s text;
   next = s;
-  fails_for = for_memory;
+  fails_for = for_any;
 }
 turn_of s session (statement.ShowJournal table) = record {
   early = option_and_then (λ name. refuse_if (is_none (table_named s.catalog name)) refusal.NoSuchTable) table
@@ -228,7 +232,7 @@ turn_of s session statement.Commit = record {
   late = [];
   reply = reply.Committed (length (own session s.reservations));
   next = after_commit s session;
-  fails_for = for_nothing;
+  fails_for = if nat_lt 0 (length (own session s.reservations)) then for_any else for_nothing;
 }
 turn_of s session statement.Rollback = record {
   early = [];

@@ -1,6 +1,5 @@
 -- Believed: what every statement keeps of a state.
-use Rattle.std.specs.Prelude.{◌≡◌, ℕ, ◌+◌, ◌<◌, ◌≤◌, Bool, IsSome, List, length, IsSomeAnd}
-use Rattle.std.specs.Ordering.{is_lt}
+use Rattle.std.specs.Prelude.{◌≡◌, ℕ, ◌+◌, ◌<◌, ◌≤◌, IsSome, List, length, IsSomeAnd}
 use Rattle.std.specs.List.{AllByRecursion}
 use Rattle.escrow_num.specs.declared.row.Row.{Row}
 use Rattle.escrow_num.specs.declared.reservation.Reservation.{Reservation}
@@ -8,21 +7,17 @@ use Rattle.escrow_num.specs.declared.reservation.Savepoint.{Savepoint}
 use Rattle.escrow_num.specs.declared.reservation.TheConstants.Reservation.{MAX_ID}
 use Rattle.escrow_num.specs.Ascending.{IsAscending}
 use Rattle.escrow_num.specs.Session.{IsSession}
-use Rattle.escrow_num.specs.Order.{row_cmp}
 use Rattle.escrow_checks.specs.Sublists.{sublists}
 use Rattle.escrow_checks.specs.Grant.{Meets}
 use Rattle.escrow_schema.specs.declared.table.TableDef.{TableDef}
 use Rattle.escrow_schema.specs.Catalog.{IsCatalog, table_named}
 use Rattle.escrow_schema.specs.Column.{reservables}
-use Rattle.escrow_schema.specs.Fit.{IsRowOf}
-use Rattle.escrow_core.specs.declared.database.TheConstants.Database.{MAX_ROWS}
+use Rattle.escrow_rows.specs.declared.stored.TheConstants.StoredTable.{MAX_ROWS}
 use Rattle.escrow_journal.specs.declared.journal.TheConstants.Journal.{MAX_RESERVATIONS, MAX_SAVEPOINTS}
 use Rattle.escrow_journal.specs.Reservations.{own, own_savepoints, reservation_before, savepoint_before}
 use Rattle.escrow_core.specs.State.{State, row_named, rows_of, applied}
-
--- rows are in order of table and key, no two of one table and key
-abbrev pub row_before : Row → Row → Bool
-row_before a b = is_lt (row_cmp a.name b.name)
+pub use Rattle.escrow_rows.specs.Image.{row_before}
+pub use Rattle.escrow_tables.specs.Committed.{HasTable}
 
 -- a reservation is of a session, has an id below the next one, and may have a change for each
 -- RESERVABLE column of its table
@@ -49,10 +44,6 @@ pub record IsOrderly (catalog : List TableDef) (reservations : List Reservation)
   pub few_savepoints : (session : ℕ) → length (own_savepoints session savepoints) ≤ MAX_SAVEPOINTS
   pub first_id : 1 ≤ next_id
   pub last_id : next_id ≤ MAX_ID + 1
-
--- a row is one of a table in the catalog
-abbrev pub HasTable : List TableDef → Row → Type 0
-HasTable catalog row = IsSomeAnd (table_named catalog row.name.table) (λ table. IsRowOf table row)
 
 -- a reservation's row stands
 abbrev pub HasRow : List Row → Reservation → Type 0

@@ -5,6 +5,7 @@ mod drop;
 mod finish;
 mod insert;
 mod journal;
+mod look;
 mod run;
 mod savepoint;
 mod select;
@@ -12,64 +13,76 @@ mod show;
 mod update;
 
 use crate::reply::Reply;
-use escrow_num::{Refusal, Row, Session};
-use escrow_schema::Catalog;
+use escrow_num::{Refusal, Session};
 use escrow_sql::Statement;
+use escrow_tables::Tables;
 use escrow_txn::TxnTable;
-use std::alloc::{AllocError, Global};
+use sqlite::Alter;
+use std::alloc::Global;
 use std::marker::Model;
 
-/// A database: its tables, their committed rows, the open reservations and savepoints of all
-/// sessions, and the id that the next reservation takes.
-#[derive(Debug, Drop)]
-pub struct Database {
-    catalog: Catalog,
-    rows: Vec<Row>,
+/// A database: its tables and their committed rows, in a store that SQLite writes to; the open
+/// reservations and savepoints of all sessions, and the id that the next reservation takes.
+#[derive(Drop)]
+pub struct Database<S: Alter> {
+    tables: Tables<S>,
     open: TxnTable,
 }
 
-impl Model for Database {
-    ghost use Rattle.escrow_core.specs.Seen.{Seen};
-    ghost use Rattle.escrow_core.specs.Valid.{IsValid};
+impl<S: Alter> Model for Database<S> {
+    ghost use Rattle.escrow_core.specs.Inside.{seen_of};
+    ghost use Rattle.escrow_core.specs.Seen.{Seen, seen_code, IsKept};
 
-    ghost Value = { Seen };
+    ghost Value = { Seen S };
 
-    ghost use Rattle.escrow_core.specs.Inside.{state_of};
+    ghost coded = { seen_code S.code };
 
-    ghost view = { λ d. record { state = state_of d } };
+    ghost view = { λ d. seen_of d.tables d.open };
 
-    ghost invariant = { λ d. IsValid (state_of d) };
+    ghost invariant = { λ d. IsKept S.Store (seen_of d.tables d.open) };
 }
 
-impl Database {
-    ghost use Rattle.std.specs.Prelude.{◌≡◌, IfOk, IsTrue};
+impl<S: Alter> Database<S> {
+    ghost use Rattle.std.specs.Prelude.{◌≡◌, false, IfOk, IfErr, IsTrue};
+    ghost use Rattle.std.specs.List.{AllByRecursion};
+    ghost use Rattle.sqlite.specs.Held.{state};
+    ghost use Rattle.sqlite.specs.State.{HasCleanDisk, Survives};
+    ghost use Rattle.sqlite_trees.specs.Tree.{Trees};
     ghost use Rattle.escrow_txn.specs.Open.{id_left};
-    ghost use Rattle.escrow_core.specs.State.{empty, is_open};
-    ghost use Rattle.escrow_core.specs.Valid.{IsValid};
-    ghost use Rattle.escrow_core.specs.Promised.{is_promised};
+    ghost use Rattle.escrow_rows.specs.Answers.{IsUsable};
+    ghost use Rattle.escrow_tables.specs.Committed.{AreHeld};
+    ghost use Rattle.escrow_core.specs.Promised.{asks_store, is_promised};
+    ghost use Rattle.escrow_core.specs.Reply.{tells_write};
+    ghost use Rattle.escrow_core.specs.Seen.{IsKept};
+    ghost use Rattle.escrow_core.specs.Serves.{AreAfter, Serves};
+    ghost use Rattle.escrow_core.specs.State.{is_open, opened};
     ghost use Rattle.escrow_core.specs.Step.{IsStep, StepOrRefusal};
+    ghost use Rattle.escrow_core.specs.Valid.{IsValid, MeetsChecks};
 
-    /// The most rows of a table.
-    pub const MAX_ROWS: usize = 65_536;
-
-    /// A database without tables, in which nothing is open and the next id is 1. Out of
-    /// memory is the only error.
-    pub fn empty(alloc: Global) -> Result<Self, AllocError>
-        ensures { IfOk result (λ d. d.state ≡ empty) }
+    /// A database of tables and rows that were committed, in which nothing is open and the next id is 1.
+    /// Each row has to meet the checks of its table. Out of memory is the only error, and hands the
+    /// tables back.
+    pub fn open(alloc: Global, tables: Tables<S>) -> Result<Self, (Tables<S>, Refusal)>
+        requires { IsUsable (state S.Store tables.store) → AllByRecursion (MeetsChecks tables.catalog) tables.rows }
+        ensures store { IfOk result (λ d. d.store ≡ tables.store) }
+        ensures state { IfOk result (λ d. d.state ≡ opened tables.catalog tables.rows) }
+        ensures refused { IfErr result (λ f. (f.0 ≡ tables) × (f.1 ≡ Refusal.Memory)) }
     {
-        Ok(Database {
-            catalog: Catalog::new(alloc),
-            rows: Vec::new(alloc),
-            open: TxnTable::new(alloc)?,
-        })
+        // What its type knows of the tables is told where they are counted.
+        let _ = tables.len();
+        match TxnTable::new(alloc) {
+            Ok(open) => Ok(Database { tables, open }),
+            Err(_) => Err((tables, Refusal::Memory)),
+        }
     }
 
-    /// The id that the next reservation takes, or `None` where there are no more ids. The state is
-    /// valid at any time: whichever of the open reservations are applied, each row meets each check
-    /// of its table.
+    /// The id that the next reservation takes, or `None` where there are no more ids. Where the store
+    /// can be used the state is valid at any time: whichever of the open reservations are applied, each
+    /// row meets each check of its table.
     pub fn next_id(&self) -> Option<u64>
         ensures value { result ≡ id_left self.now.state.next_id }
-        ensures valid { IsValid self.now.state }
+        ensures kept { IsKept S.Store self.now }
+        ensures valid { IsUsable (state S.Store self.now.store) → IsValid self.now.state }
     {
         self.open.next_id()
     }
@@ -81,34 +94,49 @@ impl Database {
         self.open.is_open(session)
     }
 
-    /// Serves one statement of a session, whole: the reply and the new state are those of the
-    /// machine, which tries every choice of the open reservations; or the statement fails for what
-    /// it may fail for, and the state is equal. What needs neither memory nor the store never fails.
+    /// Limits the steps that a statement of the store may take; with `None` there is no limit, as at
+    /// first. A statement that would take more is refused with 60, and changes nothing.
+    pub fn set_step_limit(&mut self, limit: Option<u64>)
+        ensures store { self.new.store ≡ record self.old.store { step_limit = limit } }
+        ensures state { self.new.state ≡ self.old.state }
+    {
+        self.tables.set_step_limit(limit);
+    }
+
+    /// Serves one statement of a session, whole: where the store can be used after it, the reply and the
+    /// new state are those of the machine, which tries every choice of the open reservations; or the
+    /// statement fails for what it may fail for, and the state is equal. What needs neither memory nor
+    /// the store never fails, and what asks nothing of the store leaves it.
     pub fn step(&mut self, alloc: Global, session: Session, statement: &Statement) -> Reply
-        ensures event { StepOrRefusal self.old.state session statement.now result self.new.state }
-        ensures succeeds { IsTrue (is_promised self.old.state session statement.now) → IsStep self.old.state session statement.now result self.new.state }
+        ensures event { IsUsable (state S.Store self.new.store) → StepOrRefusal self.old.state session statement.now result self.new.state }
+        ensures usable { IsUsable (state S.Store self.new.store) → IsUsable (state S.Store self.old.store) }
+        ensures succeeds { IsTrue (is_promised self.old.state session statement.now) → (self.new.store ≡ self.old.store) × IsStep self.old.state session statement.now result self.new.state }
+        ensures apart { asks_store self.old.state session statement.now ≡ false → (self.new.store ≡ self.old.store) × StepOrRefusal self.old.state session statement.now result self.new.state }
+
+        // A crash leaves what it might have left before, or what the step makes; once a write was
+        // answered, the tables and rows that there then are.
+        ensures crash { Survives (state S.Store self.old.store) (state S.Store self.new.store) (λ trees. IsTrue (state S.Store self.old.store).is_open → AreAfter self.old.state session statement.now trees) }
+        ensures durable { IsTrue (tells_write result) → HasCleanDisk (state S.Store self.new.store) → (trees : Trees) → (state S.Store self.new.store).may_leave trees → AreHeld self.new.state.catalog self.new.state.rows trees }
     {
         self.answer(alloc, session, statement)
     }
 
     /// Serves one statement of a session, by what it asks.
     fn answer(&mut self, alloc: Global, session: Session, statement: &Statement) -> Reply
-        ensures { StepOrRefusal self.old.state session statement.now result self.new.state }
+        ensures { Serves S.Store session statement.now self.old result self.new }
     {
         match statement {
             Statement::Create(text) => self.create(alloc, session, text),
             Statement::Drop(name) => self.drop_table(session, *name),
             Statement::Insert(text) => self.insert(alloc, session, text),
             Statement::Update(text) => self.update(alloc, session, text),
-            Statement::Delete(text) => self.delete(session, text),
+            Statement::Delete(text) => self.delete(alloc, session, text),
             Statement::Select(text) => self.select(alloc, session, text),
             Statement::ShowTable(name) => self.show_table(alloc, session, *name),
             Statement::ShowJournal(table) => self.show_journal(alloc, session, *table),
             Statement::ShowBounds(text) => self.show_bounds(alloc, session, text),
             Statement::Savepoint(name) => self.savepoint(session, *name),
-            Statement::Commit => Reply::Committed {
-                count: self.commit(session),
-            },
+            Statement::Commit => self.commit(alloc, session),
             Statement::Rollback => Reply::RolledBack {
                 count: self.rollback(session),
             },

@@ -7,48 +7,54 @@ ghost use Rattle.escrow_core.specs.Journal.{columns_of, entry_of, of_table, name
 
 use crate::reply::{ColumnChange, JournalEntry};
 use escrow_num::{Amount, Copied, Name, Reservation, Seq};
-use escrow_schema::{Catalog, reservable_names};
+use escrow_schema::reservable_names;
+use escrow_tables::Tables;
 use escrow_txn::TxnTable;
+use sqlite::Alter;
 use std::alloc::{AllocError, Global};
 
 /// The open reservations of all sessions as they are shown, or those of the rows of a table, in
 /// order of id. Want of memory is the only error.
-pub(crate) fn journal_entries(
+pub(crate) fn journal_entries<S: Alter>(
     alloc: Global,
-    catalog: &Catalog,
+    tables: &Tables<S>,
     txns: &TxnTable,
     table: Option<Name>,
 ) -> Result<Seq<JournalEntry>, AllocError>
-    ensures { IfOk result (λ entries. entries ≡ map (entry_of catalog.now) (of_table table txns.now.reservations)) }
+    ensures { IfOk result (λ entries. entries ≡ map (entry_of tables.now.catalog) (of_table table txns.now.reservations)) }
 {
     let mut entries = Seq::new(alloc);
     for r in &txns.all_in_order(alloc)? {
-        push_entry(alloc, &mut entries, catalog, table, *r)?;
+        push_entry(alloc, &mut entries, tables, table, *r)?;
     }
     Ok(entries)
 }
 
 /// Adds a reservation as it is shown, if it is: one of the rows of the table, if one is named.
-fn push_entry(
+fn push_entry<S: Alter>(
     alloc: Global,
     entries: &mut Seq<JournalEntry>,
-    catalog: &Catalog,
+    tables: &Tables<S>,
     table: Option<Name>,
     r: &Reservation,
 ) -> Result<(), AllocError>
-    ensures { OnOk result (entries.new ≡ entries.old ++ map (entry_of catalog.now) (of_table table (r.now ∷ []))) }
+    ensures { OnOk result (entries.new ≡ entries.old ++ map (entry_of tables.now.catalog) (of_table table (r.now ∷ []))) }
 {
     if table.is_none_or(|name| r.row.table == name) {
-        entries.push(entry_of(alloc, catalog, r)?)?;
+        entries.push(entry_of(alloc, tables, r)?)?;
     }
     Ok(())
 }
 
 /// A reservation as it is shown.
-fn entry_of(alloc: Global, catalog: &Catalog, r: &Reservation) -> Result<JournalEntry, AllocError>
-    ensures { IfOk result (λ entry. entry ≡ entry_of catalog.now r.now) }
+fn entry_of<S: Alter>(
+    alloc: Global,
+    tables: &Tables<S>,
+    r: &Reservation,
+) -> Result<JournalEntry, AllocError>
+    ensures { IfOk result (λ entry. entry ≡ entry_of tables.now.catalog r.now) }
 {
-    let names = columns_of(alloc, catalog, r.row.table)?;
+    let names = columns_of(alloc, tables, r.row.table)?;
     Ok(JournalEntry {
         id: r.id,
         session: r.session,
@@ -59,10 +65,14 @@ fn entry_of(alloc: Global, catalog: &Catalog, r: &Reservation) -> Result<Journal
 
 /// The names of the RESERVABLE columns of a table, in column order; none where there is no such
 /// table.
-fn columns_of(alloc: Global, catalog: &Catalog, table: Name) -> Result<Vec<Name>, AllocError>
-    ensures { IfOk result (λ names. names.items ≡ columns_of catalog.now table) }
+fn columns_of<S: Alter>(
+    alloc: Global,
+    tables: &Tables<S>,
+    table: Name,
+) -> Result<Vec<Name>, AllocError>
+    ensures { IfOk result (λ names. names.items ≡ columns_of tables.now.catalog table) }
 {
-    match catalog.find(table) {
+    match tables.find(table) {
         Some(table) => reservable_names(alloc, table.columns.as_slice()),
         None => Ok(Vec::new(alloc)),
     }

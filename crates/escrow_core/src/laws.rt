@@ -2,7 +2,7 @@
 //! nothing. They say of its steps what O'Neil's escrow method (1986) promises of transactions.
 
 ghost use Rattle.escrow_core.specs.Laws.{StepKeepsValid, RunKeepsValid, CommittedRowsMeetChecks, CommittedValuesFit, EveryRunIsSafe};
-ghost use Rattle.escrow_core.specs.Laws.{RefusedChangesNothing, MachineNeverFails, FailsForMemoryAlone, EarlyRefusalsStand, CommitIsNeverRefused, RollbackIsNeverRefused};
+ghost use Rattle.escrow_core.specs.Laws.{RefusedChangesNothing, MachineNeverFails, FailsForWhatIsAsked, EarlyRefusalsStand, CommitIsNeverRefused, RollbackIsNeverRefused};
 ghost use Rattle.escrow_core.specs.Laws.{QueriesSeeCommitsAlone, ReservedTakesTheNextId, IdsNeverFall, TransactionsCommute, AnyOrderOfEnds};
 ghost use Rattle.escrow_core.specs.Laws.{DropsOneTable, DeletesOneRow, PlainUpdatesKeepAmounts, ReservationsKeepRows, SelectsShowRows, ShowsTheTable, QueriesIgnoreWhatIsOpen, QueriesIgnoreWhoAsks, ShowsTheJournal, BoundsAreReached};
 ghost use Rattle.escrow_core.specs.Laws.{BackAtOnceChangesNothing, BackLeavesWhatWas, BackRefusesNothing};
@@ -30,16 +30,16 @@ pub fn machine_never_fails()
     ensures { MachineNeverFails }
 {}
 
-/// What fails is out of memory, and is no COMMIT, ROLLBACK, ROLLBACK TO, DELETE or DROP TABLE: these
-/// never fail.
-pub fn fails_for_memory_alone()
-    ensures { FailsForMemoryAlone }
+/// What fails needs memory or the store, so ROLLBACK, ROLLBACK TO and a COMMIT of nothing never do; and
+/// the store refuses only what asks it, so it refuses no SAVEPOINT, SHOW TABLE or SHOW JOURNAL.
+pub fn fails_for_what_is_asked()
+    ensures { FailsForWhatIsAsked }
 {}
 
-/// A refusal that needs no memory is answered whatever memory there is: an open transaction, a table
-/// that is there or isn't, a bad value of an INSERT, what an UPDATE asks that it can't, a WHERE that
-/// names no key, and each refusal of DROP TABLE, DELETE, SELECT, SHOW TABLE, SHOW JOURNAL, SHOW
-/// BOUNDS, SAVEPOINT and ROLLBACK TO.
+/// A refusal that needs neither memory nor the store is answered whatever there is of both: an open
+/// transaction, a table that is there or isn't, a bad value of an INSERT, what an UPDATE asks that it
+/// can't, a WHERE that names no key, and each refusal of DROP TABLE, SELECT, SHOW TABLE, SHOW JOURNAL,
+/// SAVEPOINT and ROLLBACK TO.
 pub fn early_refusals_stand()
     ensures { EarlyRefusalsStand }
 {}

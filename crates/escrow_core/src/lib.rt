@@ -6,7 +6,6 @@
 //! where the statement may fail, and the state is equal.
 #![tactic(auto)]
 
-mod apply;
 mod bounds;
 mod copies;
 mod database;
@@ -16,10 +15,10 @@ mod journal;
 pub mod laws;
 mod reply;
 mod reservations;
-mod rows;
 mod shown;
 mod spreads;
 
 pub use database::Database;
+pub use escrow_tables::Failure;
 pub use event::Event;
-pub use reply::{CheckBounds, ColumnBounds, ColumnChange, Failure, JournalEntry, Reply};
+pub use reply::{CheckBounds, ColumnBounds, ColumnChange, JournalEntry, Reply};

@@ -3,6 +3,7 @@ ghost use Rattle.std.specs.Prelude.{◌≡◌, ◌↔◌, IfOk, IsOk, IsTrue, fa
 use escrow_num::{
     Amount, Name, Refusal, RowName, Seq, Session, Span, Text, Value, Wide, are_same, copy_all,
 };
+use escrow_tables::Failure;
 use std::alloc::{AllocError, Global};
 
 /// What a statement is answered.
@@ -107,15 +108,6 @@ pub struct CheckBounds {
     pub greatest: Wide,
     /// Its limits.
     pub limits: Span,
-}
-
-/// What may come in place of a reply, with nothing changed.
-#[derive(Clone, Copy, Debug, PartialEq, Eq)]
-pub enum Failure {
-    /// Out of memory.
-    Memory,
-    /// The store refused a call.
-    Store,
 }
 
 impl Reply {

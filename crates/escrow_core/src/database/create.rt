@@ -1,33 +1,29 @@
 use crate::database::Database;
 use crate::reply::Reply;
 use escrow_num::{Refusal, Session};
-use escrow_schema::{TableDef, define};
+use escrow_schema::{Catalog, TableDef, define};
 use escrow_sql::{CreateText, Statement};
+use escrow_tables::refusal_of;
+use sqlite::Alter;
 use std::alloc::Global;
 
-impl Database {
-    ghost use Rattle.std.specs.Prelude.{◌≡◌, None, Some, IfOk, IfErr, OnOk, false};
-    ghost use Rattle.escrow_schema.specs.Catalog.{table_named};
+impl<S: Alter> Database<S> {
+    ghost use Rattle.std.specs.Prelude.{◌≡◌, Some, IfOk, IfErr, OnOk};
     ghost use Rattle.escrow_schema.specs.Definition.{definition_of};
-    ghost use Rattle.escrow_core.specs.Serving.{IsRefusal};
-    ghost use Rattle.escrow_core.specs.State.{is_open};
-    ghost use Rattle.escrow_core.specs.Step.{StepOrRefusal};
+    ghost use Rattle.escrow_core.specs.Serves.{Serves};
+    ghost use Rattle.escrow_core.specs.Serving.{IsRefusal, PassesEarly};
 
     /// CREATE TABLE: the table that the text defines is put into the catalog.
     pub(crate) fn create(&mut self, alloc: Global, session: Session, text: &CreateText) -> Reply
-        ensures { StepOrRefusal self.old.state session (Statement.Create text.now) result self.new.state }
+        ensures { Serves S.Store session (Statement.Create text.now) self.old result self.new }
     {
-        let table = match self.plan_create(alloc, session, text) {
-            Ok(table) => table,
-            Err(refusal) => return Reply::Refused(refusal),
-        };
-        match self.catalog.add(table) {
-            Ok(()) => Reply::Created(text.table),
+        match self.plan_create(alloc, session, text) {
+            Ok(table) => self.put_table(alloc, session, text, table),
             Err(refusal) => Reply::Refused(refusal),
         }
     }
 
-    /// The table that a CREATE TABLE makes, where the catalog may take it, or why it makes none.
+    /// The table that a CREATE TABLE makes, or why it makes none.
     #[tactic(auto, unfolding(crate::specs::Turn::turn_of))]
     fn plan_create(
         &self,
@@ -36,16 +32,36 @@ impl Database {
         text: &CreateText,
     ) -> Result<TableDef, Refusal>
         ensures table { IfOk result (λ table. definition_of text.now ≡ Some table) }
-        ensures closed { OnOk result (is_open session self.now.state ≡ false) }
-        ensures new { OnOk result (table_named self.now.state.catalog text.now.table ≡ None) }
+        ensures early { OnOk result (PassesEarly self.now.state session (Statement.Create text.now)) }
         ensures refused { IfErr result (IsRefusal self.now.state session (Statement.Create text.now)) }
     {
         if self.is_open(session) {
             return Err(Refusal::TransactionOpen);
         }
-        if self.catalog.find(text.table).is_some() {
+        if self.tables.find(text.table).is_some() {
             return Err(Refusal::TableExists);
         }
         define(alloc, text)
+    }
+
+    /// Puts a table, unless there are as many as there may be.
+    fn put_table(
+        &mut self,
+        alloc: Global,
+        session: Session,
+        text: &CreateText,
+        table: TableDef,
+    ) -> Reply
+        requires table { definition_of text.now ≡ Some table }
+        requires early { PassesEarly self.old.state session (Statement.Create text.now) }
+        ensures { Serves S.Store session (Statement.Create text.now) self.old result self.new }
+    {
+        if self.tables.len() >= Catalog::MAX_TABLES {
+            return Reply::Refused(Refusal::TooManyTables);
+        }
+        match self.tables.create(alloc, table) {
+            Ok(()) => Reply::Created(text.table),
+            Err(failure) => Reply::Refused(refusal_of(failure)),
+        }
     }
 }

@@ -1,62 +1,84 @@
 use crate::database::Database;
 use crate::reply::Reply;
 use crate::reservations::is_reserved;
-use crate::rows::{find_named_by, remove_row};
-use escrow_num::{Refusal, Session};
-use escrow_schema::check_key;
+use escrow_num::{Refusal, RowName, Session};
+use escrow_schema::{check_key, value_of};
 use escrow_sql::{RowText, Statement};
+use escrow_tables::refusal_of;
+use sqlite::Alter;
+use std::alloc::Global;
 
-impl Database {
-    ghost use Rattle.std.specs.Prelude.{◌≡◌, [], ◌∷◌, is_none};
+impl<S: Alter> Database<S> {
+    ghost use Rattle.std.specs.Prelude.{◌≡◌, IsSome};
     ghost use Rattle.std.specs.Result.{result_err};
-    ghost use Rattle.escrow_num.specs.Refusal.{first_refusal, refuse_if};
+    ghost use Rattle.sqlite.specs.Held.{state};
+    ghost use Rattle.escrow_num.specs.Refusal.{first_refusal};
+    ghost use Rattle.escrow_rows.specs.Answers.{IsUsable};
     ghost use Rattle.escrow_core.specs.Asked.{named_by};
-    ghost use Rattle.escrow_core.specs.State.{row_named, is_reserved};
-    ghost use Rattle.escrow_core.specs.Step.{StepOrRefusal, refusals};
+    ghost use Rattle.escrow_core.specs.Serves.{Serves};
+    ghost use Rattle.escrow_core.specs.Serving.{PassesEarly};
+    ghost use Rattle.escrow_core.specs.State.{row_named};
     ghost use Rattle.escrow_core.specs.Turn.{turn_of};
 
-    /// DELETE: the row is taken out. Its key is compared with the literal, so that this takes no
-    /// memory.
-    pub(crate) fn delete(&mut self, session: Session, text: &RowText) -> Reply
-        ensures { StepOrRefusal self.old.state session (Statement.Delete text.now) result self.new.state }
+    /// DELETE: the row is taken out.
+    pub(crate) fn delete(&mut self, alloc: Global, session: Session, text: &RowText) -> Reply
+        ensures { Serves S.Store session (Statement.Delete text.now) self.old result self.new }
     {
-        match self.check_delete(session, text) {
-            Ok(()) => {
-                remove_row(&mut self.rows, text.table, &text.row);
-                Reply::Deleted
+        if let Err(refusal) = self.check_delete(session, text) {
+            return Reply::Refused(refusal);
+        }
+        match value_of(alloc, &text.row.literal) {
+            Ok(key) => {
+                let name = RowName {
+                    table: text.table,
+                    key,
+                };
+                self.take_row(alloc, session, text, &name)
             }
-            Err(refusal) => Reply::Refused(refusal),
+            Err(_) => Reply::Refused(Refusal::Memory),
         }
     }
 
-    /// Why a DELETE is refused, if it is.
+    /// Why a DELETE is refused before its row is looked for, if it is.
     #[tactic(auto, unfolding(crate::specs::Turn::turn_of))]
     fn check_delete(&self, session: Session, text: &RowText) -> Result<(), Refusal>
-        ensures { result_err result ≡ first_refusal (refusals (turn_of self.now.state session (Statement.Delete text.now))) }
+        ensures { result_err result ≡ first_refusal (turn_of self.now.state session (Statement.Delete text.now)).early }
     {
         if self.is_open(session) {
             return Err(Refusal::TransactionOpen);
         }
-        let Some(table) = self.catalog.find(text.table) else {
+        let Some(table) = self.tables.find(text.table) else {
             return Err(Refusal::NoSuchTable);
         };
-        check_key(table, &text.row)?;
-        self.check_free(text)
+        check_key(table, &text.row)
     }
 
-    /// Why a row isn't taken out: there is none, or a session holds a reservation of it.
-    fn check_free(&self, text: &RowText) -> Result<(), Refusal>
-        ensures { result_err result ≡ first_refusal (
-            refuse_if (is_none (row_named self.now.state.rows (named_by text.now.table text.now.row))) Refusal.NoSuchRow
-            ∷ refuse_if (is_reserved self.now.state (named_by text.now.table text.now.row)) Refusal.RowReserved
-            ∷ []) }
+    /// Takes out the row of a name, if it stands.
+    fn take_row(&mut self, alloc: Global, session: Session, text: &RowText, name: &RowName) -> Reply
+        requires name { name.now ≡ named_by text.now.table text.now.row }
+        requires early { PassesEarly self.old.state session (Statement.Delete text.now) }
+        ensures { Serves S.Store session (Statement.Delete text.now) self.old result self.new }
     {
-        if find_named_by(&self.rows, text.table, &text.row).is_none() {
-            return Err(Refusal::NoSuchRow);
+        match self.row(alloc, name) {
+            Ok(Some(_)) => self.take_standing_row(session, text, name),
+            Ok(None) => Reply::Refused(Refusal::NoSuchRow),
+            Err(failure) => Reply::Refused(refusal_of(failure)),
         }
-        if is_reserved(&self.open, text.table, &text.row) {
-            return Err(Refusal::RowReserved);
+    }
+
+    /// Takes out a row that stands, unless a session holds a reservation of it.
+    fn take_standing_row(&mut self, session: Session, text: &RowText, name: &RowName) -> Reply
+        requires name { name.now ≡ named_by text.now.table text.now.row }
+        requires early { PassesEarly self.old.state session (Statement.Delete text.now) }
+        requires stands { IsUsable (state S.Store self.old.store) → IsSome (row_named self.old.state.rows name.now) }
+        ensures { Serves S.Store session (Statement.Delete text.now) self.old result self.new }
+    {
+        if is_reserved(&self.open, name) {
+            return Reply::Refused(Refusal::RowReserved);
         }
-        Ok(())
+        match self.tables.delete(name) {
+            Ok(()) => Reply::Deleted,
+            Err(failure) => Reply::Refused(refusal_of(failure)),
+        }
     }
 }

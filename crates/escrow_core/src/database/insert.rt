@@ -1,42 +1,37 @@
 use crate::database::Database;
 use crate::grant::first_breach;
 use crate::reply::Reply;
-use crate::rows::{count_rows, find_row, row_place};
 use crate::spreads::no_spreads;
 use escrow_num::{Refusal, Row, Session};
-use escrow_schema::{TableDef, fit_row};
+use escrow_schema::fit_row;
 use escrow_sql::{InsertText, Statement};
+use escrow_tables::{StoredTable, refusal_of};
+use sqlite::Alter;
 use std::alloc::Global;
 
-impl Database {
-    ghost use Rattle.std.specs.Prelude.{◌≡◌, ◌≤◌, [], Some, IfOk, IfErr, is_some, nat_le, length, option_map, ◌∷◌};
-    ghost use Rattle.std.specs.List.{AllByRecursion};
+impl<S: Alter> Database<S> {
+    ghost use Rattle.std.specs.Prelude.{◌≡◌, [], ◌∷◌, None, Some, IfOk, IfErr, nat_le, length, option_map};
+    ghost use Rattle.sqlite.specs.Held.{state};
     ghost use Rattle.escrow_num.specs.Refusal.{first_refusal, refuse_if};
-    ghost use Rattle.escrow_checks.specs.Form.{IsCovered};
-    ghost use Rattle.escrow_checks.specs.Grant.{broken};
-    ghost use Rattle.escrow_core.specs.Serving.{IsAccepted, IsRefusal};
+    ghost use Rattle.escrow_rows.specs.declared.stored.TheConstants.StoredTable.{MAX_ROWS};
+    ghost use Rattle.escrow_rows.specs.Answers.{IsUsable};
+    ghost use Rattle.escrow_core.specs.Asked.{insert_breach, row_of};
+    ghost use Rattle.escrow_core.specs.Serves.{Serves};
+    ghost use Rattle.escrow_core.specs.Serving.{IsRefusal, PassesEarly};
     ghost use Rattle.escrow_core.specs.State.{row_named, rows_of};
-    ghost use Rattle.escrow_core.specs.Step.{StepOrRefusal};
-    ghost use Rattle.escrow_core.specs.Asked.{row_of};
-    ghost use Rattle.escrow_core.specs.declared.database.TheConstants.Database.{MAX_ROWS};
-    ghost use Rattle.escrow_core.specs.declared.spreads.TheConstants.{MOST_CHECKS};
 
-    /// INSERT: the row that the values make is put among the committed rows.
+    /// INSERT: the row that the values make is put among the committed rows. The key is read first, so that
+    /// no write is refused for a row that stands.
     pub(crate) fn insert(&mut self, alloc: Global, session: Session, text: &InsertText) -> Reply
-        ensures { StepOrRefusal self.old.state session (Statement.Insert text.now) result self.new.state }
+        ensures { Serves S.Store session (Statement.Insert text.now) self.old result self.new }
     {
-        let row = match self.plan_insert(alloc, session, text) {
-            Ok(row) => row,
-            Err(refusal) => return Reply::Refused(refusal),
-        };
-        let place = row_place(&self.rows, &row.name);
-        match self.rows.insert(place, row) {
-            Ok(()) => Reply::Inserted,
-            Err(_) => Reply::Refused(Refusal::Memory),
+        match self.plan_insert(alloc, session, text) {
+            Ok(row) => self.put_row(alloc, session, text, &row),
+            Err(refusal) => Reply::Refused(refusal),
         }
     }
 
-    /// The row that an INSERT puts among the rows, or why it puts none.
+    /// The row that an INSERT makes, or why it makes none.
     #[tactic(auto, unfolding(crate::specs::Turn::turn_of))]
     fn plan_insert(
         &self,
@@ -45,36 +40,64 @@ impl Database {
         text: &InsertText,
     ) -> Result<Row, Refusal>
         ensures row { IfOk result (λ row. row_of self.now.state text.now ≡ Some row) }
-        ensures accepted { IfOk result (λ _. IsAccepted self.now.state session (Statement.Insert text.now)) }
+        ensures early { IfOk result (λ _. PassesEarly self.now.state session (Statement.Insert text.now)) }
         ensures refused { IfErr result (IsRefusal self.now.state session (Statement.Insert text.now)) }
     {
         if self.is_open(session) {
             return Err(Refusal::TransactionOpen);
         }
-        let Some(table) = self.catalog.find(text.table) else {
+        let Some(table) = self.tables.find(text.table) else {
             return Err(Refusal::NoSuchTable);
         };
-        let row = fit_row(alloc, table, text)?;
-        match self.row_refusal(text, table, &row) {
-            Some(refusal) => Err(refusal),
-            None => Ok(row),
+        fit_row(alloc, table, text)
+    }
+
+    /// Puts a row, unless one of its name stands.
+    fn put_row(&mut self, alloc: Global, session: Session, text: &InsertText, row: &Row) -> Reply
+        requires row { row_of self.old.state text.now ≡ Some row.now }
+        requires early { PassesEarly self.old.state session (Statement.Insert text.now) }
+        ensures { Serves S.Store session (Statement.Insert text.now) self.old result self.new }
+    {
+        match self.row(alloc, &row.name) {
+            Ok(None) => self.put_new_row(alloc, session, text, row),
+            Ok(Some(_)) => Reply::Refused(Refusal::RowExists),
+            Err(failure) => Reply::Refused(refusal_of(failure)),
         }
     }
 
-    /// Why a row that fits its table isn't inserted. It is judged with no open reservation.
-    fn row_refusal(&self, text: &InsertText, table: &TableDef, row: &Row) -> Option<Refusal>
-        requires few { length table.now.checks ≤ MOST_CHECKS }
-        requires covered { AllByRecursion (λ check. IsCovered check.coeffs row.now.amounts) table.now.checks }
-        ensures { result ≡ first_refusal (
-            refuse_if (is_some (row_named self.now.state.rows row.now.name)) Refusal.RowExists
-            ∷ refuse_if (nat_le MAX_ROWS (length (rows_of self.now.state.rows text.now.table))) Refusal.TableFull
-            ∷ option_map Refusal.Check (broken table.now.checks row.now.amounts [] [])
+    /// Puts a row of a name that no row has.
+    fn put_new_row(
+        &mut self,
+        alloc: Global,
+        session: Session,
+        text: &InsertText,
+        row: &Row,
+    ) -> Reply
+        requires row { row_of self.old.state text.now ≡ Some row.now }
+        requires early { PassesEarly self.old.state session (Statement.Insert text.now) }
+        requires new { IsUsable (state S.Store self.old.store) → row_named self.old.state.rows row.now.name ≡ None }
+        ensures { Serves S.Store session (Statement.Insert text.now) self.old result self.new }
+    {
+        if let Some(refusal) = self.row_refusal(text, row) {
+            return Reply::Refused(refusal);
+        }
+        match self.tables.insert(alloc, row) {
+            Ok(()) => Reply::Inserted,
+            Err(failure) => Reply::Refused(refusal_of(failure)),
+        }
+    }
+
+    /// Why a new row isn't put: its table is full, or it breaks a check. It is judged with no open
+    /// reservation.
+    fn row_refusal(&self, text: &InsertText, row: &Row) -> Option<Refusal>
+        requires { row_of self.now.state text.now ≡ Some row.now }
+        ensures { IsUsable (state S.Store self.now.store) → result ≡ first_refusal (
+            refuse_if (nat_le MAX_ROWS (length (rows_of self.now.state.rows text.now.table))) Refusal.TableFull
+            ∷ option_map Refusal.Check (insert_breach self.now.state text.now)
             ∷ []) }
     {
-        if find_row(&self.rows, &row.name).is_some() {
-            return Some(Refusal::RowExists);
-        }
-        if count_rows(&self.rows, text.table) >= Self::MAX_ROWS {
+        let table = self.tables.find(text.table)?;
+        if self.tables.count(text.table) >= StoredTable::MAX_ROWS {
             return Some(Refusal::TableFull);
         }
         first_breach(table.checks.as_slice(), row, &[], &no_spreads()).map(Refusal::Check)

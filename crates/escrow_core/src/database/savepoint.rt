@@ -2,15 +2,16 @@ use crate::database::Database;
 use crate::reply::Reply;
 use escrow_num::{Name, Session};
 use escrow_sql::Statement;
+use sqlite::Alter;
 
-impl Database {
+impl<S: Alter> Database<S> {
     ghost use Rattle.std.specs.Prelude.{◌≡◌};
-    ghost use Rattle.escrow_core.specs.Step.{StepOrRefusal};
+    ghost use Rattle.escrow_core.specs.Serves.{Serves};
     ghost use Rattle.escrow_core.specs.Turn.{after_rollback_to, released};
 
     /// SAVEPOINT: makes a savepoint of the session. An earlier one of its name is taken out.
     pub(crate) fn savepoint(&mut self, session: Session, name: Name) -> Reply
-        ensures { StepOrRefusal self.old.state session (Statement.Savepoint name) result self.new.state }
+        ensures { Serves S.Store session (Statement.Savepoint name) self.old result self.new }
     {
         // What its type knows of a session's number is told where the number is read.
         let _ = session.get();
@@ -20,12 +21,14 @@ impl Database {
         }
     }
 
-    /// ROLLBACK TO: drops the open reservations of a session that came after its savepoint of a
-    /// name, and the savepoints that it made after it. Answers how many reservations there were, or
-    /// `None`, exactly where there is no such savepoint, and then nothing changes. Takes no memory.
+    /// ROLLBACK TO: drops the open reservations of a session that came after its savepoint of a name, and
+    /// the savepoints that it made after it. Answers how many reservations there were, or `None`, exactly
+    /// where there is no such savepoint, and then nothing changes. Takes no memory, and makes no store
+    /// call.
     pub fn rollback_to(&mut self, session: Session, name: Name) -> Option<u32>
         ensures count { result ≡ released self.old.state session name }
         ensures state { self.new.state ≡ after_rollback_to self.old.state session name }
+        ensures store { self.new.store ≡ self.old.store }
     {
         self.open.cut(session, name)
     }

@@ -3,16 +3,17 @@ use crate::reply::Reply;
 use escrow_num::{Name, Refusal, Session};
 use escrow_schema::print_table;
 use escrow_sql::Statement;
+use sqlite::Alter;
 use std::alloc::Global;
 
-impl Database {
-    ghost use Rattle.escrow_core.specs.Step.{StepOrRefusal};
+impl<S: Alter> Database<S> {
+    ghost use Rattle.escrow_core.specs.Serves.{Serves};
 
-    /// SHOW TABLE: the text that defines the table. Nothing changes.
+    /// SHOW TABLE: the text that defines the table. Nothing changes, and the store isn't asked.
     pub(crate) fn show_table(&self, alloc: Global, session: Session, name: Name) -> Reply
-        ensures { StepOrRefusal self.now.state session (Statement.ShowTable name) result self.now.state }
+        ensures { Serves S.Store session (Statement.ShowTable name) self.now result self.now }
     {
-        let Some(table) = self.catalog.find(name) else {
+        let Some(table) = self.tables.find(name) else {
             return Reply::Refused(Refusal::NoSuchTable);
         };
         match print_table(alloc, table) {

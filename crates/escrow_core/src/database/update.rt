@@ -1,30 +1,34 @@
 use crate::database::Database;
 use crate::grant::breach_of;
 use crate::reply::Reply;
-use crate::rows::{find_row, replace_plain};
-use escrow_num::{Amount, Changes, Refusal, RowName, Seq, Session, Value};
+use escrow_num::{Amount, Changes, Refusal, Row, RowName, Seq, Session, Value};
 use escrow_schema::{Plan, plan_update};
 use escrow_sql::{Statement, UpdateText};
+use escrow_tables::refusal_of;
+use sqlite::Alter;
 use std::alloc::Global;
 
-impl Database {
-    ghost use Rattle.std.specs.Prelude.{◌≡◌, ◌≤◌, None, Some, IfOk, IfErr, [], ◌∷◌, is_none, length};
-    ghost use Rattle.escrow_num.specs.Refusal.{first_refusal, refuse_if};
+impl<S: Alter> Database<S> {
+    ghost use Rattle.std.specs.Prelude.{◌≡◌, ◌≤◌, None, Some, IfOk, IfErr, IsSome, length, false};
+    ghost use Rattle.sqlite.specs.Held.{state};
+    ghost use Rattle.escrow_num.specs.Refusal.{first_refusal};
     ghost use Rattle.escrow_num.specs.Session.{IsSession};
-    ghost use Rattle.escrow_core.specs.Asked.{plan_of};
     ghost use Rattle.escrow_checks.specs.declared.coefficients.TheConstants.Coefficients.{MAX_LEN};
+    ghost use Rattle.escrow_rows.specs.Answers.{IsUsable};
+    ghost use Rattle.escrow_core.specs.Asked.{plan_of, row_name};
+    ghost use Rattle.escrow_core.specs.Serves.{Serves};
     ghost use Rattle.escrow_core.specs.Serving.{IsRefusal};
     ghost use Rattle.escrow_core.specs.State.{row_named, is_open};
-    ghost use Rattle.escrow_core.specs.Step.{StepOrRefusal};
     ghost use Rattle.escrow_core.specs.Turn.{update_refusals};
+    ghost use Rattle.escrow_core.specs.Valid.{HasTable};
 
     /// UPDATE, of RESERVABLE columns or of plain ones, by its plan.
     pub(crate) fn update(&mut self, alloc: Global, session: Session, text: &UpdateText) -> Reply
-        ensures { StepOrRefusal self.old.state session (Statement.Update text.now) result self.new.state }
+        ensures { Serves S.Store session (Statement.Update text.now) self.old result self.new }
     {
         match self.plan(alloc, session, text) {
-            Ok(Plan::Reserve { key, changes }) => self.reserve(session, text, key, changes),
-            Ok(Plan::Plain { key, values }) => self.replace(session, text, key, values),
+            Ok(Plan::Reserve { key, changes }) => self.reserve(alloc, session, text, key, changes),
+            Ok(Plan::Plain { key, values }) => self.replace(alloc, session, text, key, values),
             Err(refusal) => Reply::Refused(refusal),
         }
     }
@@ -35,28 +39,52 @@ impl Database {
         ensures plan { IfOk result (λ plan. plan_of self.now.state text.now ≡ Some plan) }
         ensures refused { IfErr result (IsRefusal self.now.state session (Statement.Update text.now)) }
     {
-        let Some(table) = self.catalog.find(text.table) else {
+        let Some(table) = self.tables.find(text.table) else {
             return Err(Refusal::NoSuchTable);
         };
         plan_update(alloc, table, text)
     }
 
-    /// A reservation of changes is granted, and the committed row stays as it is.
+    /// A reservation of changes of the row of a key, if it stands. The committed row stays as it is.
     fn reserve(
         &mut self,
+        alloc: Global,
         session: Session,
         text: &UpdateText,
         key: Value,
         changes: Changes,
     ) -> Reply
         requires { plan_of self.old.state text.now ≡ Some (Plan.Reserve key changes) }
-        ensures { StepOrRefusal self.old.state session (Statement.Update text.now) result self.new.state }
+        ensures { Serves S.Store session (Statement.Update text.now) self.old result self.new }
     {
         let name = RowName {
             table: text.table,
             key,
         };
-        if let Some(refusal) = self.grant_refusal(session, &name, changes.as_slice()) {
+        match self.row(alloc, &name) {
+            Ok(Some(row)) => self.grant(session, text, &row, name, changes),
+            Ok(None) => Reply::Refused(Refusal::NoSuchRow),
+            Err(failure) => Reply::Refused(refusal_of(failure)),
+        }
+    }
+
+    /// Grants a reservation of changes of a row that stands.
+    fn grant(
+        &mut self,
+        session: Session,
+        text: &UpdateText,
+        row: &Row,
+        name: RowName,
+        changes: Changes,
+    ) -> Reply
+        requires plan { plan_of self.old.state text.now ≡ Some (Plan.Reserve name.key changes) }
+        requires table { name.table ≡ text.now.table }
+        requires named { row.now.name ≡ name }
+        requires fits { HasTable self.old.state.catalog row.now }
+        requires stands { IsUsable (state S.Store self.old.store) → row_named self.old.state.rows name ≡ Some row.now }
+        ensures { Serves S.Store session (Statement.Update text.now) self.old result self.new }
+    {
+        if let Some(refusal) = self.grant_refusal(session, row, changes.as_slice()) {
             return Reply::Refused(refusal);
         }
         match self.open.grant(session, name, changes) {
@@ -65,66 +93,74 @@ impl Database {
         }
     }
 
-    /// Why a reservation isn't granted: no such row, as many reservations of the session as it may
-    /// have, no more ids, or the first check that it could break.
+    /// Why a reservation of a row that stands isn't granted: as many reservations of the session as it
+    /// may have, no more ids, or the first check that it could break.
     fn grant_refusal(
         &self,
         session: Session,
-        name: &RowName,
+        row: &Row,
         changes: &[Option<Amount>],
     ) -> Option<Refusal>
-        requires { length changes.now ≤ MAX_LEN }
-        ensures first { result ≡ first_refusal (update_refusals self.now.state session name.now.table (Plan.Reserve name.now.key changes.now)) }
+        requires short { length changes.now ≤ MAX_LEN }
+        requires fits { HasTable self.now.state.catalog row.now }
+        ensures first { row_named self.now.state.rows row.now.name ≡ Some row.now
+            → result ≡ first_refusal (update_refusals self.now.state session row.now.name.table (Plan.Reserve row.now.name.key changes.now)) }
         ensures session { result ≡ None → IsSession session }
     {
-        let Some(row) = find_row(&self.rows, name) else {
-            return Some(Refusal::NoSuchRow);
-        };
         if let Some(refusal) = self.open.grant_refusal(session) {
             return Some(refusal);
         }
         // What its type knows of a session's number is told where the number is read.
         let _ = session.get();
-        let table = self.catalog.find(name.table)?;
+        let table = self.tables.find(row.name.table)?;
         breach_of(table.checks.as_slice(), row, changes, &self.open).map(Refusal::Check)
     }
 
-    /// Plain values of a row are replaced. Its amounts stay, and so do the reservations of it.
+    /// Plain values of the row of a key are replaced, if it stands and the session's transaction isn't open.
+    /// Its amounts stay, and so do the reservations of it.
     fn replace(
         &mut self,
+        alloc: Global,
         session: Session,
         text: &UpdateText,
         key: Value,
         values: Seq<Option<Value>>,
     ) -> Reply
         requires { plan_of self.old.state text.now ≡ Some (Plan.Plain key values) }
-        ensures { StepOrRefusal self.old.state session (Statement.Update text.now) result self.new.state }
+        ensures { Serves S.Store session (Statement.Update text.now) self.old result self.new }
     {
+        if self.is_open(session) {
+            return Reply::Refused(Refusal::TransactionOpen);
+        }
         let name = RowName {
             table: text.table,
             key,
         };
-        if let Some(refusal) = self.replace_refusal(session, &name) {
-            return Reply::Refused(refusal);
+        match self.row(alloc, &name) {
+            Ok(Some(_)) => self.put_plain(alloc, session, text, &name, values.as_slice()),
+            Ok(None) => Reply::Refused(Refusal::NoSuchRow),
+            Err(failure) => Reply::Refused(refusal_of(failure)),
         }
-        replace_plain(&mut self.rows, &name, values);
-        Reply::Updated
     }
 
-    /// Why plain values of a row aren't replaced: the session's transaction is open, or there is no
-    /// such row. Reservations of the row don't matter.
-    fn replace_refusal(&self, session: Session, name: &RowName) -> Option<Refusal>
-        ensures { result ≡ first_refusal (
-            refuse_if (is_open session self.now.state) Refusal.TransactionOpen
-            ∷ refuse_if (is_none (row_named self.now.state.rows name.now)) Refusal.NoSuchRow
-            ∷ []) }
+    /// Replaces plain values of a row that stands.
+    fn put_plain(
+        &mut self,
+        alloc: Global,
+        session: Session,
+        text: &UpdateText,
+        name: &RowName,
+        values: &[Option<Value>],
+    ) -> Reply
+        requires plan { plan_of self.old.state text.now ≡ Some (Plan.Plain name.now.key values.now) }
+        requires table { name.now.table ≡ text.now.table }
+        requires closed { is_open session self.old.state ≡ false }
+        requires stands { IsUsable (state S.Store self.old.store) → IsSome (row_named self.old.state.rows name.now) }
+        ensures { Serves S.Store session (Statement.Update text.now) self.old result self.new }
     {
-        if self.is_open(session) {
-            return Some(Refusal::TransactionOpen);
+        match self.tables.set_plain(alloc, name, values) {
+            Ok(()) => Reply::Updated,
+            Err(failure) => Reply::Refused(refusal_of(failure)),
         }
-        if find_row(&self.rows, name).is_none() {
-            return Some(Refusal::NoSuchRow);
-        }
-        None
     }
 }

@@ -4,4 +4,4 @@ use Rattle.escrow_core.specs.Journal.{entry_of, of_table}
 use Rattle.escrow_core.proofs.journal.journal_entries.Given as goal
 
 abbrev pub invariant-loop-r : goal.invariant-loop-r
-invariant-loop-r l = l.entries ≡ map (entry_of l.catalog) (of_table l.table (take l.r-index (map (λ r. r.now) l.r-items)))
+invariant-loop-r g l = l.entries ≡ map (entry_of l.tables.catalog) (of_table l.table (take l.r-index (map (λ r. r.now) l.r-items)))

@@ -1,5 +1,4 @@
-use Rattle.std.proofs.Common.{◌≡◌, ◌⊎◌, ◌++◌, [], inl, inr, length, ap, sym, ◌∙◌, append-nil}
-use Rattle.escrow_core.specs.Journal.{named_changes}
+use Rattle.std.proofs.Common.{◌≡◌, ◌⊎◌, inl, inr, length, sym, ◌∙◌, append-nil}
 use Rattle.escrow_core.proofs.Journals.{named_end}
 use Rattle.escrow_core.proofs.journal.named_changes.Goals as goal
 

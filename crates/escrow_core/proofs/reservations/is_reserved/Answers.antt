@@ -1,6 +1,5 @@
 use Rattle.std.proofs.Common.{◌≡◌, ◌+◌, Bool, refl, sym, ◌∙◌, arith}
 use Rattle.escrow_num.specs.Order.{same_row}
-use Rattle.escrow_core.specs.Asked.{named_by}
 use Rattle.escrow_num.specs.declared.reservation.Reservation.{Reservation}
 use Rattle.escrow_num.specs.declared.session.TheConstants.Session.{MAX}
 use Rattle.escrow_core.proofs.Sessions.{sessions_none, sessions_all, none_next, any_own}
@@ -11,13 +10,13 @@ loop-i-init c = rw (sessions_none c.args.txns.now.reservations c.requires.sessio
 
 pub loop-i-preserved : goal.loop-i-preserved
 loop-i-preserved c =
-    let test : Reservation → Bool = λ r. same_row r.row (named_by c.args.table c.args.row.now) in
+    let test : Reservation → Bool = λ r. same_row r.row c.args.name.now in
     let own_none = rw c.reservations_at.ensures at (sym c.holds_row.ensures ∙ c.if-holds_row.false) in
     none_next test c.loop-i.i c.args.txns.now.reservations c.loop-i.invariant own_none
 
 pub returns-then-holds_row : goal.returns-then-holds_row
 returns-then-holds_row c =
-    let test : Reservation → Bool = λ r. same_row r.row (named_by c.args.table c.args.row.now) in
+    let test : Reservation → Bool = λ r. same_row r.row c.args.name.now in
     let own_one = rw c.reservations_at.ensures at (sym c.holds_row.ensures ∙ c.if-holds_row.true) in
     sym (any_own test (c.loop-i.i + 1) c.args.txns.now.reservations own_one)
 

@@ -1,4 +1,4 @@
-use Rattle.std.proofs.Common.{◌≡◌, ◌++◌, ◌∷◌, [], sym, ◌∙◌, take, length, arith}
+use Rattle.std.proofs.Common.{◌≡◌, ◌++◌, sym, ◌∙◌, take, arith}
 use Rattle.std.specs.Prelude.{map}
 use Rattle.std.proofs.lemmas.List.{append_assoc, length-append, length-map, length-take}
 use Rattle.escrow_num.specs.Reservation.{counted}

@@ -1,19 +1,34 @@
-use Rattle.std.proofs.Common.{sym, ◌∙◌}
-use Rattle.escrow_core.proofs.Served.{commit_serves, rollback_serves, back_serves, back_refuses}
+use Rattle.std.proofs.Common.{refl, sym, ◌∙◌}
+use Rattle.escrow_num.specs.declared.refusal.Refusal.TheVariants as refusal
+use Rattle.escrow_sql.specs.declared.statement.Statement.TheVariants as statement
+use Rattle.escrow_core.specs.declared.reply.Reply.TheVariants as reply
+use Rattle.escrow_core.proofs.Served.{rollback_serves, back_serves, back_refuses}
+use Rattle.escrow_core.proofs.Serving.{served_apart}
 use Rattle.escrow_core.proofs.database.Database.answer.Goals as goal
 
-pub returns-in-Commit : goal.returns-in-Commit
-returns-in-Commit c = rw (c.in-Commit.is, c.commit.ensures.count, c.commit.ensures.state) (commit_serves c.args.self.now.state c.args.session)
-
 pub returns-in-Rollback : goal.returns-in-Rollback
-returns-in-Rollback c = rw (c.in-Rollback.is, c.rollback.ensures.count, c.rollback.ensures.state) (rollback_serves c.args.self.now.state c.args.session)
+returns-in-Rollback g c =
+    let d = c.args.self.now in
+    let session = c.args.session in
+    rw c.in-Rollback.is
+    (served_apart g.S.Store session statement.Rollback d c.rollback.new.self (reply.RolledBack c.rollback.result) refl c.rollback.ensures.store
+    (rw (c.rollback.ensures.count, c.rollback.ensures.state) (rollback_serves d.state session)))
 
 pub returns-in-Some : goal.returns-in-Some
-returns-in-Some c =
-    rw (c.in-RollbackTo.is, c.rollback_to.ensures.state)
-    (back_serves c.args.self.now.state c.args.session c.in-RollbackTo.name c.in-Some.count (sym c.rollback_to.ensures.count ∙ c.in-Some.is))
+returns-in-Some g c =
+    let d = c.args.self.now in
+    let session = c.args.session in
+    let name = c.in-RollbackTo.name in
+    let count = c.in-Some.count in
+    rw c.in-RollbackTo.is
+    (served_apart g.S.Store session (statement.RollbackTo name) d c.rollback_to.new.self (reply.RolledBackTo name count) refl c.rollback_to.ensures.store
+    (rw c.rollback_to.ensures.state (back_serves d.state session name count (sym c.rollback_to.ensures.count ∙ c.in-Some.is))))
 
 pub returns-in-None : goal.returns-in-None
-returns-in-None c =
-    rw (c.in-RollbackTo.is, c.rollback_to.ensures.state)
-    (back_refuses c.args.self.now.state c.args.session c.in-RollbackTo.name (sym c.rollback_to.ensures.count ∙ c.in-None.is))
+returns-in-None g c =
+    let d = c.args.self.now in
+    let session = c.args.session in
+    let name = c.in-RollbackTo.name in
+    rw c.in-RollbackTo.is
+    (served_apart g.S.Store session (statement.RollbackTo name) d c.rollback_to.new.self (reply.Refused refusal.NoSuchSavepoint) refl c.rollback_to.ensures.store
+    (rw c.rollback_to.ensures.state (back_refuses d.state session name (sym c.rollback_to.ensures.count ∙ c.in-None.is))))

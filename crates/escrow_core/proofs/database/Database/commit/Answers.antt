@@ -1,15 +1,38 @@
-use Rattle.escrow_core.specs.Inside.{state_of}
-use Rattle.escrow_core.specs.State.{State}
-use Rattle.escrow_core.proofs.Shapes.{own_amounts}
-use Rattle.escrow_core.proofs.ValidEnds.{commit_valid}
+use Rattle.std.proofs.Common.{sym, ◌∙◌}
+use Rattle.escrow_journal.specs.Reservations.{own}
+use Rattle.escrow_core.proofs.Committing.{holds_some, holds_none, just_ended, just_ended_keeps, committed, committed_keeps, not_committed}
 use Rattle.escrow_core.proofs.database.Database.commit.Goals as goal
 
-pub apply_all-requires : goal.apply_all-requires
-apply_all-requires c =
-    let s : State = state_of c.self.inside in
-    λ i. rw (c.as_slice.ensures, c.take_all-taken.ensures.all) (own_amounts s c.self.invariant c.args.session i)
+pub end-requires : goal.end-requires
+end-requires g c = c.self.invariant.orderly.few_reservations c.args.session
+
+pub end-requires-in-Ok : goal.end-requires-in-Ok
+end-requires-in-Ok g c = c.self.invariant.orderly.few_reservations c.args.session
 
 pub invariant_of-self : goal.invariant_of-self
-invariant_of-self c =
-    let s : State = state_of c.self.inside in
-    rw (c.apply_all.ensures, c.as_slice.ensures, c.take_all-taken.ensures.all, c.take_all-taken.ensures.ended) (commit_valid s c.args.session c.self.invariant)
+invariant_of-self g c = rw c.end.ensures.ended (just_ended_keeps g.S.Store c.args.session c.self.inside.tables c.self.inside.open c.self.invariant)
+
+pub returns-then-is_empty : goal.returns-then-is_empty
+returns-then-is_empty g c =
+    let none = holds_none c.all-reservations.result.now (own c.args.session c.self.inside.open.reservations) (c.all-reservations.ensures ∙ c.journal.ensures.reservations) (sym c.if-is_empty.true ∙ c.is_empty.ensures) in
+    rw (← c.self.view_is, c.end.ensures.reply, c.end.ensures.ended) (just_ended g.S.Store c.args.session c.self.inside.tables c.self.inside.open none)
+
+pub invariant_of-self-in-Ok : goal.invariant_of-self-in-Ok
+invariant_of-self-in-Ok g c =
+    let mine = c.all-reservations.ensures ∙ c.journal.ensures.reservations in
+    let writes = rw mine at c.in-Ok.ensures in
+    rw c.end-in-Ok.ensures.ended (committed_keeps g.S.Store c.args.session c.self.inside.tables c.self.inside.open c.apply.new.self c.self.invariant writes)
+
+pub returns-in-Ok : goal.returns-in-Ok
+returns-in-Ok g c =
+    let mine = c.all-reservations.ensures ∙ c.journal.ensures.reservations in
+    let holds = holds_some c.all-reservations.result.now (own c.args.session c.self.inside.open.reservations) mine (sym c.if-is_empty.false ∙ c.is_empty.ensures) in
+    let writes = rw mine at c.in-Ok.ensures in
+    rw (← c.self.view_is, c.end-in-Ok.ensures.reply, c.end-in-Ok.ensures.ended) (committed g.S.Store c.args.session c.self.inside.tables c.self.inside.open c.apply.new.self holds writes)
+
+pub returns-in-Err : goal.returns-in-Err
+returns-in-Err g c =
+    let mine = c.all-reservations.ensures ∙ c.journal.ensures.reservations in
+    let holds = holds_some c.all-reservations.result.now (own c.args.session c.self.inside.open.reservations) mine (sym c.if-is_empty.false ∙ c.is_empty.ensures) in
+    let writes = rw mine at c.in-Err.ensures in
+    rw (← c.self.view_is, c.refusal_of.ensures) (not_committed g.S.Store c.args.session c.self.inside.tables c.self.inside.open c.apply.new.self c.in-Err.failure holds writes)

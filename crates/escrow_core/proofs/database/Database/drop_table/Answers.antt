@@ -1,35 +1,32 @@
-use Rattle.std.proofs.Common.{◌≡◌, sym, ap, subst}
+use Rattle.std.proofs.Common.{sym}
 use Rattle.escrow_sql.specs.declared.statement.Statement.TheVariants as statement
-use Rattle.escrow_core.specs.Inside.{state_of}
-use Rattle.escrow_core.specs.Seen.{Seen}
-use Rattle.escrow_core.specs.Serving.{IsAccepted}
-use Rattle.escrow_core.specs.State.{State}
-use Rattle.escrow_core.proofs.Accepted.{drop_stands}
-use Rattle.escrow_core.proofs.Served.{rule_serves, drop_serves}
-use Rattle.escrow_core.proofs.ValidDrop.{drop_valid, taken}
+use Rattle.escrow_core.specs.Inside.{seen_of}
+use Rattle.escrow_core.proofs.Dropping.{stands_there, dropped, dropped_keeps, not_dropped}
+use Rattle.escrow_core.proofs.Serving.{early_refused, failed_keeps}
 use Rattle.escrow_core.proofs.database.Database.drop_table.Goals as goal
-
-pub invariant_of-self : goal.invariant_of-self
-invariant_of-self c =
-    let s : State = state_of c.self.inside in
-    let session = c.args.session in
-    let name = c.args.name in
-    let same : s ≡ c.args.self.now.state = ap (λ (v : Seen). v.state) c.self.view_is in
-    let accepted : IsAccepted s session (statement.Drop name) = subst (λ (t : State). IsAccepted t session (statement.Drop name)) (sym same) (sym c.in-Ok.ensures) in
-    let stands = drop_stands s session name accepted in
-    rw (taken s.catalog name c.remove.result c.remove.new.self stands.table stands.named c.remove.ensures.rest c.remove.ensures.refused, c.remove_rows_of.ensures)
-    (drop_valid s name c.self.invariant stands.free)
-
-pub returns-in-Ok : goal.returns-in-Ok
-returns-in-Ok c =
-    let s : State = state_of c.self.inside in
-    let session = c.args.session in
-    let name = c.args.name in
-    let same : s ≡ c.args.self.now.state = ap (λ (v : Seen). v.state) c.self.view_is in
-    let accepted : IsAccepted s session (statement.Drop name) = subst (λ (t : State). IsAccepted t session (statement.Drop name)) (sym same) (sym c.in-Ok.ensures) in
-    let stands = drop_stands s session name accepted in
-    rw (← same, taken s.catalog name c.remove.result c.remove.new.self stands.table stands.named c.remove.ensures.rest c.remove.ensures.refused, c.remove_rows_of.ensures)
-    (drop_serves s session name accepted)
+use Rattle.escrow_core.proofs.database.Database.drop_table.Goals.{in-Ok, in-Err-drop_table}
 
 pub returns-in-Err : goal.returns-in-Err
-returns-in-Err c = rule_serves c.args.self.now.state c.args.session (statement.Drop c.args.name) c.in-Err.refusal (sym c.in-Err.ensures)
+returns-in-Err g c = early_refused g.S.Store c.args.session (statement.Drop c.args.name) c.args.self.now c.in-Err.refusal (sym c.in-Err.ensures)
+
+pub drop_table-requires : goal.drop_table-requires
+drop_table-requires g c =
+    let early = rw (← c.self.view_is) at (sym c.in_default.ensures) in
+    stands_there (seen_of c.self.inside.tables c.self.inside.open).state c.args.session c.args.name early
+
+pub invariant_of-self : goal.invariant_of-self
+invariant_of-self g c =
+    let early = rw (← c.self.view_is) at (sym c.in_default.ensures) in
+    elim c.match-drop_table.branch [
+      | in-Ok w ↦ dropped_keeps g.S.Store c.args.session c.args.name c.self.inside.tables c.drop_table.new.self c.self.inside.open early c.self.invariant w.in-Ok.ensures
+      | in-Err-drop_table w ↦ failed_keeps g.S.Store c.args.session (statement.Drop c.args.name) c.self.inside.tables c.drop_table.new.self c.self.inside.open _ _ c.self.invariant w.in-Err-drop_table.ensures
+    ]
+
+pub returns : goal.returns
+returns g c =
+    let early = rw (← c.self.view_is) at (sym c.in_default.ensures) in
+    elim c.match-drop_table.branch [
+      | in-Ok w ↦ rw (← c.self.view_is, w.result-is) (dropped g.S.Store c.args.session c.args.name c.self.inside.tables c.drop_table.new.self c.self.inside.open early w.in-Ok.ensures)
+      | in-Err-drop_table w ↦ rw (← c.self.view_is, w.result-is, w.refusal_of.ensures)
+          (not_dropped g.S.Store c.args.session c.args.name c.self.inside.tables c.drop_table.new.self c.self.inside.open early w.in-Err-drop_table.failure w.in-Err-drop_table.ensures)
+    ]

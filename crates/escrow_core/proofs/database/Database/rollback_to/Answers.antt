@@ -1,12 +1,18 @@
-use Rattle.std.proofs.Common.{subst, sym}
-use Rattle.escrow_core.specs.Inside.{state_of}
+use Rattle.std.proofs.Common.{subst}
+use Rattle.escrow_core.specs.Inside.{seen_of}
+use Rattle.escrow_core.specs.Seen.{IsKept}
 use Rattle.escrow_core.specs.State.{State}
-use Rattle.escrow_core.specs.Valid.{IsValid}
-use Rattle.escrow_core.proofs.ValidEnds.{back_valid}
+use Rattle.escrow_core.specs.Turn.{after_rollback_to}
+use Rattle.escrow_core.proofs.Serving.{apart_keeps}
 use Rattle.escrow_core.proofs.Txns.{back_is}
+use Rattle.escrow_core.proofs.ValidEnds.{back_orderly, back_valid}
 use Rattle.escrow_core.proofs.database.Database.rollback_to.Goals as goal
 
 pub invariant_of-self : goal.invariant_of-self
-invariant_of-self c =
-    let s : State = state_of c.self.inside in
-    rw c.cut.ensures.cut (subst IsValid (back_is s c.args.session c.args.name) (back_valid s c.args.session c.args.name c.self.invariant))
+invariant_of-self g c =
+    let d = seen_of c.self.inside.tables c.self.inside.open in
+    let session = c.args.session in
+    let name = c.args.name in
+    rw c.cut.ensures.cut
+    (subst (λ (s : State). IsKept g.S.Store (record { store = d.store; state = s })) (back_is d.state session name)
+    (apart_keeps g.S.Store d (after_rollback_to d.state session name) c.self.invariant (back_orderly d.state session name c.self.invariant.orderly) (back_valid d.state session name)))

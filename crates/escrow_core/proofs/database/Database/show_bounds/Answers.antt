@@ -1,10 +1,15 @@
+use Rattle.std.proofs.Common.{sym}
+use Rattle.escrow_num.specs.declared.refusal.Refusal.TheVariants as refusal
 use Rattle.escrow_sql.specs.declared.statement.Statement.TheVariants as statement
-use Rattle.escrow_core.proofs.Queries.{bounds_serves}
-use Rattle.escrow_core.proofs.Served.{refused_serves}
+use Rattle.escrow_cells.specs.declared.failure.Failure.TheVariants as failure
+use Rattle.escrow_core.proofs.Queries.{bounds_fails}
+use Rattle.escrow_core.proofs.Serving.{early_refused, refused}
 use Rattle.escrow_core.proofs.database.Database.show_bounds.Goals as goal
 
-pub returns-in-Ok : goal.returns-in-Ok
-returns-in-Ok c = rw c.in-Ok.ensures.reply (bounds_serves c.args.self.now.state c.args.session c.args.text.now c.in-Ok.ensures.accepted)
-
 pub returns-in-Err : goal.returns-in-Err
-returns-in-Err c = refused_serves c.args.self.now.state c.args.session (statement.ShowBounds c.args.text.now) c.in-Err.refusal c.in-Err.ensures.refused
+returns-in-Err g c = early_refused g.S.Store c.args.session (statement.ShowBounds c.args.text.now) c.args.self.now c.in-Err.refusal (sym c.in-Err.ensures)
+
+pub returns-in-Err-value_of : goal.returns-in-Err-value_of
+returns-in-Err-value_of g c =
+    refused g.S.Store c.args.session (statement.ShowBounds c.args.text.now) c.args.self.now refusal.Memory
+    (bounds_fails c.args.self.now.state c.args.session c.args.text.now failure.Memory (sym c.in_default.ensures))

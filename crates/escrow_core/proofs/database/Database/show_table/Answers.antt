@@ -1,28 +1,33 @@
-use Rattle.std.proofs.Common.{◌≡◌, Some, None, sym, ap}
+use Rattle.std.proofs.Common.{◌≡◌, Some, None, refl, sym}
+use Rattle.escrow_num.specs.declared.refusal.Refusal.TheVariants as refusal
+use Rattle.escrow_sql.specs.declared.statement.Statement.TheVariants as statement
 use Rattle.escrow_schema.specs.Catalog.{table_named}
-use Rattle.escrow_core.specs.Inside.{state_of}
-use Rattle.escrow_core.specs.Seen.{Seen}
-use Rattle.escrow_core.specs.State.{State}
+use Rattle.escrow_schema.specs.Print.{canonical}
+use Rattle.escrow_core.specs.declared.reply.Reply.TheVariants as reply
+use Rattle.escrow_core.specs.Inside.{seen_of}
 use Rattle.escrow_core.proofs.Queries.{show_refuses, show_serves, show_wants}
+use Rattle.escrow_core.proofs.Serving.{served_apart}
 use Rattle.escrow_core.proofs.database.Database.show_table.Goals as goal
 
 pub returns-in_default : goal.returns-in_default
-returns-in_default c =
-    let s : State = state_of c.self.inside in
-    let same : s ≡ c.args.self.now.state = ap (λ (v : Seen). v.state) c.self.view_is in
-    let unknown : table_named s.catalog c.args.name ≡ None = sym c.in_default.ensures.found in
-    rw (← same) (show_refuses s c.args.session c.args.name unknown)
+returns-in_default g c =
+    let d = seen_of c.self.inside.tables c.self.inside.open in
+    let unknown : table_named d.state.catalog c.args.name ≡ None = sym c.in_default.ensures.found in
+    rw (← c.self.view_is)
+    (served_apart g.S.Store c.args.session (statement.ShowTable c.args.name) d d (reply.Refused refusal.NoSuchTable) refl refl (show_refuses d.state c.args.session c.args.name unknown))
 
 pub returns-in-Ok : goal.returns-in-Ok
-returns-in-Ok c =
-    let s : State = state_of c.self.inside in
-    let same : s ≡ c.args.self.now.state = ap (λ (v : Seen). v.state) c.self.view_is in
-    let named : table_named s.catalog c.args.name ≡ Some c.in-Some.table.now = sym c.in-Some.ensures.found in
-    rw (← same, c.in-Ok.ensures.text) (show_serves s c.args.session c.args.name c.in-Some.table.now named)
+returns-in-Ok g c =
+    let d = seen_of c.self.inside.tables c.self.inside.open in
+    let table = c.in-Some.table.now in
+    let named : table_named d.state.catalog c.args.name ≡ Some table = sym c.in-Some.ensures.found in
+    rw (← c.self.view_is, c.in-Ok.ensures.text)
+    (served_apart g.S.Store c.args.session (statement.ShowTable c.args.name) d d (reply.Table (canonical table)) refl refl (show_serves d.state c.args.session c.args.name table named))
 
 pub returns-in-Err : goal.returns-in-Err
-returns-in-Err c =
-    let s : State = state_of c.self.inside in
-    let same : s ≡ c.args.self.now.state = ap (λ (v : Seen). v.state) c.self.view_is in
-    let named : table_named s.catalog c.args.name ≡ Some c.in-Some.table.now = sym c.in-Some.ensures.found in
-    rw (← same) (show_wants s c.args.session c.args.name c.in-Some.table.now named)
+returns-in-Err g c =
+    let d = seen_of c.self.inside.tables c.self.inside.open in
+    let table = c.in-Some.table.now in
+    let named : table_named d.state.catalog c.args.name ≡ Some table = sym c.in-Some.ensures.found in
+    rw (← c.self.view_is)
+    (served_apart g.S.Store c.args.session (statement.ShowTable c.args.name) d d (reply.Refused refusal.Memory) refl refl (show_wants d.state c.args.session c.args.name table named))

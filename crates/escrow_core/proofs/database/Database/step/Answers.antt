@@ -1,8 +1,5 @@
 use Rattle.escrow_core.proofs.Promised.{promised}
 use Rattle.escrow_core.proofs.database.Database.step.Goals as goal
 
-pub returns : goal.returns
-returns c = record {
-  event = c.answer.ensures;
-  succeeds = promised c.args.self.now.state c.args.session c.args.statement.now c.answer.result c.answer.new.self.state c.answer.ensures;
-}
+pub returns-clause-succeeds : goal.returns-clause-succeeds
+returns-clause-succeeds g c = promised g.S.Store c.args.session c.args.statement.now c.args.self.now c.answer.result c.answer.new.self c.answer.ensures

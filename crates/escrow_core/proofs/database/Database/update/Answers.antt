@@ -1,6 +1,6 @@
 use Rattle.escrow_sql.specs.declared.statement.Statement.TheVariants as statement
-use Rattle.escrow_core.proofs.Served.{refused_serves}
+use Rattle.escrow_core.proofs.Serving.{refused}
 use Rattle.escrow_core.proofs.database.Database.update.Goals as goal
 
 pub returns-in-Err : goal.returns-in-Err
-returns-in-Err c = refused_serves c.args.self.now.state c.args.session (statement.Update c.args.text.now) c.in-Err.refusal c.in-Err.ensures.refused
+returns-in-Err g c = refused g.S.Store c.args.session (statement.Update c.args.text.now) c.args.self.now c.in-Err.refusal c.in-Err.ensures.refused

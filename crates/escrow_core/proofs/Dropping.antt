@@ -1,0 +1,76 @@
+-- DROP TABLE: refused for what is open or for the catalog, or the table and its rows are taken out in one write.
+use Rattle.std.specs.Prelude.{◌≡◌, ℕ, Bool, true, false, is_some, is_none, Option, Some, None, List, IsSome}
+use Rattle.std.specs.Borrow.{Bor}
+use Rattle.std.specs.Option.{option_copied}
+use Rattle.std.proofs.Common.{refl}
+use Rattle.sqlite_trees.specs.declared.store.Store.{Ghosts}
+use Rattle.escrow_num.specs.declared.refusal.Refusal.TheVariants as refusal
+use Rattle.escrow_num.specs.Refusal.{refuse_if, first_refusal}
+use Rattle.escrow_sql.specs.declared.statement.Statement.TheVariants as statement
+use Rattle.escrow_cells.specs.declared.failure.Failure.{Failure}
+use Rattle.escrow_schema.specs.declared.table.TableDef.{TableDef}
+use Rattle.escrow_schema.specs.Catalog.{table_named, without_table}
+use Rattle.escrow_tables.specs.Calls.{Writes}
+use Rattle.escrow_tables.specs.Committed.{Committed}
+use Rattle.escrow_tables.specs.Told.{told}
+use Rattle.escrow_txn.specs.Open.{Open}
+use Rattle.escrow_core.specs.declared.reply.Reply.TheVariants as reply
+use Rattle.escrow_core.specs.Inside.{seen_of}
+use Rattle.escrow_core.specs.Seen.{IsKept}
+use Rattle.escrow_core.specs.Serves.{Serves}
+use Rattle.escrow_core.specs.Serving.{PassesEarly}
+use Rattle.escrow_core.specs.State.{State, is_open, is_table_reserved, without_rows_of}
+use Rattle.escrow_core.specs.Step.{step}
+use Rattle.escrow_core.specs.Turn.{turn_of, after_drop}
+use Rattle.escrow_core.proofs.Accepted.{DropStands, drop_stands}
+use Rattle.escrow_core.proofs.Serving.{accepted_step, none_applies, wrote, write_failed, wrote_keeps}
+use Rattle.escrow_core.proofs.ValidDrop.{drop_orderly, drop_valid}
+
+-- a table that was found is there
+found_there : (o : Option (Bor TableDef)) (named : Option TableDef) → option_copied o ≡ named → is_some o ≡ true → is_none named ≡ false
+found_there None named same e = absurd (cc)
+found_there (Some table) named same e = rw (← same) refl
+
+-- what is left to refuse it for, where nothing is open and the table stands
+pub left_to_reserved : (s : State) (session : ℕ) (name : List ℕ) (o : Option (Bor TableDef)) (reserved : Bool) → is_open session s ≡ false
+    → option_copied o ≡ table_named s.catalog name → is_some o ≡ true → is_table_reserved s name ≡ reserved
+    → first_refusal (turn_of s session (statement.Drop name)).early ≡ refuse_if reserved refusal.TableReserved
+unfolding turn_of
+left_to_reserved s session name o true closed named found is = rw (closed, found_there o (table_named s.catalog name) named found, is) refl
+left_to_reserved s session name o false closed named found is = rw (closed, found_there o (table_named s.catalog name) named found, is) refl
+
+-- what is known where no early refusal applies
+pub stands : (s : State) (session : ℕ) (name : List ℕ) → PassesEarly s session (statement.Drop name) → DropStands s name
+unfolding turn_of
+stands s session name early = drop_stands s session name (none_applies s session (statement.Drop name) early refl)
+
+pub stands_there : (s : State) (session : ℕ) (name : List ℕ) → PassesEarly s session (statement.Drop name) → IsSome (table_named s.catalog name)
+stands_there s session name early = rw (stands s session name early).named refl
+
+dropped_step : (s : State) (session : ℕ) (name : List ℕ) → PassesEarly s session (statement.Drop name) → step s session (statement.Drop name) ≡ (reply.Dropped name, after_drop s name)
+unfolding turn_of
+dropped_step s session name early = accepted_step s session (statement.Drop name) (none_applies s session (statement.Drop name) early refl)
+
+drop_takes : (s : State) (session : ℕ) (name : List ℕ) (f : Failure) → (turn_of s session (statement.Drop name)).fails_for f ≡ true
+unfolding turn_of
+drop_takes s session name f = refl
+
+module _ {S : Type 0} (g : Ghosts S) (session : ℕ) (name : List ℕ) (t new : Committed S) (o : Open) (early : PassesEarly (seen_of t o).state session (statement.Drop name)) where
+  -- the store agreed
+  pub dropped : Writes g t new true (without_table name t.catalog) (without_rows_of name t.rows) → Serves g session (statement.Drop name) (seen_of t o) (reply.Dropped name) (seen_of new o)
+  dropped writes =
+      let s : State = (seen_of t o).state in
+      wrote g session (statement.Drop name) t new o o (reply.Dropped name) (after_drop s name) refl early refl writes (λ _. dropped_step s session name early) refl
+
+  pub dropped_keeps : IsKept g (seen_of t o) → Writes g t new true (without_table name t.catalog) (without_rows_of name t.rows) → IsKept g (seen_of new o)
+  dropped_keeps kept writes =
+      let s : State = (seen_of t o).state in
+      let free = (stands s session name early).free in
+      wrote_keeps g session (statement.Drop name) t new o o (after_drop s name) kept writes refl (drop_orderly s name kept.orderly free) (λ valid _. drop_valid s name valid free)
+
+  -- the store refused
+  pub not_dropped : (f : Failure) → Writes g t new false (without_table name t.catalog) (without_rows_of name t.rows)
+      → Serves g session (statement.Drop name) (seen_of t o) (reply.Refused (told f)) (seen_of new o)
+  not_dropped f writes =
+      let s : State = (seen_of t o).state in
+      write_failed g session (statement.Drop name) t new o f (reply.Dropped name) (after_drop s name) refl early (drop_takes s session name f) writes (λ _. dropped_step s session name early)

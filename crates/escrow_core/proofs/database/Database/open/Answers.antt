@@ -1,0 +1,10 @@
+use Rattle.escrow_core.proofs.ValidEmpty.{opened_orderly, opened_safe}
+use Rattle.escrow_core.proofs.database.Database.open.Goals as goal
+
+pub invariant_of-result : goal.invariant_of-result
+invariant_of-result g c =
+    let catalog = c.args.tables.catalog in
+    rw c.in-Ok.ensures (record {
+      orderly = opened_orderly catalog c.len.ensures.catalog;
+      safe_rows = λ usable. opened_safe catalog c.args.tables.rows (c.len.ensures.rows usable) (c.requires usable);
+    })

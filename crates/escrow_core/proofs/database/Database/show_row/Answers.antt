@@ -1,0 +1,30 @@
+use Rattle.std.proofs.Common.{refl}
+use Rattle.escrow_num.specs.declared.refusal.Refusal.TheVariants as refusal
+use Rattle.escrow_sql.specs.declared.statement.Statement.TheVariants as statement
+use Rattle.escrow_tables.specs.Told.{told}
+use Rattle.escrow_core.proofs.Queries.{bounds_fails, bounds_lack, bounds_table}
+use Rattle.escrow_core.proofs.Serving.{after_look, look_refused, still_passes}
+use Rattle.escrow_core.proofs.database.Database.show_row.Goals as goal
+
+pub row-requires : goal.row-requires
+row-requires g c = rw c.requires.name (bounds_table c.args.self.now.state c.args.session c.args.text.now c.requires.early)
+
+pub show_standing_row-requires-clause-early : goal.show_standing_row-requires-clause-early
+show_standing_row-requires-clause-early g c =
+    still_passes c.args.self.now.state c.row.new.self.state c.args.session (statement.ShowBounds c.args.text.now) c.row.ensures.looks.rest c.requires.early
+
+pub returns-in-Ok-Some : goal.returns-in-Ok-Some
+returns-in-Ok-Some g c =
+    after_look g.S.Store c.args.session (statement.ShowBounds c.args.text.now) c.args.self.now c.row.new.self c.show_standing_row.new.self c.show_standing_row.result c.row.ensures.looks
+    c.in-Ok-Some.ensures.open refl c.requires.early c.show_standing_row.ensures
+
+pub returns-in-Ok-None : goal.returns-in-Ok-None
+returns-in-Ok-None g c =
+    look_refused g.S.Store c.args.session (statement.ShowBounds c.args.text.now) c.args.self.now c.row.new.self refusal.NoSuchRow c.row.ensures.looks refl c.requires.early (λ u.
+    bounds_lack c.args.self.now.state c.args.session c.args.text.now c.args.name.now c.requires.name c.requires.early (rw c.in-Ok-None.field-0-is at c.in-Ok-None.ensures.told u))
+
+pub returns-in-Err : goal.returns-in-Err
+returns-in-Err g c =
+    rw c.refusal_of.ensures
+    (look_refused g.S.Store c.args.session (statement.ShowBounds c.args.text.now) c.args.self.now c.row.new.self (told c.in-Err.failure) c.row.ensures.looks refl c.requires.early (λ _.
+    bounds_fails c.args.self.now.state c.args.session c.args.text.now c.in-Err.failure c.requires.early))
