@@ -5,3 +5,4 @@ pub mod ProgramLemmas
 pub mod ReadingLemmas
 pub mod ScriptLemmas
 pub mod ServeLemmas
+pub mod Usable

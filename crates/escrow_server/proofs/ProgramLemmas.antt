@@ -1,15 +1,19 @@
 -- What is said before the program ends.
-use Rattle.std.proofs.Common.{◌≡◌, ℕ, ◌+◌, ◌<◌, List, [], ◌++◌, length, take, Option, Some, None, true, false, arith, sym, subst, inr}
+use Rattle.std.proofs.Common.{◌≡◌, ◌⊎◌, ℕ, ◌+◌, ◌<◌, List, [], ◌++◌, length, take, Option, Some, None, true, false, arith, refl, sym, subst, inl, inr}
 use Rattle.std.specs.Prelude.{Result, Ok, Err, OnOk, OnErr, IfSome, is_ok}
 use Rattle.std.specs.Io.KnownBytes.{Appends}
 use Rattle.std.proofs.Math.Seq.{take-append-add}
 use Rattle.std.proofs.lemmas.List.{take_all, take-append-le}
 use Rattle.std.proofs.lemmas.Bool.{true≢false}
+use Rattle.std.proofs.lemmas.Option.{IfSome_then}
 use Rattle.escrow_core.specs.State.{State}
+use Rattle.escrow_server.specs.declared.fault.RunFault.{RunFault}
+use Rattle.escrow_server.specs.declared.fault.RunFault.TheVariants as run_fault
+use Rattle.escrow_server.specs.declared.fault.ServeFault.{ServeFault}
 use Rattle.escrow_server.specs.declared.fault.ServeFault.TheVariants as fault
-use Rattle.escrow_server.specs.Output.{StopsWithin}
-use Rattle.escrow_server.specs.Program.{empty_states, EndsScript, WritesFront}
-use Rattle.escrow_server.proofs.ServeLemmas.{appends_more, stopped, stood_unwritten}
+use Rattle.escrow_server.specs.Output.{ServesWhole, StopsWithin}
+use Rattle.escrow_server.specs.Program.{empty_states, run_status, EndsScript, Stops, WritesFront}
+use Rattle.escrow_server.proofs.ServeLemmas.{appends_more, appends_none, stopped, stood_unwritten}
 
 -- all of the bytes were written, or fewer of them
 abbrev pub Writes : {X Z : Type 0} → Option (List ℕ) → Option (List ℕ) → List ℕ → Result X Z → Type 0
@@ -41,19 +45,38 @@ front_second old mid new first second (Err z) wrote went more = absurd (true≢f
 
 -- WITHOUT A LINE SERVED
 
--- where no database could be made, no line is served
-pub stopped_unserved : (count : ℕ) (script old_bytes new_bytes : Option (List ℕ)) → Appends old_bytes new_bytes []
-    → IfSome script (λ bytes. (new : List State) × StopsWithin fault.Memory bytes (empty_states count) new old_bytes new_bytes)
-stopped_unserved count None old_bytes new_bytes wrote = tt
-stopped_unserved count (Some bytes) old_bytes new_bytes wrote = (
-  empty_states count,
-  stopped fault.Memory (empty_states count) (empty_states count) (Some bytes) (Some bytes) old_bytes new_bytes [] tt (stood_unwritten (empty_states count) (Some bytes) old_bytes new_bytes wrote),
-)
+-- where memory is short before the first line, no line is served
+stopped_unserved : (count : ℕ) (script : List ℕ) (old_bytes new_bytes : Option (List ℕ)) → Appends old_bytes new_bytes []
+    → StopsWithin fault.Memory script (empty_states count) (empty_states count) old_bytes new_bytes
+stopped_unserved count script old_bytes new_bytes wrote =
+    stopped fault.Memory (empty_states count) (empty_states count) (Some script) (Some script) old_bytes new_bytes [] tt
+    (stood_unwritten (empty_states count) (Some script) old_bytes new_bytes wrote)
 
 -- nor where the words couldn't be read for want of memory
-pub ends_unserved : (count status : ℕ) (script old_bytes new_bytes : Option (List ℕ)) → status ≡ 1 → Appends old_bytes new_bytes []
-    → IfSome script (λ bytes. EndsScript count status bytes old_bytes new_bytes)
-ends_unserved count status None old_bytes new_bytes failed wrote = tt
-ends_unserved count status (Some bytes) old_bytes new_bytes failed wrote =
-    let stop = stopped_unserved count (Some bytes) old_bytes new_bytes wrote in
-    (stop.0, inr (failed, fault.Memory, stop.1))
+pub ends_unserved : (count status : ℕ) (script rest old_bytes new_bytes : Option (List ℕ)) → status ≡ 1 → Appends old_bytes new_bytes []
+    → IfSome script (λ bytes. EndsScript count status bytes rest old_bytes new_bytes)
+ends_unserved count status None rest old_bytes new_bytes failed wrote = tt
+ends_unserved count status (Some bytes) rest old_bytes new_bytes failed wrote =
+    inr (inl (failed, fault.Memory, empty_states count, stopped_unserved count bytes old_bytes new_bytes wrote))
+
+-- where the databases aren't opened, nothing is read or written
+pub stops_unopened : (why : RunFault) (count : ℕ) (script bytes : Option (List ℕ)) → (run_status why ≡ 3) ⊎ (why ≡ run_fault.Unserved fault.Memory)
+    → IfSome script (λ s. Stops why count s script bytes bytes)
+stops_unopened why count None bytes kind = tt
+stops_unopened (run_fault.Unopened database cause) count (Some script) bytes kind = (refl, appends_none bytes)
+stops_unopened (run_fault.Unserved why) count (Some script) bytes (inl unopened) = absurd (omega (arith, unopened))
+stops_unopened (run_fault.Unserved why) count (Some script) bytes (inr short) =
+    let memory : fault.Memory ≡ why = cc in
+    (empty_states count, subst (λ f. StopsWithin f script (empty_states count) (empty_states count) bytes bytes) memory (stopped_unserved count script bytes bytes (appends_none bytes)))
+
+-- IN EMPTY DATABASES
+
+pub serves_empty : (count : ℕ) (states new : List State) (script old_bytes new_bytes : Option (List ℕ)) → states ≡ empty_states count
+    → IfSome script (λ s. ServesWhole s states new old_bytes new_bytes) → IfSome script (λ s. (after : List State) × ServesWhole s (empty_states count) after old_bytes new_bytes)
+serves_empty count states new script old_bytes new_bytes are_empty serves =
+    IfSome_then script serves (λ s whole. (new, subst (λ (ss : List State). ServesWhole s ss new old_bytes new_bytes) are_empty whole))
+
+pub stops_empty : (why : ServeFault) (count : ℕ) (states new : List State) (script rest old_bytes new_bytes : Option (List ℕ)) → states ≡ empty_states count
+    → IfSome script (λ s. StopsWithin why s states new old_bytes new_bytes) → IfSome script (λ s. Stops (run_fault.Unserved why) count s rest old_bytes new_bytes)
+stops_empty why count states new script rest old_bytes new_bytes are_empty stops =
+    IfSome_then script stops (λ s within. (new, subst (λ (ss : List State). StopsWithin why s ss new old_bytes new_bytes) are_empty within))

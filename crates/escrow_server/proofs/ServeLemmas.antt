@@ -1,10 +1,11 @@
 -- What is written piece by piece, and lines that are served one by one.
-use Rattle.std.proofs.Common.{◌≡◌, ◌≢◌, ◌⊎◌, ℕ, ◌+◌, ◌<◌, ◌≤◌, List, [], ◌∷◌, ◌++◌, length, take, drop, Option, Some, None, arith, refl, sym, ap, subst, subst₂, ◌∙◌, append_assoc, inl, inr}
-use Rattle.std.specs.Prelude.{Result, Ok, Err, OnErr, IfOk, IfErr, IsErrAnd, slice_get, slice_set, option_map, IfSome, Bool, true, false, ⊤}
+use Rattle.std.proofs.Common.{◌≡◌, ◌≢◌, ◌⊎◌, ℕ, ◌+◌, ◌<◌, ◌≤◌, List, [], ◌∷◌, ◌++◌, length, take, drop, Option, Some, None, arith, refl, sym, ap, subst, ◌∙◌, append_assoc, inl, inr}
+use Rattle.std.specs.Prelude.{Result, Ok, Err, OnErr, IfOk, IfErr, IsErrAnd, slice_get, slice_index_or, slice_set, option_map, IfSome, Bool, true, false, ⊤}
 use Rattle.std.specs.Io.KnownBytes.{Appends, IsAtEnd}
-use Rattle.std.proofs.lemmas.List.{append-nil, take_all, take_at, take-append-drop, length-take, length-drop, length-map, map-set}
-use Rattle.std.proofs.lemmas.Option.{slice_get-map}
+use Rattle.std.proofs.lemmas.List.{append-nil, take_all, take-append-drop, length-take, length-drop, length-map, map-set}
+use Rattle.std.proofs.lemmas.Option.{slice_get-get_or, slice_get-map}
 use Rattle.std.proofs.lemmas.Bool.{cases_lt}
+use Rattle.sqlite_trees.specs.declared.store.Store.{Ghosts}
 use Rattle.escrow_core.specs.declared.reply.Reply.{Reply}
 use Rattle.escrow_core.specs.Seen.{Seen}
 use Rattle.escrow_core.specs.State.{State}
@@ -12,13 +13,13 @@ use Rattle.escrow_server.specs.declared.fault.ServeFault.{ServeFault}
 use Rattle.escrow_server.specs.declared.fault.ServeFault.TheVariants as fault
 use Rattle.escrow_server.specs.Line.{Reading, statement, no_line, database_name, Reads, lines_of}
 use Rattle.escrow_reply.specs.Text.{rendered}
-use Rattle.escrow_server.specs.Output.{state_in, states_of, Answers, ServesLine, ServesBytes, ServesLines, ServesWhole, Leaves, StopsWithin}
+use Rattle.escrow_server.specs.Output.{state_in, states_of, Answers, AreUsable, ServesLine, ServesBytes, ServesLines, ServesWhole, Leaves, StopsWithin}
 use Rattle.escrow_server.specs.declared.limits.TheConstants.{MAX_LINE, MAX_SCRIPT}
 use Rattle.escrow_server.specs.Script.{TakesLine, Spends, left}
 
 -- databases, as contracts show them
-abbrev pub Databases : Type 0
-Databases = List Seen
+abbrev pub Databases : Type 0 → Type 0
+Databases S = List (Seen S)
 
 -- what is written after what was written
 pub appends_more : (old mid new : Option (List ℕ)) (xs ys : List ℕ) → Appends old mid xs → Appends mid new ys → Appends old new (xs ++ ys)
@@ -32,7 +33,7 @@ appends_none None = tt
 appends_none (Some bs) = sym (append-nil bs)
 
 -- a statement's line
-pub serves_statement : (databases new : Databases) (place session : ℕ) (text out : List ℕ) (answer : Reply) (old after : State)
+serves_statement : {S : Type 0} (databases new : Databases S) (place session : ℕ) (text out : List ℕ) (answer : Reply) (old after : State)
     → slice_get (states_of databases) place ≡ Some old → Answers old session text answer after
     → out ≡ rendered (database_name place) session answer → states_of new ≡ slice_set (states_of databases) place after
     → ServesLine (states_of databases) (statement place session text) out (states_of new)
@@ -94,7 +95,7 @@ pub stood_at_start : (states : List State) (script bytes : Option (List ℕ)) �
 stood_at_start states script bytes = stood_unwritten states script bytes bytes (appends_none bytes)
 
 -- nothing is read and nothing is gathered
-pub stood_begun : (states : List State) (script bytes : Option (List ℕ)) (unread gathered : List ℕ) → unread ≡ [] → gathered ≡ []
+stood_begun : (states : List State) (script bytes : Option (List ℕ)) (unread gathered : List ℕ) → unread ≡ [] → gathered ≡ []
     → Stood states states script (left unread script) bytes bytes gathered
 stood_begun states None bytes unread gathered none_unread none_gathered =
     subst (Stood states states None (left unread None) bytes bytes) (sym none_gathered) (stood_at_start states None bytes)
@@ -120,44 +121,65 @@ next_of (Some bytes) (Some rest) (Some more) kept served short taken h = record 
   rests = h ∙ ap (λ (ls : List (List ℕ)). served ++ ls) taken.1 ∙ sym (append_assoc served (taken.0 ∷ []) (lines_of more));
 }
 
--- A line's turn: the bytes that were kept of it, the states before and after it, and what it writes.
-pub record Turn (mid new : List State) (rest new_rest : Option (List ℕ)) (first : List ℕ) : Type 0 where
+-- A line's turn: the bytes that were kept of it, the databases before and after it, and what it writes
+-- where their stores can be used after it.
+pub record Turn {S : Type 0} (g : Ghosts S) (mid new : Databases S) (rest new_rest : Option (List ℕ)) (first : List ℕ) : Type 0 where
   pub kept : List ℕ
   pub short : length kept ≤ MAX_LINE + 1
   pub taken : TakesLine true rest new_rest kept
-  pub step : ServesBytes mid kept first new
+  pub step : AreUsable g new → ServesBytes (states_of mid) kept first (states_of new)
+  pub usable : AreUsable g new → AreUsable g mid
 
-pub turn_of : (found : Bool) (kept line first : List ℕ) (mid mid' new : Databases) (rest new_rest : Option (List ℕ)) → found ≡ true → line ≡ kept → mid' ≡ mid
-    → length line ≤ MAX_LINE + 1 → TakesLine found rest new_rest kept → ServesBytes (states_of mid') line first (states_of new)
-    → Turn (states_of mid) (states_of new) rest new_rest first
-turn_of found kept line first mid mid' new rest new_rest is_true is_line is_mid short taken step = record {
+pub turn_of : {S : Type 0} (g : Ghosts S) (found : Bool) (kept line first : List ℕ) (mid new : Databases S) (rest new_rest : Option (List ℕ)) → found ≡ true → line ≡ kept
+    → length line ≤ MAX_LINE + 1 → TakesLine found rest new_rest kept → (AreUsable g new → ServesBytes (states_of mid) line first (states_of new)) → (AreUsable g new → AreUsable g mid)
+    → Turn g mid new rest new_rest first
+turn_of g found kept line first mid new rest new_rest is_true is_line short taken step usable = record {
   kept = kept;
   short = subst (λ (k : List ℕ). length k ≤ MAX_LINE + 1) is_line short;
   taken = subst (λ (f : Bool). TakesLine f rest new_rest kept) is_true taken;
-  step =
-      let with_line = subst (λ (k : List ℕ). ServesBytes (states_of mid') k first (states_of new)) is_line step in
-      subst (λ (m : Databases). ServesBytes (states_of m) kept first (states_of new)) is_mid with_line;
+  step = λ used. subst (λ (k : List ℕ). ServesBytes (states_of mid) k first (states_of new)) is_line (step used);
+  usable = usable;
 }
 
+-- How a script stands in databases: as their states tell, where their stores can be used.
+pub record Stands {S : Type 0} (g : Ghosts S) (old new : Databases S) (script rest old_bytes new_bytes : Option (List ℕ)) (gathered : List ℕ) : Type 0 where
+  pub stood : AreUsable g new → Stood (states_of old) (states_of new) script rest old_bytes new_bytes gathered
+  pub usable : AreUsable g new → AreUsable g old
+
+pub stands_begun : {S : Type 0} (g : Ghosts S) (databases : Databases S) (script bytes : Option (List ℕ)) (unread gathered : List ℕ) → unread ≡ [] → gathered ≡ []
+    → Stands g databases databases script (left unread script) bytes bytes gathered
+stands_begun g databases script bytes unread gathered none_unread none_gathered =
+    record { stood = λ _. stood_begun (states_of databases) script bytes unread gathered none_unread none_gathered; usable = λ used. used }
+
 -- one line more is served, and what it writes is gathered
-pub turn_served : (states mid : List State) (new back : Databases) (script rest new_rest old_bytes new_bytes : Option (List ℕ)) (gathered first all : List ℕ)
-    → Turn mid (states_of new) rest new_rest first → back ≡ new → all ≡ gathered ++ first → Stood states mid script rest old_bytes new_bytes gathered
-    → Stood states (states_of back) script new_rest old_bytes new_bytes all
-turn_served states mid new back script rest new_rest old_bytes new_bytes gathered first all turn same is_all stood =
-    let next = next_of script rest new_rest turn.kept stood.served turn.short turn.taken stood.rests in
-    let step = serves_kept mid (states_of new) next.line turn.kept first next.is_kept turn.step in
-    let whole = serves_more states mid (states_of new) stood.served next.line (stood.written ++ gathered) first stood.serves step in
-    subst₂ (λ (n : Databases) (a : List ℕ). Stood states (states_of n) script new_rest old_bytes new_bytes a) (sym same) (sym is_all)
-    (record {
+turn_stood : (states mid new : List State) (script rest new_rest old_bytes new_bytes : Option (List ℕ)) (kept gathered first : List ℕ) → length kept ≤ MAX_LINE + 1
+    → TakesLine true rest new_rest kept → ServesBytes mid kept first new → Stood states mid script rest old_bytes new_bytes gathered
+    → Stood states new script new_rest old_bytes new_bytes (gathered ++ first)
+turn_stood states mid new script rest new_rest old_bytes new_bytes kept gathered first short taken step stood =
+    let next = next_of script rest new_rest kept stood.served short taken stood.rests in
+    let here = serves_kept mid new next.line kept first next.is_kept step in
+    let whole = serves_more states mid new stood.served next.line (stood.written ++ gathered) first stood.serves here in
+    record {
       served = stood.served ++ next.line ∷ [];
       written = stood.written;
-      serves = subst (λ (o : List ℕ). ServesLines states (stood.served ++ next.line ∷ []) o (states_of new)) (append_assoc stood.written gathered first) whole;
+      serves = subst (λ (o : List ℕ). ServesLines states (stood.served ++ next.line ∷ []) o new) (append_assoc stood.written gathered first) whole;
       appends = stood.appends;
       rests = next.rests;
+    }
+
+pub turn_served : {S : Type 0} (g : Ghosts S) (old mid new : Databases S) (script rest new_rest old_bytes new_bytes : Option (List ℕ)) (gathered first all : List ℕ)
+    → Turn g mid new rest new_rest first → all ≡ gathered ++ first → Stands g old mid script rest old_bytes new_bytes gathered
+    → Stands g old new script new_rest old_bytes new_bytes all
+turn_served g old mid new script rest new_rest old_bytes new_bytes gathered first all turn is_all stands =
+    subst (λ (a : List ℕ). Stands g old new script new_rest old_bytes new_bytes a) (sym is_all)
+    (record {
+      stood = λ used. turn_stood (states_of old) (states_of mid) (states_of new) script rest new_rest old_bytes new_bytes turn.kept gathered first turn.short turn.taken
+          (turn.step used) (stands.stood (turn.usable used));
+      usable = λ used. stands.usable (turn.usable used);
     })
 
 -- what was gathered is written
-pub stood_written : (states new : List State) (script rest old_bytes mid_bytes new_bytes : Option (List ℕ)) (gathered left_over : List ℕ)
+stood_written : (states new : List State) (script rest old_bytes mid_bytes new_bytes : Option (List ℕ)) (gathered left_over : List ℕ)
     → Stood states new script rest old_bytes mid_bytes gathered → Appends mid_bytes new_bytes gathered → left_over ≡ []
     → Stood states new script rest old_bytes new_bytes left_over
 stood_written states new script rest old_bytes mid_bytes new_bytes gathered left_over stood wrote none =
@@ -169,6 +191,14 @@ stood_written states new script rest old_bytes mid_bytes new_bytes gathered left
       appends = appends_more old_bytes mid_bytes new_bytes stood.written gathered stood.appends wrote;
       rests = stood.rests;
     }
+
+pub stands_written : {S : Type 0} (g : Ghosts S) (old new : Databases S) (script rest old_bytes mid_bytes new_bytes : Option (List ℕ)) (gathered left_over : List ℕ)
+    → Stands g old new script rest old_bytes mid_bytes gathered → Appends mid_bytes new_bytes gathered → left_over ≡ []
+    → Stands g old new script rest old_bytes new_bytes left_over
+stands_written g old new script rest old_bytes mid_bytes new_bytes gathered left_over stands wrote none = record {
+  stood = λ used. stood_written (states_of old) (states_of new) script rest old_bytes mid_bytes new_bytes gathered left_over (stands.stood used) wrote none;
+  usable = stands.usable;
+}
 
 -- a fault, at which what was gathered isn't written
 pub stopped : (why : ServeFault) (states new : List State) (script rest old_bytes new_bytes : Option (List ℕ)) (gathered : List ℕ) → Leaves why gathered
@@ -230,17 +260,13 @@ at_err (Ok x) p = tt
 at_err (Err z) p = p
 
 -- what holds of a fault that was converted
-pub at_fault : {X : Type 0} (r : Result X ServeFault) (why : ServeFault) (P : ServeFault → Type 0) → IsErrAnd r (λ e. e ≡ why) → P why → IfErr r P
+pub at_fault : {X Z : Type 0} (r : Result X Z) (why : Z) (P : Z → Type 0) → IsErrAnd r (λ e. e ≡ why) → P why → IfErr r P
 at_fault (Ok x) why P is p = tt
 at_fault (Err e) why P is p = subst P (sym is) p
 
 pub at_ok : {X Z : Type 0} (P Q : X → Type 0) (r : Result X Z) → ((x : X) → P x → Q x) → IfOk r P → IfOk r Q
 at_ok P Q (Ok x) f p = f x p
 at_ok P Q (Err z) f p = tt
-
--- a list put back in its place
-pub put_back : (new old : Databases) (len : ℕ) → length new ≡ len → take len (new ++ drop (length new) old) ≡ new
-put_back new old len e = take_at new (drop (length new) old) len e
 
 nothing_behind : (xs ys : List ℕ) → xs ++ ys ≡ [] → ys ≡ []
 nothing_behind [] ys e = e
@@ -252,13 +278,13 @@ within_limit bytes None old new spends ended = absurd spends
 within_limit bytes (Some rest) old new spends ended = omega (arith, spends, ap length ended)
 
 -- at the script's end its reader is at its end
-pub ended : (states new : List State) (script rest remaining old_bytes new_bytes : Option (List ℕ)) (found : Bool) (kept unread : List ℕ) → found ≡ false
-    → TakesLine found rest (left unread remaining) kept → Stood states new script rest old_bytes new_bytes [] → IfSome script (λ bytes. IsAtEnd remaining)
-ended states new None rest remaining old_bytes new_bytes found kept unread is_false taken stood = tt
-ended states new (Some bytes) None remaining old_bytes new_bytes found kept unread is_false taken stood = absurd stood.rests
-ended states new (Some bytes) (Some rest) None old_bytes new_bytes found kept unread is_false taken stood = tt
-ended states new (Some bytes) (Some rest) (Some more) old_bytes new_bytes found kept unread is_false taken stood =
-    let none = subst (λ (f : Bool). TakesLine f (Some rest) (Some (unread ++ more)) kept) is_false taken in
+pub ended : (script was remaining : Option (List ℕ)) (found : Bool) (was_unread kept unread : List ℕ) (limit now : ℕ) → found ≡ false → Spends script was limit now
+    → TakesLine found (left was_unread was) (left unread remaining) kept → IfSome script (λ bytes. IsAtEnd remaining)
+ended None was remaining found was_unread kept unread limit now is_false spends taken = tt
+ended (Some bytes) None remaining found was_unread kept unread limit now is_false spends taken = absurd spends
+ended (Some bytes) (Some rest) None found was_unread kept unread limit now is_false spends taken = tt
+ended (Some bytes) (Some rest) (Some more) found was_unread kept unread limit now is_false spends taken =
+    let none = subst (λ (f : Bool). TakesLine f (left was_unread (Some rest)) (left unread (Some more)) kept) is_false taken in
     nothing_behind unread more none.1
 
 -- and all its lines are served
@@ -278,16 +304,15 @@ stood_at_end states new bytes (Some rest) (Some more) remaining old_bytes new_by
     }
 
 pub finished : (states new : List State) (script rest remaining old_bytes new_bytes : Option (List ℕ)) (found : Bool) (kept unread : List ℕ) (now : ℕ) → found ≡ false
-    → TakesLine found rest (left unread remaining) kept → Stood states new script rest old_bytes new_bytes [] → Spends script remaining MAX_SCRIPT now
+    → TakesLine found rest (left unread remaining) kept → Stood states new script rest old_bytes new_bytes [] → Spends script remaining MAX_SCRIPT now → IfSome script (λ bytes. IsAtEnd remaining)
     → IfSome script (λ bytes. ServesWhole bytes states new old_bytes new_bytes)
-finished states new None rest remaining old_bytes new_bytes found kept unread now is_false taken stood spends = tt
-finished states new (Some bytes) rest remaining old_bytes new_bytes found kept unread now is_false taken stood spends =
+finished states new None rest remaining old_bytes new_bytes found kept unread now is_false taken stood spends at_end = tt
+finished states new (Some bytes) rest remaining old_bytes new_bytes found kept unread now is_false taken stood spends at_end =
     let none = subst (λ (f : Bool). TakesLine f rest (left unread remaining) kept) is_false taken in
-    let at_end : IsAtEnd remaining = ended states new (Some bytes) rest remaining old_bytes new_bytes found kept unread is_false taken stood in
     stood_at_end states new bytes rest (left unread remaining) remaining old_bytes new_bytes kept now stood none spends at_end
 
 -- a line of databases is what it is read as
-pub serves_reading : (databases new : Databases) (bytes out : List ℕ) (reading : Reading) → Reads (length databases) bytes reading
+pub serves_reading : {S : Type 0} (databases new : Databases S) (bytes out : List ℕ) (reading : Reading) → Reads (length databases) bytes reading
     → ServesLine (states_of databases) reading out (states_of new) → ServesBytes (states_of databases) bytes out (states_of new)
 serves_reading databases new bytes out reading reads serves =
     (reading, subst (λ (n : ℕ). Reads n bytes reading) (sym (length-map databases state_in)) reads, serves)
@@ -302,12 +327,23 @@ names_one databases bytes place session text (inl good) = good.1.within
 names_one databases bytes place session text (inr bad) = absurd (is_line place session text bad.1)
 
 -- the state of one database, and those after it changes
-pub state_at : (databases : Databases) (place : ℕ) (database : Seen) → slice_get databases place ≡ Some database
+state_at : {S : Type 0} (databases : Databases S) (place : ℕ) (database : Seen S) → slice_get databases place ≡ Some database
     → slice_get (states_of databases) place ≡ Some (state_in database)
 state_at databases place database found = slice_get-map state_in databases place ∙ ap (option_map state_in) found
 
-pub states_after : (databases : Databases) (place : ℕ) (database : Seen) → states_of (slice_set databases place database) ≡ slice_set (states_of databases) place (state_in database)
+states_after : {S : Type 0} (databases : Databases S) (place : ℕ) (database : Seen S) → states_of (slice_set databases place database) ≡ slice_set (states_of databases) place (state_in database)
 states_after databases place database = map-set state_in databases place database
+
+-- the line of a statement is answered by the database at its place
+pub serves_place : {S : Type 0} (databases : Databases S) (place session : ℕ) (bytes text name : List ℕ) (answer : Reply) (old after : Seen S)
+    → Reads (length databases) bytes (statement place session text) → old ≡ slice_index_or databases place old → Answers old.state session text answer after.state
+    → name ≡ database_name place → ServesBytes (states_of databases) bytes (rendered name session answer) (states_of (slice_set databases place after))
+serves_place databases place session bytes text name answer old after reads is_old answers is_name =
+    let within = names_one (length databases) bytes place session text reads in
+    let found : slice_get databases place ≡ Some old = slice_get-get_or databases place old within ∙ ap Some (sym is_old) in
+    serves_reading databases (slice_set databases place after) bytes (rendered name session answer) (statement place session text) reads
+    (serves_statement databases (slice_set databases place after) place session text (rendered name session answer) answer (state_in old) (state_in after)
+    (state_at databases place old found) answers (ap (λ (n : List ℕ). rendered n session answer) is_name) (states_after databases place after))
 
 -- nothing is gathered where no line is in hand; where one is, a fault is want of memory
 pub waits_for_none : (in_hand : Bool) (gathered : List ℕ) (why : ServeFault) → (in_hand ≡ false → gathered ≡ []) → (in_hand ≡ true → why ≡ fault.Memory)

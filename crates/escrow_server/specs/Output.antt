@@ -1,6 +1,9 @@
 -- Believed: the output of a script.
 use Rattle.std.specs.Prelude.{◌≡◌, ◌⊎◌, ℕ, ◌<◌, ◌≤◌, Option, IsSomeAnd, List, [], ◌∷◌, ◌++◌, length, map, slice_get, slice_set, codes, ⊤}
 use Rattle.std.specs.Io.KnownBytes.{Appends}
+use Rattle.std.specs.List.{AllByRecursion}
+use Rattle.sqlite.specs.Held.{state}
+use Rattle.sqlite_trees.specs.declared.store.Store.{Ghosts}
 use Rattle.escrow_num.specs.declared.refusal.Refusal.{Refusal}
 use Rattle.escrow_num.specs.declared.refusal.Refusal.TheVariants as refusal
 use Rattle.escrow_sql.specs.declared.fault.ParseFault.{ParseFault}
@@ -8,6 +11,7 @@ use Rattle.escrow_sql.specs.declared.fault.ParseFault.TheVariants as fault
 use Rattle.escrow_sql.specs.declared.statement.Statement.{Statement}
 use Rattle.escrow_sql.specs.declared.statement.Request.TheVariants as request
 use Rattle.escrow_sql.specs.Parser.{Asks, IsFaultIn}
+use Rattle.escrow_rows.specs.Answers.{IsUsable}
 use Rattle.escrow_core.specs.declared.reply.Reply.{Reply}
 use Rattle.escrow_core.specs.declared.reply.Reply.TheVariants as reply
 use Rattle.escrow_core.specs.Seen.{Seen}
@@ -20,12 +24,16 @@ use Rattle.escrow_server.specs.declared.limits.TheConstants.{MAX_SCRIPT}
 use Rattle.escrow_server.specs.Line.{Reading, nothing, join, statement, no_line, database_name, Reads, lines_of}
 
 -- the state in a database, as contracts show it
-abbrev pub state_in : Seen → State
+abbrev pub state_in : {S : Type 0} → Seen S → State
 state_in database = database.state
 
 -- the states of databases, by place
-abbrev pub states_of : List Seen → List State
+abbrev pub states_of : {S : Type 0} → List (Seen S) → List State
 states_of databases = map state_in databases
+
+-- the store of each database can be used
+abbrev pub AreUsable : {S : Type 0} → Ghosts S → List (Seen S) → Type 0
+AreUsable g databases = AllByRecursion (λ database. IsUsable (state g database.store)) databases
 
 -- the refusal of a text that isn't served: 11 with the column of its first fault, or 51
 abbrev pub refusal_of : ParseFault → Refusal

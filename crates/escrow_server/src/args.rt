@@ -125,7 +125,8 @@ and a statement:
 Empty lines and lines that begin with -- are passed over.
 
 Exit status: 0 when all was served and written, 1 when the script can't be read,
-a reply can't be written or memory is short, 2 for wrong arguments.";
+a reply can't be written or memory is short, 2 for wrong arguments, 3 when a
+store can't be opened.";
 
 /// The arguments that the values ask, or what is wrong with a value.
 fn asked(matches: &ArgMatches<'_>) -> Result<Args, &'static str>

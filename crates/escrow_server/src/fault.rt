@@ -1,4 +1,5 @@
 use crate::limits::MAX_SCRIPT;
+use escrow_core::Failure;
 use std::alloc::AllocError;
 use thiserror::Error;
 
@@ -24,5 +25,48 @@ impl From<AllocError> for ServeFault {
 
     fn from(_error: AllocError) -> ServeFault {
         ServeFault::Memory
+    }
+}
+
+/// Why the program ends before its script is served to its end.
+#[derive(Clone, Copy, Debug, Error)]
+pub(crate) enum RunFault {
+    /// The store of a database can't be opened. Nothing was read.
+    #[error("the store of {database} can't be opened: {cause}")]
+    Unopened {
+        /// The database's name.
+        database: &'static str,
+        /// Why it can't.
+        cause: Failure,
+    },
+    /// The script isn't served to its end.
+    #[error("{0}")]
+    Unserved(ServeFault),
+}
+
+impl RunFault {
+    ghost use Rattle.std.specs.Prelude.{◌≡◌, ◌≤◌};
+    ghost use Rattle.escrow_server.specs.Program.{run_status};
+
+    /// The exit status: 3 where a store can't be opened, otherwise 1.
+    pub(crate) fn status(self) -> u8
+        ensures value { result ≡ run_status self }
+        ensures failed { 1 ≤ result }
+    {
+        match self {
+            RunFault::Unopened { .. } => 3,
+            RunFault::Unserved(_) => 1,
+        }
+    }
+}
+
+impl From<ServeFault> for RunFault {
+    ghost use Rattle.std.specs.Prelude.{◌≡◌};
+    ghost use Rattle.escrow_server.specs.declared.fault.RunFault.TheVariants.{Unserved};
+
+    ghost from_gives = { λ f e. e ≡ Unserved f };
+
+    fn from(fault: ServeFault) -> RunFault {
+        RunFault::Unserved(fault)
     }
 }

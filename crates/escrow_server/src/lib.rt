@@ -7,6 +7,7 @@
 #![tactic(auto)]
 
 mod args;
+mod databases;
 mod fault;
 pub mod laws;
 mod limits;

@@ -4,15 +4,15 @@ ghost use Rattle.std.specs.Process.{exit_status};
 ghost use Rattle.escrow_core.specs.State.{State};
 ghost use Rattle.escrow_server.specs.declared.args.Args.{Args};
 ghost use Rattle.escrow_server.specs.Args.{asked_by, fault_status, refused_status};
-ghost use Rattle.escrow_server.specs.Output.{states_of, ServesWhole, StopsWithin};
-ghost use Rattle.escrow_server.specs.Program.{empty_states, help_of, unread_status, EndsScript, SaysWhy, WritesFront, WritesNothing};
+ghost use Rattle.escrow_server.specs.Output.{ServesWhole};
+ghost use Rattle.escrow_server.specs.Program.{empty_states, help_of, run_status, unread_status, EndsScript, SaysWhy, Stops, WritesFront, WritesNothing};
 
 use crate::args::{ArgFault, read_args};
-use crate::fault::ServeFault;
+use crate::databases::open_databases;
+use crate::fault::RunFault;
 use crate::limits::MAX_DATABASES;
 use crate::serve::{serve_script, write_whole};
-use escrow_core::Database;
-use std::alloc::{AllocError, Global};
+use std::alloc::Global;
 use std::convert::AsStr;
 use std::env::Env;
 use std::io::{ErrorKind, Read, Write};
@@ -24,7 +24,8 @@ use std::{env, io};
 /// too, and why the program ends early to `errors`.
 ///
 /// Exit status: 0 when all was served and written, and for help; 1 when the script can't be read, a
-/// reply can't be written or memory is short; 2 for wrong arguments, one that isn't UTF-8 among them.
+/// reply can't be written or memory is short; 2 for wrong arguments, one that isn't UTF-8 among them;
+/// 3 when the store of a database can't be opened, before anything is read.
 pub fn run_program<E: Env + AllocGlobal, R: Read, W: Write, F: Write>(
     rt: &E,
     input: &mut R,
@@ -74,7 +75,7 @@ fn run_words<S: AsStr, R: Read, W: Write, F: Write>(
 ) -> u8
     // Words that ask have the script served, in as many databases as they ask.
     ensures asked { (args : Args) → asked_by (map S.text words.now) ≡ Some args → IfSome (R.remaining input.old) (λ script.
-        EndsScript args.databases result script (W.contents output.old) (W.contents output.new)) }
+        EndsScript args.databases result script (R.remaining input.new) (W.contents output.old) (W.contents output.new)) }
 
     // Other words end with the status of what is wrong with them, or that of memory; nothing is
     // read, and nothing written but help.
@@ -100,27 +101,17 @@ fn serve_databases<R: Read, W: Write>(
     count: u8,
     input: &mut R,
     output: &mut W,
-) -> Result<(), ServeFault>
+) -> Result<(), RunFault>
     requires least { 1 ≤ count }
     requires most { count ≤ MAX_DATABASES }
     ensures served { OnOk result (IfSome (R.remaining input.old) (λ script. (new : List State)
         × ServesWhole script (empty_states count) new (W.contents output.old) (W.contents output.new))) }
-    ensures stopped { IfErr result (λ fault. IfSome (R.remaining input.old) (λ script. (new : List State)
-        × StopsWithin fault script (empty_states count) new (W.contents output.old) (W.contents output.new))) }
+    ensures stopped { IfErr result (λ fault. IfSome (R.remaining input.old) (λ script.
+        Stops fault count script (R.remaining input.new) (W.contents output.old) (W.contents output.new))) }
 {
-    let mut databases = empty_databases(alloc, count)?;
-    serve_script(alloc, &mut databases, input, output)
-}
-
-/// So many databases without tables.
-fn empty_databases(alloc: Global, count: u8) -> Result<Vec<Database>, AllocError>
-    ensures { IfOk result (λ databases. states_of databases.items ≡ empty_states count) }
-{
-    let mut databases = Vec::new(alloc);
-    for _place in 0..count {
-        databases.push(Database::empty(alloc)?)?;
-    }
-    Ok(databases)
+    let mut databases = open_databases(alloc, count)?;
+    serve_script(alloc, &mut databases, input, output)?;
+    Ok(())
 }
 
 /// Prints help where it is asked, or else says what is wrong, and answers the exit status.
@@ -150,15 +141,16 @@ fn print_help<W: Write>(output: &mut W, text: &str)
 const NO_MEMORY: &str = "out of memory\n";
 
 /// Says why a script isn't served to its end, and answers the exit status.
-fn stop<F: Write>(alloc: Global, errors: &mut F, fault: ServeFault) -> u8
-    ensures status { result ≡ 1 }
+fn stop<F: Write>(alloc: Global, errors: &mut F, fault: RunFault) -> u8
+    ensures status { result ≡ run_status fault }
+    ensures failed { 1 ≤ result }
     ensures said { SaysWhy (F.contents errors.old) (F.contents errors.new) }
 {
     match format!(in alloc; "{fault}\n") {
         Ok(text) => say_why(errors, text.as_str()),
         Err(_) => say_why(errors, NO_MEMORY),
     }
-    1
+    fault.status()
 }
 
 /// Writes the program's name, a colon and a text. Where they can't be written, nothing is left to

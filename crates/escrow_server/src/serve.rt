@@ -1,8 +1,10 @@
 ghost use Rattle.std.specs.Prelude.{◌≡◌, ◌≤◌, ◌<◌, ◌++◌, [], List, ℕ, length, take, vec_len, OnOk, OnErr, IfOk, IfErr, IfSome};
 ghost use Rattle.std.specs.Io.KnownBytes.{Appends, IsAtEnd};
+ghost use Rattle.sqlite.specs.Held.{state};
 ghost use Rattle.escrow_sql.specs.declared.statement.Statement.{Statement};
+ghost use Rattle.escrow_rows.specs.Answers.{IsUsable};
 ghost use Rattle.escrow_core.specs.Step.{StepOrRefusal};
-ghost use Rattle.escrow_server.specs.Output.{refusal_of, states_of, Answers, ServesBytes, ServesWhole, StopsWithin};
+ghost use Rattle.escrow_server.specs.Output.{refusal_of, states_of, Answers, AreUsable, ServesBytes, ServesWhole, StopsWithin};
 
 use crate::fault::ServeFault;
 use crate::limits::MAX_DATABASES;
@@ -13,6 +15,7 @@ use escrow_core::{Database, Reply};
 use escrow_num::{Refusal, Session};
 use escrow_reply::{render, render_lines};
 use escrow_sql::{ParseFault, Request, parse};
+use sqlite::Alter;
 use std::alloc::{AllocError, Global};
 use std::io::{Read, Write};
 
@@ -25,28 +28,32 @@ const MOST_GATHERED: usize = 65_536;
 ///
 /// After a fault the lines served so far stand in the databases, and what was written is a front of
 /// their replies.
-pub fn serve_script<R: Read, W: Write>(
+pub fn serve_script<S: Alter, R: Read, W: Write>(
     alloc: Global,
-    databases: &mut Vec<Database>,
+    databases: &mut Vec<Database<S>>,
     reader: &mut R,
     writer: &mut W,
 ) -> Result<(), ServeFault>
     requires some { 1 ≤ vec_len databases.old }
     requires few { vec_len databases.old ≤ MAX_DATABASES }
 
-    // What was written and the states after it are those of the script, all of which was read.
-    ensures output { OnOk result (IfSome (R.remaining reader.old) (λ script.
+    // Where each store can be used in the end, what was written and the states after it are those of the
+    // script, all of which was read.
+    ensures output { AreUsable S.Store databases.new.items → OnOk result (IfSome (R.remaining reader.old) (λ script.
         ServesWhole script (states_of databases.old.items) (states_of databases.new.items) (W.contents writer.old) (W.contents writer.new))) }
     ensures end { OnOk result (IfSome (R.remaining reader.old) (λ script. IsAtEnd (R.remaining reader.new))) }
 
     // After a fault some lines were served, and a front of their output was written.
-    ensures fault { IfErr result (λ fault. IfSome (R.remaining reader.old) (λ script.
+    ensures fault { AreUsable S.Store databases.new.items → IfErr result (λ fault. IfSome (R.remaining reader.old) (λ script.
         StopsWithin fault script (states_of databases.old.items) (states_of databases.new.items) (W.contents writer.old) (W.contents writer.new))) }
+
+    // Stores that can be used in the end could be used before.
+    ensures usable { AreUsable S.Store databases.new.items → AreUsable S.Store databases.old.items }
 {
     let mut script = Script::new(alloc)?;
     let mut replies = Vec::new(alloc);
     while script.next_line(reader)? {
-        let reply = serve_line(alloc, databases.as_mut_slice(), script.line())?;
+        let reply = serve_line(alloc, databases, script.line())?;
         gather(&mut replies, reply)?;
         if replies.len() >= MOST_GATHERED || !script.has_line() {
             write_gathered(writer, &mut replies)?;
@@ -80,10 +87,16 @@ fn write_gathered<W: Write>(writer: &mut W, replies: &mut Vec<u8>) -> Result<(),
 }
 
 /// Serves one line, and answers the lines of its reply, of which there may be none.
-fn serve_line(alloc: Global, databases: &mut [Database], line: &[u8]) -> Result<Vec<u8>, AllocError>
-    requires { length databases.old ≤ MAX_DATABASES }
-    ensures ok { IfOk result (λ out. ServesBytes (states_of databases.old) line.now out.items (states_of databases.new)) }
-    ensures err { OnErr result ((out : List ℕ) × ServesBytes (states_of databases.old) line.now out (states_of databases.new)) }
+fn serve_line<S: Alter>(
+    alloc: Global,
+    databases: &mut Vec<Database<S>>,
+    line: &[u8],
+) -> Result<Vec<u8>, AllocError>
+    requires { vec_len databases.old ≤ MAX_DATABASES }
+    ensures ok { AreUsable S.Store databases.new.items → IfOk result (λ out. ServesBytes (states_of databases.old.items) line.now out.items (states_of databases.new.items)) }
+    ensures err { AreUsable S.Store databases.new.items → OnErr result ((out : List ℕ) × ServesBytes (states_of databases.old.items) line.now out (states_of databases.new.items)) }
+    ensures len { vec_len databases.new ≡ vec_len databases.old }
+    ensures usable { AreUsable S.Store databases.new.items → AreUsable S.Store databases.old.items }
 {
     match classify(databases.len(), line) {
         Line::Nothing | Line::Join => Ok(Vec::new(alloc)),
@@ -100,8 +113,14 @@ fn serve_line(alloc: Global, databases: &mut [Database], line: &[u8]) -> Result<
 }
 
 /// Serves the text of a statement: a text that is none is refused, and changes nothing.
-fn answer(alloc: Global, database: &mut Database, session: Session, text: &str) -> Reply
-    ensures { Answers database.old.state session text.now result database.new.state }
+fn answer<S: Alter>(
+    alloc: Global,
+    database: &mut Database<S>,
+    session: Session,
+    text: &str,
+) -> Reply
+    ensures served { IsUsable (state S.Store database.new.store) → Answers database.old.state session text.now result database.new.state }
+    ensures usable { IsUsable (state S.Store database.new.store) → IsUsable (state S.Store database.old.store) }
 {
     match parse(alloc, text) {
         Ok(request) => serve_request(alloc, database, session, request),
@@ -110,13 +129,14 @@ fn answer(alloc: Global, database: &mut Database, session: Session, text: &str) 
 }
 
 /// Serves what a text asks.
-fn serve_request(
+fn serve_request<S: Alter>(
     alloc: Global,
-    database: &mut Database,
+    database: &mut Database<S>,
     session: Session,
     request: Request,
 ) -> Reply
-    ensures { (asked : Statement) × (request ≡ Request.Statement asked) × StepOrRefusal database.old.state session asked result database.new.state }
+    ensures served { IsUsable (state S.Store database.new.store) → (asked : Statement) × (request ≡ Request.Statement asked) × StepOrRefusal database.old.state session asked result database.new.state }
+    ensures usable { IsUsable (state S.Store database.new.store) → IsUsable (state S.Store database.old.store) }
 {
     let Request::Statement(statement) = request;
     database.step(alloc, session, &statement)

@@ -4,13 +4,13 @@ use Rattle.escrow_sql.specs.Parser.{Asks}
 use Rattle.escrow_core.specs.declared.reply.Reply.TheVariants.{Refused}
 use Rattle.escrow_server.proofs.serve.answer.Goals as goal
 
-pub returns-in-Ok : goal.returns-in-Ok
-returns-in-Ok c =
+pub returns-in-Ok-clause-served : goal.returns-in-Ok-clause-served
+returns-in-Ok-clause-served g c = λ used.
     let asked = c.in-Ok.ensures in
-    let served = c.serve_request.ensures in
+    let served = c.serve_request.ensures.served used in
     inl (served.0, subst (λ (r : Request). Asks c.args.text.now r) served.1 asked.found, served.2)
 
-pub returns-in-Err : goal.returns-in-Err
-returns-in-Err c =
+pub returns-in-Err-clause-served : goal.returns-in-Err-clause-served
+returns-in-Err-clause-served g c = λ used.
     let bad = c.in-Err.ensures in
     inr (c.in-Err.fault, bad.fault, ap Refused c.refusal_of.ensures, refl)

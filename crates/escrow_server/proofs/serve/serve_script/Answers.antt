@@ -1,14 +1,14 @@
-use Rattle.std.proofs.Common.{rules, [], ◌++◌, arith, subst, refl}
+use Rattle.std.proofs.Common.{rules, [], ◌++◌, subst, refl, ◌∙◌}
 use Rattle.escrow_server.specs.declared.fault.ServeFault.TheVariants as fault
 use Rattle.escrow_server.specs.Output.{states_of}
 use Rattle.escrow_server.specs.Script.{left, has_line}
-use Rattle.escrow_server.proofs.ServeLemmas.{Stood, stood_at_start, stood_begun, stood_written, stopped, stopped_writing, finished, ended, turn_of, turn_served, put_back, at_fault, leaves_gathered, leaves_some, waits_for_none, nothing_waits, read_without}
+use Rattle.escrow_server.proofs.ServeLemmas.{Stood, stood_at_start, stands_begun, stands_written, stopped, stopped_writing, finished, ended, turn_of, turn_served, at_fault, leaves_gathered, leaves_some, waits_for_none, nothing_waits, read_without}
 use Rattle.escrow_server.proofs.ScriptLemmas.{spends_more}
 use Rattle.escrow_server.specs.declared.limits.TheConstants.{MAX_SCRIPT}
 use Rattle.escrow_server.proofs.serve.serve_script.Goals as goal
 
 pub returns-in_err-script-clause-fault : goal.returns-in_err-script-clause-fault
-returns-in_err-script-clause-fault g c =
+returns-in_err-script-clause-fault g c = λ used.
     let states = states_of c.args.databases.now.items in
     let script = g.R.Read.remaining c.args.reader.now in
     let bytes = g.W.Write.contents c.args.writer.now in
@@ -20,17 +20,17 @@ loop-replies-init g c =
     let made = c.in_ok-script.ensures in
     record {
       count = refl;
-      stood = stood_begun (states_of c.args.databases.now.items) (g.R.Read.remaining c.args.reader.now) (g.W.Write.contents c.args.writer.now) c.in_ok-script.script.unread c.new-replies.result.items
+      stands = stands_begun g.S.Store c.args.databases.now.items (g.R.Read.remaining c.args.reader.now) (g.W.Write.contents c.args.writer.now) c.in_ok-script.script.unread c.new-replies.result.items
           made.0 c.new-replies.ensures.items;
       waits = λ _. c.new-replies.ensures.items;
       spent = search rules;
     }
 
 pub returns-in_err-next_line-clause-fault : goal.returns-in_err-next_line-clause-fault
-returns-in_err-next_line-clause-fault g c =
+returns-in_err-next_line-clause-fault g c = λ used.
     let why = c.in_err-next_line.field-0.0 in
     let next = c.in_err-next_line.ensures in
-    let stood = c.loop-replies.invariant.stood in
+    let stood = c.loop-replies.invariant.stands.stood used in
     at_fault c.from_residual-in_err-next_line.result why _ c.from_residual-in_err-next_line.ensures.1
     (stopped why (states_of c.args.databases.now.items) (states_of c.loop-replies.databases.items) (g.R.Read.remaining c.args.reader.now) _
     (g.W.Write.contents c.args.writer.now) (g.W.Write.contents c.loop-replies.writer) c.loop-replies.replies.items
@@ -38,52 +38,53 @@ returns-in_err-next_line-clause-fault g c =
     (waits_for_none (has_line c.loop-replies.script.reads_left c.loop-replies.script.unread) c.loop-replies.replies.items why c.loop-replies.invariant.waits next.cause)) stood)
 
 pub returns-in_err-reply-clause-fault : goal.returns-in_err-reply-clause-fault
-returns-in_err-reply-clause-fault g c =
+returns-in_err-reply-clause-fault g c = λ used.
     let next = c.in_ok-next_line.ensures in
     let served = c.in_err-reply.ensures in
+    let out = served.err used in
     let mid = c.loop-replies.databases.items in
-    let new = c.serve_line.new.databases in
-    let turn = turn_of c.in_ok-next_line.field-0 c.next_line.new.self.line.items c.line.result.now served.err.0 mid c.as_mut_slice.result.now new _ _
-    c.if-branch.true c.line.ensures.value c.as_mut_slice.ensures.value c.line.ensures.within next.taken served.err.1 in
-    let stood = turn_served (states_of c.args.databases.now.items) (states_of mid) new _ (g.R.Read.remaining c.args.reader.now) _ _
-    (g.W.Write.contents c.args.writer.now) (g.W.Write.contents c.loop-replies.writer) c.loop-replies.replies.items served.err.0 (c.loop-replies.replies.items ++ served.err.0)
-    turn (put_back new mid c.loop-replies.databases.len (omega arith)) refl c.loop-replies.invariant.stood in
+    let new = c.serve_line.new.databases.items in
+    let turn = turn_of g.S.Store c.in_ok-next_line.field-0 c.next_line.new.self.line.items c.line.result.now out.0 mid new _ _
+    c.if-branch.true c.line.ensures.value c.line.ensures.within next.taken (λ _. out.1) served.usable in
+    let stands = turn_served g.S.Store c.args.databases.now.items mid new (g.R.Read.remaining c.args.reader.now) _ _
+    (g.W.Write.contents c.args.writer.now) (g.W.Write.contents c.loop-replies.writer) c.loop-replies.replies.items out.0 (c.loop-replies.replies.items ++ out.0)
+    turn refl c.loop-replies.invariant.stands in
     at_fault c.from_residual-in_err-reply.result fault.Memory _ c.from_residual-in_err-reply.ensures.1
     (stopped fault.Memory (states_of c.args.databases.now.items) _ (g.R.Read.remaining c.args.reader.now) _
-    (g.W.Write.contents c.args.writer.now) (g.W.Write.contents c.loop-replies.writer) _ tt stood)
+    (g.W.Write.contents c.args.writer.now) (g.W.Write.contents c.loop-replies.writer) _ tt (stands.stood used))
 
 pub returns-in_err-gather-clause-fault : goal.returns-in_err-gather-clause-fault
-returns-in_err-gather-clause-fault g c =
+returns-in_err-gather-clause-fault g c = λ used.
     let next = c.in_ok-next_line.ensures in
     let served = c.in_ok-reply.ensures in
     let mid = c.loop-replies.databases.items in
-    let new = c.serve_line.new.databases in
-    let turn = turn_of c.in_ok-next_line.field-0 c.next_line.new.self.line.items c.line.result.now c.in_ok-reply.reply.items mid c.as_mut_slice.result.now new _ _
-    c.if-branch.true c.line.ensures.value c.as_mut_slice.ensures.value c.line.ensures.within next.taken served.ok in
-    let stood = turn_served (states_of c.args.databases.now.items) (states_of mid) new _ (g.R.Read.remaining c.args.reader.now) _ _
+    let new = c.serve_line.new.databases.items in
+    let turn = turn_of g.S.Store c.in_ok-next_line.field-0 c.next_line.new.self.line.items c.line.result.now c.in_ok-reply.reply.items mid new _ _
+    c.if-branch.true c.line.ensures.value c.line.ensures.within next.taken served.ok served.usable in
+    let stands = turn_served g.S.Store c.args.databases.now.items mid new (g.R.Read.remaining c.args.reader.now) _ _
     (g.W.Write.contents c.args.writer.now) (g.W.Write.contents c.loop-replies.writer) c.loop-replies.replies.items c.in_ok-reply.reply.items (c.loop-replies.replies.items ++ c.in_ok-reply.reply.items)
-    turn (put_back new mid c.loop-replies.databases.len (omega arith)) refl c.loop-replies.invariant.stood in
+    turn refl c.loop-replies.invariant.stands in
     at_fault c.from_residual-in_err-gather.result fault.Memory _ c.from_residual-in_err-gather.ensures.1
     (stopped fault.Memory (states_of c.args.databases.now.items) _ (g.R.Read.remaining c.args.reader.now) _
-    (g.W.Write.contents c.args.writer.now) (g.W.Write.contents c.loop-replies.writer) _ tt stood)
+    (g.W.Write.contents c.args.writer.now) (g.W.Write.contents c.loop-replies.writer) _ tt (stands.stood used))
 
 pub returns-in_err-write_gathered-clause-fault : goal.returns-in_err-write_gathered-clause-fault
-returns-in_err-write_gathered-clause-fault g c =
+returns-in_err-write_gathered-clause-fault g c = λ used.
     let next = c.in_ok-next_line.ensures in
     let served = c.in_ok-reply.ensures in
     let wrote = c.in_err-write_gathered.ensures in
     let why = c.in_err-write_gathered.field-0.0 in
     let mid = c.loop-replies.databases.items in
-    let new = c.serve_line.new.databases in
-    let turn = turn_of c.in_ok-next_line.field-0 c.next_line.new.self.line.items c.line.result.now c.in_ok-reply.reply.items mid c.as_mut_slice.result.now new _ _
-    c.if-branch.true c.line.ensures.value c.as_mut_slice.ensures.value c.line.ensures.within next.taken served.ok in
-    let stood = turn_served (states_of c.args.databases.now.items) (states_of mid) new _ (g.R.Read.remaining c.args.reader.now) _ _
+    let new = c.serve_line.new.databases.items in
+    let turn = turn_of g.S.Store c.in_ok-next_line.field-0 c.next_line.new.self.line.items c.line.result.now c.in_ok-reply.reply.items mid new _ _
+    c.if-branch.true c.line.ensures.value c.line.ensures.within next.taken served.ok served.usable in
+    let stands = turn_served g.S.Store c.args.databases.now.items mid new (g.R.Read.remaining c.args.reader.now) _ _
     (g.W.Write.contents c.args.writer.now) (g.W.Write.contents c.loop-replies.writer) c.loop-replies.replies.items c.in_ok-reply.reply.items c.gather.new.replies.items
-    turn (put_back new mid c.loop-replies.databases.len (omega arith)) c.in_ok-gather.ensures.ok c.loop-replies.invariant.stood in
+    turn c.in_ok-gather.ensures.ok c.loop-replies.invariant.stands in
     at_fault c.from_residual-in_err-write_gathered.result why _ c.from_residual-in_err-write_gathered.ensures.1
     (stopped_writing why (states_of c.args.databases.now.items) _ (g.R.Read.remaining c.args.reader.now) _
     (g.W.Write.contents c.args.writer.now) (g.W.Write.contents c.loop-replies.writer) (g.W.Write.contents c.write_gathered.new.writer) c.gather.new.replies.items wrote.err.0
-    (leaves_some why c.gather.new.replies.items wrote.err.0 wrote.kind wrote.err.1) stood wrote.err.2)
+    (leaves_some why c.gather.new.replies.items wrote.err.0 wrote.kind wrote.err.1) (stands.stood used) wrote.err.2)
 
 pub loop-replies-preserved-in-loop-replies : goal.loop-replies-preserved-in-loop-replies
 loop-replies-preserved-in-loop-replies g c =
@@ -91,19 +92,19 @@ loop-replies-preserved-in-loop-replies g c =
     let served = c.in_ok-reply.ensures in
     let wrote = c.in_ok-write_gathered.ensures in
     let mid = c.loop-replies.databases.items in
-    let new = c.serve_line.new.databases in
-    let turn = turn_of c.in_ok-next_line.field-0 c.next_line.new.self.line.items c.line.result.now c.in_ok-reply.reply.items mid c.as_mut_slice.result.now new
+    let new = c.serve_line.new.databases.items in
+    let turn = turn_of g.S.Store c.in_ok-next_line.field-0 c.next_line.new.self.line.items c.line.result.now c.in_ok-reply.reply.items mid new
     (left c.loop-replies.script.unread (g.R.Read.remaining c.loop-replies.reader)) (left c.next_line.new.self.unread (g.R.Read.remaining c.next_line.new.reader))
-    c.if-branch.true c.line.ensures.value c.as_mut_slice.ensures.value c.line.ensures.within next.taken served.ok in
-    let stood = turn_served (states_of c.args.databases.now.items) (states_of mid) new _ (g.R.Read.remaining c.args.reader.now)
+    c.if-branch.true c.line.ensures.value c.line.ensures.within next.taken served.ok served.usable in
+    let stands = turn_served g.S.Store c.args.databases.now.items mid new (g.R.Read.remaining c.args.reader.now)
     (left c.loop-replies.script.unread (g.R.Read.remaining c.loop-replies.reader)) (left c.next_line.new.self.unread (g.R.Read.remaining c.next_line.new.reader))
     (g.W.Write.contents c.args.writer.now) (g.W.Write.contents c.loop-replies.writer) c.loop-replies.replies.items c.in_ok-reply.reply.items c.gather.new.replies.items
-    turn (put_back new mid c.loop-replies.databases.len (omega arith)) c.in_ok-gather.ensures.ok c.loop-replies.invariant.stood in
-    let written = stood_written (states_of c.args.databases.now.items) _ (g.R.Read.remaining c.args.reader.now) _
-    (g.W.Write.contents c.args.writer.now) (g.W.Write.contents c.loop-replies.writer) (g.W.Write.contents c.write_gathered.new.writer) c.gather.new.replies.items c.write_gathered.new.replies.items stood wrote.ok wrote.none in
+    turn c.in_ok-gather.ensures.ok c.loop-replies.invariant.stands in
+    let written = stands_written g.S.Store c.args.databases.now.items new (g.R.Read.remaining c.args.reader.now) _
+    (g.W.Write.contents c.args.writer.now) (g.W.Write.contents c.loop-replies.writer) (g.W.Write.contents c.write_gathered.new.writer) c.gather.new.replies.items c.write_gathered.new.replies.items stands wrote.ok wrote.none in
     record {
-      count = c.loop-replies.invariant.count;
-      stood = written;
+      count = served.len ∙ c.loop-replies.invariant.count;
+      stands = written;
       waits = λ _. wrote.none;
       spent = spends_more _ _ _ MAX_SCRIPT c.loop-replies.script.bytes_left c.next_line.new.self.bytes_left c.loop-replies.invariant.spent next.spent;
     }
@@ -113,34 +114,34 @@ loop-replies-preserved g c =
     let next = c.in_ok-next_line.ensures in
     let served = c.in_ok-reply.ensures in
     let mid = c.loop-replies.databases.items in
-    let new = c.serve_line.new.databases in
-    let turn = turn_of c.in_ok-next_line.field-0 c.next_line.new.self.line.items c.line.result.now c.in_ok-reply.reply.items mid c.as_mut_slice.result.now new
+    let new = c.serve_line.new.databases.items in
+    let turn = turn_of g.S.Store c.in_ok-next_line.field-0 c.next_line.new.self.line.items c.line.result.now c.in_ok-reply.reply.items mid new
     (left c.loop-replies.script.unread (g.R.Read.remaining c.loop-replies.reader)) (left c.next_line.new.self.unread (g.R.Read.remaining c.next_line.new.reader))
-    c.if-branch.true c.line.ensures.value c.as_mut_slice.ensures.value c.line.ensures.within next.taken served.ok in
-    let stood = turn_served (states_of c.args.databases.now.items) (states_of mid) new _ (g.R.Read.remaining c.args.reader.now)
+    c.if-branch.true c.line.ensures.value c.line.ensures.within next.taken served.ok served.usable in
+    let stands = turn_served g.S.Store c.args.databases.now.items mid new (g.R.Read.remaining c.args.reader.now)
     (left c.loop-replies.script.unread (g.R.Read.remaining c.loop-replies.reader)) (left c.next_line.new.self.unread (g.R.Read.remaining c.next_line.new.reader))
     (g.W.Write.contents c.args.writer.now) (g.W.Write.contents c.loop-replies.writer) c.loop-replies.replies.items c.in_ok-reply.reply.items c.gather.new.replies.items
-    turn (put_back new mid c.loop-replies.databases.len (omega arith)) c.in_ok-gather.ensures.ok c.loop-replies.invariant.stood in
+    turn c.in_ok-gather.ensures.ok c.loop-replies.invariant.stands in
     record {
-      count = c.loop-replies.invariant.count;
-      stood = stood;
+      count = served.len ∙ c.loop-replies.invariant.count;
+      stands = stands;
       waits = λ none. absurd (read_without c.has_line.result (has_line c.next_line.new.self.reads_left c.next_line.new.self.unread) c.has_line.ensures c.if-not-has_line.false none);
       spent = spends_more _ _ _ MAX_SCRIPT c.loop-replies.script.bytes_left c.next_line.new.self.bytes_left c.loop-replies.invariant.spent next.spent;
     }
 
 pub returns-clause-output : goal.returns-clause-output
-returns-clause-output g c =
+returns-clause-output g c = λ used.
     let next = c.in_ok-next_line.ensures in
     let spent = spends_more _ _ _ MAX_SCRIPT c.loop-replies.script.bytes_left c.next_line.new.self.bytes_left c.loop-replies.invariant.spent next.spent in
     let none = nothing_waits c.in_ok-next_line.field-0 (has_line c.loop-replies.script.reads_left c.loop-replies.script.unread) c.loop-replies.replies.items c.if-branch.false next.in_hand c.loop-replies.invariant.waits in
     let stood = subst (Stood (states_of c.args.databases.now.items) _ (g.R.Read.remaining c.args.reader.now) _ (g.W.Write.contents c.args.writer.now) (g.W.Write.contents c.loop-replies.writer))
-    none c.loop-replies.invariant.stood in
-    finished _ _ _ _ _ _ _ c.in_ok-next_line.field-0 c.next_line.new.self.line.items c.next_line.new.self.unread c.next_line.new.self.bytes_left c.if-branch.false next.taken stood spent
+    none (c.loop-replies.invariant.stands.stood used) in
+    let at_end = ended _ _ _ c.in_ok-next_line.field-0 c.loop-replies.script.unread c.next_line.new.self.line.items c.next_line.new.self.unread MAX_SCRIPT c.loop-replies.script.bytes_left
+    c.if-branch.false c.loop-replies.invariant.spent next.taken in
+    finished _ _ _ _ _ _ _ c.in_ok-next_line.field-0 c.next_line.new.self.line.items c.next_line.new.self.unread c.next_line.new.self.bytes_left c.if-branch.false next.taken stood spent at_end
 
 pub returns-clause-end : goal.returns-clause-end
 returns-clause-end g c =
     let next = c.in_ok-next_line.ensures in
-    let none = nothing_waits c.in_ok-next_line.field-0 (has_line c.loop-replies.script.reads_left c.loop-replies.script.unread) c.loop-replies.replies.items c.if-branch.false next.in_hand c.loop-replies.invariant.waits in
-    let stood = subst (Stood (states_of c.args.databases.now.items) _ (g.R.Read.remaining c.args.reader.now) _ (g.W.Write.contents c.args.writer.now) (g.W.Write.contents c.loop-replies.writer))
-    none c.loop-replies.invariant.stood in
-    ended _ _ _ _ _ _ _ c.in_ok-next_line.field-0 c.next_line.new.self.line.items c.next_line.new.self.unread c.if-branch.false next.taken stood
+    ended _ _ _ c.in_ok-next_line.field-0 c.loop-replies.script.unread c.next_line.new.self.line.items c.next_line.new.self.unread MAX_SCRIPT c.loop-replies.script.bytes_left
+    c.if-branch.false c.loop-replies.invariant.spent next.taken
