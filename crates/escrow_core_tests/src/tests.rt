@@ -3,7 +3,9 @@ mod savepoints;
 
 use escrow_core::{Database, Event, Reply};
 use escrow_num::{Amount, Breach, Name, Refusal, Seq, Session, Side, Text, Value, Wide};
+use escrow_recover::open_store;
 use escrow_sql::{Request, Statement, parse};
+use sqlite::{Connection, MemStore};
 use std::alloc::{AllocError, Global};
 use std::process::Abort;
 use std::test::Fail;
@@ -46,7 +48,7 @@ fn too_low(rt: &impl Abort, worst: i128) -> Reply {
 fn serve(
     rt: &impl Abort,
     alloc: Global,
-    database: &mut Database,
+    database: &mut Database<MemStore>,
     number: u8,
     text: &str,
     want: &Reply,
@@ -55,9 +57,16 @@ fn serve(
     assert!(rt; reply.is_same(want), "{number}: {text}");
 }
 
+/// A database without tables, over a store in memory.
+fn empty(rt: &impl Abort, alloc: Global) -> Result<Database<MemStore>, Fail> {
+    let conn = Connection::open_in_memory(alloc)?;
+    let tables = open_store(alloc, conn).ok().expect(rt, "a store");
+    Ok(Database::open(alloc, tables).ok().expect(rt, "a database"))
+}
+
 /// A database with the table ACCOUNT, and in it a row 1 with a balance of 100.
-fn account(rt: &impl Abort, alloc: Global) -> Result<Database, Fail> {
-    let mut database = Database::empty(alloc)?;
+fn account(rt: &impl Abort, alloc: Global) -> Result<Database<MemStore>, Fail> {
+    let mut database = empty(rt, alloc)?;
     let created = Reply::Created(name(rt, "ACCOUNT"));
     serve(rt, alloc, &mut database, 1, ACCOUNT, &created);
     let row = "INSERT INTO ACCOUNT VALUES (1, 100)";
@@ -121,7 +130,12 @@ fn shops(rt: &impl Abort, alloc: Global, rows: &[(&str, &str, i64)]) -> Result<R
 }
 
 /// Serves statements of sessions, one after another, which have to be answered so.
-fn serve_all(rt: &impl Abort, alloc: Global, database: &mut Database, cases: &[(u8, &str, Reply)]) {
+fn serve_all(
+    rt: &impl Abort,
+    alloc: Global,
+    database: &mut Database<MemStore>,
+    cases: &[(u8, &str, Reply)],
+) {
     for (number, text, want) in cases {
         serve(rt, alloc, database, *number, *text, want);
     }
@@ -276,7 +290,7 @@ fn shows_committed_rows_in_order(rt: HostRuntime) -> Result<(), Fail> {
 #[test]
 fn replaces_plain_values(rt: HostRuntime) -> Result<(), Fail> {
     let alloc = rt.alloc();
-    let mut database = Database::empty(alloc)?;
+    let mut database = empty(&rt, alloc)?;
     let rows = shops(&rt, alloc, &[("a", "Mug", 9), ("ab", "Tea", 7)])?;
     let cases = [
         (1, SHOP, Reply::Created(name(&rt, "SHOP"))),

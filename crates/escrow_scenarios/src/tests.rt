@@ -1,5 +1,5 @@
 //! The tests.
-ghost use Rattle.std.specs.Prelude.{◌≡◌, ◌≤◌, vec_len, IfOk};
+ghost use Rattle.std.specs.Prelude.{◌≡◌, ◌≤◌, vec_len, IfSome};
 
 mod changes;
 mod databases;
@@ -16,8 +16,10 @@ mod tables;
 mod texts;
 
 use escrow_core::Database;
+use escrow_recover::open_store;
 use escrow_server::{ServeFault, serve_script};
-use std::alloc::{AllocError, Global};
+use sqlite::{Connection, MemStore};
+use std::alloc::Global;
 use std::io::{Read, Write};
 use std::process::Abort;
 use std::test::Fail;
@@ -32,15 +34,22 @@ const INSERT: &str = "bank.1: INSERT INTO ACCOUNT VALUES (1, 100)\n";
 /// The replies to both.
 const SET_UP: &str = "bank.1> OK created ACCOUNT\nbank.1> OK inserted\n";
 
-/// So many databases without tables.
-fn empty_databases(alloc: Global, count: u8) -> Result<Vec<Database>, AllocError>
-    ensures { IfOk result (λ databases. vec_len databases ≡ count) }
+/// So many databases without tables, over stores in memory.
+fn empty_databases(alloc: Global, count: u8) -> Option<Vec<Database<MemStore>>>
+    ensures { IfSome result (λ databases. vec_len databases ≡ count) }
 {
     let mut databases = Vec::new(alloc);
     for _place in 0..count {
-        databases.push(Database::empty(alloc)?)?;
+        databases.push(empty_database(alloc)?).ok()?;
     }
-    Ok(databases)
+    Some(databases)
+}
+
+/// A database without tables, over a store in memory.
+fn empty_database(alloc: Global) -> Option<Database<MemStore>> {
+    let conn = Connection::open_in_memory(alloc).ok()?;
+    let tables = open_store(alloc, conn).ok()?;
+    Database::open(alloc, tables).ok()
 }
 
 /// Serves a script in so many databases without tables.
@@ -53,7 +62,9 @@ fn serve<R: Read, W: Write>(
     requires some { 1 ≤ count }
     requires few { count ≤ 16 }
 {
-    let mut databases = empty_databases(alloc, count)?;
+    let Some(mut databases) = empty_databases(alloc, count) else {
+        return Err(ServeFault::Memory);
+    };
     serve_script(alloc, &mut databases, reader, writer)
 }
 

@@ -1,6 +1,9 @@
-use crate::tests::{TAKE_30, account, name, names, number, serve, serve_all, session, statement};
+use crate::tests::{
+    TAKE_30, account, empty, name, names, number, serve, serve_all, session, statement,
+};
 use escrow_core::{CheckBounds, ColumnBounds, Database, Reply};
 use escrow_num::{Amount, Breach, Refusal, Seq, Side, Span, Wide};
+use sqlite::MemStore;
 use std::alloc::{AllocError, Global};
 use std::process::Abort;
 use std::test::Fail;
@@ -9,8 +12,8 @@ const PAIR: &str = "CREATE TABLE PAIR (ID INTEGER PRIMARY KEY, A INTEGER RESERVA
     B INTEGER RESERVABLE, CHECK (A + B = 100))";
 
 /// A database with the table PAIR, and in it a row 1 with 50 and 50.
-fn pair(rt: &impl Abort, alloc: Global) -> Result<Database, Fail> {
-    let mut database = Database::empty(alloc)?;
+fn pair(rt: &impl Abort, alloc: Global) -> Result<Database<MemStore>, Fail> {
+    let mut database = empty(rt, alloc)?;
     let cases = [
         (1, PAIR, Reply::Created(name(rt, "PAIR"))),
         (1, "INSERT INTO PAIR VALUES (1, 50, 50)", Reply::Inserted),
