@@ -3,6 +3,7 @@ use Rattle.std.specs.Prelude.{◌≡◌, ◌≢◌, ℕ, ◌<◌, ◌≤◌, Som
 use Rattle.std.specs.List.{AllByRecursion}
 use Rattle.escrow_num.specs.declared.reservation.Reservation.{Reservation}
 use Rattle.escrow_num.specs.declared.reservation.Savepoint.{Savepoint}
+use Rattle.escrow_journal.specs.declared.journal.TheConstants.Journal.{MAX_RESERVATIONS, MAX_SAVEPOINTS}
 use Rattle.escrow_journal.specs.Log.{Log, IsLog, pushed, marked, later, cut_log}
 use Rattle.escrow_journal.specs.Savepoints.{is_named, savepoint_of}
 
@@ -60,3 +61,7 @@ TheLastOfANameStands = (log : Log) (name : List ℕ) (first second : ℕ)
 abbrev pub ANameTakesOnePlace : Type 0
 ANameTakesOnePlace = (log : Log) (name : List ℕ) (id : ℕ) → IsSome (savepoint_of log.session name log.savepoints)
     → length (marked name id log).savepoints ≤ length log.savepoints
+
+-- a session has 256 open reservations at most, and 64 savepoints at most
+abbrev pub LimitsOfASession : Type 0
+LimitsOfASession = (MAX_RESERVATIONS ≡ 256) × (MAX_SAVEPOINTS ≡ 64)

@@ -1,7 +1,7 @@
 //! Laws of journals: facts about their definitions, each the contract of a function that does
 //! nothing.
 
-ghost use Rattle.escrow_journal.specs.Laws.{GoingBackAtOnceDropsNothing, GoingBackUndoesWhatCame, GoingBackDropsLaterSavepoints, GoingBackAgainDropsNothing, NothingIsLost, TheLastOfANameStands, ANameTakesOnePlace};
+ghost use Rattle.escrow_journal.specs.Laws.{GoingBackAtOnceDropsNothing, GoingBackUndoesWhatCame, GoingBackDropsLaterSavepoints, GoingBackAgainDropsNothing, NothingIsLost, TheLastOfANameStands, ANameTakesOnePlace, LimitsOfASession};
 
 /// Going back to a savepoint right after it was made drops nothing, and leaves the journal as it is.
 pub fn going_back_at_once_drops_nothing()
@@ -38,4 +38,9 @@ pub fn the_last_of_a_name_stands()
 /// A savepoint of a name that stands takes no further place.
 pub fn a_name_takes_one_place()
     ensures { ANameTakesOnePlace }
+{}
+
+/// A session has 256 open reservations at most, and 64 savepoints at most.
+pub fn limits_of_a_session()
+    ensures { LimitsOfASession }
 {}

@@ -1,5 +1,6 @@
 pub mod Amount
 pub mod Ascending
+pub mod Laws
 pub mod Name
 pub mod Order
 pub mod Padded

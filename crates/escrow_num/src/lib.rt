@@ -9,6 +9,7 @@
 mod amount;
 mod changes;
 mod copied;
+pub mod laws;
 mod name;
 mod refusal;
 mod reservation;

@@ -16,6 +16,7 @@ pub mod PrintBack
 pub mod PrintChecks
 pub mod PrintLemmas
 pub mod PrintLength
+pub mod PrintText
 pub mod PrintTree
 pub mod PrintWrites
 pub mod RangeLemmas

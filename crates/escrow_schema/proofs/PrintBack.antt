@@ -48,7 +48,7 @@ abbrev at_most : List Check → Option (List Check)
 at_most checks = cond (nat_le (length checks) MAX_CHECKS) (Some checks) None
 
 -- what the definition of a table gives for its text: names that can be written, types, declared checks
-record Sound (table : TableDef) : Type 0 where
+pub record Sound (table : TableDef) : Type 0 where
   pub name : is_written_name table.name ≡ true
   pub names : list_all is_written_name (names_of table.columns) ≡ true
   pub distinct : are_distinct (names_of table.columns) ≡ true
@@ -78,6 +78,9 @@ sound text table e h =
       checks = h.checks ∙ ap (λ (checks : List Check). checks ++ range_checks table.columns) (sym same);
       declared = subst (AllByRecursion (IsDeclared names)) (sym same) h.good_declared;
     }
+
+pub sound_of : (table : TableDef) → IsTable table → Sound table
+sound_of table (text, e) = sound text table e (follows_rules text table e)
 
 -- the declared checks, of their own texts
 checks_again : (names : List (List ℕ)) (checks : List Check) → are_distinct names ≡ true → length checks ≤ MAX_CHECKS → AllByRecursion (IsDeclared names) checks → checks_of names (map (check_tree names) checks) ≡ Some checks

@@ -18,6 +18,7 @@ use Rattle.escrow_checks.specs.declared.coefficients.TheConstants.Coefficients.{
 use Rattle.escrow_checks.specs.declared.condition.TheConstants.{MAX_CHECKS}
 use Rattle.escrow_checks.specs.Condition.{MeetsText}
 use Rattle.escrow_checks.specs.Grant.{Meets}
+use Rattle.escrow_schema.specs.declared.catalog.TheConstants.Catalog.{MAX_TABLES}
 use Rattle.escrow_schema.specs.declared.column.Column.{Column}
 use Rattle.escrow_schema.specs.declared.plan.Plan.{Plan}
 use Rattle.escrow_schema.specs.declared.plan.Plan.TheVariants.{Reserve, Plain}
@@ -136,3 +137,7 @@ ChecksMeanConditions =
 -- a text defines a table exactly where the two follow the rules of definitions, one by one
 abbrev pub DefinitionsFollowRules : Type 0
 DefinitionsFollowRules = (text : CreateText) (table : TableDef) → (definition_of text ≡ Some table) ↔ FollowsRules text table
+
+-- a database has 32 tables at most
+abbrev pub MostTables : Type 0
+MostTables = MAX_TABLES ≡ 32

@@ -1,6 +1,6 @@
 //! What holds of every table that a text defines, and of the rows and plans of it: each law is the
 //! contract of a function that does nothing.
-ghost use Rattle.escrow_schema.specs.Laws.{NameOfTable, FewReservable, ChecksOfWholeRow, ChecksKeepAmounts, FewChecks, RowsOfTable, ValuesOfRow, ValuesBesideNames, ValuesFit, ChecksMeanConditions, DefinitionsFollowRules, PlansOfWholeRow, PlainPlansFit, ChangesAsAssigned, NewValuesAsAssigned, KeysOfPlans, RefusalsOfPlans, RefusalsOfKeys};
+ghost use Rattle.escrow_schema.specs.Laws.{NameOfTable, FewReservable, ChecksOfWholeRow, ChecksKeepAmounts, FewChecks, RowsOfTable, ValuesOfRow, ValuesBesideNames, ValuesFit, ChecksMeanConditions, DefinitionsFollowRules, PlansOfWholeRow, PlainPlansFit, ChangesAsAssigned, NewValuesAsAssigned, KeysOfPlans, RefusalsOfPlans, RefusalsOfKeys, MostTables};
 
 /// A text defines a table exactly where the two follow the rules of definitions, one by one.
 pub fn definitions_follow_rules()
@@ -98,4 +98,9 @@ pub fn refusals_of_plans()
 /// A WHERE that names no key is refused for its column or for its literal.
 pub fn refusals_of_keys()
     ensures { RefusalsOfKeys }
+{}
+
+/// A database has 32 tables at most.
+pub fn most_tables()
+    ensures { MostTables }
 {}
