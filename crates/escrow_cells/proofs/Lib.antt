@@ -9,10 +9,13 @@ mod Leaves
 pub mod Makes
 mod Making
 mod Matches
+mod Numbering
 pub mod Reading
 pub mod ReadTexts
+pub mod Recognising
 pub mod Resting
 pub mod Selects
+pub mod Rising
 mod Steps
 pub mod Streaming
 mod Texts

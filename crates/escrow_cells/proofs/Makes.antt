@@ -53,7 +53,7 @@ apart_permuted = along_permutation (λ xs ys. ((a : Row) → AreApartFrom a xs �
     (λ x y xs. (λ a all. (all.1.0, (all.0, all.1.1)), λ up. ((tied_turn y x ∙ up.0.0, up.1.0), (up.0.1, up.1.1))))
     (λ xs ys zs p q. (λ a all. q.0 a (p.0 a all), λ up. q.1 (p.1 up)))
 
-numbered_permuted : (xs ys : List Row) → IsPermutation xs ys → AreNumbered xs → AreNumbered ys
+pub numbered_permuted : (xs ys : List Row) → IsPermutation xs ys → AreNumbered xs → AreNumbered ys
 numbered_permuted xs ys same n = record { whole = all-permutation (λ r. IsTrue (is_int (rowid r))) xs ys same n.whole; apart = (apart_permuted xs ys same).1 n.apart }
 
 numbered_filtered : (p : Row → Bool) (xs : List Row) → AreNumbered xs → AreNumbered (filter p xs)

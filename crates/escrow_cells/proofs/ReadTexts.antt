@@ -16,7 +16,7 @@ use Rattle.sqlite_schema.specs.declared.command.Command.TheVariants.{Select}
 use Rattle.sqlite_tied.specs.Compute.{everything}
 use Rattle.sqlite.specs.Listing.{understood, reads_listing}
 use Rattle.sqlite.proofs.Callers.{IsPlain, command_of}
-use Rattle.escrow_cells.specs.Tables.{beside, tab_tree, cell_tree}
+use Rattle.escrow_cells.specs.Tables.{beside, meta_tree, tab_tree, cell_tree}
 
 abbrev pub tabs_text : List ℕ
 tabs_text = codes "SELECT ID, NAME, DDL FROM TAB ORDER BY ID"
@@ -29,6 +29,21 @@ table_text = codes "SELECT K, C, V FROM CELL WHERE TAB = ?1 ORDER BY K, C"
 
 abbrev pub keys_text : List ℕ
 keys_text = codes "SELECT K FROM CELL WHERE TAB = ?1 AND C = ?2"
+
+abbrev pub metas_text : List ℕ
+metas_text = codes "SELECT K, V FROM META"
+
+abbrev pub owners_text : List ℕ
+owners_text = codes "SELECT TAB FROM CELL"
+
+abbrev pub meta_ids_text : List ℕ
+meta_ids_text = codes "SELECT rowid FROM META ORDER BY rowid"
+
+abbrev pub tab_ids_text : List ℕ
+tab_ids_text = codes "SELECT rowid FROM TAB ORDER BY rowid"
+
+abbrev pub cell_ids_text : List ℕ
+cell_ids_text = codes "SELECT rowid FROM CELL ORDER BY rowid"
 
 -- the rows of one tree that pass the tests, in an order
 abbrev pub selection : ℕ → List Term → List Term → List (Term × Key) → Query
@@ -66,6 +81,15 @@ table_query = selection cell_tree (is_given 1 0 ∷ []) (col 1 2 ∷ col 1 3 ∷
 abbrev pub keys_query : Query
 keys_query = selection cell_tree (is_given 1 0 ∷ is_given 3 1 ∷ []) (col 1 2 ∷ []) []
 
+abbrev pub metas_query : Query
+metas_query = selection meta_tree [] (col 1 1 ∷ col 1 2 ∷ []) []
+
+abbrev pub owners_query : Query
+owners_query = selection cell_tree [] (col 1 1 ∷ []) []
+
+abbrev pub ids_query : ℕ → Query
+ids_query tree = selection tree [] (col 1 0 ∷ []) (by_column 0 ∷ [])
+
 module _ (more : List Table) (indexes : List Index) (views : List View) where
   pub tabs_is : command_of (understood (beside more indexes views) tabs_text) ≡ selects tabs_query (codes "ID" ∷ codes "NAME" ∷ codes "DDL" ∷ [])
   unfolding understood everything
@@ -83,6 +107,26 @@ module _ (more : List Table) (indexes : List Index) (views : List View) where
   unfolding understood everything
   keys_is = refl
 
+  pub metas_is : command_of (understood (beside more indexes views) metas_text) ≡ selects metas_query (codes "K" ∷ codes "V" ∷ [])
+  unfolding understood everything
+  metas_is = refl
+
+  pub owners_is : command_of (understood (beside more indexes views) owners_text) ≡ selects owners_query (codes "TAB" ∷ [])
+  unfolding understood everything
+  owners_is = refl
+
+  pub meta_ids_is : command_of (understood (beside more indexes views) meta_ids_text) ≡ selects (ids_query meta_tree) (codes "rowid" ∷ [])
+  unfolding understood everything
+  meta_ids_is = refl
+
+  pub tab_ids_is : command_of (understood (beside more indexes views) tab_ids_text) ≡ selects (ids_query tab_tree) (codes "ID" ∷ [])
+  unfolding understood everything
+  tab_ids_is = refl
+
+  pub cell_ids_is : command_of (understood (beside more indexes views) cell_ids_text) ≡ selects (ids_query cell_tree) (codes "rowid" ∷ [])
+  unfolding understood everything
+  cell_ids_is = refl
+
   pub tabs_plain : IsPlain (understood (beside more indexes views) tabs_text)
   unfolding understood everything
   tabs_plain = (refl, refl)
@@ -99,6 +143,26 @@ module _ (more : List Table) (indexes : List Index) (views : List View) where
   unfolding understood everything
   keys_plain = (refl, refl)
 
+  pub metas_plain : IsPlain (understood (beside more indexes views) metas_text)
+  unfolding understood everything
+  metas_plain = (refl, refl)
+
+  pub owners_plain : IsPlain (understood (beside more indexes views) owners_text)
+  unfolding understood everything
+  owners_plain = (refl, refl)
+
+  pub meta_ids_plain : IsPlain (understood (beside more indexes views) meta_ids_text)
+  unfolding understood everything
+  meta_ids_plain = (refl, refl)
+
+  pub tab_ids_plain : IsPlain (understood (beside more indexes views) tab_ids_text)
+  unfolding understood everything
+  tab_ids_plain = (refl, refl)
+
+  pub cell_ids_plain : IsPlain (understood (beside more indexes views) cell_ids_text)
+  unfolding understood everything
+  cell_ids_plain = (refl, refl)
+
   pub tabs_unlisted : reads_listing (beside more indexes views) tabs_text ≡ false
   unfolding understood everything
   tabs_unlisted = refl
@@ -114,3 +178,23 @@ module _ (more : List Table) (indexes : List Index) (views : List View) where
   pub keys_unlisted : reads_listing (beside more indexes views) keys_text ≡ false
   unfolding understood everything
   keys_unlisted = refl
+
+  pub metas_unlisted : reads_listing (beside more indexes views) metas_text ≡ false
+  unfolding understood everything
+  metas_unlisted = refl
+
+  pub owners_unlisted : reads_listing (beside more indexes views) owners_text ≡ false
+  unfolding understood everything
+  owners_unlisted = refl
+
+  pub meta_ids_unlisted : reads_listing (beside more indexes views) meta_ids_text ≡ false
+  unfolding understood everything
+  meta_ids_unlisted = refl
+
+  pub tab_ids_unlisted : reads_listing (beside more indexes views) tab_ids_text ≡ false
+  unfolding understood everything
+  tab_ids_unlisted = refl
+
+  pub cell_ids_unlisted : reads_listing (beside more indexes views) cell_ids_text ≡ false
+  unfolding understood everything
+  cell_ids_unlisted = refl

@@ -15,18 +15,22 @@ use Rattle.sqlite_exec.proofs.RowsLemmas.{IsSorted-map}
 use Rattle.sqlite.specs.State.{State, Shown}
 use Rattle.sqlite.specs.Listing.{understood, reads_listing}
 use Rattle.sqlite.proofs.Callers.{reads_as, command_of, IsPlain}
-use Rattle.escrow_cells.specs.Store.{IsStore, HasTables, cells, tabs}
+use Rattle.escrow_cells.specs.Numbered.{AreIds}
+use Rattle.escrow_cells.specs.Store.{IsStore, HasTables, metas, cells, tabs}
 use Rattle.escrow_cells.specs.Step.{same, is_in, is_of}
-use Rattle.escrow_cells.specs.Read.{AreOfRow, AreOfTable, AreKeys, AreTabs}
-use Rattle.escrow_cells.specs.Tables.{beside, tab_tree, cell_tree}
+use Rattle.escrow_cells.specs.Read.{AreOfRow, AreOfTable, AreKeys, AreTabs, AreTablesOfCells}
+use Rattle.escrow_cells.specs.Tables.{beside, meta_tree, tab_tree, cell_tree}
 use Rattle.escrow_cells.proofs.Selects.{selected, then_equal, sorted_same}
-use Rattle.escrow_cells.proofs.ReadTexts.{tabs_text, row_text, table_text, keys_text, selects, tabs_query, row_query, table_query, keys_query, tabs_is, row_is, table_is, keys_is, tabs_plain, row_plain, table_plain, keys_plain, tabs_unlisted, row_unlisted, table_unlisted, keys_unlisted}
+use Rattle.escrow_cells.proofs.ReadTexts.{tabs_text, row_text, table_text, keys_text, metas_text, owners_text, selects, tabs_query, row_query, table_query, keys_query, metas_query, owners_query, tabs_is, row_is, table_is, keys_is, metas_is, owners_is, tabs_plain, row_plain, table_plain, keys_plain, metas_plain, owners_plain, tabs_unlisted, row_unlisted, table_unlisted, keys_unlisted, metas_unlisted, owners_unlisted, ids_query, meta_ids_text, meta_ids_is, meta_ids_plain, meta_ids_unlisted, tab_ids_text, tab_ids_is, tab_ids_plain, tab_ids_unlisted, cell_ids_text, cell_ids_is, cell_ids_plain, cell_ids_unlisted}
 
 abbrev cell_of : Row → Row
 cell_of r = column r 1 ∷ column r 2 ∷ column r 3 ∷ column r 4 ∷ []
 
 abbrev tab_of : Row → Row
 tab_of r = rowid r ∷ column r 2 ∷ column r 3 ∷ []
+
+abbrev meta_of : Row → Row
+meta_of r = column r 1 ∷ column r 2 ∷ []
 
 abbrev by_first : Row → Row → Ordering
 by_first = on (λ r. column r 0) value_cmp
@@ -106,6 +110,42 @@ keys_shown table place old new rows h store =
       same_keys = subst (IsPermutation (map pick (filter test (cells old.now)))) (sym a.shows)
           (permuted (old.now.trees cell_tree) a.taken _ test pick (λ r. ap (λ b. same (column r 1) table && b) (and_true _)) a.same);
     }
+
+pub metas_shown : (old new : State) (rows : List Row) → Shown metas_text [] old new rows → HasTables old.now.schema → IsPermutation (metas old.now) rows
+metas_shown old new rows h has =
+    let a = selected _ _ _ _ _ _ _ (answer_of metas_text [] old new rows metas_query _ has (metas_is _ _ _) (metas_plain _ _ _) (metas_unlisted _ _ _) h) in
+    let perm = subst (λ l. IsPermutation l a.taken) (filter_all (old.now.trees meta_tree)) a.same in
+    subst (IsPermutation (metas old.now)) (sym a.shows) (IsPermutation-map meta_of _ _ perm)
+
+pub owners_shown : (old new : State) (rows : List Row) → Shown owners_text [] old new rows → HasTables old.now.schema → AreTablesOfCells (cells old.now) rows
+owners_shown old new rows h has =
+    let a = selected _ _ _ _ _ _ _ (answer_of owners_text [] old new rows owners_query _ has (owners_is _ _ _) (owners_plain _ _ _) (owners_unlisted _ _ _) h) in
+    let pick : Row → Row = λ c. column c 0 ∷ [] in
+    let perm = subst (λ l. IsPermutation l a.taken) (filter_all (old.now.trees cell_tree)) a.same in
+    subst (IsPermutation (map pick (cells old.now))) (sym a.shows)
+    (subst (λ l. IsPermutation l (map (λ r. pick (cell_of r)) a.taken)) (sym (map-map pick cell_of (old.now.trees cell_tree))) (IsPermutation-map (λ r. pick (cell_of r)) _ _ perm))
+
+ids_shown : (text : List ℕ) (tree : ℕ) (names : List (List ℕ)) (old new : State) (rows : List Row) (has : HasTables old.now.schema) → overlay old.now.trees [] tree ≡ old.now.trees tree
+    → command_of (understood (beside has.more has.indexes has.views) text) ≡ selects (ids_query tree) names
+    → IsPlain (understood (beside has.more has.indexes has.views) text) → reads_listing (beside has.more has.indexes has.views) text ≡ false
+    → Shown text [] old new rows → AreIds (old.now.trees tree) rows
+ids_shown text tree names old new rows has of_tree is plain unlisted h =
+    let a = selected _ _ _ _ _ _ _ (answer_of text [] old new rows (ids_query tree) names has is plain unlisted h) in
+    let perm = subst (λ l. IsPermutation l a.taken) (filter_all (overlay old.now.trees [] tree) ∙ of_tree) a.same in
+    let by_number = sorted_same _ (λ x y. value_cmp (rowid x) (rowid y)) (λ x y. then_equal _) a.taken a.sorted in
+    record {
+      same_ids = subst (IsPermutation (map (λ r. rowid r ∷ []) (old.now.trees tree))) (sym a.shows) (IsPermutation-map (λ r. rowid r ∷ []) _ _ perm);
+      in_order = subst (IsSorted (on rowid value_cmp)) (sym a.shows) (IsSorted-map (on rowid value_cmp) (λ r. rowid r ∷ []) a.taken by_number);
+    }
+
+pub meta_ids_shown : (old new : State) (rows : List Row) → Shown meta_ids_text [] old new rows → HasTables old.now.schema → AreIds (old.now.trees meta_tree) rows
+meta_ids_shown old new rows h has = ids_shown meta_ids_text meta_tree _ old new rows has refl (meta_ids_is _ _ _) (meta_ids_plain _ _ _) (meta_ids_unlisted _ _ _) h
+
+pub tab_ids_shown : (old new : State) (rows : List Row) → Shown tab_ids_text [] old new rows → HasTables old.now.schema → AreIds (old.now.trees tab_tree) rows
+tab_ids_shown old new rows h has = ids_shown tab_ids_text tab_tree _ old new rows has refl (tab_ids_is _ _ _) (tab_ids_plain _ _ _) (tab_ids_unlisted _ _ _) h
+
+pub cell_ids_shown : (old new : State) (rows : List Row) → Shown cell_ids_text [] old new rows → HasTables old.now.schema → AreIds (old.now.trees cell_tree) rows
+cell_ids_shown old new rows h has = ids_shown cell_ids_text cell_tree _ old new rows has refl (cell_ids_is _ _ _) (cell_ids_plain _ _ _) (cell_ids_unlisted _ _ _) h
 
 -- as many keys are answered as there are cells at the place
 pub keys_count : (table place : Value) (all rows : List Row) → AreKeys table place all rows → length rows ≡ length (filter (λ c. is_in table c && same (column c 2) place) all)

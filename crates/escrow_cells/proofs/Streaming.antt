@@ -24,15 +24,15 @@ kept_then : (a b c : State) → IsUnchanged a b → IsKept b c → IsKept a c
 kept_then a b c same (inl h) = inl (unchanged_then a b c same h)
 kept_then a b c same (inr h) = inr (rolled_back_then a b c same h)
 
-module _ {S K : Type 0} (g : Ghosts S) (HasTaken : K → List Row → Type 0) (sql : List ℕ) (params : Row) (first : Held S) (fresh : K) where
+module _ {S K : Type 0} (g : Ghosts S) (HasTaken : K → K → List Row → Type 0) (sql : List ℕ) (params : Row) (first : Held S) (fresh : K) where
   -- the rows that the query gave so far are those that the sink has taken
   pub record IsTaking (now : Held S) (sink : K) : Type 0 where
     pub survives : Survives (state g first) (state g now) (λ _. ⊥)
     pub mode : first.in_transaction ≡ false → now.in_transaction ≡ false
     pub unchanged : HasCleanDisk (state g now) → IsUnchanged (state g first) (state g now)
-    pub given : HasCleanDisk (state g now) → (rows : List Row) × HasGiven g sql params now rows × ((before : List Row) → HasTaken fresh before → HasTaken sink (before ++ rows))
+    pub given : HasCleanDisk (state g now) → (rows : List Row) × HasGiven g sql params now rows × ((begun : K) (before : List Row) → HasTaken begun fresh before → HasTaken begun sink (before ++ rows))
 
-module _ {S K : Type 0} (g : Ghosts S) (HasTaken : K → List Row → Type 0) (sql : List ℕ) (params : Row) (only : OnlyReads sql) (first : Held S) (fresh : K) where
+module _ {S K : Type 0} (g : Ghosts S) (HasTaken : K → K → List Row → Type 0) (sql : List ℕ) (params : Row) (only : OnlyReads sql) (first : Held S) (fresh : K) where
   abbrev Taking : Held S → K → Type 0
   Taking = IsTaking g HasTaken sql params first fresh
 
@@ -42,7 +42,7 @@ module _ {S K : Type 0} (g : Ghosts S) (HasTaken : K → List Row → Type 0) (s
     survives = survives_reading sql params (state g first) (state g now) only survives;
     mode = mode;
     unchanged = λ clean. (begun_reading g sql params first now only (begun clean)).1;
-    given = λ clean. ([], (begun_reading g sql params first now only (begun clean)).0, λ before h. subst (HasTaken fresh) (sym (append-nil before)) h);
+    given = λ clean. ([], (begun_reading g sql params first now only (begun clean)).0, λ begun before h. subst (HasTaken begun fresh) (sym (append-nil before)) h);
   }
 
   module _ (now next : Held S) (sink : K) (so_far : Taking now sink) (survives : Survives (state g now) (state g next) (λ _. ⊥)) where
@@ -53,20 +53,20 @@ module _ {S K : Type 0} (g : Ghosts S) (HasTaken : K → List Row → Type 0) (s
     survives_both = survives_then _ (state g now) _ _ _ _ (λ _ _ h. h) (λ _ _ h. h) so_far.survives survives
 
     pub takes_more : (row : Row) (last : K) → (now.in_transaction ≡ false → next.in_transaction ≡ false) → (HasCleanDisk (state g next) → IsUnchanged (state g now) (state g next))
-        → (HasCleanDisk (state g next) → Advances g now next (Some row)) → ((rows : List Row) → HasTaken sink rows → HasTaken last (rows ++ row ∷ [])) → Taking next last
+        → (HasCleanDisk (state g next) → Advances g now next (Some row)) → ((begun : K) (rows : List Row) → HasTaken begun sink rows → HasTaken begun last (rows ++ row ∷ [])) → Taking next last
     takes_more row last mode same gives takes = record {
       survives = survives_both;
       mode = λ outside. mode (so_far.mode outside);
       unchanged = λ clean. unchanged_then _ (state g now) _ (so_far.unchanged (early clean)) (same clean);
       given = λ clean.
           let was = so_far.given (early clean) in
-          (was.0 ++ row ∷ [], gives clean sql params was.0 was.1, λ before h. subst (HasTaken last) (append_assoc before was.0 (row ∷ [])) (takes _ (was.2 before h)));
+          (was.0 ++ row ∷ [], gives clean sql params was.0 was.1, λ begun before h. subst (HasTaken begun last) (append_assoc before was.0 (row ∷ [])) (takes begun _ (was.2 begun before h)));
     }
 
     pub ends_taking : HasCleanDisk (state g next) → Advances g now next None → Takes HasTaken (Shown sql params (state g first) (state g next)) fresh sink
-    ends_taking clean gives before h =
+    ends_taking clean gives begun before h =
         let was = so_far.given (early clean) in
-        (was.0, shown_from sql params (state g first) (state g now) (state g next) was.0 only (so_far.unchanged (early clean)) (gives sql params was.0 was.1), was.2 before h)
+        (was.0, shown_from sql params (state g first) (state g now) (state g next) was.0 only (so_far.unchanged (early clean)) (gives sql params was.0 was.1), was.2 begun before h)
 
     pub taking_rests : (IsTrue (state g first).is_open → (state g first).now ≡ (state g first).committed) → (now.in_transaction ≡ false → next.in_transaction ≡ false)
         → (HasCleanDisk (state g next) → IsKept (state g now) (state g next)) → first.in_transaction ≡ false → Rests g first next
@@ -77,9 +77,9 @@ module _ {S K : Type 0} (g : Ghosts S) (HasTaken : K → List Row → Type 0) (s
   stopped_rests now sink so_far settled outside = rests_from g first now settled (so_far.mode outside) so_far.survives (λ clean. inl (so_far.unchanged clean))
 
 -- What is known of each answer is known of the rows that were taken. The parameters are equal to those that it speaks of.
-pub taken_answers : {X E K : Type 0} (HasTaken : K → List Row → Type 0) (sql : List ℕ) (ps qs : Row) (old new : State) (fresh last : K) (Premise : Type 0) (Answers : List Row → Type 0)
+pub taken_answers : {X E K : Type 0} (HasTaken : K → K → List Row → Type 0) (sql : List ℕ) (ps qs : Row) (old new : State) (fresh last : K) (Premise : Type 0) (Answers : List Row → Type 0)
     → ((rows : List Row) → Shown sql qs old new rows → Premise → Answers rows) → (r : Result X E) → OnOk r (Takes HasTaken (Shown sql ps old new) fresh last) → ps ≡ qs → OnOk r (Premise → Takes HasTaken Answers fresh last)
-taken_answers HasTaken sql ps qs old new fresh last Premise Answers answers (Ok x) h e = λ given before taken.
-    let it = h before taken in
+taken_answers HasTaken sql ps qs old new fresh last Premise Answers answers (Ok x) h e = λ given begun before taken.
+    let it = h begun before taken in
     (it.0, answers it.0 (subst (λ params. Shown sql params old new it.0) e it.1) given, it.2)
 taken_answers HasTaken sql ps qs old new fresh last Premise Answers answers (Err error) h e = tt

@@ -1,8 +1,10 @@
 pub mod Failure
 pub mod Inside
 pub mod Making
+pub mod Numbered
 pub mod Query
 pub mod Read
+pub mod Recognised
 pub mod Step
 pub mod Store
 pub mod Tables

@@ -22,6 +22,10 @@ pub record AreOfTable (table : Value) (cells : List Row) (answer : List Row) : T
 pub record AreKeys (table place : Value) (cells : List Row) (answer : List Row) : Type 0 where
   pub same_keys : IsPermutation (map (λ c. column c 1 ∷ []) (filter (λ c. is_in table c && same (column c 2) place) cells)) answer
 
+-- the table of each cell, in any order
+abbrev pub AreTablesOfCells : List Row → List Row → Type 0
+AreTablesOfCells cells = IsPermutation (map (λ c. column c 0 ∷ []) cells)
+
 -- the rows of TAB, in order of ID
 pub record AreTabs (tabs : List Row) (answer : List Row) : Type 0 where
   pub same_tabs : IsPermutation tabs answer
@@ -34,6 +38,6 @@ pub record Rests {S : Type 0} (g : Ghosts S) (old new : Held S) : Type 0 where
   pub was_open : HasCleanDisk (state g new) → IsTrue (state g new).is_open → IsTrue (state g old).is_open
   pub survives : Survives (state g old) (state g new) (λ _. ⊥)
 
--- a sink that had taken some rows has then taken those of an answer too
-abbrev pub Takes : {K : Type 0} → (K → List Row → Type 0) → (List Row → Type 0) → K → K → Type 0
-Takes HasTaken IsAnswer old new = (before : List Row) → HasTaken old before → (rows : List Row) × IsAnswer rows × HasTaken new (before ++ rows)
+-- a sink that had taken some rows, from when it was a first one on, has then taken those of an answer too
+abbrev pub Takes : {K : Type 0} → (K → K → List Row → Type 0) → (List Row → Type 0) → K → K → Type 0
+Takes {K} HasTaken IsAnswer old new = (first : K) (before : List Row) → HasTaken first old before → (rows : List Row) × IsAnswer rows × HasTaken first new (before ++ rows)

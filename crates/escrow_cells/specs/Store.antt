@@ -32,10 +32,22 @@ pub record HasTables (schema : Schema) : Type 0 where
   pub views : List View
   pub is : schema ≡ beside more indexes views
 
+-- the schema of a store: the three tables come first, and no table has a foreign key, which would let a
+-- write to one table reach another
+pub record IsStoreSchema (schema : Schema) : Type 0 where
+  pub tables : HasTables schema
+  pub no_keys : AllByRecursion (λ (t : Table). t.references ≡ []) schema.tables
+
 -- SQLite numbers rows by whole numbers, and no number comes twice
 pub record AreNumbered (rows : List Row) : Type 0 where
   pub whole : AllByRecursion (λ r. IsTrue (is_int (rowid r))) rows
   pub apart : IsAscending (λ a b. is_eq (value_cmp (rowid a) (rowid b)) ≡ false) rows
+
+-- the rows of the three tables are numbered
+pub record AreAllNumbered (db : Database) : Type 0 where
+  pub metas : AreNumbered (db.trees meta_tree)
+  pub tabs : AreNumbered (db.trees tab_tree)
+  pub cells : AreNumbered (db.trees cell_tree)
 
 -- A store: a database of SQLite with the three tables, and without foreign keys, which would let a write
 -- to one table reach another.

@@ -1,13 +1,13 @@
 //! What is read. Each call changes nothing, and refuses a connection that is inside a transaction.
-ghost use Rattle.std.specs.Prelude.{◌≡◌, false, ◌&&◌, length, filter, IsTrue, IfOk, OnOk};
+ghost use Rattle.std.specs.Prelude.{◌≡◌, false, ◌&&◌, length, filter, IsPermutation, IsTrue, IfOk, OnOk};
 ghost use Rattle.sqlite_value.specs.declared.value.Value.TheVariants.{Int};
 ghost use Rattle.sqlite_value.specs.Order.{column};
 ghost use Rattle.sqlite.specs.Held.{state};
 ghost use Rattle.sqlite.specs.State.{HasCleanDisk, Shown};
 ghost use Rattle.sqlite.specs.Values.{bound};
 ghost use Rattle.escrow_cells.specs.Step.{kept, same, is_in};
-ghost use Rattle.escrow_cells.specs.Store.{IsStore, cells, tabs};
-ghost use Rattle.escrow_cells.specs.Read.{AreOfRow, AreOfTable, AreKeys, AreTabs, Rests, Takes};
+ghost use Rattle.escrow_cells.specs.Store.{HasTables, IsStore, cells, metas, tabs};
+ghost use Rattle.escrow_cells.specs.Read.{AreOfRow, AreOfTable, AreKeys, AreTablesOfCells, AreTabs, Rests, Takes};
 ghost use Rattle.escrow_cells.specs.Query.{OnlyReads};
 
 use crate::datum::Datum;
@@ -34,7 +34,7 @@ fn read_all<S: Alter>(
 }
 
 /// The rows of a query, each given to a sink as it is read.
-fn read_each<S: Alter, K: Sink>(
+pub(crate) fn read_each<S: Alter, K: Sink>(
     conn: &mut Connection<S>,
     sql: &str,
     params: &[ValueRef<'_>],
@@ -56,6 +56,15 @@ fn read_each<S: Alter, K: Sink>(
         sink.take(row)?;
     }
     Err(Failure::Store)
+}
+
+/// Gives a sink the rows of META, in any order: each has its K and its V.
+pub fn metas<S: Alter, K: Sink>(conn: &mut Connection<S>, sink: &mut K) -> Result<(), Failure>
+    ensures rows { HasCleanDisk (state S.Store conn.new) → OnOk result (HasTables (state S.Store conn.old).now.schema → Takes K.has_taken (IsPermutation (metas (state S.Store conn.old).now)) sink.old sink.new) }
+    ensures rests { conn.old.in_transaction ≡ false → Rests S.Store conn.old conn.new }
+    ensures is_open { HasCleanDisk (state S.Store conn.new) → OnOk result (IsTrue (state S.Store conn.new).is_open) }
+{
+    read_each(conn, "SELECT K, V FROM META", &[], sink)
 }
 
 /// The rows of TAB, in order of ID: each has its ID, its NAME and its DDL.
@@ -135,4 +144,13 @@ pub fn count_keys<S: Alter>(
     let mut counter = Counter { rows: 0 };
     key_cells(conn, table, place, &mut counter)?;
     Ok(counter.rows)
+}
+
+/// Gives a sink the table of each cell, in any order.
+pub fn cell_tables<S: Alter, K: Sink>(conn: &mut Connection<S>, sink: &mut K) -> Result<(), Failure>
+    ensures rows { HasCleanDisk (state S.Store conn.new) → OnOk result (HasTables (state S.Store conn.old).now.schema → Takes K.has_taken (AreTablesOfCells (cells (state S.Store conn.old).now)) sink.old sink.new) }
+    ensures rests { conn.old.in_transaction ≡ false → Rests S.Store conn.old conn.new }
+    ensures is_open { HasCleanDisk (state S.Store conn.new) → OnOk result (IsTrue (state S.Store conn.new).is_open) }
+{
+    read_each(conn, "SELECT TAB FROM CELL", &[], sink)
 }

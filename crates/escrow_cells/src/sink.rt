@@ -7,12 +7,12 @@ use sqlite::Row;
 
 /// Takes rows, one after another.
 pub trait Sink {
-    // Whether these are the rows that it has taken.
-    ghost has_taken: { Self → List Cells → Type 0 };
+    // Whether a sink that was the first of these is the second one once it has taken these rows.
+    ghost has_taken: { Self → Self → List Cells → Type 0 };
 
     /// Takes one more row.
     fn take(&mut self, row: &Row) -> Result<(), Failure>
-        ensures { OnOk result ((rows : List Cells) → has_taken self.old rows → has_taken self.new (rows ++ row.now ∷ [])) };
+        ensures { OnOk result ((first : Self) (rows : List Cells) → has_taken first self.old rows → has_taken first self.new (rows ++ row.now ∷ [])) };
 }
 
 /// Counts the rows that it takes.
@@ -24,7 +24,7 @@ pub(crate) struct Counter {
 impl Sink for Counter {
     ghost use Rattle.std.specs.Prelude.{◌≡◌, length};
 
-    ghost has_taken = { λ counter rows. counter.rows ≡ length rows };
+    ghost has_taken = { λ _ counter rows. counter.rows ≡ length rows };
 
     fn take(&mut self, _: &Row) -> Result<(), Failure> {
         let Some(more) = self.rows.checked_add(1) else {

@@ -31,7 +31,7 @@ goes_on rows n cell last new many some at next =
     }
 
 -- one more value at the end
-keyed-push : (key : Value) (place : ℕ) (vs : List Value) (v : Value) → keyed key place (vs ++ v ∷ []) ≡ keyed key place vs ++ (stored key ∷ sql.Int (pos (place + length vs)) ∷ stored v ∷ []) ∷ []
+pub keyed-push : (key : Value) (place : ℕ) (vs : List Value) (v : Value) → keyed key place (vs ++ v ∷ []) ≡ keyed key place vs ++ (stored key ∷ sql.Int (pos (place + length vs)) ∷ stored v ∷ []) ∷ []
 keyed-push key place vs v = ap (map (λ cell. stored key ∷ cell)) (placed-push place vs v) ∙ map-append (λ cell. stored key ∷ cell) (placed place vs) _
 
 -- one more cell of the last row
@@ -50,7 +50,7 @@ gathered_more old new cell cells row more is so_far =
 
 -- what is gathered from nothing on is an answer
 pub all_gathered : (IsAnswer : List SqlRow → Type 0) (fresh last : Gathered) (rows : List RowValues) → fresh.rows.items ≡ [] → rows ≡ last.rows.items
-    → Takes (λ (g : Gathered) (cells : List SqlRow). cells ≡ flat_map gathered_cells g.rows.items) IsAnswer fresh last → IsAnswer (flat_map gathered_cells rows)
+    → Takes (λ (_ : Gathered) (g : Gathered) (cells : List SqlRow). cells ≡ flat_map gathered_cells g.rows.items) IsAnswer fresh last → IsAnswer (flat_map gathered_cells rows)
 all_gathered IsAnswer fresh last rows none is takes =
-    let taken = takes [] (sym (ap (flat_map gathered_cells) none)) in
+    let taken = takes fresh [] (sym (ap (flat_map gathered_cells) none)) in
     subst IsAnswer (taken.2 ∙ sym (ap (flat_map gathered_cells) is)) taken.1

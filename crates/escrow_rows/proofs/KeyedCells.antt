@@ -39,7 +39,7 @@ abbrev pub Below : SqlRow → SqlRow → Type 0
 Below a b = cell_cmp a b ≡ Less
 
 -- SQLite's order of the values that cells hold is theirs
-stored_cmp : (a b : Value) → value_cmp (stored a) (stored b) ≡ key_cmp a b
+pub stored_cmp : (a b : Value) → value_cmp (stored a) (stored b) ≡ key_cmp a b
 stored_cmp (Number a) (Number b) = value_cmp-Int a b
 stored_cmp (Number a) (Text b) = value_cmp-apart (sql.Int a) (sql.Text b) (λ e. omega arith)
 stored_cmp (Text a) (Number b) = value_cmp-apart (sql.Text a) (sql.Int b) (λ e. omega arith)

@@ -9,6 +9,7 @@ pub mod ImageTables
 pub mod Images
 pub mod KeyedCells
 pub mod Listings
+pub mod Looking
 pub mod News
 pub mod OneRow
 pub mod Order
@@ -16,7 +17,6 @@ pub mod PlacedCells
 pub mod Places
 pub mod Pushes
 pub mod Puts
-pub mod Rising
 pub mod RowRead
 pub mod Runs
 pub mod Same

@@ -26,7 +26,7 @@ use Rattle.escrow_rows.specs.declared.stored.StoredTable.{StoredTable}
 use Rattle.escrow_rows.specs.Answers.{TellsTables, listing}
 use Rattle.escrow_rows.specs.Image.{tab_row}
 use Rattle.escrow_rows.specs.Listing.{listed_row}
-use Rattle.escrow_rows.proofs.Rising.{ascending_from_sorted}
+use Rattle.escrow_cells.proofs.Rising.{ascending_from_sorted}
 
 -- the number, and the text, that a column of TAB has
 abbrev number_in : Sql → ℤ
@@ -72,7 +72,7 @@ module _ {A : Type 0} (before : A → A → Bool) (turned : (x y : A) → before
       })
       (λ xs ys zs first then. record { each = λ x h. then.each x (first.each x h); all = λ h. then.all (first.all h) })
 
-  apart_permutation : (xs ys : List A) → IsPermutation xs ys → IsAscending before xs → IsAscending before ys
+  pub apart_permutation : (xs ys : List A) → IsPermutation xs ys → IsAscending before xs → IsAscending before ys
   apart_permutation xs ys same = (alike xs ys same).all
 
 -- two tables have different numbers

@@ -43,7 +43,7 @@ use Rattle.escrow_rows.proofs.KeyedCells.{cell_cmp, cell_cmp_total, cells_keyed,
 use Rattle.escrow_rows.proofs.RowRead.{no_row}
 
 -- a row's key and values
-abbrev values_in : TableDef → Row → RowValues
+abbrev pub values_in : TableDef → Row → RowValues
 values_in table row = record { key = row.name.key; values = values_of table row }
 
 -- what is made of each item may be made in another way
@@ -84,7 +84,7 @@ key_less a b same before =
     less (value_cmp a.name.key b.name.key) (sym (ap (λ o. is_lt (ordering_then o (value_cmp a.name.key b.name.key))) tied) ∙ before)
 
 -- so their keys rise
-keys_rise : (table : TableDef) (rows : List Row) → AllByRecursion (λ row. row.name.table ≡ table.name) rows → IsAscending row_before rows → KeysRise (map (values_in table) rows)
+pub keys_rise : (table : TableDef) (rows : List Row) → AllByRecursion (λ row. row.name.table ≡ table.name) rows → IsAscending row_before rows → KeysRise (map (values_in table) rows)
 keys_rise table [] named up = tt
 keys_rise table (row ∷ rows) named up = (
   all-map (λ b. value_cmp row.name.key b.key ≡ Less) (values_in table) rows

@@ -2,7 +2,7 @@
 use Rattle.std.specs.Prelude.{◌≡◌, ℕ, Option, List, map, find, length, IsTrue, IsPermutation}
 use Rattle.std.specs.Ordering.{is_lt, int_cmp}
 use Rattle.sqlite.specs.Effect.{Database}
-use Rattle.sqlite.specs.State.{State, HasCleanDisk}
+use Rattle.sqlite.specs.State.{State, HasCleanDisk, Survives}
 use Rattle.escrow_num.specs.Ascending.{IsAscending}
 use Rattle.escrow_num.specs.declared.row.Row.{Row}
 use Rattle.escrow_num.specs.declared.value.RowName.{RowName}
@@ -17,6 +17,13 @@ use Rattle.escrow_rows.specs.Changes.{Stands, name_in}
 -- a store that can be used: its disk has returned what was written, and no fault has shut it
 abbrev pub IsUsable : State → Type 0
 IsUsable s = HasCleanDisk s × IsTrue s.is_open
+
+-- a call only reads: where the store can be used after it, it holds what it held, and a crash leaves what
+-- it might have left before
+pub record Looks (old new : State) : Type 0 where
+  pub same : IsUsable new → new.now ≡ old.now
+  pub usable : IsUsable new → IsUsable old
+  pub survives : Survives old new (λ _. ⊥)
 
 -- the row of a name
 abbrev pub row_named : List Row → RowName → Option Row

@@ -88,7 +88,7 @@ impl Sink for Gathered {
     ghost use Rattle.std.specs.List.{flat_map};
     ghost use Rattle.escrow_rows.specs.Gathered.{gathered_cells};
 
-    ghost has_taken = { λ g cells. cells ≡ flat_map gathered_cells g.rows.items };
+    ghost has_taken = { λ _ g cells. cells ≡ flat_map gathered_cells g.rows.items };
 
     fn take(&mut self, row: &Row) -> Result<(), Failure> {
         let cell = read_cell(self.alloc, row)?;

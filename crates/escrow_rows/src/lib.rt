@@ -20,8 +20,10 @@ mod rows;
 mod store;
 mod stored;
 mod tables;
+mod unverified;
 
 pub use amounts::NewAmounts;
+pub use datum::read_value;
 pub use escrow_cells::Failure;
 pub use listed::ListedTable;
 pub use store::RowStore;

@@ -9,6 +9,6 @@ use Rattle.escrow_cells.proofs.read.count_keys.Goals as goal
 pub returns-clause-count : goal.returns-clause-count
 returns-clause-count g c clean store =
     let rows = rw (to_z-of_z w64 c.args.table c.ranges.table, to_z-of_z w64 c.args.place c.ranges.place) at c.in_ok-key_cells.ensures.rows in
-    let counted = rows clean store [] refl in
+    let counted = rows clean store (record { rows = 0 }) [] refl in
     let taken : c.key_cells.new.sink.rows ≡ length counted.0 = counted.2 in
     taken ∙ keys_count (Int c.args.table) (Int c.args.place) (cells (state g.S.Store c.args.conn.now).now) counted.0 counted.1

@@ -1,0 +1,16 @@
+pub mod Back
+pub mod Counting
+pub mod Counts
+pub mod Ends
+pub mod Fronts
+pub mod Metas
+pub mod Only
+pub mod Owners
+pub mod Parts
+pub mod RowOrder
+pub mod RowsMade
+pub mod Split
+pub mod Tab
+pub mod Tabs
+pub mod Together
+pub mod Verified

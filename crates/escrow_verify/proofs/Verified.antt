@@ -1,0 +1,102 @@
+-- What the parts of a verification say together.
+use Rattle.std.proofs.Common.{◌≡◌, List, map, sym, ap, ◌∙◌, subst, arith, IsTrue, Result, Ok, Err}
+use Rattle.std.specs.List.{AllByRecursion}
+use Rattle.std.specs.Result.{IfOk, IsErrAnd}
+use Rattle.sqlite_trees.proofs.ListLemmas.{map-map}
+use Rattle.sqlite.specs.Effect.{Database}
+use Rattle.sqlite.specs.State.{State, HasCleanDisk}
+use Rattle.escrow_num.specs.declared.refusal.Refusal.{Refusal}
+use Rattle.escrow_num.specs.declared.row.Row.{Row}
+use Rattle.escrow_num.proofs.Items.{has_all}
+use Rattle.escrow_schema.specs.Catalog.{IsCatalog}
+use Rattle.escrow_cells.specs.Store.{HasTables, IsStore}
+use Rattle.escrow_rows.specs.declared.stored.StoredTable.{StoredTable}
+use Rattle.escrow_rows.specs.Answers.{IsUsable, Looks}
+use Rattle.escrow_rows.specs.Image.{AreTables, rows_of}
+use Rattle.escrow_rows.proofs.ImageTables.{has_permutation}
+use Rattle.escrow_verify.specs.declared.counted.Counted.{Counted}
+use Rattle.escrow_verify.specs.Inside.{AreOfTables, AreRowsIn, AreTablesIn, HasRows, HaveRows, IsKnown}
+use Rattle.escrow_verify.specs.Stored.{HasCount, IsNoStore, IsStoreOf, catalog_of, stored_of}
+use Rattle.escrow_verify.proofs.Back.{store_cells, store_rows, store_tables}
+use Rattle.escrow_verify.proofs.Only.{only_tables}
+use Rattle.escrow_verify.proofs.Parts.{counted_store}
+
+-- the refusal of a call, passed on
+pub passed_on : {X Y : Type 0} (r : Result X Refusal) (call : Result Y Refusal) (why cause : Refusal) → IsErrAnd r (λ e. e ≡ why) → call ≡ Err why → r ≡ Err cause → call ≡ Err cause
+passed_on (Ok x) call why cause is was refused = absurd is
+passed_on (Err e) call why cause is was refused = let here : e ≡ cause = cc in was ∙ ap Err (sym is ∙ here)
+
+-- what is clean was clean
+was_clean : (a b : State) → Looks a b → HasCleanDisk b → HasCleanDisk a
+was_clean a b looks clean = let more = looks.survives.clean in omega arith
+
+-- tables are found in a store: its format is tested, then TAB is read
+pub record Finds (first format tab : State) (tables : List StoredTable) : Type 0 where
+  pub to_format : Looks first format
+  pub to_tab : Looks format tab
+  pub known : HasCleanDisk format → IsTrue format.is_open × IsKnown first.now
+  pub found : HasCleanDisk tab → IsTrue tab.is_open × (IsStore format.now → AreTablesIn tables format.now)
+
+module _ (first format tab : State) (tables : List StoredTable) (finds : Finds first format tab tables) where
+  tab_same : IsUsable tab → tab.now ≡ first.now
+  tab_same usable = finds.to_tab.same usable ∙ finds.to_format.same (finds.to_tab.usable usable)
+
+  found_in : IsUsable tab → IsStore first.now → AreTablesIn tables first.now
+  found_in usable store =
+      let same = finds.to_format.same (finds.to_tab.usable usable) in
+      subst (AreTablesIn tables) same ((finds.found usable.0).1 (subst IsStore (sym same) store))
+
+  -- cells of no table are in no store
+  pub strange_cells : (cells : State) → Looks tab cells → IsUsable cells → (HasTables tab.now.schema → AreOfTables tables tab.now → ⊥) → IsNoStore first.now
+  strange_cells cells to_cells usable strange others rows is =
+      let before = to_cells.usable usable in
+      let same = tab_same before in
+      strange (subst (λ (db : Database). HasTables db.schema) (sym same) is.image.store.tables)
+      (subst (AreOfTables tables) (sym same) (store_cells tables others rows first.now (found_in before is.image.store) is))
+
+  module _ (cells : State) (to_cells : Looks tab cells) where
+    cells_same : IsUsable cells → cells.now ≡ first.now
+    cells_same usable = to_cells.same usable ∙ tab_same (to_cells.usable usable)
+
+    -- nor are rows that no table has
+    pub strange_rows : (last : State) → Looks cells last → IsUsable last → (IsStore cells.now → HaveRows cells.now tables → ⊥) → IsNoStore first.now
+    strange_rows last to_last usable strange others rows is =
+        let before = to_last.usable usable in
+        let same = cells_same before in
+        let found = found_in (to_cells.usable before) is.image.store in
+        let one = only_tables tables others first.now found (store_tables others rows first.now is) in
+        strange (subst IsStore (sym same) is.image.store)
+        (subst (λ (db : Database). HaveRows db tables) (sym same)
+        (has_all (λ (s : StoredTable). (mine : List Row) × AreRowsIn s mine first.now) tables (λ s has. (rows_of rows s.table.name, store_rows others rows first.now s (has_permutation tables others one s has) is))))
+
+    -- tables that are counted are those of a store
+    pub verified : {V : Type 0} (items : V → List Counted) (r : Result V Refusal) (last : State) → Looks cells last → IsCatalog (map (λ s. s.table) tables)
+        → (HasCleanDisk cells → IsTrue cells.is_open × (HasTables tab.now.schema → AreOfTables tables tab.now))
+        → IfOk r (λ v. stored_of (items v) ≡ tables)
+        → (HasCleanDisk last → IsTrue cells.is_open → IfOk r (λ v. IsTrue last.is_open × (IsStore cells.now → AllByRecursion (HasRows cells.now) (items v))))
+        → HasCleanDisk last → IfOk r (λ v. IsTrue last.is_open × (rows : List Row) × IsStoreOf (stored_of (items v)) rows first.now × AllByRecursion (HasCount rows) (items v))
+    verified items (Err e) last to_last catalog owned are counts clean = tt
+    verified items (Ok v) last to_last catalog owned are counts clean =
+        let clean_cells = was_clean cells last to_last clean in
+        let of = owned clean_cells in
+        let counted = counts clean of.0 in
+        let usable : IsUsable cells = (clean_cells, of.0) in
+        let at_tab = to_cells.usable usable in
+        let same = cells_same usable in
+        let known = (finds.known (finds.to_tab.usable at_tab).0).1 in
+        let of_tables = subst (AreOfTables tables) (tab_same at_tab) (of.1 (subst (λ (db : Database). HasTables db.schema) (sym (tab_same at_tab)) known.store.tables)) in
+        let whole = counted_store first.now (items v) known
+        (subst (λ (ts : List StoredTable). AreTablesIn ts first.now) (sym are) (found_in at_tab known.store))
+        (subst (λ (ts : List StoredTable). IsCatalog (map (λ s. s.table) ts)) (sym are) catalog).order
+        (subst (λ (ts : List StoredTable). AreOfTables ts first.now) (sym are) of_tables)
+        (subst (λ (db : Database). AllByRecursion (HasRows db) (items v)) same (counted.1 (subst IsStore (sym same) known.store))) in
+        (counted.0, whole.0, whole.1, whole.2)
+
+-- the tables that are counted are tables, and a catalog
+pub verified_tables : {V : Type 0} (items : V → List Counted) (r : Result V Refusal) (tables : List StoredTable) → AreTables tables × IsCatalog (map (λ s. s.table) tables)
+    → IfOk r (λ v. stored_of (items v) ≡ tables) → IfOk r (λ v. AreTables (stored_of (items v)) × IsCatalog (catalog_of (items v)))
+verified_tables items (Err e) tables are is = tt
+verified_tables items (Ok v) tables are is = (
+  subst AreTables (sym is) are.0,
+  subst IsCatalog (ap (map (λ (s : StoredTable). s.table)) (sym is) ∙ map-map (λ (s : StoredTable). s.table) (λ (c : Counted). c.stored) (items v)) are.1,
+)

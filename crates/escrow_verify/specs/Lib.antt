@@ -1,0 +1,6 @@
+pub mod Counting
+pub mod Format
+pub mod Inside
+pub mod Stored
+pub mod Tabs
+pub mod Told

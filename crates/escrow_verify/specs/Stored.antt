@@ -1,0 +1,61 @@
+-- Believed: when a database of SQLite is a store, and of which tables and rows.
+use Rattle.std.specs.Prelude.{◌≡◌, ◌≢◌, ◌⊎◌, ℤ, pos, IsSomeAnd, List, [], ◌∷◌, map, length, codes}
+use Rattle.std.specs.List.{AllByRecursion}
+use Rattle.sqlite_value.specs.declared.value.Value.TheVariants.{Int, Text}
+use Rattle.sqlite.specs.Effect.{Database}
+use Rattle.escrow_num.specs.declared.refusal.Refusal.{Refusal}
+use Rattle.escrow_num.specs.declared.refusal.Refusal.TheVariants as refusal
+use Rattle.escrow_num.specs.declared.row.Row.{Row}
+use Rattle.escrow_checks.specs.Grant.{Meets}
+use Rattle.escrow_schema.specs.declared.table.TableDef.{TableDef}
+use Rattle.escrow_schema.specs.Catalog.{table_named}
+use Rattle.escrow_schema.specs.Fit.{values_of}
+use Rattle.escrow_cells.specs.Store.{HasTables, metas}
+use Rattle.escrow_rows.specs.declared.stored.StoredTable.{StoredTable}
+use Rattle.escrow_rows.specs.Image.{CanBeHeld, IsImage, AreTables, AreRows, rows_of}
+use Rattle.escrow_verify.specs.declared.counted.Counted.{Counted}
+
+-- a row meets each check of its table
+abbrev pub MeetsChecks : List TableDef → Row → Type 0
+MeetsChecks catalog row = IsSomeAnd (table_named catalog row.name.table) (λ table. AllByRecursion (λ check. Meets check row.amounts) table.checks)
+
+-- each value of a row is one that a column can hold: an amount, or a text in UTF-8
+abbrev pub HasHeldValues : List TableDef → Row → Type 0
+HasHeldValues catalog row = IsSomeAnd (table_named catalog row.name.table) (λ table. AllByRecursion CanBeHeld (values_of table row))
+
+-- A STORE: the image of tables and rows, each row of which meets the checks of its table, and has values
+-- that can be held
+pub record IsStoreOf (tables : List StoredTable) (rows : List Row) (db : Database) : Type 0 where
+  pub are_tables : AreTables tables
+  pub are_rows : AreRows tables rows
+  pub meet : AllByRecursion (MeetsChecks (map (λ s. s.table) tables)) rows
+  pub held : AllByRecursion (HasHeldValues (map (λ s. s.table) tables)) rows
+  pub image : IsImage tables rows db
+
+-- a database that is the store of no tables and rows whatever
+abbrev pub IsNoStore : Database → Type 0
+IsNoStore db = (tables : List StoredTable) (rows : List Row) → IsStoreOf tables rows db → ⊥
+
+-- META has one row, which says that the store has another format
+pub record HasOtherFormat (db : Database) : Type 0 where
+  pub tables : HasTables db.schema
+  pub number : ℤ
+  pub other : number ≢ pos 1
+  pub format_is : metas db ≡ (Text (codes "format") ∷ Int number ∷ []) ∷ []
+
+-- why a database isn't verified: want of memory (51), a refusal of the store (60), that it is no store
+-- (61), or that its format is another (62)
+abbrev pub IsCause : Refusal → Type 0
+IsCause cause = (cause ≡ refusal.Memory) ⊎ ((cause ≡ refusal.Store) ⊎ ((cause ≡ refusal.ForeignStore) ⊎ (cause ≡ refusal.UnknownVersion)))
+
+-- tables, without their numbers of rows
+abbrev pub stored_of : List Counted → List StoredTable
+stored_of tables = map (λ c. c.stored) tables
+
+-- their definitions
+abbrev pub catalog_of : List Counted → List TableDef
+catalog_of tables = map (λ c. c.stored.table) tables
+
+-- a table has as many rows as are counted
+abbrev pub HasCount : List Row → Counted → Type 0
+HasCount rows c = c.rows ≡ length (rows_of rows c.stored.table.name)

@@ -1,0 +1,73 @@
+//! Whether each cell of a store is of one of its tables.
+ghost use Rattle.std.specs.Prelude.{◌≡◌, IsTrue, Err, OnOk, IfErr};
+ghost use Rattle.std.specs.Ordering.{int_eq};
+ghost use Rattle.std.specs.List.{list_any};
+ghost use Rattle.sqlite.specs.Held.{state};
+ghost use Rattle.sqlite.specs.State.{HasCleanDisk};
+ghost use Rattle.escrow_num.specs.declared.refusal.Refusal.TheVariants as refusal;
+ghost use Rattle.escrow_cells.specs.Store.{HasTables};
+ghost use Rattle.escrow_rows.specs.Answers.{IsUsable, Looks};
+ghost use Rattle.escrow_verify.specs.Inside.{AreOfTables, IsPartCause, is_number_of};
+
+use crate::failure::refusal_of;
+use escrow_cells::{Failure, Sink};
+use escrow_num::Refusal;
+use escrow_rows::{RowStore, StoredTable};
+use sqlite::{Alter, Row};
+
+/// Tests whether each cell is of one of these tables.
+pub(crate) fn check_cells<S: Alter>(
+    store: &mut RowStore<S>,
+    tables: &[StoredTable],
+) -> Result<(), Refusal>
+    ensures found { HasCleanDisk (state S.Store store.new) → OnOk result (IsTrue (state S.Store store.new).is_open × (HasTables (state S.Store store.old).now.schema → AreOfTables tables.now (state S.Store store.old).now)) }
+    ensures foreign { IsUsable (state S.Store store.new) → result ≡ Err refusal.ForeignStore → HasTables (state S.Store store.old).now.schema → AreOfTables tables.now (state S.Store store.old).now → ⊥ }
+    ensures cause { IfErr result IsPartCause }
+    ensures looks { Looks (state S.Store store.old) (state S.Store store.new) }
+{
+    let mut owners = Owners {
+        tables,
+        known: true,
+    };
+    if let Err(failure) = store.cell_tables(&mut owners) {
+        return Err(refusal_of(failure));
+    }
+    if owners.known {
+        Ok(())
+    } else {
+        Err(Refusal::ForeignStore)
+    }
+}
+
+/// The tables that cells are of, as they are read.
+#[derive(Drop)]
+struct Owners<'a> {
+    /// The tables of the store.
+    tables: &'a [StoredTable],
+    /// Whether each cell so far is of one of them.
+    known: bool,
+}
+
+impl<'a> Sink for Owners<'a> {
+    ghost use Rattle.std.specs.Prelude.{◌≡◌, ◌↔◌, IsTrue};
+    ghost use Rattle.std.specs.List.{AllByRecursion};
+    ghost use Rattle.sqlite_value.specs.Order.{column};
+    ghost use Rattle.escrow_verify.specs.Inside.{IsNumberOf};
+
+    ghost has_taken = { λ first owners rows. (owners.tables ≡ first.tables) × (IsTrue first.known → (IsTrue owners.known ↔ AllByRecursion (λ row. IsNumberOf first.tables.now (column row 0)) rows)) };
+
+    fn take(&mut self, row: &Row) -> Result<(), Failure> {
+        let id: i64 = row.get(0)?;
+        if !has_number(self.tables, id) {
+            self.known = false;
+        }
+        Ok(())
+    }
+}
+
+/// Whether a number is that of one of these tables.
+fn has_number(tables: &[StoredTable], id: i64) -> bool
+    ensures { result ≡ is_number_of tables.now id }
+{
+    tables.iter().any(|table| table.id == id)
+}

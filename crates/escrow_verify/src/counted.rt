@@ -1,0 +1,10 @@
+use escrow_rows::StoredTable;
+
+/// A table that stands in a store, and how many rows it has.
+#[derive(Debug, Drop)]
+pub struct Counted {
+    /// The table, with its number in the store.
+    pub stored: StoredTable,
+    /// How many rows it has.
+    pub rows: usize,
+}

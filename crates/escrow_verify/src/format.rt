@@ -1,0 +1,129 @@
+//! The format of a store.
+ghost use Rattle.std.specs.Prelude.{◌≡◌, ◌↔◌, ℤ, Err, IsTrue, MatchOption, OnOk, IfOk, IfErr, [], ◌∷◌, codes};
+ghost use Rattle.sqlite_value.specs.declared.value.Value.TheVariants.{Int as IntValue, Text as TextValue};
+ghost use Rattle.sqlite_value.specs.Value.{owned};
+ghost use Rattle.sqlite.specs.Held.{state};
+ghost use Rattle.sqlite.specs.State.{HasCleanDisk};
+ghost use Rattle.escrow_num.specs.declared.refusal.Refusal.TheVariants as refusal;
+ghost use Rattle.escrow_cells.specs.Store.{HasTables, metas, format};
+ghost use Rattle.escrow_rows.specs.Answers.{IsUsable, Looks};
+ghost use Rattle.escrow_verify.specs.Inside.{IsKnown};
+ghost use Rattle.escrow_verify.specs.Stored.{HasOtherFormat, IsCause};
+ghost use Rattle.escrow_verify.specs.Format.{Tells};
+
+use crate::failure::refusal_of;
+use escrow_cells::{Failure, Sink};
+use escrow_num::Refusal;
+use escrow_rows::RowStore;
+use sqlite::types::ValueRef;
+use sqlite::{Alter, Row};
+
+/// Tests whether a database is a store of the format that is known: its schema, META, and SQLite's
+/// numbers of the rows, in this order.
+pub(crate) fn check_format<S: Alter>(store: &mut RowStore<S>) -> Result<(), Refusal>
+    ensures known { HasCleanDisk (state S.Store store.new) → OnOk result (IsTrue (state S.Store store.new).is_open × IsKnown (state S.Store store.old).now) }
+    ensures foreign { IsUsable (state S.Store store.new) → result ≡ Err refusal.ForeignStore → IsKnown (state S.Store store.old).now → ⊥ }
+    ensures version { IsUsable (state S.Store store.new) → result ≡ Err refusal.UnknownVersion → HasOtherFormat (state S.Store store.old).now }
+    ensures cause { IfErr result IsCause }
+    ensures looks { Looks (state S.Store store.old) (state S.Store store.new) }
+{
+    if !store.is_store() {
+        return Err(Refusal::ForeignStore);
+    }
+    check_meta(store)?;
+    match store.are_numbered() {
+        Ok(true) => Ok(()),
+        Ok(false) => Err(Refusal::ForeignStore),
+        Err(failure) => Err(refusal_of(failure)),
+    }
+}
+
+/// Tests whether META has the one row of the format that is known.
+fn check_meta<S: Alter>(store: &mut RowStore<S>) -> Result<(), Refusal>
+    ensures known { HasCleanDisk (state S.Store store.new) → OnOk result (IsTrue (state S.Store store.new).is_open × (HasTables (state S.Store store.old).now.schema → metas (state S.Store store.old).now ≡ format)) }
+    ensures foreign { IsUsable (state S.Store store.new) → result ≡ Err refusal.ForeignStore → HasTables (state S.Store store.old).now.schema → metas (state S.Store store.old).now ≡ format → ⊥ }
+    ensures version { IsUsable (state S.Store store.new) → result ≡ Err refusal.UnknownVersion → HasTables (state S.Store store.old).now.schema → HasOtherFormat (state S.Store store.old).now }
+    ensures cause { IfErr result IsCause }
+    ensures looks { Looks (state S.Store store.old) (state S.Store store.new) }
+{
+    let mut meta = Meta::Empty;
+    if let Err(failure) = store.metas(&mut meta) {
+        return Err(refusal_of(failure));
+    }
+    let Meta::Format(number) = meta else {
+        return Err(Refusal::ForeignStore);
+    };
+    if number == KNOWN {
+        Ok(())
+    } else {
+        Err(Refusal::UnknownVersion)
+    }
+}
+
+/// The number of the format that is known.
+const KNOWN: i64 = 1;
+
+/// What META says, as it is read.
+#[derive(Clone, Copy)]
+enum Meta {
+    /// Nothing as yet.
+    Empty,
+    /// One row, with the number of a format.
+    Format(i64),
+    /// Anything else.
+    Other,
+}
+
+impl Sink for Meta {
+    ghost use Rattle.std.specs.Prelude.{◌≡◌};
+    ghost use Rattle.escrow_verify.specs.declared.format.Meta.TheVariants.{Empty};
+    ghost use Rattle.escrow_verify.specs.Format.{Tells};
+
+    ghost has_taken = { λ first meta rows. first ≡ Empty → Tells meta rows };
+
+    fn take(&mut self, row: &Row) -> Result<(), Failure> {
+        *self = match *self {
+            Meta::Empty => read_meta(row)?,
+            _ => Meta::Other,
+        };
+        Ok(())
+    }
+}
+
+/// What META says by one row.
+fn read_meta(row: &Row) -> Result<Meta, Failure>
+    ensures { IfOk result (λ meta. Tells meta (row.now ∷ [])) }
+{
+    if row.column_count() != 2 {
+        return Ok(Meta::Other);
+    }
+    let name = row.get_ref(0)?;
+    let number = row.get_ref(1)?;
+    if !is_format(name) {
+        return Ok(Meta::Other);
+    }
+    match number_in(number) {
+        Some(number) => Ok(Meta::Format(number)),
+        None => Ok(Meta::Other),
+    }
+}
+
+/// Whether a value is the name of the format.
+fn is_format(value: ValueRef<'_>) -> bool
+    ensures { IsTrue result ↔ (owned value.entry ≡ TextValue (codes "format")) }
+{
+    match value {
+        ValueRef::Text(name) => name == b"format".as_slice(),
+        _ => false,
+    }
+}
+
+/// The whole number that a value is, if it is one.
+fn number_in(value: ValueRef<'_>) -> Option<i64>
+    ensures { MatchOption result ((n : ℤ) → owned value.entry ≡ IntValue n → ⊥) (λ n. owned value.entry ≡ IntValue n) }
+{
+    match value {
+        ValueRef::Int(number) => Some(number),
+        _ => None,
+    }
+}

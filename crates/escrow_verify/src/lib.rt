@@ -1,0 +1,17 @@
+//! What a store is, found out from what is read of it: its format, its tables, and its rows.
+//!
+//! Its one contract: [`verify`] answers the tables of a store, or that a database is none, or that its
+//! format is another; it changes nothing.
+#![tactic(auto)]
+
+mod cells;
+mod counted;
+mod failure;
+mod format;
+mod rows;
+mod tables;
+mod whole;
+
+pub use counted::Counted;
+pub use failure::refusal_of;
+pub use whole::verify;

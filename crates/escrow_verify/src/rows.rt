@@ -1,0 +1,43 @@
+//! The rows of a table of a store.
+ghost use Rattle.std.specs.Prelude.{◌≡◌, List, length, Err, IsTrue, IfOk, IfErr};
+ghost use Rattle.sqlite.specs.Held.{state};
+ghost use Rattle.sqlite.specs.State.{HasCleanDisk};
+ghost use Rattle.escrow_num.specs.declared.refusal.Refusal.TheVariants as refusal;
+ghost use Rattle.escrow_num.specs.declared.row.Row.{Row};
+ghost use Rattle.escrow_schema.specs.Definition.{IsTable};
+ghost use Rattle.escrow_cells.specs.Store.{IsStore};
+ghost use Rattle.escrow_rows.specs.Answers.{IsUsable, Looks};
+ghost use Rattle.escrow_verify.specs.Inside.{AreRowsIn, IsPartCause};
+
+mod cell;
+mod counter;
+mod defined;
+
+use crate::failure::refusal_of;
+use counter::RowCounter;
+use defined::DefinedTable;
+use escrow_num::Refusal;
+use escrow_rows::{RowStore, StoredTable};
+use sqlite::Alter;
+use std::alloc::Global;
+
+/// How many rows a table of a store has. Each one is tested as its cells are read: it has a value that fits
+/// for each column of the table, and it meets the table's checks. No row is kept. Where a cell is none of
+/// such a row, or there are more than [`StoredTable::MAX_ROWS`] rows, the store is refused as foreign.
+pub(crate) fn count_rows<S: Alter>(
+    alloc: Global,
+    store: &mut RowStore<S>,
+    table: &StoredTable,
+) -> Result<usize, Refusal>
+    requires { IsTable table.now.table }
+    ensures found { HasCleanDisk (state S.Store store.new) → IfOk result (λ n. IsTrue (state S.Store store.new).is_open × (IsStore (state S.Store store.old).now → (rows : List Row) × AreRowsIn table.now rows (state S.Store store.old).now × (n ≡ length rows))) }
+    ensures foreign { IsUsable (state S.Store store.new) → result ≡ Err refusal.ForeignStore → IsStore (state S.Store store.old).now → (rows : List Row) → AreRowsIn table.now rows (state S.Store store.old).now → ⊥ }
+    ensures cause { IfErr result IsPartCause }
+    ensures looks { Looks (state S.Store store.old) (state S.Store store.new) }
+{
+    let mut counter = RowCounter::new(alloc, DefinedTable::new(&table.table));
+    match store.cells(table, &mut counter) {
+        Ok(()) => counter.count().ok_or(Refusal::ForeignStore),
+        Err(failure) => Err(refusal_of(failure)),
+    }
+}
