@@ -1,9 +1,10 @@
--- Believed: what a database becomes where a store is opened.
+-- Believed: what a disk has where opening made a store.
 use Rattle.std.specs.Prelude.{◌≡◌, []}
+use Rattle.sqlite_trees.specs.Tree.{Trees}
 use Rattle.sqlite.specs.Effect.{Database}
 use Rattle.escrow_cells.specs.Tables.{no_schema}
 use Rattle.escrow_rows.specs.Image.{IsImage}
 
--- a database without objects becomes the image of no table and no row
-abbrev pub Founds : Database → Database → Type 0
-Founds old new = old.schema ≡ no_schema → IsImage [] [] new
+-- there was no object, and what a disk has is the image of no table and no row
+abbrev pub IsFounded : Database → Trees → Type 0
+IsFounded old trees = (old.schema ≡ no_schema) × (db : Database) × IsImage [] [] db × (trees ≡ db.trees)

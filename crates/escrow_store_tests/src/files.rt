@@ -1,8 +1,10 @@
+use crate::databases::{ask_all, over};
 use crate::stores::{ONE, all, cell, listed, make, metas, tab, tables};
 use escrow_cells::{Datum, Failure, Step};
 use sqlite::{Alter, Connection, Error, File, FileStore};
 use std::alloc::Global;
 use std::fs;
+use std::process::Abort;
 use std::test::Fail;
 
 /// A connection over a file.
@@ -81,5 +83,57 @@ fn a_store_in_a_file_is_read_back(rt: HostRuntime) -> Result<(), Fail> {
         "format,1;1,A,first;-5,1,1;1,1,new;1,2,it's é;1,1,1;"
     );
     fs::remove_dir_all(&rt, "escrow_store_tests")?;
+    Ok(())
+}
+
+/// Opens a database over the store of a connection, asks it statements and compares the replies.
+fn asked<R: Abort + AllocGlobal, S: Alter + Drop>(
+    rt: &R,
+    conn: Connection<S>,
+    asked: &[(&str, &str)],
+) -> Result<(), Fail> {
+    let mut database = over(rt.alloc(), conn).ok().expect(rt, "a database");
+    ask_all(rt, &mut database, 1, asked)
+}
+
+#[test]
+fn a_database_in_a_file_is_opened_again(rt: HostRuntime) -> Result<(), Fail> {
+    let _ = fs::remove_dir_all(&rt, "escrow_store_tests_opened");
+    fs::create_dir(&rt, "escrow_store_tests_opened")?;
+    let path = "escrow_store_tests_opened/a.db";
+    let written = [
+        (
+            "CREATE TABLE STOCK (ARTICLE VARCHAR2(8) PRIMARY KEY, PIECES INTEGER RESERVABLE CHECK (PIECES >= 0))",
+            "bank.1> OK created STOCK\n",
+        ),
+        (
+            "INSERT INTO STOCK VALUES ('it''s é', 7)",
+            "bank.1> OK inserted\n",
+        ),
+        (
+            "UPDATE STOCK SET PIECES = PIECES - 2 WHERE ARTICLE = 'it''s é'",
+            "bank.1> OK reserved 1\n",
+        ),
+        ("COMMIT", "bank.1> OK committed 1\n"),
+        (
+            "UPDATE STOCK SET PIECES = PIECES - 5 WHERE ARTICLE = 'it''s é'",
+            "bank.1> OK reserved 2\n",
+        ),
+    ];
+    asked(&rt, opened(&rt, path)?, &written)?;
+    // What was open is forgotten, and what was committed stands.
+    let found = [
+        (
+            "SELECT * FROM STOCK",
+            "bank.1> ARTICLE | PIECES\nbank.1> 'it''s é' | 5\nbank.1> OK rows 1\n",
+        ),
+        ("SHOW JOURNAL", "bank.1> OK reservations 0\n"),
+        (
+            "UPDATE STOCK SET PIECES = PIECES - 5 WHERE ARTICLE = 'it''s é'",
+            "bank.1> OK reserved 1\n",
+        ),
+    ];
+    asked(&rt, opened(&rt, path)?, &found)?;
+    fs::remove_dir_all(&rt, "escrow_store_tests_opened")?;
     Ok(())
 }

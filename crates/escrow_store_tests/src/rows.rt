@@ -13,14 +13,14 @@ use std::process::Abort;
 use std::test::Fail;
 
 /// The rows of an empty store in memory.
-fn row_store(alloc: Global) -> Result<RowStore<MemStore>, Failure> {
+pub fn row_store(alloc: Global) -> Result<RowStore<MemStore>, Failure> {
     let mut conn = Connection::open_in_memory(alloc)?;
     create(&mut conn)?;
     Ok(RowStore::over(conn))
 }
 
 /// The table of a number that a text defines.
-fn stored(alloc: Global, id: i64, text: &str) -> Result<StoredTable, Refusal>
+pub fn stored(alloc: Global, id: i64, text: &str) -> Result<StoredTable, Refusal>
     ensures { IfOk result (λ s. IsTable s.table) }
 {
     let Ok(Request::Statement(Statement::Create(text))) = parse(alloc, text) else {
@@ -41,7 +41,7 @@ fn row(alloc: Global, table: &StoredTable, text: &str) -> Result<Row, Refusal>
 }
 
 /// Puts the row that an INSERT makes.
-fn put(
+pub fn put(
     alloc: Global,
     store: &mut RowStore<MemStore>,
     table: &StoredTable,
@@ -79,7 +79,7 @@ fn counts(
 }
 
 /// Puts a table.
-fn put_table(
+pub fn put_table(
     alloc: Global,
     store: &mut RowStore<MemStore>,
     table: &StoredTable,
@@ -93,7 +93,7 @@ fn put_table(
 }
 
 /// Puts two tables, with two rows and with one.
-fn fill(
+pub fn fill(
     alloc: Global,
     store: &mut RowStore<MemStore>,
 ) -> Result<(StoredTable, StoredTable), Refusal> {

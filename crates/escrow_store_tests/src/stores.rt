@@ -111,7 +111,7 @@ struct Listing {
 }
 
 impl Sink for Listing {
-    ghost has_taken = { λ _ _. Unit {0} };
+    ghost has_taken = { λ _ _ _. Unit {0} };
 
     fn take(&mut self, row: &Row) -> Result<(), Failure> {
         push_row(self.alloc, &mut self.text, row)
@@ -123,7 +123,7 @@ impl Sink for Listing {
 struct Full;
 
 impl Sink for Full {
-    ghost has_taken = { λ _ _. Unit {0} };
+    ghost has_taken = { λ _ _ _. Unit {0} };
 
     fn take(&mut self, _: &Row) -> Result<(), Failure> {
         Err(Failure::Memory)

@@ -14,7 +14,7 @@ use Rattle.escrow_rows.specs.declared.stored.StoredTable.{StoredTable}
 use Rattle.escrow_rows.specs.declared.stored.TheConstants.StoredTable.{MAX_ROWS}
 use Rattle.escrow_rows.specs.Changes.{Stands, PutsAmounts}
 use Rattle.escrow_rows.specs.Image.{AreTables, AreRows, HasTable, row_before, rows_of, stored_named}
-use Rattle.escrow_tables.specs.declared.counted.Counted.{Counted}
+use Rattle.escrow_verify.specs.declared.counted.Counted.{Counted}
 use Rattle.escrow_tables.specs.Applied.{changes_to, row_after, applied}
 use Rattle.escrow_tables.specs.Inside.{stored_of, HasCount, IsHeld}
 use Rattle.escrow_tables.specs.Puts.{ArePuts, TellsPut, put_by}

@@ -8,15 +8,15 @@ use Rattle.sqlite.specs.State.{HasCleanDisk}
 use Rattle.sqlite.proofs.StateLemmas.{survives_then}
 use Rattle.escrow_num.specs.declared.reservation.Reservation.{Reservation}
 use Rattle.escrow_num.specs.declared.row.Row.{Row}
-use Rattle.escrow_rows.specs.Answers.{IsUsable}
+use Rattle.escrow_rows.specs.Answers.{IsUsable, Looks}
 use Rattle.escrow_rows.specs.Changes.{PutsAmounts}
 use Rattle.escrow_rows.specs.View.{rows_in}
 use Rattle.escrow_rows.specs.declared.amounts.NewAmounts.{NewAmounts}
 use Rattle.escrow_tables.specs.Applied.{applied}
 use Rattle.escrow_tables.specs.Calls.{Writes}
 use Rattle.escrow_tables.specs.Inside.{IsHeld, Keeps, catalog_of, stored_of}
-use Rattle.escrow_tables.specs.Puts.{ArePuts, Looks, TellsPut, put_by}
-use Rattle.escrow_tables.specs.declared.counted.Counted.{Counted}
+use Rattle.escrow_tables.specs.Puts.{ArePuts, TellsPut, put_by}
+use Rattle.escrow_verify.specs.declared.counted.Counted.{Counted}
 use Rattle.escrow_tables.proofs.Applying.{held_after}
 use Rattle.escrow_tables.proofs.Writing.{Changes, keeps_on, seen, writes}
 

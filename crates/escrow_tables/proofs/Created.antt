@@ -31,7 +31,7 @@ use Rattle.escrow_rows.specs.Image.{AreTables, AreRows, HasTable, rows_of, store
 use Rattle.escrow_rows.specs.View.{rows_in}
 use Rattle.escrow_rows.proofs.Cells.{row_in}
 use Rattle.escrow_rows.proofs.ImageTables.{has_permutation, still_found}
-use Rattle.escrow_tables.specs.declared.counted.Counted.{Counted}
+use Rattle.escrow_verify.specs.declared.counted.Counted.{Counted}
 use Rattle.escrow_tables.specs.Calls.{Writes}
 use Rattle.escrow_tables.specs.Inside.{HasCount, IsHeld, Keeps, catalog_of, stored_of}
 use Rattle.escrow_tables.proofs.Named.{counted_named, named_stored, named_table}

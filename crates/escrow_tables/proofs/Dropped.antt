@@ -22,7 +22,7 @@ use Rattle.escrow_rows.specs.Changes.{Drops, without_rows_of, without_stored}
 use Rattle.escrow_rows.specs.Image.{AreTables, AreRows, HasTable, rows_of}
 use Rattle.escrow_rows.specs.View.{rows_in}
 use Rattle.escrow_rows.proofs.ImageTables.{found_without}
-use Rattle.escrow_tables.specs.declared.counted.Counted.{Counted}
+use Rattle.escrow_verify.specs.declared.counted.Counted.{Counted}
 use Rattle.escrow_tables.specs.Calls.{Writes}
 use Rattle.escrow_tables.specs.Inside.{HasCount, IsHeld, Keeps, catalog_of, stored_of}
 use Rattle.escrow_tables.proofs.Named.{IsNamed}

@@ -7,7 +7,7 @@ use Rattle.escrow_rows.specs.Answers.{IsUsable}
 use Rattle.escrow_rows.specs.Image.{IsImage, AreTables, AreRows}
 use Rattle.escrow_rows.specs.View.{rows_in}
 use Rattle.escrow_rows.proofs.ViewLemmas.{rows_are}
-use Rattle.escrow_tables.specs.declared.counted.Counted.{Counted}
+use Rattle.escrow_verify.specs.declared.counted.Counted.{Counted}
 use Rattle.escrow_tables.specs.Inside.{IsHeld, Keeps, stored_of}
 
 pub rows_held : (tables : List Counted) (rows : List Row) (db : Database) → AreTables (stored_of tables) → IsHeld tables rows db → rows_in (stored_of tables) db ≡ rows

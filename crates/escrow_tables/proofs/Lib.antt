@@ -8,8 +8,10 @@ pub mod Looking
 pub mod Named
 pub mod NewRows
 pub mod Numbers
+pub mod OneHeld
 pub mod Placed
 pub mod Puts
 pub mod Reading
 pub mod RowWrites
+pub mod Verifying
 pub mod Writing

@@ -1,10 +1,8 @@
 -- What COMMIT reads: the rows of its reservations, as they were.
-use Rattle.std.proofs.Common.{◌≡◌, ℕ, List, Some, [], ◌∷◌, ◌++◌, take, ◌+◌, ◌<◌, length, get_or, true, refl, sym, ap, ◌∙◌, subst, inl, arith}
+use Rattle.std.proofs.Common.{◌≡◌, ℕ, List, Some, [], ◌∷◌, ◌++◌, take, ◌+◌, ◌<◌, length, get_or, true, sym, ap, ◌∙◌, subst}
 use Rattle.std.specs.List.{AllByRecursion, list_any}
 use Rattle.std.proofs.lemmas.List.{take_more}
 use Rattle.sqlite.specs.Effect.{Database}
-use Rattle.sqlite.specs.State.{State}
-use Rattle.sqlite.proofs.StateLemmas.{survives_then}
 use Rattle.sqlite_trees.proofs.ListLemmas.{all-append}
 use Rattle.escrow_num.specs.declared.reservation.Reservation.{Reservation}
 use Rattle.escrow_num.specs.declared.row.Row.{Row}
@@ -16,7 +14,7 @@ use Rattle.escrow_rows.specs.Answers.{TellsRow}
 use Rattle.escrow_rows.specs.Changes.{Stands, replaced}
 use Rattle.escrow_rows.specs.Image.{AreTables}
 use Rattle.escrow_tables.specs.Applied.{row_after}
-use Rattle.escrow_tables.specs.Puts.{Looks, Put, ArePuts, TellsPut, row_of}
+use Rattle.escrow_tables.specs.Puts.{Put, ArePuts, TellsPut, row_of}
 use Rattle.escrow_tables.proofs.Puts.{for_more, for_itself, for_same}
 
 -- a table that stands is one that some text defines
@@ -30,22 +28,6 @@ put_told tables reservations db put read stands tells given rows row are of imag
     let told = tells tables rows are of stands image in
     let same : read ≡ row = cc in
     subst (λ (r : Row). replaced put.amounts r.amounts ≡ (row_after reservations r).amounts) same given
-
--- nothing was read
-pub looks_none : (s : State) → Looks s s
-looks_none s = record {
-  same = λ usable. refl;
-  usable = λ usable. usable;
-  survives = record { clean = omega arith; shield = λ h. h; counts = omega arith; limit = refl; closes = λ clean still. inl still; crash = λ clean db h. inl h };
-}
-
--- one read after others
-pub looks_then : (a b c : State) → Looks a b → Looks b c → Looks a c
-looks_then a b c one two = record {
-  same = λ usable. two.same usable ∙ one.same (two.usable usable);
-  usable = λ usable. one.usable (two.usable usable);
-  survives = survives_then a b c _ _ _ (λ clean db none. none) (λ clean db none. none) one.survives two.survives;
-}
 
 -- no reservation has been looked at
 pub no_puts : (tables : List StoredTable) → ArePuts tables [] []

@@ -14,7 +14,7 @@ use Rattle.escrow_num.specs.declared.row.Row.{Row}
 use Rattle.escrow_rows.specs.Image.{AreTables, rows_of}
 use Rattle.escrow_rows.specs.declared.stored.StoredTable.{StoredTable}
 use Rattle.escrow_tables.specs.Inside.{HasCount, catalog_of, stored_of}
-use Rattle.escrow_tables.specs.declared.counted.Counted.{Counted}
+use Rattle.escrow_verify.specs.declared.counted.Counted.{Counted}
 use Rattle.escrow_tables.proofs.Named.{IsNamed, is_named}
 
 -- the first item that passes is found

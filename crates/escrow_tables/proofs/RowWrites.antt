@@ -21,7 +21,7 @@ use Rattle.escrow_rows.specs.declared.stored.TheConstants.StoredTable.{MAX_ROWS}
 use Rattle.escrow_tables.specs.Calls.{Writes}
 use Rattle.escrow_tables.specs.Committed.{HasTable}
 use Rattle.escrow_tables.specs.Inside.{HasCount, IsHeld, Keeps, catalog_of, stored_of}
-use Rattle.escrow_tables.specs.declared.counted.Counted.{Counted}
+use Rattle.escrow_verify.specs.declared.counted.Counted.{Counted}
 use Rattle.escrow_tables.proofs.Named.{stored_has}
 use Rattle.escrow_tables.proofs.NewRows.{are_rows_kept, are_rows_plain, are_rows_with, count_plain, one_less, one_more, others_with, others_without}
 use Rattle.escrow_tables.proofs.Placed.{IsPlaced, catalog_recounted, counts_after, counts_same, recounted, recounted_itself, stored_recounted}

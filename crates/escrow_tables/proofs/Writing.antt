@@ -18,7 +18,7 @@ use Rattle.escrow_rows.specs.declared.stored.StoredTable.{StoredTable}
 use Rattle.escrow_tables.specs.Calls.{Writes}
 use Rattle.escrow_tables.specs.Committed.{Committed, Holds}
 use Rattle.escrow_tables.specs.Inside.{IsHeld, Keeps, catalog_of, stored_of}
-use Rattle.escrow_tables.specs.declared.counted.Counted.{Counted}
+use Rattle.escrow_verify.specs.declared.counted.Counted.{Counted}
 use Rattle.escrow_tables.proofs.Held.{held_itself, rows_held}
 
 -- what contracts see of a connection and tables
@@ -26,7 +26,7 @@ abbrev pub seen : {S : Type 0} → Ghosts S → Held S → List Counted → Comm
 seen g store tables = record { store = store; catalog = catalog_of tables; rows = rows_in (stored_of tables) (state g store).now }
 
 -- the definitions of tables, taken in two steps
-definitions : (tables : List Counted) → map (λ (s : StoredTable). s.table) (stored_of tables) ≡ catalog_of tables
+pub definitions : (tables : List Counted) → map (λ (s : StoredTable). s.table) (stored_of tables) ≡ catalog_of tables
 definitions [] = refl
 definitions (c ∷ tables) = ap (λ ts. c.stored.table ∷ ts) (definitions tables)
 

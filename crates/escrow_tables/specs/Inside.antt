@@ -1,28 +1,15 @@
 -- Helps: what the fields of the tables of a database hold.
-use Rattle.std.specs.Prelude.{◌≡◌, List, map, length}
+use Rattle.std.specs.Prelude.{List}
 use Rattle.std.specs.List.{AllByRecursion}
 use Rattle.sqlite.specs.Effect.{Database}
 use Rattle.sqlite.specs.State.{State}
 use Rattle.escrow_num.specs.declared.row.Row.{Row}
-use Rattle.escrow_schema.specs.declared.table.TableDef.{TableDef}
 use Rattle.escrow_schema.specs.Catalog.{IsCatalog}
-use Rattle.escrow_rows.specs.declared.stored.StoredTable.{StoredTable}
 use Rattle.escrow_rows.specs.Answers.{IsUsable}
-use Rattle.escrow_rows.specs.Image.{IsImage, AreTables, AreRows, rows_of}
+use Rattle.escrow_rows.specs.Image.{IsImage, AreTables, AreRows}
 use Rattle.escrow_rows.specs.View.{rows_in}
-use Rattle.escrow_tables.specs.declared.counted.Counted.{Counted}
-
--- the tables, without their numbers of rows
-abbrev pub stored_of : List Counted → List StoredTable
-stored_of tables = map (λ c. c.stored) tables
-
--- their definitions
-abbrev pub catalog_of : List Counted → List TableDef
-catalog_of tables = map (λ c. c.stored.table) tables
-
--- a table has as many rows as are counted
-abbrev pub HasCount : List Row → Counted → Type 0
-HasCount rows c = c.rows ≡ length (rows_of rows c.stored.table.name)
+use Rattle.escrow_verify.specs.declared.counted.Counted.{Counted}
+pub use Rattle.escrow_verify.specs.Stored.{stored_of, catalog_of, HasCount}
 
 -- a database is the image of the tables, of rows of theirs, and these are counted
 pub record IsHeld (tables : List Counted) (rows : List Row) (db : Database) : Type 0 where

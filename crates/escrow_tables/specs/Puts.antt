@@ -2,7 +2,6 @@
 use Rattle.std.specs.Prelude.{◌≡◌, ℤ, true, Option, Some, List}
 use Rattle.std.specs.List.{AllByRecursion, list_any}
 use Rattle.sqlite.specs.Effect.{Database}
-use Rattle.sqlite.specs.State.{State, Survives}
 use Rattle.escrow_num.specs.declared.reservation.Reservation.{Reservation}
 use Rattle.escrow_num.specs.declared.row.Row.{Row}
 use Rattle.escrow_num.specs.declared.value.RowName.{RowName}
@@ -10,18 +9,11 @@ use Rattle.escrow_num.specs.declared.value.Value.{Value}
 use Rattle.escrow_num.specs.Order.{same_row}
 use Rattle.escrow_rows.specs.declared.amounts.NewAmounts.{NewAmounts}
 use Rattle.escrow_rows.specs.declared.stored.StoredTable.{StoredTable}
-use Rattle.escrow_rows.specs.Answers.{IsUsable, row_named}
+use Rattle.escrow_rows.specs.Answers.{row_named}
 use Rattle.escrow_rows.specs.Changes.{Stands, name_in, replaced}
 use Rattle.escrow_rows.specs.Image.{IsImage, AreTables, AreRows}
 use Rattle.escrow_tables.specs.Applied.{row_after}
 use Rattle.escrow_tables.specs.declared.apply.Change.{Change}
-
--- calls only read: where the store can be used after them it holds what it held, and a crash leaves what it
--- might have left before
-pub record Looks (old new : State) : Type 0 where
-  pub same : IsUsable new → new.now ≡ old.now
-  pub usable : IsUsable new → IsUsable old
-  pub survives : Survives old new (λ _. ⊥)
 
 -- new amounts of the row of a key
 pub record Put : Type 0 where

@@ -5,17 +5,17 @@ ghost use Rattle.sqlite.specs.State.{HasCleanDisk};
 ghost use Rattle.escrow_num.specs.Order.{same_row};
 ghost use Rattle.escrow_num.specs.Reservation.{counted};
 ghost use Rattle.escrow_checks.specs.Form.{changed};
-ghost use Rattle.escrow_rows.specs.Answers.{IsUsable};
+ghost use Rattle.escrow_rows.specs.Answers.{IsUsable, Looks};
 ghost use Rattle.escrow_rows.specs.Changes.{Stands, replaced};
 ghost use Rattle.escrow_rows.specs.Image.{AreTables};
 ghost use Rattle.escrow_tables.specs.Applied.{row_after};
 ghost use Rattle.escrow_tables.specs.Inside.{stored_of};
-ghost use Rattle.escrow_tables.specs.Puts.{Looks, ArePuts, TellsPut, put_by, put_of, row_of};
+ghost use Rattle.escrow_tables.specs.Puts.{ArePuts, TellsPut, put_by, put_of, row_of};
 
-use crate::counted::Counted;
 use crate::tables::{Tables, find_counted};
 use escrow_num::{Amount, Reservation, Row, RowName, Seq, Value};
 use escrow_rows::{Failure, NewAmounts, RowStore, StoredTable};
+use escrow_verify::Counted;
 use sqlite::Alter;
 use std::alloc::{AllocError, Global};
 

@@ -3,13 +3,13 @@ ghost use Rattle.std.specs.List.{AllByRecursion, list_any};
 ghost use Rattle.std.specs.Vec.{vec_len, vec_capacity};
 ghost use Rattle.std.specs.Ordering.{int_eq, is_lt, nat_cmp};
 ghost use Rattle.std.specs.Cmp.Lexicographic.{slice_cmp};
-ghost use Rattle.escrow_tables.specs.declared.counted.Counted.{Counted as Kept};
+ghost use Rattle.escrow_verify.specs.declared.counted.Counted.{Counted as Kept};
 
-use crate::counted::Counted;
 use crate::tables::{Tables, place_of};
 use escrow_num::Name;
 use escrow_rows::{Failure, StoredTable};
 use escrow_schema::TableDef;
+use escrow_verify::Counted;
 use sqlite::Alter;
 use std::alloc::Global;
 

@@ -5,13 +5,13 @@
 #![tactic(auto)]
 
 mod apply;
-mod counted;
 mod create;
-mod failure;
+pub mod laws;
 mod read;
 mod tables;
+mod verified;
 mod write;
 
 pub use escrow_rows::{Failure, StoredTable};
-pub use failure::refusal_of;
+pub use escrow_verify::refusal_of;
 pub use tables::Tables;

@@ -1,10 +1,10 @@
 ghost use Rattle.std.specs.Prelude.{◌≡◌, option_copied, find, bytes_eq, position};
-ghost use Rattle.escrow_tables.specs.declared.counted.Counted.{Counted as Kept};
+ghost use Rattle.escrow_verify.specs.declared.counted.Counted.{Counted as Kept};
 
-use crate::counted::Counted;
 use escrow_num::Name;
 use escrow_rows::RowStore;
 use escrow_schema::TableDef;
+use escrow_verify::Counted;
 use sqlite::Alter;
 use std::alloc::Global;
 use std::marker::Model;

@@ -3,7 +3,8 @@ use Rattle.std.proofs.lemmas.List.{map_push}
 use Rattle.sqlite.specs.Held.{state}
 use Rattle.escrow_tables.specs.Inside.{stored_of}
 use Rattle.escrow_tables.specs.Puts.{put_of}
-use Rattle.escrow_tables.proofs.Looking.{looks_then, puts_same, puts_more, told_more}
+use Rattle.escrow_rows.proofs.Looking.{looks_then}
+use Rattle.escrow_tables.proofs.Looking.{puts_same, puts_more, told_more}
 use Rattle.escrow_tables.proofs.apply.changes_by.Goals as goal
 use Rattle.escrow_tables.proofs.apply.changes_by.Goals.{then-not-is_named+in_ok-change+in_ok-keep, else-not-is_named}
 

@@ -2,9 +2,9 @@ use Rattle.std.proofs.Common.{IsTrue, map, take}
 use Rattle.std.specs.List.{AllByRecursion}
 use Rattle.sqlite.specs.Held.{state}
 use Rattle.sqlite.specs.State.{HasCleanDisk}
-use Rattle.escrow_rows.specs.Answers.{IsUsable}
+use Rattle.escrow_rows.specs.Answers.{IsUsable, Looks}
 use Rattle.escrow_tables.specs.Inside.{stored_of}
-use Rattle.escrow_tables.specs.Puts.{Looks, ArePuts, TellsPut, put_of}
+use Rattle.escrow_tables.specs.Puts.{ArePuts, TellsPut, put_of}
 use Rattle.escrow_tables.proofs.apply.changes_by.Given as goal
 
 abbrev pub invariant-loop-i : goal.invariant-loop-i

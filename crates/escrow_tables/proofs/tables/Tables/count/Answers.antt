@@ -2,7 +2,7 @@ use Rattle.std.proofs.Common.{◌≡◌, ◌∙◌, List, None, Some, ap, length
 use Rattle.escrow_num.proofs.Items.{all_has}
 use Rattle.escrow_rows.specs.Image.{rows_of}
 use Rattle.escrow_rows.specs.View.{rows_in}
-use Rattle.escrow_tables.specs.declared.counted.Counted.{Counted}
+use Rattle.escrow_verify.specs.declared.counted.Counted.{Counted}
 use Rattle.sqlite.specs.Held.{state}
 use Rattle.escrow_tables.specs.Inside.{HasCount, stored_of}
 use Rattle.escrow_tables.proofs.Named.{counted_named, is_named, some_named}

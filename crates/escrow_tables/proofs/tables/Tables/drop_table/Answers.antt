@@ -5,7 +5,7 @@ use Rattle.sqlite.specs.Held.{state}
 use Rattle.escrow_schema.specs.Catalog.{without_table}
 use Rattle.escrow_rows.specs.Changes.{Drops, without_rows_of}
 use Rattle.escrow_rows.specs.View.{rows_in}
-use Rattle.escrow_tables.specs.declared.counted.Counted.{Counted}
+use Rattle.escrow_verify.specs.declared.counted.Counted.{Counted}
 use Rattle.escrow_tables.specs.Calls.{Writes}
 use Rattle.escrow_tables.specs.Inside.{Keeps, catalog_of, stored_of}
 use Rattle.escrow_tables.proofs.Dropped.{drop_keeps, drop_writes, taken_at, without_counted}

@@ -1,6 +1,6 @@
 use Rattle.std.proofs.Common.{List, subst, sym}
 use Rattle.sqlite.specs.Held.{state}
-use Rattle.escrow_tables.specs.declared.counted.Counted.{Counted}
+use Rattle.escrow_verify.specs.declared.counted.Counted.{Counted}
 use Rattle.escrow_tables.specs.Inside.{Keeps}
 use Rattle.escrow_tables.proofs.Held.{empty_keeps, empty_rows}
 use Rattle.escrow_tables.proofs.tables.Tables.empty.Goals as goal

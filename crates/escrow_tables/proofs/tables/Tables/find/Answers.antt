@@ -1,5 +1,5 @@
 use Rattle.std.proofs.Common.{◌≡◌, List, None, Some, subst, sym}
-use Rattle.escrow_tables.specs.declared.counted.Counted.{Counted}
+use Rattle.escrow_verify.specs.declared.counted.Counted.{Counted}
 use Rattle.escrow_tables.proofs.Named.{counted_named, is_named, named_is_table, none_named}
 use Rattle.escrow_tables.proofs.tables.Tables.find.Goals as goal
 

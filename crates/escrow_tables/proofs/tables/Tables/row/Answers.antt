@@ -6,7 +6,7 @@ use Rattle.escrow_num.specs.declared.value.RowName.{RowName}
 use Rattle.escrow_rows.specs.Answers.{row_named}
 use Rattle.escrow_rows.specs.Changes.{name_in}
 use Rattle.escrow_rows.specs.View.{rows_in}
-use Rattle.escrow_tables.specs.declared.counted.Counted.{Counted}
+use Rattle.escrow_verify.specs.declared.counted.Counted.{Counted}
 use Rattle.escrow_tables.specs.Inside.{stored_of}
 use Rattle.escrow_tables.proofs.Named.{counted_named, is_named, named_is_table}
 use Rattle.escrow_tables.proofs.Reading.{name_of, row_fits, told_of}

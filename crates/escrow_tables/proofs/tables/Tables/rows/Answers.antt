@@ -4,7 +4,7 @@ use Rattle.sqlite.specs.Held.{state}
 use Rattle.escrow_num.specs.declared.row.Row.{Row}
 use Rattle.escrow_rows.specs.Image.{rows_of}
 use Rattle.escrow_rows.specs.View.{rows_in}
-use Rattle.escrow_tables.specs.declared.counted.Counted.{Counted}
+use Rattle.escrow_verify.specs.declared.counted.Counted.{Counted}
 use Rattle.escrow_tables.specs.Inside.{stored_of}
 use Rattle.escrow_tables.proofs.Named.{counted_named, is_named, named_is_table}
 use Rattle.escrow_tables.proofs.Reading.{rows_fit, told_of}

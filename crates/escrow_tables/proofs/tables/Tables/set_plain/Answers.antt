@@ -6,7 +6,7 @@ use Rattle.escrow_num.specs.declared.value.RowName.{RowName}
 use Rattle.escrow_rows.specs.Answers.{IsUsable}
 use Rattle.escrow_rows.specs.Changes.{SetsPlain, TurnsRows, with_plain}
 use Rattle.escrow_rows.specs.View.{rows_in}
-use Rattle.escrow_tables.specs.declared.counted.Counted.{Counted}
+use Rattle.escrow_verify.specs.declared.counted.Counted.{Counted}
 use Rattle.escrow_tables.specs.Calls.{Writes}
 use Rattle.escrow_tables.specs.Committed.{HasTable}
 use Rattle.escrow_tables.specs.Inside.{Keeps, catalog_of, stored_of}

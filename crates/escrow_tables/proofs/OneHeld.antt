@@ -1,0 +1,30 @@
+-- What a disk has holds one catalog, and one list of rows.
+use Rattle.std.proofs.Common.{◌≡◌, List, [], ◌∷◌, map, sym, ap, ap₂, ◌∙◌, subst, IsPermutation}
+use Rattle.std.specs.List.{flat_map}
+use Rattle.sqlite_value.specs.Order.{Row as SqlRow, column}
+use Rattle.sqlite_trees.specs.Tree.{Trees, rowid}
+use Rattle.escrow_schema.specs.Catalog.{IsCatalog}
+use Rattle.escrow_cells.specs.Store.{cells, tabs}
+use Rattle.escrow_cells.specs.Tables.{cell_tree, tab_tree}
+use Rattle.escrow_rows.specs.Image.{tab_row}
+use Rattle.escrow_rows.specs.View.{in_order, row_at}
+use Rattle.escrow_rows.specs.declared.stored.StoredTable.{StoredTable}
+use Rattle.escrow_rows.proofs.ViewLemmas.{rows_are}
+use Rattle.escrow_tables.specs.Laws.{OneIsHeld}
+use Rattle.escrow_tables.proofs.Verifying.{stored_once}
+
+pub one_is_held : OneIsHeld
+one_is_held catalog others rows more trees is_catalog are_catalog one other =
+    let held = one.1 in
+    let again = other.1 in
+    let same : one.0.trees ≡ other.0.trees = sym one.2 ∙ other.2 in
+    let tabs_same : tabs one.0 ≡ tabs other.0 = ap (λ (t : Trees). map (λ (r : SqlRow). rowid r ∷ column r 2 ∷ column r 3 ∷ []) (t tab_tree)) same in
+    let cells_same : cells one.0 ≡ cells other.0 = ap (λ (t : Trees). map (λ (r : SqlRow). column r 1 ∷ column r 2 ∷ column r 3 ∷ column r 4 ∷ []) (t cell_tree)) same in
+    let tables : held.tables ≡ again.tables = stored_once held.tables again.tables (tabs other.0)
+    held.are_tables (subst IsCatalog (sym held.catalog_is) is_catalog) (subst (IsPermutation (map tab_row held.tables)) tabs_same held.image.tabs_are)
+    again.are_tables (subst IsCatalog (sym again.catalog_is) are_catalog) again.image.tabs_are in (
+      sym held.catalog_is ∙ ap (map (λ (s : StoredTable). s.table)) tables ∙ again.catalog_is,
+      sym (rows_are held.tables rows one.0 held.are_tables held.are_rows held.image.cells_are)
+          ∙ ap₂ (λ (ts : List StoredTable) (cs : List SqlRow). in_order (flat_map (row_at ts cs) cs)) tables cells_same
+          ∙ rows_are again.tables more other.0 again.are_tables again.are_rows again.image.cells_are,
+    )
