@@ -5,7 +5,7 @@ use Rattle.std.proofs.lemmas.Bool.{cond_both, cond-true, cond-false, false_from_
 use Rattle.escrow_num.proofs.Items.{Has}
 
 -- two tests keep the same items in either order
-filter_kept : {A : Type 0} (p : A → Bool) (b : Bool) (x : A) (xs : List A)
+pub filter_kept : {A : Type 0} (p : A → Bool) (b : Bool) (x : A) (xs : List A)
     → filter p (cond b (x ∷ xs) xs) ≡ cond b (cond (p x) (x ∷ filter p xs) (filter p xs)) (filter p xs)
 filter_kept p true x xs = refl
 filter_kept p false x xs = refl

@@ -8,7 +8,7 @@ use Rattle.escrow_num.specs.declared.row.Row.{Row}
 use Rattle.escrow_num.specs.declared.session.End.{End}
 use Rattle.escrow_num.specs.declared.session.End.TheVariants as end
 use Rattle.escrow_checks.specs.Form.{changed, all_changed}
-use Rattle.escrow_core.specs.Laws.{after_end, after_ends}
+use Rattle.escrow_core.specs.Settle.{after_end, after_ends}
 use Rattle.escrow_journal.specs.Reservations.{own, others}
 use Rattle.escrow_core.specs.State.{State, changes_to, applied}
 use Rattle.escrow_core.specs.Turn.{turn_of}
@@ -37,7 +37,7 @@ applied_comm (row ∷ rows) xs ys =
     (applied_comm rows xs ys)
 
 -- states of equal parts
-same_state : (s : State) (rows later : List Row) (reservations still : List Reservation) (savepoints left : List Savepoint)
+pub same_state : (s : State) (rows later : List Row) (reservations still : List Reservation) (savepoints left : List Savepoint)
     → rows ≡ later → reservations ≡ still → savepoints ≡ left
     → (record s { rows = rows; reservations = reservations; savepoints = savepoints }) ≡ (record s { rows = later; reservations = still; savepoints = left })
 same_state s rows later reservations still savepoints left e f g = rw (e, f, g) refl

@@ -1,8 +1,7 @@
 -- The committed rows of a valid state: they meet the checks of their tables, and their values fit.
-use Rattle.std.specs.Prelude.{◌≡◌, IsSomeAnd, List, [], Option, Some, None}
+use Rattle.std.specs.Prelude.{◌≡◌, IsSomeAnd, List, Option, Some, None}
 use Rattle.std.specs.List.{AllByRecursion}
-use Rattle.std.proofs.Common.{refl, subst}
-use Rattle.escrow_num.specs.declared.reservation.Reservation.{Reservation}
+use Rattle.std.proofs.Common.{refl}
 use Rattle.escrow_num.specs.declared.row.Row.{Row}
 use Rattle.escrow_checks.specs.Grant.{Meets}
 use Rattle.escrow_schema.specs.declared.table.TableDef.{TableDef}
@@ -13,21 +12,14 @@ use Rattle.escrow_core.specs.declared.event.Event.{Event}
 use Rattle.escrow_core.specs.declared.reply.Reply.{Reply}
 use Rattle.escrow_core.specs.Event.{HasSession}
 use Rattle.escrow_core.specs.Laws.{HasFittingValues}
-use Rattle.escrow_core.specs.State.{State, empty, applied}
+use Rattle.escrow_core.specs.State.{State, empty}
 use Rattle.escrow_core.specs.Step.{IsRun}
 use Rattle.escrow_core.specs.Valid.{IsValid, HasTable, MeetsChecks}
-use Rattle.escrow_core.proofs.Applying.{applied_none}
-use Rattle.escrow_core.proofs.Choices.{all_choices, choice_none}
 use Rattle.escrow_num.proofs.Items.{all_has, has_all}
 use Rattle.escrow_core.proofs.LawsSteps.{run_keeps_valid}
+use Rattle.escrow_core.proofs.Safe.{committed_rows_meet_checks}
 use Rattle.escrow_core.proofs.Shapes.{is_table_found}
 use Rattle.escrow_core.proofs.ValidEmpty.{empty_valid}
-
--- the committed rows are those after the empty choice
-pub committed_rows_meet_checks : (s : State) → IsValid s → AllByRecursion (MeetsChecks s.catalog) s.rows
-committed_rows_meet_checks s valid =
-    subst (AllByRecursion (MeetsChecks s.catalog)) (applied_none s.rows)
-    (all_choices (λ (c : List Reservation). AllByRecursion (MeetsChecks s.catalog) (applied s.rows c)) s.reservations valid.safe_rows.safe [] (choice_none s.reservations))
 
 -- so they do after any run from the beginning
 pub every_run_is_safe : (events : List Event) (answers : List Reply) (new : State)

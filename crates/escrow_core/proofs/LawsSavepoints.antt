@@ -25,13 +25,13 @@ use Rattle.escrow_core.specs.Event.{HasSession}
 use Rattle.escrow_core.specs.Laws.{BackLeavesWhatWas, MakesNone}
 use Rattle.escrow_core.specs.Reply.{failure_of}
 use Rattle.escrow_core.specs.State.{State}
-use Rattle.escrow_core.specs.Step.{step, may_fail, IsStep, IsRun}
+use Rattle.escrow_core.specs.Step.{step, may_fail, IsServed, IsStep, IsRun}
 use Rattle.escrow_core.specs.Turn.{turn_of, after_update, after_commit, after_rollback, after_savepoint, returned_to}
 use Rattle.escrow_core.specs.Valid.{IsValid, IsSavepointIn}
 use Rattle.escrow_core.proofs.Filters.{filters_commute, filter_within, filter_within_items, filter_none}
 use Rattle.escrow_core.proofs.Kept.{find_filter}
 use Rattle.escrow_core.proofs.LawsBack.{back_step, made_in, made_found, all_stay}
-use Rattle.escrow_core.proofs.LawsSteps.{step_has, event_keeps_valid}
+use Rattle.escrow_core.proofs.LawsSteps.{step_has, event_keeps_valid, restart_keeps_valid}
 use Rattle.escrow_core.proofs.SavepointNames.{IsBehind, named_is, found_beside, found_of_other, found_of_own, found_through_other, found_through_own}
 use Rattle.escrow_core.proofs.Accepted.{savepoint_room}
 use Rattle.escrow_core.proofs.ValidSavepoint.{savepoint_valid}
@@ -215,6 +215,12 @@ still_stands p before s new stands (inl none) = inl none
 still_stands p before s new (inl none) (inr kept) = inl (kept.0 ∙ none)
 still_stands p before s new (inr found) (inr kept) = inr (kept.0 ∙ found.0, kept.1 found.0 ∙ found.1)
 
+-- after a restart it is gone
+stands_restarted : (p : Savepoint) (before : List Reservation) (s : State) (answer : Reply) (new : State) → Stands p before s
+    → IsServed s event.Restart answer new → Stands p before new
+stands_restarted p before s answer new stands (inl done) = inl (ap (λ (t : State). savepoint_of p.session p.name t.savepoints) done.1)
+stands_restarted p before s answer new stands (inr refused) = subst (Stands p before) (sym refused.1) stands
+
 stands_through : (p : Savepoint) (before : List Reservation) (s : State) (events : List Event) (answers : List Reply) (new : State) → IsValid s
     → AllByRecursion HasSession events → AllByRecursion (MakesNone p.session p.name) events → Stands p before s → IsRun s events answers new
     → Stands p before new
@@ -226,6 +232,10 @@ stands_through p before s (event.Statement session asked ∷ events) (answer ∷
     stands_through p before run.0 events answers new
     (event_keeps_valid s session asked answer run.0 (failure_of answer) valid of_sessions.0 run.1)
     of_sessions.1 makes_none.1 (still_stands p before s run.0 stands kept) run.2
+stands_through p before s (event.Restart ∷ events) (answer ∷ answers) new valid of_sessions makes_none stands run =
+    stands_through p before run.0 events answers new
+    (restart_keeps_valid s answer run.0 valid run.1)
+    of_sessions.1 makes_none.1 (stands_restarted p before s answer run.0 stands run.1) run.2
 
 -- so going back to it leaves them
 abbrev LeavesWhatWas : State → ℕ → State → State → Type 0

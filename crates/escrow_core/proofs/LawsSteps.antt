@@ -1,7 +1,7 @@
 -- What one step of the machine keeps and answers, for all statements at once.
 use Rattle.std.specs.Prelude.{◌≡◌, ℕ, ◌+◌, ◌≤◌, true, false, is_none, option_map, unwrap_or, MatchOption, IsTrue, Option, Some, None, List, [], ◌∷◌, length}
 use Rattle.std.specs.List.{AllByRecursion}
-use Rattle.std.proofs.Common.{refl, sym, ap, subst, le_refl, ◌∙◌}
+use Rattle.std.proofs.Common.{inl, inr, refl, sym, ap, subst, le_refl, ◌∙◌}
 use Rattle.std.proofs.lemmas.Bool.{and_parts}
 use Rattle.escrow_num.specs.declared.refusal.Refusal.{Refusal}
 use Rattle.escrow_num.specs.Refusal.{first_refusal}
@@ -20,12 +20,13 @@ use Rattle.escrow_core.specs.Reply.{failure_of}
 use Rattle.escrow_core.specs.Laws.{IsSeen}
 use Rattle.escrow_journal.specs.Reservations.{own}
 use Rattle.escrow_core.specs.State.{State}
-use Rattle.escrow_core.specs.Step.{refusals, step, may_fail, IsStep, StepOrRefusal, IsRun}
+use Rattle.escrow_core.specs.Step.{refusals, step, may_fail, IsStep, StepOrRefusal, IsServed, IsRun}
 use Rattle.escrow_core.specs.Turn.{turn_of}
 use Rattle.escrow_core.specs.Valid.{IsValid}
 use Rattle.escrow_core.proofs.Refusals.{first_among, first_in_front}
 use Rattle.escrow_core.proofs.TurnWords.{IsJudged}
 use Rattle.escrow_core.proofs.Turns.{is_turn}
+use Rattle.escrow_core.proofs.ValidEmpty.{opened_valid}
 
 -- what holds of a refusal with an equal state, and of the reply with the new state where nothing is
 -- refused, holds of reply and state
@@ -55,6 +56,11 @@ event_keeps_valid s session asked answer new None valid of_session h =
     subst IsValid (sym (ap (λ (p : Reply × State). p.1) h.is_step)) (step_keeps_valid s session asked valid of_session)
 event_keeps_valid s session asked answer new (Some f) valid of_session h = subst IsValid (sym h.1) valid
 
+-- and so does a restart, or its failure
+pub restart_keeps_valid : (s : State) (answer : Reply) (new : State) → IsValid s → IsServed s event.Restart answer new → IsValid new
+restart_keeps_valid s answer new valid (inl done) = subst IsValid (sym done.1) (opened_valid s valid)
+restart_keeps_valid s answer new valid (inr refused) = subst IsValid (sym refused.1) valid
+
 -- and a run of events
 pub run_keeps_valid : (s : State) (events : List Event) (answers : List Reply) (new : State)
     → IsValid s → AllByRecursion HasSession events → IsRun s events answers new → IsValid new
@@ -65,6 +71,8 @@ run_keeps_valid s (event.Statement session asked ∷ events) (answer ∷ answers
     run_keeps_valid run.0 events answers new
     (event_keeps_valid s session asked answer run.0 (failure_of answer) valid of_sessions.0 run.1)
     of_sessions.1 run.2
+run_keeps_valid s (event.Restart ∷ events) (answer ∷ answers) new valid of_sessions run =
+    run_keeps_valid run.0 events answers new (restart_keeps_valid s answer run.0 valid run.1) of_sessions.1 run.2
 
 -- a refusal leaves the state equal
 pub refused_changes_nothing : (s : State) (session : ℕ) (asked : Statement) (r : Refusal)

@@ -29,6 +29,7 @@ pub mod Promised
 pub mod Put
 pub mod Queries
 pub mod Refusals
+pub mod Restarting
 pub mod Running
 pub mod Safe
 pub mod SavepointNames
@@ -36,6 +37,7 @@ pub mod Savepoints
 pub mod Served
 pub mod Serving
 pub mod Sessions
+pub mod Settling
 pub mod Shapes
 pub mod SpreadLemmas
 pub mod TurnSavepoints

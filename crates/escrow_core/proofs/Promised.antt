@@ -40,6 +40,7 @@ plain_refused asked (reply.Savepoint name) e = absurd (cc)
 plain_refused asked (reply.Committed count) e = absurd (cc)
 plain_refused asked (reply.RolledBack count) e = absurd (cc)
 plain_refused asked (reply.RolledBackTo name count) e = absurd (cc)
+plain_refused asked reply.Restarted e = absurd (cc)
 
 -- where no early refusal applies, the first that applies is a late one
 late_first : (early late : List (Option Refusal)) (r : Refusal) → is_none (first_refusal early) ≡ true → first_refusal (early ++ late) ≡ Some r → first_refusal late ≡ Some r

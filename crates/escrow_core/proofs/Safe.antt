@@ -1,5 +1,5 @@
 -- What a valid state says of each row, and how rows are shown safe.
-use Rattle.std.specs.Prelude.{◌≡◌, true, false, List, Option, Some, None, option_map, IsSome, IsSomeAnd, IsTrue}
+use Rattle.std.specs.Prelude.{◌≡◌, true, false, List, [], Option, Some, None, option_map, IsSome, IsSomeAnd, IsTrue}
 use Rattle.std.specs.List.{AllByRecursion}
 use Rattle.std.specs.Ordering.{is_lt}
 use Rattle.std.proofs.Common.{inl, inr, sym, ap, ◌∙◌, subst}
@@ -12,7 +12,8 @@ use Rattle.escrow_schema.specs.declared.table.TableDef.{TableDef}
 use Rattle.escrow_core.specs.State.{State, row_named, row_after, applied}
 use Rattle.escrow_core.specs.Valid.{IsValid, MeetsChecks, row_before}
 use Rattle.escrow_num.proofs.Items.{Has, all_has, has_all, find_has}
-use Rattle.escrow_core.proofs.Choices.{IsChoice, all_choices, all_map, map_all}
+use Rattle.escrow_core.proofs.Applying.{applied_none}
+use Rattle.escrow_core.proofs.Choices.{IsChoice, all_choices, all_map, choice_none, map_all}
 use Rattle.escrow_num.proofs.Ascending.{ascending_one}
 use Rattle.escrow_num.proofs.Orders.{by_row, row_total, before_itself, row_same}
 
@@ -31,6 +32,12 @@ some_weaker P Q (Some x) each h = each x h
 pub some_image : {A : Type 0} (f : A → A) (o : Option A) → IsSome o → IsSome (option_map f o)
 some_image f None h = h
 some_image f (Some x) h = h
+
+-- the committed rows are those after the empty choice
+pub committed_rows_meet_checks : (s : State) → IsValid s → AllByRecursion (MeetsChecks s.catalog) s.rows
+committed_rows_meet_checks s valid =
+    subst (AllByRecursion (MeetsChecks s.catalog)) (applied_none s.rows)
+    (all_choices (λ (c : List Reservation). AllByRecursion (MeetsChecks s.catalog) (applied s.rows c)) s.reservations valid.safe_rows.safe [] (choice_none s.reservations))
 
 -- a valid state's rows meet their checks after each choice
 pub safe_row : (s : State) → IsValid s → (chosen : List Reservation) → IsChoice s.reservations chosen → (row : Row) → Has s.rows row

@@ -108,7 +108,7 @@ spreads_next (check ∷ checks) f n reservations (spread ∷ spreads) are =
 
 -- ---- how many there are
 
-count_one : (r : Reservation) (a b c : Bool) (part other whole : List Reservation) → c ≡ (a || b) → (a && b) ≡ false
+pub count_one : (r : Reservation) (a b c : Bool) (part other whole : List Reservation) → c ≡ (a || b) → (a && b) ≡ false
     → length part + length other ≡ length whole → length (cond a (r ∷ part) part) + length (cond b (r ∷ other) other) ≡ length (cond c (r ∷ whole) whole)
 count_one r true true c part other whole either both rest = absurd (cc)
 count_one r true false c part other whole either both rest = rw either (omega (arith, rest))

@@ -1,13 +1,14 @@
--- The state that a database begins with.
+-- The state that a database begins with, and that a restart leaves.
 use Rattle.std.proofs.Common.{List, [], sym, subst, arith}
 use Rattle.std.specs.List.{AllByRecursion}
 use Rattle.escrow_num.specs.declared.row.Row.{Row}
 use Rattle.escrow_schema.specs.declared.table.TableDef.{TableDef}
 use Rattle.escrow_schema.specs.Catalog.{IsCatalog}
 use Rattle.escrow_tables.specs.Committed.{AreRowsOf}
-use Rattle.escrow_core.specs.State.{empty}
+use Rattle.escrow_core.specs.State.{State, empty, opened}
 use Rattle.escrow_core.specs.Valid.{AreSafeRows, IsOrderly, IsValid, MeetsChecks}
 use Rattle.escrow_core.proofs.Applying.{applied_none}
+use Rattle.escrow_core.proofs.Safe.{committed_rows_meet_checks}
 
 -- where nothing is open all is in order
 pub opened_orderly : (catalog : List TableDef) → IsCatalog catalog → IsOrderly catalog [] [] 1
@@ -39,3 +40,12 @@ empty_valid = record {
   orderly = opened_orderly [] (record { tables = tt; order = tt; few = omega arith });
   safe_rows = opened_safe [] [] (record { tables = tt; row_order = tt; few_rows = λ table. omega arith }) tt;
 }
+
+-- a restart keeps a valid state valid
+pub opened_valid : (s : State) → IsValid s → IsValid (opened s.catalog s.rows)
+opened_valid s valid =
+    let are : AreRowsOf s.catalog s.rows = record { tables = valid.safe_rows.tables; row_order = valid.safe_rows.row_order; few_rows = valid.safe_rows.few_rows } in
+    record {
+      orderly = opened_orderly s.catalog valid.orderly.tables;
+      safe_rows = opened_safe s.catalog s.rows are (committed_rows_meet_checks s valid);
+    }

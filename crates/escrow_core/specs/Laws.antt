@@ -10,7 +10,6 @@ use Rattle.escrow_num.specs.declared.row.Row.{Row}
 use Rattle.escrow_num.specs.declared.value.RowName.{RowName}
 use Rattle.escrow_num.specs.declared.value.Value.{Value}
 use Rattle.escrow_num.specs.declared.session.End.{End}
-use Rattle.escrow_num.specs.declared.session.End.TheVariants as end
 use Rattle.escrow_num.specs.Ascending.{IsAscending}
 use Rattle.escrow_num.specs.Refusal.{first_refusal}
 use Rattle.escrow_num.specs.Reservation.{counted}
@@ -52,6 +51,7 @@ use Rattle.escrow_journal.specs.Reservations.{own, others}
 use Rattle.escrow_journal.specs.Savepoints.{savepoint_of}
 use Rattle.escrow_core.specs.Journal.{entry_of}
 use Rattle.escrow_core.specs.Asked.{row_of, plan_of, row_name, named_by, reservation_of}
+use Rattle.escrow_core.specs.Settle.{end_of, settled, after_end, after_ends}
 use Rattle.escrow_core.specs.State.{State, empty, row_named, rows_of, changes_to, row_after, applied, with_row, without_row, without_rows_of, with_plain}
 use Rattle.escrow_core.specs.Step.{step, StepOrRefusal, IsRun}
 use Rattle.escrow_core.specs.Turn.{turn_of}
@@ -272,6 +272,7 @@ BackAtOnceChangesNothing = (s : State) (session : ℕ) (name : List ℕ) → IsV
 -- an event makes no savepoint of a session and a name
 abbrev pub MakesNone : ℕ → List ℕ → Event → Type 0
 MakesNone session name (event.Statement other asked) = other ≡ session → ¬ (asked ≡ statement.Savepoint name)
+MakesNone session name event.Restart = Unit {0}
 
 -- A session makes a savepoint. Then anything happens, of any sessions: it may reserve, make other
 -- savepoints, and go back to them. Where the savepoint still stands, not made anew, going back to it
@@ -327,16 +328,6 @@ BoundsAreReached = (s : State) (session : ℕ) (text : RowText) (columns : List 
 
 -- ENDS OF TRANSACTIONS
 
--- the state after a session's transaction ends
-abbrev pub after_end : State → ℕ → End → State
-after_end s session end.Commit = (step s session statement.Commit).1
-after_end s session end.Rollback = (step s session statement.Rollback).1
-
--- the state after the transactions of several sessions end, one after another
-abbrev pub after_ends : State → List (ℕ × End) → State
-after_ends s [] = s
-after_ends s (ending ∷ ends) = after_ends (after_end s ending.0 ending.1) ends
-
 -- the ends of two sessions' transactions, commits or rollbacks, lead to one state in either order
 abbrev pub TransactionsCommute : Type 0
 TransactionsCommute = (s : State) (a b : ℕ) (x y : End) → ¬ (a ≡ b) → after_end (after_end s a x) b y ≡ after_end (after_end s b y) a x
@@ -344,6 +335,18 @@ TransactionsCommute = (s : State) (a b : ℕ) (x y : End) → ¬ (a ≡ b) → a
 -- whatever is committed or rolled back, in any order, the state is valid after each of the ends
 abbrev pub AnyOrderOfEnds : Type 0
 AnyOrderOfEnds = (s : State) (ends : List (ℕ × End)) (n : ℕ) → IsValid s → IsValid (after_ends s (take n ends))
+
+-- a plan leaves the state that the machine's steps leave, COMMIT or ROLLBACK, one for each of its entries
+abbrev pub SettledIsTheRun : Type 0
+SettledIsTheRun = (s : State) (plan : List (ℕ × End)) → settled plan s ≡ after_ends s plan
+
+-- after every front of a plan the state is valid
+abbrev pub SettledStaysValid : Type 0
+SettledStaysValid = (s : State) (plan : List (ℕ × End)) (n : ℕ) → IsValid s → IsValid (settled (take n plan) s)
+
+-- two plans that end the same sessions' transactions alike leave equal states, whatever their order
+abbrev pub SettledInAnyOrder : Type 0
+SettledInAnyOrder = (s : State) (plan other : List (ℕ × End)) → ((session : ℕ) → end_of plan session ≡ end_of other session) → settled plan s ≡ settled other s
 
 -- THE GRANT RULE
 

@@ -9,6 +9,7 @@ pub mod Reply
 pub mod Seen
 pub mod Serves
 pub mod Serving
+pub mod Settle
 pub mod State
 pub mod Step
 pub mod Turn

@@ -1,5 +1,5 @@
 -- Believed: which replies are failures, and which hold memory.
-use Rattle.std.specs.Prelude.{Bool, true, false, nat_lt, Option, Some, None}
+use Rattle.std.specs.Prelude.{Bool, true, false, nat_lt, Option, Some, None, Result, Ok, Err}
 use Rattle.escrow_num.specs.declared.refusal.Refusal.{Refusal}
 use Rattle.escrow_num.specs.declared.refusal.Refusal.TheVariants as refusal
 use Rattle.escrow_core.specs.declared.reply.Reply.{Reply}
@@ -35,3 +35,8 @@ tells_write reply.Deleted = true
 tells_write reply.Updated = true
 tells_write (reply.Committed count) = nat_lt 0 count
 tells_write _ = false
+
+-- the reply to a restart: that it is done, or its refusal
+abbrev pub restart_reply : Result (Unit {0}) Refusal → Reply
+restart_reply (Ok done) = reply.Restarted
+restart_reply (Err r) = reply.Refused r

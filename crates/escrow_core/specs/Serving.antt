@@ -1,9 +1,11 @@
 -- Helps: words of private contracts.
-use Rattle.std.specs.Prelude.{◌≡◌, ◌⊎◌, ℕ, ℤ, ◌≤◌, Bool, true, Option, Some, None, is_some, IsTrue, List, [], ◌∷◌, length}
+use Rattle.std.specs.Prelude.{◌≡◌, ◌⊎◌, ℕ, ℤ, ◌+◌, ◌≤◌, Bool, true, Option, Some, None, is_some, IsTrue, List, [], ◌∷◌, length}
 use Rattle.std.specs.List.{AllByRecursion}
 use Rattle.escrow_num.specs.Session.{IsSession}
 use Rattle.escrow_num.specs.declared.refusal.Refusal.{Refusal}
 use Rattle.escrow_num.specs.declared.reservation.Reservation.{Reservation}
+use Rattle.escrow_num.specs.declared.session.End.{End}
+use Rattle.escrow_num.specs.declared.session.End.TheVariants as end
 use Rattle.escrow_num.specs.Refusal.{first_refusal}
 use Rattle.escrow_sql.specs.declared.statement.Statement.{Statement}
 use Rattle.escrow_checks.specs.declared.check.Check.{Check}
@@ -11,6 +13,7 @@ use Rattle.escrow_checks.specs.declared.spread.Spread.{Spread}
 use Rattle.escrow_checks.specs.declared.spread.TheConstants.Spread.{MAX_OPEN}
 use Rattle.escrow_checks.specs.Spread.{IsSpread}
 use Rattle.escrow_checks.specs.declared.coefficients.TheConstants.Coefficients.{MAX_LEN}
+use Rattle.escrow_core.specs.declared.database.settle.Settled.{Settled}
 use Rattle.escrow_core.specs.declared.reply.CheckBounds.{CheckBounds}
 use Rattle.escrow_core.specs.declared.reply.ColumnBounds.{ColumnBounds}
 use Rattle.escrow_schema.specs.Catalog.{table_named}
@@ -75,3 +78,8 @@ columns_from (name ∷ names) (a ∷ amounts) (range ∷ ranges) =
 abbrev pub is_known : State → Option (List ℕ) → Bool
 is_known s None = true
 is_known s (Some name) = is_some (table_named s.catalog name)
+
+-- counts with the reservations of one more transaction, which ended so
+abbrev pub counted_end : End → ℕ → Settled → Settled
+counted_end end.Commit count done = record done { committed = done.committed + count }
+counted_end end.Rollback count done = record done { released = done.released + count }

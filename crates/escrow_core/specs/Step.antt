@@ -1,6 +1,7 @@
 -- Believed: the step, what may come in its place, and runs.
-use Rattle.std.specs.Prelude.{◌≡◌, ℕ, Bool, ◌&&◌, Option, is_none, option_map, unwrap_or, MatchOption, IsTrue, List, [], ◌∷◌, ◌++◌}
+use Rattle.std.specs.Prelude.{◌≡◌, ◌⊎◌, ℕ, Bool, ◌&&◌, Option, is_none, option_map, unwrap_or, MatchOption, IsTrue, List, [], ◌∷◌, ◌++◌}
 use Rattle.escrow_num.specs.declared.refusal.Refusal.{Refusal}
+use Rattle.escrow_num.specs.declared.refusal.Refusal.TheVariants as refusal
 use Rattle.escrow_num.specs.Refusal.{first_refusal}
 use Rattle.escrow_sql.specs.declared.statement.Statement.{Statement}
 use Rattle.escrow_core.specs.declared.event.Event.{Event}
@@ -9,7 +10,7 @@ use Rattle.escrow_core.specs.declared.reply.Reply.{Reply}
 use Rattle.escrow_core.specs.declared.reply.Reply.TheVariants as reply
 use Rattle.escrow_cells.specs.declared.failure.Failure.{Failure}
 use Rattle.escrow_core.specs.Reply.{failure_of}
-use Rattle.escrow_core.specs.State.{State}
+use Rattle.escrow_core.specs.State.{State, opened}
 use Rattle.escrow_core.specs.Turn.{Turn, turn_of}
 
 -- all refusals of a turn, in their order
@@ -38,9 +39,13 @@ abbrev pub StepOrRefusal : State → ℕ → Statement → Reply → State → T
 StepOrRefusal s session asked answer new =
     MatchOption (failure_of answer) (IsStep s session asked answer new) (λ failure. IsTrue (may_fail s session asked failure) × (new ≡ s))
 
--- the reply to an event, and the state after it
+-- the reply to an event, and the state after it. A restart keeps the catalog and the rows: nothing is open
+-- after it, and the next id is 1; or it is refused, for memory or by the store, and the state is equal
 abbrev pub IsServed : State → Event → Reply → State → Type 0
 IsServed s (event.Statement session asked) answer new = StepOrRefusal s session asked answer new
+IsServed s event.Restart answer new =
+    ((answer ≡ reply.Restarted) × (new ≡ opened s.catalog s.rows))
+    ⊎ (((answer ≡ reply.Refused refusal.Memory) ⊎ (answer ≡ reply.Refused refusal.Store)) × (new ≡ s))
 
 -- the replies to a list of events, one after another, and the state after them
 abbrev pub IsRun : State → List Event → List Reply → State → Type 0

@@ -8,7 +8,6 @@ use Rattle.escrow_num.specs.declared.reservation.TheConstants.Reservation.{MAX_I
 use Rattle.escrow_num.specs.Ascending.{IsAscending}
 use Rattle.escrow_num.specs.Session.{IsSession}
 use Rattle.escrow_checks.specs.Sublists.{sublists}
-use Rattle.escrow_checks.specs.Grant.{Meets}
 use Rattle.escrow_schema.specs.declared.table.TableDef.{TableDef}
 use Rattle.escrow_schema.specs.Catalog.{IsCatalog, table_named}
 use Rattle.escrow_schema.specs.Column.{reservables}
@@ -18,6 +17,7 @@ use Rattle.escrow_journal.specs.Reservations.{own, own_savepoints, reservation_b
 use Rattle.escrow_core.specs.State.{State, row_named, rows_of, applied}
 pub use Rattle.escrow_rows.specs.Image.{row_before}
 pub use Rattle.escrow_tables.specs.Committed.{HasTable}
+pub use Rattle.escrow_verify.specs.Stored.{MeetsChecks}
 
 -- a reservation is of a session, has an id below the next one, and may have a change for each
 -- RESERVABLE column of its table
@@ -48,10 +48,6 @@ pub record IsOrderly (catalog : List TableDef) (reservations : List Reservation)
 -- a reservation's row stands
 abbrev pub HasRow : List Row → Reservation → Type 0
 HasRow rows r = IsSome (row_named rows r.row)
-
--- a row meets each check of its table
-abbrev pub MeetsChecks : List TableDef → Row → Type 0
-MeetsChecks catalog row = IsSomeAnd (table_named catalog row.name.table) (λ table. AllByRecursion (λ check. Meets check row.amounts) table.checks)
 
 -- what holds of the rows. Its heart is `safe`: whichever of the open reservations are applied, each
 -- row meets each check of its table

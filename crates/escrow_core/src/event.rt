@@ -9,4 +9,6 @@ pub enum Event {
         session: Session,
         statement: Statement,
     },
+    /// The database is restarted.
+    Restart,
 }

@@ -4,6 +4,7 @@
 ghost use Rattle.escrow_core.specs.Laws.{StepKeepsValid, RunKeepsValid, CommittedRowsMeetChecks, CommittedValuesFit, EveryRunIsSafe};
 ghost use Rattle.escrow_core.specs.Laws.{RefusedChangesNothing, MachineNeverFails, FailsForWhatIsAsked, EarlyRefusalsStand, CommitIsNeverRefused, RollbackIsNeverRefused};
 ghost use Rattle.escrow_core.specs.Laws.{QueriesSeeCommitsAlone, ReservedTakesTheNextId, IdsNeverFall, TransactionsCommute, AnyOrderOfEnds};
+ghost use Rattle.escrow_core.specs.Laws.{SettledIsTheRun, SettledStaysValid, SettledInAnyOrder};
 ghost use Rattle.escrow_core.specs.Laws.{DropsOneTable, DeletesOneRow, PlainUpdatesKeepAmounts, ReservationsKeepRows, SelectsShowRows, ShowsTheTable, QueriesIgnoreWhatIsOpen, QueriesIgnoreWhoAsks, ShowsTheJournal, BoundsAreReached};
 ghost use Rattle.escrow_core.specs.Laws.{BackAtOnceChangesNothing, BackLeavesWhatWas, BackRefusesNothing};
 ghost use Rattle.escrow_core.specs.Laws.{GrantedInEveryChoice, OwnIncrementNotSpent, RefusedByAChoice, BoundsDecideGrants};
@@ -157,6 +158,22 @@ pub fn transactions_commute()
 /// each of them.
 pub fn any_order_of_ends()
     ensures { AnyOrderOfEnds }
+{}
+
+/// A plan of ends leaves the state that the machine's steps leave, a COMMIT or a ROLLBACK for each of
+/// its entries, one after another.
+pub fn settled_is_the_run()
+    ensures { SettledIsTheRun }
+{}
+
+/// After every front of a plan the state is valid.
+pub fn settled_stays_valid()
+    ensures { SettledStaysValid }
+{}
+
+/// What a plan leaves hangs on which sessions' transactions it ends, and how, and not on its order.
+pub fn settled_in_any_order()
+    ensures { SettledInAnyOrder }
 {}
 
 /// In a valid state each committed row meets each check of its table.

@@ -18,7 +18,7 @@ mod reservations;
 mod shown;
 mod spreads;
 
-pub use database::Database;
+pub use database::{Database, Settled, Stop};
 pub use escrow_tables::Failure;
 pub use event::Event;
 pub use reply::{CheckBounds, ColumnBounds, ColumnChange, JournalEntry, Reply};

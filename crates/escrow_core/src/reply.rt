@@ -6,10 +6,10 @@ use escrow_num::{
 use escrow_tables::Failure;
 use std::alloc::{AllocError, Global};
 
-/// What a statement is answered.
+/// What a statement is answered, and a restart.
 #[derive(Debug, Drop)]
 pub enum Reply {
-    /// The statement is refused, and nothing changed.
+    /// The statement, or the restart, is refused, and nothing changed.
     Refused(Refusal),
     /// A table was created, of this name.
     Created(Name),
@@ -60,6 +60,8 @@ pub enum Reply {
         /// How many reservations were released: those that came after it.
         count: u32,
     },
+    /// The database was restarted.
+    Restarted,
 }
 
 /// An open reservation, as SHOW JOURNAL shows it.
@@ -111,7 +113,17 @@ pub struct CheckBounds {
 }
 
 impl Reply {
-    ghost use Rattle.escrow_core.specs.Reply.{failure_of, holds_memory};
+    ghost use Rattle.escrow_core.specs.Reply.{failure_of, holds_memory, restart_reply};
+
+    /// What a restart is answered that ended so.
+    pub fn to_restart(outcome: Result<(), Refusal>) -> Reply
+        ensures { result ≡ restart_reply outcome }
+    {
+        match outcome {
+            Ok(()) => Reply::Restarted,
+            Err(refusal) => Reply::Refused(refusal),
+        }
+    }
 
     /// The failure that the reply is, if it is one.
     pub fn failure(&self) -> Option<Failure>
@@ -154,6 +166,7 @@ impl Reply {
                 savepoint: *savepoint,
                 count: *count,
             },
+            Reply::Restarted => Reply::Restarted,
         })
     }
 
@@ -204,6 +217,7 @@ impl Reply {
                     count: y,
                 },
             ) => *a == *b && *x == *y,
+            (Reply::Restarted, Reply::Restarted) => true,
             _ => false,
         }
     }

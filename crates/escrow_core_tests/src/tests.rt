@@ -1,8 +1,9 @@
 mod bounds;
+mod ends;
 mod savepoints;
 
-use escrow_core::{Database, Event, Reply};
-use escrow_num::{Amount, Breach, Name, Refusal, Seq, Session, Side, Text, Value, Wide};
+use escrow_core::{ColumnChange, Database, Event, JournalEntry, Reply};
+use escrow_num::{Amount, Breach, Name, Refusal, RowName, Seq, Session, Side, Text, Value, Wide};
 use escrow_recover::open_store;
 use escrow_sql::{Request, Statement, parse};
 use sqlite::{Connection, MemStore};
@@ -126,6 +127,30 @@ fn shops(rt: &impl Abort, alloc: Global, rows: &[(&str, &str, i64)]) -> Result<R
     Ok(Reply::Rows {
         columns: names(rt, alloc, &["CODE", "TITLE", "STOCK"])?,
         rows: shown,
+    })
+}
+
+/// A reservation of the row 1 of ACCOUNT, as it is shown.
+fn entry(
+    rt: &impl Abort,
+    alloc: Global,
+    id: u64,
+    number: u8,
+    change: i64,
+) -> Result<JournalEntry, AllocError> {
+    let mut changes = Seq::new(alloc);
+    changes.push(ColumnChange {
+        column: name(rt, "BALANCE"),
+        change: Amount::new(change).expect(rt, "an amount"),
+    })?;
+    Ok(JournalEntry {
+        id,
+        session: session(rt, number),
+        row: RowName {
+            table: name(rt, "ACCOUNT"),
+            key: Value::Number(Amount::new(1).expect(rt, "an amount")),
+        },
+        changes,
     })
 }
 

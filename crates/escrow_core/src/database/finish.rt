@@ -5,30 +5,71 @@ ghost use Rattle.escrow_txn.specs.Open.{ended};
 
 use crate::database::Database;
 use crate::reply::Reply;
-use escrow_num::Session;
+use escrow_num::{End, Session};
 use escrow_sql::Statement;
-use escrow_tables::refusal_of;
+use escrow_tables::{Failure, refusal_of};
 use escrow_txn::TxnTable;
 use sqlite::Alter;
 use std::alloc::Global;
 
 impl<S: Alter> Database<S> {
+    ghost use Rattle.std.specs.Prelude.{◌<◌, IfOk, IfErr, OnOk, OnErr};
+    ghost use Rattle.sqlite.specs.Held.{state};
+    ghost use Rattle.escrow_journal.specs.Reservations.{others};
+    ghost use Rattle.escrow_rows.specs.Answers.{IsUsable};
+    ghost use Rattle.escrow_tables.specs.Told.{told};
     ghost use Rattle.escrow_core.specs.Serves.{Serves};
+    ghost use Rattle.escrow_core.specs.Settle.{after_end};
     ghost use Rattle.escrow_core.specs.Turn.{after_rollback};
 
-    /// COMMIT: applies the open reservations of a session to the committed rows, in one write, and ends
-    /// its transaction once the store has agreed. Each was granted over every choice of the open ones, so
-    /// no check is tested here. Where there are none the store isn't asked.
+    /// COMMIT.
     pub(crate) fn commit(&mut self, alloc: Global, session: Session) -> Reply
         ensures { Serves S.Store session Statement.Commit self.old result self.new }
     {
+        match self.apply(alloc, session) {
+            Ok(count) => Reply::Committed { count },
+            Err(failure) => Reply::Refused(refusal_of(failure)),
+        }
+    }
+
+    /// Ends a session's transaction. Answers how many reservations it held. Only a COMMIT of some fails.
+    pub(crate) fn finish(
+        &mut self,
+        alloc: Global,
+        session: Session,
+        end: End,
+    ) -> Result<u32, Failure>
+        ensures done { IsUsable (state S.Store self.new.store) → OnOk result (self.new.state ≡ after_end self.old.state session end) }
+        ensures failed { IsUsable (state S.Store self.new.store) → OnErr result (self.new.state ≡ self.old.state) }
+        ensures usable { IsUsable (state S.Store self.new.store) → IsUsable (state S.Store self.old.store) }
+        ensures count { IfOk result (λ count. count ≡ length (own session self.old.state.reservations)) }
+        ensures left { OnOk result (self.new.state.reservations ≡ others session self.old.state.reservations) }
+        ensures commit { OnErr result (end ≡ End.Commit) }
+        ensures held { OnErr result (0 < length (own session self.old.state.reservations)) }
+    {
+        match end {
+            End::Commit => self.apply(alloc, session),
+            End::Rollback => Ok(self.rollback(session)),
+        }
+    }
+
+    /// Applies the open reservations of a session to the committed rows, in one write, and ends its
+    /// transaction once the store has agreed. Answers how many there were. Each was granted over every
+    /// choice of the open ones, so no check is tested here. Where there are none the store isn't asked.
+    fn apply(&mut self, alloc: Global, session: Session) -> Result<u32, Failure>
+        ensures done { IfOk result (λ count. Serves S.Store session Statement.Commit self.old (Reply.Committed count) self.new) }
+        ensures failed { IfErr result (λ f. Serves S.Store session Statement.Commit self.old (Reply.Refused (told f)) self.new) }
+        ensures count { IfOk result (λ count. count ≡ length (own session self.old.state.reservations)) }
+        ensures left { OnOk result (self.new.state.reservations ≡ others session self.old.state.reservations) }
+        ensures held { OnErr result (0 < length (own session self.old.state.reservations)) }
+    {
         let reservations = self.open.journal(session).all();
         if reservations.is_empty() {
-            return end(&mut self.open, session);
+            return Ok(end(&mut self.open, session));
         }
         match self.tables.apply(alloc, reservations) {
-            Ok(()) => end(&mut self.open, session),
-            Err(failure) => Reply::Refused(refusal_of(failure)),
+            Ok(()) => Ok(end(&mut self.open, session)),
+            Err(failure) => Err(failure),
         }
     }
 
@@ -43,13 +84,11 @@ impl<S: Alter> Database<S> {
     }
 }
 
-/// Ends a session's transaction, and tells that as many reservations as it held are committed.
-fn end(txns: &mut TxnTable, session: Session) -> Reply
+/// Ends a session's transaction. Answers how many reservations it held.
+fn end(txns: &mut TxnTable, session: Session) -> u32
     requires { length (own session txns.old.reservations) ≤ MAX_RESERVATIONS }
-    ensures reply { result ≡ Reply.Committed (length (own session txns.old.reservations)) }
+    ensures count { result ≡ length (own session txns.old.reservations) }
     ensures ended { txns.new ≡ ended session txns.old }
 {
-    Reply::Committed {
-        count: txns.take_all(session).len() as u32,
-    }
+    txns.take_all(session).len() as u32
 }

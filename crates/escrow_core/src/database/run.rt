@@ -36,6 +36,7 @@ impl<S: Alter> Database<S> {
     {
         match event {
             Event::Statement { session, statement } => self.step(alloc, *session, statement),
+            Event::Restart => Reply::to_restart(self.restart(alloc)),
         }
     }
 }

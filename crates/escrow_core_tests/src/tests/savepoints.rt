@@ -1,38 +1,12 @@
-use crate::tests::{SHOP, TAKE_30, account, name, serve_all, session};
-use escrow_core::{ColumnChange, JournalEntry, Reply};
-use escrow_num::{Amount, Name, Refusal, RowName, Seq, Value};
+use crate::tests::{SHOP, TAKE_30, account, entry, name, serve_all, session};
+use escrow_core::Reply;
+use escrow_num::{Name, Refusal, Seq};
 use escrow_sql::Statement;
-use std::alloc::{AllocError, Global};
-use std::process::Abort;
 use std::test::Fail;
 
 const ADD_5: &str = "UPDATE ACCOUNT SET BALANCE = BALANCE + 5 WHERE ID = 1";
 
 const ADD_0: &str = "UPDATE ACCOUNT SET BALANCE = BALANCE + 0 WHERE ID = 1";
-
-/// A reservation of the row 1 of ACCOUNT, as it is shown.
-fn entry(
-    rt: &impl Abort,
-    alloc: Global,
-    id: u64,
-    number: u8,
-    change: i64,
-) -> Result<JournalEntry, AllocError> {
-    let mut changes = Seq::new(alloc);
-    changes.push(ColumnChange {
-        column: name(rt, "BALANCE"),
-        change: Amount::new(change).expect(rt, "an amount"),
-    })?;
-    Ok(JournalEntry {
-        id,
-        session: session(rt, number),
-        row: RowName {
-            table: name(rt, "ACCOUNT"),
-            key: Value::Number(Amount::new(1).expect(rt, "an amount")),
-        },
-        changes,
-    })
-}
 
 #[test]
 fn goes_back_to_savepoints(rt: HostRuntime) -> Result<(), Fail> {

@@ -1,4 +1,4 @@
-use Rattle.escrow_core.proofs.LawsRows.{committed_rows_meet_checks}
+use Rattle.escrow_core.proofs.Safe.{committed_rows_meet_checks}
 use Rattle.escrow_core.proofs.laws.committed_rows_meet_checks.Goals as goal
 
 pub returns : goal.returns

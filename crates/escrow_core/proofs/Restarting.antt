@@ -1,0 +1,20 @@
+-- A restart: what the database keeps where nothing is open any more.
+use Rattle.sqlite_trees.specs.declared.store.Store.{Ghosts}
+use Rattle.escrow_tables.specs.Calls.{Reads}
+use Rattle.escrow_tables.specs.Committed.{Committed}
+use Rattle.escrow_txn.specs.Open.{Open, nothing_open}
+use Rattle.escrow_core.specs.Inside.{seen_of}
+use Rattle.escrow_core.specs.Seen.{IsKept}
+use Rattle.escrow_core.specs.State.{State}
+use Rattle.escrow_core.specs.Valid.{IsValid}
+use Rattle.escrow_core.proofs.ValidEmpty.{opened_orderly, opened_valid}
+
+pub restarted_keeps : {S : Type 0} (g : Ghosts S) (t new : Committed S) (o : Open) → IsKept g (seen_of t o) → Reads g t new → IsKept g (seen_of new nothing_open)
+restarted_keeps g t new o kept reads =
+    let s : State = (seen_of t o).state in
+    record {
+      orderly = rw reads.catalog (opened_orderly t.catalog kept.orderly.tables);
+      safe_rows = λ usable.
+          let valid : IsValid s = record { orderly = kept.orderly; safe_rows = kept.safe_rows (reads.usable usable) } in
+          rw (reads.catalog, reads.rows usable) (opened_valid s valid).safe_rows;
+    }

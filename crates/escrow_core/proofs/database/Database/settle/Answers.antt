@@ -1,0 +1,48 @@
+use Rattle.std.proofs.Common.{◌≤◌, length, drop, arith}
+use Rattle.escrow_core.proofs.Settling.{counts_end, counts_fit, counts_next, ends_all, ends_next, stops}
+use Rattle.escrow_core.proofs.database.Database.settle.Goals as goal
+
+pub add-requires : goal.add-requires
+add-requires g c =
+    let plan = c.args.plan.now in
+    let entry = c.index-plan-place.result in
+    let so_far = c.loop-place in
+    counts_fit c.args.self.now.state plan (drop so_far.place plan) so_far.self.state.reservations so_far.settled entry.0 c.in-Ok.count c.next_id.ensures.kept.orderly so_far.invariant.counts c.in-Ok.ensures.count
+
+pub returns-in-Err-clause-stop : goal.returns-in-Err-clause-stop
+returns-in-Err-clause-stop g c = λ usable.
+    let so_far = c.loop-place in
+    let before = so_far.invariant.ended (c.finish.ensures.usable usable) in
+    stops c.args.plan.now (record { place = so_far.place; cause = c.in-Err.cause }) c.index-plan-place.result c.args.self.now.state so_far.self.state c.finish.new.self.state
+    c.loop-place-test.true c.index-plan-place.is before (c.in-Err.ensures.failed usable) c.in-Err.ensures.commit c.in-Err.ensures.held
+
+pub loop-place-preserved : goal.loop-place-preserved
+loop-place-preserved g c =
+    let plan = c.args.plan.now in
+    let s = c.args.self.now.state in
+    let entry = c.index-plan-place.result in
+    let so_far = c.loop-place in
+    let new = c.finish.new.self.state in
+    record {
+      usable = λ usable. so_far.invariant.usable (c.finish.ensures.usable usable);
+      ended = λ usable.
+          ends_next plan so_far.place entry s so_far.self.state new c.loop-place-test.true c.index-plan-place.is
+          (so_far.invariant.ended (c.finish.ensures.usable usable)) (c.in-Ok.ensures.done usable);
+      counts = rw c.add.ensures
+          (counts_next plan s.reservations so_far.place entry so_far.self.state.reservations new.reservations so_far.settled c.in-Ok.count
+          c.loop-place-test.true c.index-plan-place.is c.in-Ok.ensures.count c.in-Ok.ensures.left so_far.invariant.counts);
+    }
+
+pub returns-clause-ok : goal.returns-clause-ok
+returns-clause-ok g c = λ usable.
+    let plan = c.args.plan.now in
+    let so_far = c.loop-place in
+    let past : length plan ≤ so_far.place = omega (arith, c.loop-place-test.false) in
+    ends_all plan so_far.place c.args.self.now.state so_far.self.state past (so_far.invariant.ended usable)
+
+pub returns-clause-counts : goal.returns-clause-counts
+returns-clause-counts g c =
+    let plan = c.args.plan.now in
+    let so_far = c.loop-place in
+    let past : length plan ≤ so_far.place = omega (arith, c.loop-place-test.false) in
+    counts_end plan c.args.self.now.state.reservations so_far.place so_far.self.state.reservations so_far.settled past so_far.invariant.counts

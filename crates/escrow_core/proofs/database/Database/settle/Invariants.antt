@@ -1,0 +1,13 @@
+use Rattle.std.proofs.Common.{◌≡◌, drop, take}
+use Rattle.sqlite.specs.Held.{state}
+use Rattle.escrow_rows.specs.Answers.{IsUsable}
+use Rattle.escrow_core.specs.Settle.{after_ends}
+use Rattle.escrow_core.proofs.Settling.{Counts}
+use Rattle.escrow_core.proofs.database.Database.settle.Given as goal
+
+abbrev pub invariant-loop-place : goal.invariant-loop-place
+invariant-loop-place g l = record {
+  usable : IsUsable (state g.S.Store l.self.store) → IsUsable (state g.S.Store l.initial.self.store);
+  ended : IsUsable (state g.S.Store l.self.store) → l.self.state ≡ after_ends l.initial.self.state (take l.place l.plan);
+  counts : Counts l.plan l.initial.self.state.reservations (drop l.place l.plan) l.self.state.reservations l.settled;
+}
