@@ -133,6 +133,7 @@ reply_text (reply.Bounds columns checks) = codes "OK bounds"
 reply_text (reply.Journal entries) = codes "OK reservations " ++ decimal (length entries)
 reply_text (reply.Savepoint name) = codes "OK savepoint " ++ name
 reply_text (reply.RolledBackTo name count) = codes "OK rolled back to " ++ name ++ codes " " ++ decimal count
+reply_text reply.Restarted = codes "OK restarted"
 
 -- the lines before the last one: the columns' names and each row, or a table's text, or the bounds of
 -- each column and each check, or each open reservation
@@ -155,6 +156,14 @@ with_prefix prefix lines = flat_map (λ line. prefix ++ line ++ 10 ∷ []) lines
 abbrev pub prefix_of : List ℕ → ℕ → List ℕ
 prefix_of database session = database ++ codes "." ++ decimal session ++ codes "> "
 
--- a reply as it is written
+-- the prefix of a reply that is for a whole database
+abbrev pub database_prefix : List ℕ → List ℕ
+database_prefix database = database ++ codes "> "
+
+-- a reply to a database as it is written
+abbrev pub rendered_whole : List ℕ → Reply → List ℕ
+rendered_whole database answer = with_prefix (database_prefix database) (reply_lines answer)
+
+-- a reply to a session as it is written
 abbrev pub rendered : List ℕ → ℕ → Reply → List ℕ
 rendered database session answer = with_prefix (prefix_of database session) (reply_lines answer)

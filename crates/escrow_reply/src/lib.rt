@@ -1,7 +1,7 @@
 //! The text of replies.
 //!
 //! Its one contract: [`render`] gives the lines of a reply to the byte, each behind the database and
-//! the session that it is for.
+//! the session that it is for; [`render_whole`] those of one to a whole database.
 #![tactic(auto)]
 
 mod bounds;
@@ -11,7 +11,7 @@ mod push;
 mod values;
 mod words;
 
-pub use lines::{render, render_lines};
+pub use lines::{render, render_lines, render_whole};
 
 #[cfg(test)]
 mod tests;

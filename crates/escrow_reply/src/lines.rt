@@ -1,5 +1,5 @@
 ghost use Rattle.std.specs.Prelude.{◌≡◌, ◌++◌, ◌∷◌, [], map, IfOk, OnOk};
-ghost use Rattle.escrow_reply.specs.Text.{rendered, prefix_of, with_prefix, reply_lines, shown_lines, header_text, row_text};
+ghost use Rattle.escrow_reply.specs.Text.{rendered, rendered_whole, database_prefix, prefix_of, with_prefix, reply_lines, shown_lines, header_text, row_text};
 
 use crate::bounds::{push_check_lines, push_column_lines};
 use crate::journal::push_entry_lines;
@@ -24,6 +24,15 @@ pub fn render(
     with_prefix(alloc, prefix.as_slice(), reply)
 }
 
+/// The lines that answer what is asked of a whole database, each behind the database's name and before a
+/// line feed.
+pub fn render_whole(alloc: Global, database: &str, reply: &Reply) -> Result<Vec<u8>, AllocError>
+    ensures { IfOk result (λ bytes. bytes.items ≡ rendered_whole database.now reply.now) }
+{
+    let prefix = database_prefix(alloc, database)?;
+    with_prefix(alloc, prefix.as_slice(), reply)
+}
+
 /// The lines of a reply, each behind a prefix and before a line feed.
 pub fn render_lines(alloc: Global, prefix: &str, reply: &Reply) -> Result<Vec<u8>, AllocError>
     ensures { IfOk result (λ bytes. bytes.items ≡ with_prefix prefix.now (reply_lines reply.now)) }
@@ -39,6 +48,16 @@ fn prefix_of(alloc: Global, database: &str, session: Session) -> Result<Vec<u8>,
     push_text(&mut prefix, database)?;
     push_text(&mut prefix, ".")?;
     push_number(alloc, &mut prefix, u64::from(session.get()))?;
+    push_text(&mut prefix, "> ")?;
+    Ok(prefix)
+}
+
+/// The prefix of the lines of a reply to a whole database.
+fn database_prefix(alloc: Global, database: &str) -> Result<Vec<u8>, AllocError>
+    ensures { IfOk result (λ bytes. bytes.items ≡ database_prefix database.now) }
+{
+    let mut prefix = Vec::new(alloc);
+    push_text(&mut prefix, database)?;
     push_text(&mut prefix, "> ")?;
     Ok(prefix)
 }

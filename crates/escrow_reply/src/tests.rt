@@ -1,7 +1,7 @@
 //! Replies and the bytes of their lines.
 mod journals;
 
-use crate::{render, render_lines};
+use crate::{render, render_lines, render_whole};
 use escrow_core::{CheckBounds, ColumnBounds, Reply};
 use escrow_num::{Amount, Breach, Name, Refusal, Seq, Session, Side, Span, Text, Value, Wide};
 use std::alloc::{AllocError, Global};
@@ -69,6 +69,7 @@ fn one_line(rt: HostRuntime) -> Result<(), Fail> {
         (Reply::Inserted, "bank.1> OK inserted\n"),
         (Reply::Deleted, "bank.1> OK deleted\n"),
         (Reply::Updated, "bank.1> OK updated\n"),
+        (Reply::Restarted, "bank.1> OK restarted\n"),
         (
             Reply::Reserved {
                 id: 999_999_999_999_999,
@@ -104,6 +105,20 @@ fn one_line(rt: HostRuntime) -> Result<(), Fail> {
         ),
     ] {
         assert_lines(&rt, reply, expected)?;
+    }
+    Ok(())
+}
+
+/// Replies to a whole database: no session is named.
+#[test]
+fn whole_databases(rt: HostRuntime) -> Result<(), Fail> {
+    for (reply, expected) in &[
+        (Reply::Restarted, "bank2> OK restarted\n"),
+        (Reply::Refused(Refusal::Memory), "bank2> ERR 51 memory\n"),
+        (Reply::Refused(Refusal::Store), "bank2> ERR 60 store\n"),
+    ] {
+        let lines = render_whole(rt.alloc(), "bank2", reply)?;
+        assert_eq!(rt; str::from_utf8(lines.as_slice())?, *expected);
     }
     Ok(())
 }

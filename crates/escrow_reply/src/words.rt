@@ -32,6 +32,7 @@ pub(crate) fn push_words(alloc: Global, line: &mut Vec<u8>, reply: &Reply) -> Re
             push_counted(alloc, line, "OK reservations ", entries.len() as u64)
         }
         Reply::Savepoint(name) => push_named(line, "OK savepoint ", *name),
+        Reply::Restarted => push_text(line, "OK restarted"),
         Reply::RolledBackTo { savepoint, count } => {
             push_named_count(
                 alloc,

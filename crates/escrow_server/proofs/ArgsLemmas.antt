@@ -25,7 +25,7 @@ no_number rows mode found none = rw (found, none) refl
 
 -- with both, they ask these
 pub both_asked : (rows : List Row) (mode : Mode) (count : ℕ) → mode_of (first_of (codes "mode") rows) ≡ Some mode
-    → databases_of (first_of (codes "databases") rows) ≡ Some count → values_ask rows ≡ Some (record { mode = mode; databases = count })
+    → databases_of (first_of (codes "databases") rows) ≡ Some count → values_ask rows ≡ Some (record { mode = mode; path = first_of (codes "store") rows; databases = count })
 both_asked rows mode count found counted = rw (found, counted) refl
 
 -- a number within the bounds is allowed
@@ -57,3 +57,9 @@ status_among [] k fault one (inr same) (inr among) is = elim among [ ]
 status_among (x ∷ []) k fault one (inr same) (inr (inl this)) is = inr (same ∙ ap status_of this)
 status_among (x ∷ []) k fault one (inr same) (inr (inr none)) is = elim none [ ]
 status_among (x ∷ y ∷ kinds) k fault one (inr same) (inr among) is = elim one [ ]
+
+-- values that ask nothing are refused by a mistake, or by want of memory
+pub wrong_value : (rows : List Row) (fault : ArgFault) → values_ask rows ≡ None → (fault ≡ arg_fault.Memory) ⊎ (fault_status fault ≡ 2)
+    → (fault ≡ arg_fault.Memory) ⊎ ((values_ask rows ≡ None) × (fault_status fault ≡ 2))
+wrong_value rows fault none (inl memory) = inl memory
+wrong_value rows fault none (inr two) = inr (none, two)

@@ -1,5 +1,6 @@
 pub mod ArgsFaults
 pub mod ArgsLemmas
+pub mod FoundLemmas
 pub mod LineLemmas
 pub mod ProgramLemmas
 pub mod ReadingLemmas

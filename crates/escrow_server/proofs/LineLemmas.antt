@@ -1,15 +1,15 @@
 -- Where a line may be cut, and what it is made of.
-use Rattle.std.proofs.Common.{◌≡◌, ◌≢◌, ◌⊎◌, ◌==◌, ◌&&◌, ℕ, zero, suc, ◌+◌, ◌-◌, ◌*◌, ◌^◌, ◌/◌, ◌%◌, ◌<◌, ◌≤◌, Bool, true, false, List, [], ◌∷◌, ◌++◌, length, drop, get_or, Option, Some, None, arith, refl, sym, ap, subst, ◌∙◌, append_assoc, Bor, inl, inr, add-one}
+use Rattle.std.proofs.Common.{◌≡◌, ◌≢◌, ◌⊎◌, ◌==◌, ◌&&◌, ◌||◌, not, if◌then◌else◌, ℕ, zero, suc, ◌+◌, ◌-◌, ◌*◌, ◌^◌, ◌/◌, ◌%◌, ◌<◌, ◌≤◌, Bool, true, false, List, [], ◌∷◌, ◌++◌, length, take, drop, get_or, get_or-take, take-append-drop, Option, Some, None, arith, refl, sym, ap, subst, ◌∙◌, append_assoc, Bor, inl, inr, add-one}
 use Rattle.std.specs.Bool.{Decides}
 use Rattle.std.specs.Prelude.{nat_eq, nat_le, codes, decimal, bytes_eq, MatchOption, IfNone}
 use Rattle.std.specs.Char.{is_ascii_digit}
-use Rattle.std.specs.List.{prefix_len, list_all, starts_with}
+use Rattle.std.specs.List.{AllPass, prefix_len, list_all, starts_with}
 use Rattle.std.specs.Str.{IsUtf8, IsCharBoundary}
 use Rattle.std.specs.Str.Parse.{AllDigits}
-use Rattle.std.proofs.lemmas.Bool.{eqb-true, cases_lt, true≢false, and_parts, and_from, or_right, or_cases, le-leb, leb-true}
+use Rattle.std.proofs.lemmas.Bool.{eqb-true, cases_lt, true≢false, and_parts, and_from, not-false, or_parts, or_right, or_cases, le-leb, leb-true}
 use Rattle.std.proofs.lemmas.Bool.Decides.{nat_tests, Decides-eqb}
 use Rattle.std.proofs.lemmas.Fmt.{decimal_digit, decimal_step, decimal_is_IsNumeral}
-use Rattle.std.proofs.lemmas.List.{nil_from_length}
+use Rattle.std.proofs.lemmas.List.{nil_from_length, length-take}
 use Rattle.std.proofs.lemmas.List.Sums.{prefix_len_passes, prefix_len-le-length, AllPass-from_list_all, list_all-from_AllPass}
 use Rattle.std.proofs.lemmas.Slice.Eq.{starts_is, bytes_eq-Decides}
 use Rattle.std.proofs.lemmas.Str.{IsCharBoundary-start, IsCharBoundary-after_ascii}
@@ -17,9 +17,9 @@ use Rattle.std.proofs.lemmas.Str.Parse.{digit_from_value}
 use Rattle.std.proofs.lemmas.Str.Pattern.{IsSplitOnceResult, split_after, split_parts}
 use Rattle.clap.proofs.CutLemmas.{Lacks}
 use Rattle.escrow_num.specs.Session.{IsSession}
-use Rattle.escrow_server.specs.Line.{Reading, nothing, join, statement, no_line, is_blank, database_name, IsComment, IsJoin, IsStatement, IsMadeOf}
+use Rattle.escrow_server.specs.Line.{Reading, nothing, join, restart, statement, no_line, is_blank, after_blanks, database_name, IsComment, IsJoin, IsRestart, IsStatement, IsMadeOf}
 use Rattle.escrow_server.specs.declared.limits.TheConstants.{MAX_DATABASES}
-use Rattle.escrow_server.specs.Reading.{is_nothing, is_join, is_first_digit, place_of, session_of}
+use Rattle.escrow_server.specs.Reading.{is_nothing, is_join, is_first_digit, named_place, place_of, restart_of, session_of, word_len}
 
 -- WHERE A LINE MAY BE CUT
 
@@ -298,14 +298,16 @@ join_is content made =
     ((starts_is same_byte content (codes "@join") (starts_with nat_eq content (codes "@join")) refl).1 made.0 made.2)
     (ap (list_all is_blank) blanks ∙ list_all-from_AllPass is_blank made.0 made.1)
 
--- a content that is none of the three is no line
+-- a content that is none of these is no line
 pub made_of_none : (databases : ℕ) (content : List ℕ) → is_nothing content ≡ false → is_join content ≡ false
+    → ((place : ℕ) → IsRestart databases content place → ⊥)
     → ((place session : ℕ) (text : List ℕ) → IsStatement databases content place session text → ⊥)
     → (reading : Reading) → IsMadeOf databases content reading → ⊥
-made_of_none databases content something no_join no_statement nothing made = true≢false (sym (nothing_is content made) ∙ something)
-made_of_none databases content something no_join no_statement join made = true≢false (sym (join_is content made) ∙ no_join)
-made_of_none databases content something no_join no_statement (statement place session text) made = no_statement place session text made
-made_of_none databases content something no_join no_statement no_line made = made
+made_of_none databases content something no_join no_restarts no_statement nothing made = true≢false (sym (nothing_is content made) ∙ something)
+made_of_none databases content something no_join no_restarts no_statement join made = true≢false (sym (join_is content made) ∙ no_join)
+made_of_none databases content something no_join no_restarts no_statement (restart place) made = no_restarts place made
+made_of_none databases content something no_join no_restarts no_statement (statement place session text) made = no_statement place session text made
+made_of_none databases content something no_join no_restarts no_statement no_line made = made
 
 -- WHAT A LINE IS READ AS
 
@@ -334,3 +336,160 @@ no_session digits found is none =
 pub this_session : (digits : List ℕ) (found : Option ℕ) (session : ℕ) → found ≡ session_of digits → found ≡ Some session → Spell digits session
 this_session digits found session is some =
     subst (λ (r : Option ℕ). MatchOption r ((session : ℕ) → Spell digits session → ⊥) (Spell digits)) (sym is ∙ some) (session_of_is digits)
+
+-- THE PARTS OF A RESTART
+
+-- what passes a test, in front of what doesn't begin so
+prefix_before : (p : ℕ → Bool) (xs ys : List ℕ) → list_all p xs ≡ true → prefix_len p ys ≡ 0 → prefix_len p (xs ++ ys) ≡ length xs
+prefix_before p [] ys all stops = stops
+prefix_before p (x ∷ xs) ys all stops =
+    let parts = and_parts (p x) (list_all p xs) all in
+    let rest = prefix_before p xs ys parts.1 stops in
+    rw parts.0 (omega (arith, rest))
+
+drop_front : (xs ys : List ℕ) → drop (length xs) (xs ++ ys) ≡ ys
+drop_front [] ys = refl
+drop_front (x ∷ xs) ys = drop_front xs ys
+
+take_front : (xs ys : List ℕ) → take (length xs) (xs ++ ys) ≡ xs
+take_front [] ys = refl
+take_front (x ∷ xs) ys = ap (λ (rest : List ℕ). x ∷ rest) (take_front xs ys)
+
+-- a name has no blank
+digits_plain : (ds : List ℕ) → AllDigits 10 ds → list_all (λ c. not (is_blank c)) ds ≡ true
+digits_plain [] digits = refl
+digits_plain (d ∷ ds) digits =
+    let range = digit_from_value d digits.0 in
+    let low = range.0 in
+    let plain : is_blank d ≡ false = grind (arith, nat_tests) in
+    and_from (not (is_blank d)) (list_all (λ c. not (is_blank c)) ds) (ap not plain) (digits_plain ds digits.1)
+
+name_plain : (place : ℕ) → place < MAX_DATABASES → list_all (λ c. not (is_blank c)) (database_name place) ≡ true
+name_plain zero few = refl
+name_plain (suc place) few =
+    let further : (suc place == 0) ≡ false = grind (arith, nat_tests) in
+    rw further (digits_plain (decimal (suc place + 1)) (decimal_is_IsNumeral (suc place + 1) (omega arith)).0.1)
+
+name_begins : (place : ℕ) (back : List ℕ) → prefix_len is_blank (database_name place ++ back) ≡ 0
+name_begins zero back = refl
+name_begins (suc place) back =
+    let further : (suc place == 0) ≡ false = grind (arith, nat_tests) in
+    rw further refl
+
+-- blanks end a name
+blanks_end : (back : List ℕ) → AllPass is_blank back → prefix_len (λ c. not (is_blank c)) back ≡ 0
+blanks_end [] blank = refl
+blanks_end (b ∷ back) blank =
+    let is : is_blank b ≡ true = blank 0 0 (omega arith) in
+    rw is refl
+
+-- the place of a name, by how many blanks stand before it and how long it is
+abbrev pick : ℕ → List ℕ → ℕ → ℕ → Option ℕ
+pick databases named front len = if front == 0 || not (list_all is_blank (drop len named)) then None else place_of databases (take len named)
+
+-- what stands behind `@restart`, by its parts
+module _ (front back : List ℕ) (place : ℕ) (few : place < MAX_DATABASES) (front_blank : AllPass is_blank front) (back_blank : AllPass is_blank back) where
+  blanks_before : prefix_len is_blank (front ++ (database_name place ++ back)) ≡ length front
+  blanks_before = prefix_before is_blank front (database_name place ++ back) (list_all-from_AllPass is_blank front front_blank) (name_begins place back)
+
+  name_behind : after_blanks (front ++ (database_name place ++ back)) ≡ database_name place ++ back
+  name_behind = ap (λ (n : ℕ). drop n (front ++ (database_name place ++ back))) blanks_before ∙ drop_front front (database_name place ++ back)
+
+  name_len : word_len (database_name place ++ back) ≡ length (database_name place)
+  name_len = prefix_before (λ c. not (is_blank c)) (database_name place) back (name_plain place few) (blanks_end back back_blank)
+
+  name_alone : take (word_len (database_name place ++ back)) (database_name place ++ back) ≡ database_name place
+  name_alone = ap (λ (n : ℕ). take n (database_name place ++ back)) name_len ∙ take_front (database_name place) back
+
+  named_found : (databases : ℕ) → 0 < length front → named_place databases (front ++ (database_name place ++ back)) ≡ place_of databases (database_name place)
+  named_found databases apart =
+      let bytes = front ++ (database_name place ++ back) in
+      let some : (length front == 0) ≡ false = grind (arith, nat_tests) in
+      let rest : drop (length (database_name place)) (database_name place ++ back) ≡ back = drop_front (database_name place) back in
+      let name : take (length (database_name place)) (database_name place ++ back) ≡ database_name place = take_front (database_name place) back in
+      let blank : list_all is_blank back ≡ true = list_all-from_AllPass is_blank back back_blank in
+      ap (λ (m : List ℕ). pick databases m (prefix_len is_blank bytes) (word_len m)) name_behind
+      ∙ ap (λ (n : ℕ). pick databases (database_name place ++ back) n (word_len (database_name place ++ back))) blanks_before
+      ∙ ap (λ (n : ℕ). pick databases (database_name place ++ back) (length front) n) name_len
+      ∙ rw (some, rest, blank, name) refl
+
+-- the word that stands behind `@restart`
+abbrev pub word_of : List ℕ → List ℕ
+word_of content = take (word_len (after_blanks (drop 8 content))) (after_blanks (drop 8 content))
+
+-- is the name of the database that is restarted
+pub restart_names : (databases : ℕ) (content : List ℕ) (place : ℕ) → databases ≤ MAX_DATABASES → IsRestart databases content place → word_of content ≡ database_name place
+restart_names databases content place few is =
+    let small : place < MAX_DATABASES = omega (arith, is.within) in
+    ap (λ (rest : List ℕ). take (word_len (after_blanks rest)) (after_blanks rest)) (ap (drop 8) is.parts)
+    ∙ ap (λ (m : List ℕ). take (word_len m) m) (name_behind is.front is.back place small is.front_blank is.back_blank)
+    ∙ name_alone is.front is.back place small is.front_blank is.back_blank
+
+restart_found : (databases : ℕ) (content : List ℕ) (place : ℕ) → databases ≤ MAX_DATABASES → IsRestart databases content place → restart_of databases content ≡ place_of databases (database_name place)
+restart_found databases content place few is =
+    let small : place < MAX_DATABASES = omega (arith, is.within) in
+    let starts : starts_with nat_eq content (codes "@restart") ≡ true =
+    (starts_is same_byte content (codes "@restart") (starts_with nat_eq content (codes "@restart")) refl).1 (is.front ++ (database_name place ++ is.back)) is.parts in
+    let behind : drop 8 content ≡ is.front ++ (database_name place ++ is.back) = ap (drop 8) is.parts in
+    ap (λ (b : Bool). if b then named_place databases (drop 8 content) else None) starts ∙ ap (named_place databases) behind
+    ∙ named_found is.front is.back place small is.front_blank is.back_blank databases is.apart
+
+-- `@restart`: where no place is found it is none, and a place that is found is that
+pub no_restart : (databases : ℕ) (content : List ℕ) (found : Option ℕ) → databases ≤ MAX_DATABASES → found ≡ restart_of databases content → found ≡ None
+    → (place : ℕ) → IsRestart databases content place → ⊥
+no_restart databases content found few is none place restarts =
+    no_place databases (database_name place) found (is ∙ restart_found databases content place few restarts) none place restarts.within refl
+
+-- the parts that are found behind `@restart`
+record Named (databases : ℕ) (bytes : List ℕ) (place : ℕ) : Type 0 where
+  pub within : place < databases
+  pub front : List ℕ
+  pub back : List ℕ
+  pub apart : 0 < length front
+  pub front_blank : AllPass is_blank front
+  pub back_blank : AllPass is_blank back
+  pub parts : bytes ≡ front ++ (database_name place ++ back)
+
+named_made : (databases : ℕ) (bytes : List ℕ) (place : ℕ) (none : Bool)
+    → (prefix_len is_blank bytes == 0 || not (list_all is_blank (drop (word_len (after_blanks bytes)) (after_blanks bytes)))) ≡ none
+    → (if none then None else place_of databases (take (word_len (after_blanks bytes)) (after_blanks bytes))) ≡ Some place → Named databases bytes place
+named_made databases bytes place true is found = absurd (cc)
+named_made databases bytes place false is found =
+    let n = prefix_len is_blank bytes in
+    let named = after_blanks bytes in
+    let parts = or_parts (n == 0) (not (list_all is_blank (drop (word_len named) named))) is in
+    let here = this_place databases (take (word_len named) named) (Some place) place (sym found) refl in
+    let some = parts.0 in
+    let more : 0 < n = grind (arith, nat_tests) in
+    let long = prefix_len-le-length is_blank bytes in
+    record {
+      within = here.0;
+      front = take n bytes;
+      back = drop (word_len named) named;
+      apart = omega (arith, more, long, length-take n bytes);
+      front_blank = λ k d inside.
+          let below : k < n = omega (arith, inside, length-take n bytes) in
+          ap is_blank (get_or-take n bytes k d below) ∙ prefix_len_passes is_blank bytes k d below;
+      back_blank = AllPass-from_list_all is_blank (drop (word_len named) named) (not-false (list_all is_blank (drop (word_len named) named)) parts.1);
+      parts = sym (take-append-drop n bytes) ∙ ap (λ (m : List ℕ). take n bytes ++ m)
+          (sym (take-append-drop (word_len named) named) ∙ ap (λ (name : List ℕ). name ++ drop (word_len named) named) here.1);
+    }
+
+restart_by : (databases : ℕ) (content : List ℕ) (place : ℕ) (starts : Bool) → starts_with nat_eq content (codes "@restart") ≡ starts
+    → (if starts then named_place databases (drop 8 content) else None) ≡ Some place → IsRestart databases content place
+restart_by databases content place false is found = absurd (cc)
+restart_by databases content place true is found =
+    let named = named_made databases (drop 8 content) place _ refl found in
+    record {
+      within = named.within;
+      front = named.front;
+      back = named.back;
+      apart = named.apart;
+      front_blank = named.front_blank;
+      back_blank = named.back_blank;
+      parts = (starts_is same_byte content (codes "@restart") (starts_with nat_eq content (codes "@restart")) refl).0 is
+          ∙ ap (λ (rest : List ℕ). codes "@restart" ++ rest) named.parts;
+    }
+
+pub restart_made : (databases : ℕ) (content : List ℕ) (found : Option ℕ) (place : ℕ) → found ≡ restart_of databases content → found ≡ Some place → IsRestart databases content place
+restart_made databases content found place is some = restart_by databases content place (starts_with nat_eq content (codes "@restart")) refl (sym is ∙ some)

@@ -1,7 +1,7 @@
 -- What is said before the program ends.
-use Rattle.std.proofs.Common.{◌≡◌, ◌⊎◌, ℕ, ◌+◌, ◌<◌, List, [], ◌++◌, length, take, Option, Some, None, true, false, arith, refl, sym, subst, inl, inr}
-use Rattle.std.specs.Prelude.{Result, Ok, Err, OnOk, OnErr, IfSome, is_ok}
-use Rattle.std.specs.Io.KnownBytes.{Appends}
+use Rattle.std.proofs.Common.{◌≡◌, ℕ, ◌+◌, ◌<◌, List, [], ◌++◌, length, take, Option, Some, None, true, false, arith, refl, sym, subst, inl, inr}
+use Rattle.std.specs.Prelude.{Result, Ok, Err, OnOk, OnErr, IfErr, IfSome, is_ok}
+use Rattle.std.specs.Io.KnownBytes.{Appends, IsAtEnd, Keeps}
 use Rattle.std.proofs.Math.Seq.{take-append-add}
 use Rattle.std.proofs.lemmas.List.{take_all, take-append-le}
 use Rattle.std.proofs.lemmas.Bool.{true≢false}
@@ -12,7 +12,7 @@ use Rattle.escrow_server.specs.declared.fault.RunFault.TheVariants as run_fault
 use Rattle.escrow_server.specs.declared.fault.ServeFault.{ServeFault}
 use Rattle.escrow_server.specs.declared.fault.ServeFault.TheVariants as fault
 use Rattle.escrow_server.specs.Output.{ServesWhole, StopsWithin}
-use Rattle.escrow_server.specs.Program.{empty_states, run_status, EndsScript, Stops, WritesFront}
+use Rattle.escrow_server.specs.Program.{empty_states, run_status, EndsOverFiles, EndsScript, Stops, WritesFront, WritesNothing}
 use Rattle.escrow_server.proofs.ServeLemmas.{appends_more, appends_none, stopped, stood_unwritten}
 
 -- all of the bytes were written, or fewer of them
@@ -59,24 +59,59 @@ ends_unserved count status None rest old_bytes new_bytes failed wrote = tt
 ends_unserved count status (Some bytes) rest old_bytes new_bytes failed wrote =
     inr (inl (failed, fault.Memory, empty_states count, stopped_unserved count bytes old_bytes new_bytes wrote))
 
--- where the databases aren't opened, nothing is read or written
-pub stops_unopened : (why : RunFault) (count : ℕ) (script bytes : Option (List ℕ)) → (run_status why ≡ 3) ⊎ (why ≡ run_fault.Unserved fault.Memory)
-    → IfSome script (λ s. Stops why count s script bytes bytes)
-stops_unopened why count None bytes kind = tt
-stops_unopened (run_fault.Unopened database cause) count (Some script) bytes kind = (refl, appends_none bytes)
-stops_unopened (run_fault.Unserved why) count (Some script) bytes (inl unopened) = absurd (omega (arith, unopened))
-stops_unopened (run_fault.Unserved why) count (Some script) bytes (inr short) =
-    let memory : fault.Memory ≡ why = cc in
-    (empty_states count, subst (λ f. StopsWithin f script (empty_states count) (empty_states count) bytes bytes) memory (stopped_unserved count script bytes bytes (appends_none bytes)))
+-- where a store isn't opened, nothing is read or written
+pub stops_unopened : (why : RunFault) (starts : List State → Type 0) (new : List State) (script bytes : Option (List ℕ)) → run_status why ≡ 3
+    → IfSome script (λ s. Stops why starts new s script bytes bytes)
+stops_unopened why starts new None bytes is = tt
+stops_unopened (run_fault.Unopened database place cause) starts new (Some script) bytes is = (refl, appends_none bytes)
+stops_unopened (run_fault.Unserved why) starts new (Some script) bytes is = absurd (omega (arith, is))
 
--- IN EMPTY DATABASES
+-- FROM SUCH STATES
 
-pub serves_empty : (count : ℕ) (states new : List State) (script old_bytes new_bytes : Option (List ℕ)) → states ≡ empty_states count
-    → IfSome script (λ s. ServesWhole s states new old_bytes new_bytes) → IfSome script (λ s. (after : List State) × ServesWhole s (empty_states count) after old_bytes new_bytes)
-serves_empty count states new script old_bytes new_bytes are_empty serves =
-    IfSome_then script serves (λ s whole. (new, subst (λ (ss : List State). ServesWhole s ss new old_bytes new_bytes) are_empty whole))
+pub serves_from : (starts : List State → Type 0) (old new : List State) (script old_bytes new_bytes : Option (List ℕ)) → starts old
+    → IfSome script (λ s. ServesWhole s old new old_bytes new_bytes) → IfSome script (λ s. (from : List State) × starts from × ServesWhole s from new old_bytes new_bytes)
+serves_from starts old new script old_bytes new_bytes are serves = IfSome_then script serves (λ s whole. (old, are, whole))
 
-pub stops_empty : (why : ServeFault) (count : ℕ) (states new : List State) (script rest old_bytes new_bytes : Option (List ℕ)) → states ≡ empty_states count
-    → IfSome script (λ s. StopsWithin why s states new old_bytes new_bytes) → IfSome script (λ s. Stops (run_fault.Unserved why) count s rest old_bytes new_bytes)
-stops_empty why count states new script rest old_bytes new_bytes are_empty stops =
-    IfSome_then script stops (λ s within. (new, subst (λ (ss : List State). StopsWithin why s ss new old_bytes new_bytes) are_empty within))
+pub stops_from : (why : ServeFault) (starts : List State → Type 0) (old new : List State) (script rest old_bytes new_bytes : Option (List ℕ)) → starts old
+    → IfSome script (λ s. StopsWithin why s old new old_bytes new_bytes) → IfSome script (λ s. Stops (run_fault.Unserved why) starts new s rest old_bytes new_bytes)
+stops_from why starts old new script rest old_bytes new_bytes are stops = IfSome_then script stops (λ s within. (old, are, within))
+
+-- HOW A RUN ENDS
+
+-- in memory
+at_stop : (why : RunFault) (status count : ℕ) (starts : List State → Type 0) (new : List State) (script rest old_bytes new_bytes : Option (List ℕ))
+    → ((old : List State) → starts old → old ≡ empty_states count) → status ≡ run_status why → IfSome script (λ s. Stops why starts new s rest old_bytes new_bytes)
+    → IfSome script (λ s. EndsScript count status s rest old_bytes new_bytes)
+at_stop (run_fault.Unopened database place cause) status count starts new script rest old_bytes new_bytes are_empty is stops =
+    IfSome_then script stops (λ s kept. inr (inr (is, kept.0, kept.1)))
+at_stop (run_fault.Unserved why) status count starts new script rest old_bytes new_bytes are_empty is stops =
+    IfSome_then script stops (λ s from. inr (inl (is, why, new, subst (λ (ss : List State). StopsWithin why s ss new old_bytes new_bytes) (are_empty from.0 from.1) from.2)))
+
+pub ends_in_memory : {X : Type 0} (served : Result X RunFault) (status count : ℕ) (starts : List State → Type 0) (new : List State) (script rest old_bytes new_bytes : Option (List ℕ))
+    → ((old : List State) → starts old → old ≡ empty_states count) → OnOk served (status ≡ 0) → IfErr served (λ why. status ≡ run_status why)
+    → OnOk served (IfSome script (λ s. (from : List State) × starts from × ServesWhole s from new old_bytes new_bytes))
+    → IfErr served (λ why. IfSome script (λ s. Stops why starts new s rest old_bytes new_bytes))
+    → IfSome script (λ s. EndsScript count status s rest old_bytes new_bytes)
+ends_in_memory (Ok x) status count starts new script rest old_bytes new_bytes are_empty ok err serves stops =
+    IfSome_then script serves (λ s from. inl (ok, new, subst (λ (ss : List State). ServesWhole s ss new old_bytes new_bytes) (are_empty from.0 from.1) from.2))
+ends_in_memory (Err why) status count starts new script rest old_bytes new_bytes are_empty ok err serves stops =
+    at_stop why status count starts new script rest old_bytes new_bytes are_empty err stops
+
+-- over files
+at_file_stop : (why : RunFault) (status : ℕ) (script rest old_bytes new_bytes : Option (List ℕ)) → status ≡ run_status why
+    → (run_status why ≡ 3 → Keeps script rest × WritesNothing old_bytes new_bytes) → IfSome script (λ s. EndsOverFiles status s rest old_bytes new_bytes)
+at_file_stop why status None rest old_bytes new_bytes is unopened = tt
+at_file_stop (run_fault.Unopened database place cause) status (Some script) rest old_bytes new_bytes is unopened = let kept = unopened refl in inr (inr (is, kept.0, kept.1))
+at_file_stop (run_fault.Unserved why) status (Some script) rest old_bytes new_bytes is unopened = inr (inl is)
+
+pub ends_over_files : {X : Type 0} (served : Result X RunFault) (status : ℕ) (script rest old_bytes new_bytes : Option (List ℕ))
+    → OnOk served (status ≡ 0) → IfErr served (λ why. status ≡ run_status why) → OnOk served (IfSome script (λ _. IsAtEnd rest))
+    → IfErr served (λ why. run_status why ≡ 3 → Keeps script rest × WritesNothing old_bytes new_bytes)
+    → IfSome script (λ s. EndsOverFiles status s rest old_bytes new_bytes)
+ends_over_files (Ok x) status script rest old_bytes new_bytes ok err end unopened = IfSome_then script end (λ s at_end. inl (ok, at_end))
+ends_over_files (Err why) status script rest old_bytes new_bytes ok err end unopened = at_file_stop why status script rest old_bytes new_bytes err unopened
+
+-- nor where the words couldn't be read for want of memory
+pub file_unserved : (status : ℕ) (script rest old_bytes new_bytes : Option (List ℕ)) → status ≡ 1 → IfSome script (λ s. EndsOverFiles status s rest old_bytes new_bytes)
+file_unserved status None rest old_bytes new_bytes failed = tt
+file_unserved status (Some script) rest old_bytes new_bytes failed = inr (inl failed)

@@ -6,10 +6,10 @@ use Rattle.std.proofs.lemmas.Bool.Decides.{nat_tests}
 use Rattle.std.proofs.lemmas.Fmt.{decimal_injective, decimal_nonempty}
 use Rattle.std.proofs.lemmas.List.{append_cancel_left}
 use Rattle.clap.proofs.CutLemmas.{Lacks, before_first-at, after_first-at}
-use Rattle.escrow_server.specs.Line.{Reading, nothing, join, statement, no_line, database_name, IsComment, IsJoin, IsStatement, IsMadeOf, ReadsContent, content_of}
+use Rattle.escrow_server.specs.Line.{Reading, nothing, join, restart, statement, no_line, database_name, IsComment, IsJoin, IsRestart, IsStatement, IsMadeOf, ReadsContent, content_of}
 use Rattle.escrow_server.specs.Laws.{HasOneReading}
 use Rattle.escrow_server.specs.declared.limits.TheConstants.{MAX_DATABASES}
-use Rattle.escrow_server.proofs.LineLemmas.{parts_of}
+use Rattle.escrow_server.proofs.LineLemmas.{parts_of, restart_names}
 
 -- the name of a further database
 further_name : (place : ℕ) → database_name (suc place) ≡ codes "bank" ++ decimal (suc place + 1)
@@ -49,7 +49,14 @@ same_statement databases content place session place' session' text text' few is
     let same_session : session ≡ session' = decimal_injective session session' (omega (arith, is.is_session.1)) (omega (arith, is'.is_session.1)) at_colon.0 in
     ap (λ (p : ℕ). statement p session text) this_place ∙ ap (λ (s : ℕ). statement place' s text) same_session ∙ ap (statement place' session') at_colon.1
 
--- the first byte of a content tells which reading it may have
+-- two restarts of one content are the same
+same_restart : (databases : ℕ) (content : List ℕ) (place place' : ℕ) → databases ≤ MAX_DATABASES → IsRestart databases content place → IsRestart databases content place'
+    → restart place ≡ restart place'
+same_restart databases content place place' few is is' =
+    ap restart (same_place place place' (omega (arith, is.within)) (omega (arith, is'.within))
+    (sym (restart_names databases content place few is) ∙ restart_names databases content place' few is'))
+
+-- the first byte of a content, or the second, tells which reading it may have
 abbrev first_byte : List ℕ → ℕ
 first_byte content = get_or content 0 0
 
@@ -59,6 +66,19 @@ nothing_first content (inr comment) = inr (ap first_byte comment.1)
 
 join_first : (content : List ℕ) → IsJoin content → first_byte content ≡ 64
 join_first content is = ap first_byte is.2
+
+restart_first : (databases : ℕ) (content : List ℕ) (place : ℕ) → IsRestart databases content place → first_byte content ≡ 64
+restart_first databases content place is = ap first_byte is.parts
+
+-- after the `@`
+abbrev second_byte : List ℕ → ℕ
+second_byte content = get_or content 1 0
+
+join_second : (content : List ℕ) → IsJoin content → second_byte content ≡ 106
+join_second content is = ap second_byte is.2
+
+restart_second : (databases : ℕ) (content : List ℕ) (place : ℕ) → IsRestart databases content place → second_byte content ≡ 114
+restart_second databases content place is = ap second_byte is.parts
 
 name_first : (place : ℕ) (rest : List ℕ) → first_byte (database_name place ++ rest) ≡ 98
 name_first zero rest = refl
@@ -75,6 +95,15 @@ made_once databases content nothing nothing few is is' = refl
 made_once databases content nothing join few is is' = absurd (omega (arith, nothing_first content is, join_first content is'))
 made_once databases content nothing (statement place session text) few is is' =
     absurd (omega (arith, nothing_first content is, statement_first databases content place session text few is'))
+made_once databases content nothing (restart place) few is is' = absurd (omega (arith, nothing_first content is, restart_first databases content place is'))
+made_once databases content (restart place) nothing few is is' = absurd (omega (arith, restart_first databases content place is, nothing_first content is'))
+made_once databases content (restart place) join few is is' = absurd (omega (arith, restart_second databases content place is, join_second content is'))
+made_once databases content (restart place) (restart place') few is is' = same_restart databases content place place' few is is'
+made_once databases content (restart place) (statement place' session text) few is is' =
+    absurd (omega (arith, restart_first databases content place is, statement_first databases content place' session text few is'))
+made_once databases content join (restart place) few is is' = absurd (omega (arith, join_second content is, restart_second databases content place is'))
+made_once databases content (statement place session text) (restart place') few is is' =
+    absurd (omega (arith, statement_first databases content place session text few is, restart_first databases content place' is'))
 made_once databases content join nothing few is is' = absurd (omega (arith, join_first content is, nothing_first content is'))
 made_once databases content join join few is is' = refl
 made_once databases content join (statement place session text) few is is' =
@@ -93,6 +122,15 @@ content_once databases content no_line no_line few is is' = refl
 content_once databases content no_line nothing few is is' = absurd (is nothing is')
 content_once databases content no_line join few is is' = absurd (is join is')
 content_once databases content no_line (statement place session text) few is is' = absurd (is (statement place session text) is')
+content_once databases content no_line (restart place) few is is' = absurd (is (restart place) is')
+content_once databases content (restart place) no_line few is is' = absurd (is' (restart place) is)
+content_once databases content (restart place) nothing few is is' = made_once databases content (restart place) nothing few is is'
+content_once databases content (restart place) join few is is' = made_once databases content (restart place) join few is is'
+content_once databases content (restart place) (restart place') few is is' = made_once databases content (restart place) (restart place') few is is'
+content_once databases content (restart place) (statement place' session text) few is is' = made_once databases content (restart place) (statement place' session text) few is is'
+content_once databases content nothing (restart place) few is is' = made_once databases content nothing (restart place) few is is'
+content_once databases content join (restart place) few is is' = made_once databases content join (restart place) few is is'
+content_once databases content (statement place session text) (restart place') few is is' = made_once databases content (statement place session text) (restart place') few is is'
 content_once databases content nothing no_line few is is' = absurd (is' nothing is)
 content_once databases content join no_line few is is' = absurd (is' join is)
 content_once databases content (statement place session text) no_line few is is' = absurd (is' (statement place session text) is)

@@ -11,8 +11,10 @@ use Rattle.escrow_core.specs.Seen.{Seen}
 use Rattle.escrow_core.specs.State.{State}
 use Rattle.escrow_server.specs.declared.fault.ServeFault.{ServeFault}
 use Rattle.escrow_server.specs.declared.fault.ServeFault.TheVariants as fault
-use Rattle.escrow_server.specs.Line.{Reading, statement, no_line, database_name, Reads, lines_of}
-use Rattle.escrow_reply.specs.Text.{rendered}
+use Rattle.escrow_core.specs.Step as machine
+use Rattle.escrow_core.specs.declared.event.Event.TheVariants as event
+use Rattle.escrow_server.specs.Line.{Reading, restart, statement, no_line, database_name, Reads, lines_of}
+use Rattle.escrow_reply.specs.Text.{rendered, rendered_whole}
 use Rattle.escrow_server.specs.Output.{state_in, states_of, Answers, AreUsable, ServesLine, ServesBytes, ServesLines, ServesWhole, Leaves, StopsWithin}
 use Rattle.escrow_server.specs.declared.limits.TheConstants.{MAX_LINE, MAX_SCRIPT}
 use Rattle.escrow_server.specs.Script.{TakesLine, Spends, left}
@@ -39,6 +41,14 @@ serves_statement : {S : Type 0} (databases new : Databases S) (place session : �
     → ServesLine (states_of databases) (statement place session text) out (states_of new)
 serves_statement databases new place session text out answer old after found answers is_out is_new =
     rw found (answer, after, answers, is_out, is_new)
+
+-- a restart's line
+serves_restart : {S : Type 0} (databases new : Databases S) (place : ℕ) (out : List ℕ) (answer : Reply) (old after : State)
+    → slice_get (states_of databases) place ≡ Some old → machine.IsServed old event.Restart answer after
+    → out ≡ rendered_whole (database_name place) answer → states_of new ≡ slice_set (states_of databases) place after
+    → ServesLine (states_of databases) (restart place) out (states_of new)
+serves_restart databases new place out answer old after found served is_out is_new =
+    rw found (answer, after, served, is_out, is_new)
 
 kept_long : (databases : ℕ) (line kept : List ℕ) (reading : Reading) → kept ≡ take (MAX_LINE + 1) line → MAX_LINE < length line → Reads databases kept reading → reading ≡ no_line
 kept_long databases line kept reading e long (inl good) = absurd (omega (arith, good.0.0, ap length e, length-take (MAX_LINE + 1) line))
@@ -344,6 +354,24 @@ serves_place databases place session bytes text name answer old after reads is_o
     serves_reading databases (slice_set databases place after) bytes (rendered name session answer) (statement place session text) reads
     (serves_statement databases (slice_set databases place after) place session text (rendered name session answer) answer (state_in old) (state_in after)
     (state_at databases place old found) answers (ap (λ (n : List ℕ). rendered n session answer) is_name) (states_after databases place after))
+
+-- so are the line of a restart, and its database
+is_restart : (place : ℕ) → restart place ≡ no_line → ⊥
+is_restart place e = cc
+
+pub restarts_one : (databases : ℕ) (bytes : List ℕ) (place : ℕ) → Reads databases bytes (restart place) → place < databases
+restarts_one databases bytes place (inl good) = good.1.within
+restarts_one databases bytes place (inr bad) = absurd (is_restart place bad.1)
+
+pub restarts_place : {S : Type 0} (databases : Databases S) (place : ℕ) (bytes name : List ℕ) (answer : Reply) (old after : Seen S)
+    → Reads (length databases) bytes (restart place) → old ≡ slice_index_or databases place old → machine.IsServed old.state event.Restart answer after.state
+    → name ≡ database_name place → ServesBytes (states_of databases) bytes (rendered_whole name answer) (states_of (slice_set databases place after))
+restarts_place databases place bytes name answer old after reads is_old served is_name =
+    let within = restarts_one (length databases) bytes place reads in
+    let found : slice_get databases place ≡ Some old = slice_get-get_or databases place old within ∙ ap Some (sym is_old) in
+    serves_reading databases (slice_set databases place after) bytes (rendered_whole name answer) (restart place) reads
+    (serves_restart databases (slice_set databases place after) place (rendered_whole name answer) answer (state_in old) (state_in after)
+    (state_at databases place old found) served (ap (λ (n : List ℕ). rendered_whole n answer) is_name) (states_after databases place after))
 
 -- nothing is gathered where no line is in hand; where one is, a fault is want of memory
 pub waits_for_none : (in_hand : Bool) (gathered : List ℕ) (why : ServeFault) → (in_hand ≡ false → gathered ≡ []) → (in_hand ≡ true → why ≡ fault.Memory)

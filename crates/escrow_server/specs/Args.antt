@@ -20,13 +20,16 @@ use Rattle.escrow_server.specs.declared.limits.TheConstants.{MAX_DATABASES}
 abbrev pub mode_rule : Rule
 mode_rule = record (new_rule (codes "mode")) { required = true; action = Some Set; value_names = 1 }
 
--- an option that may be there: `--databases N`
+-- options that may be there: `--store PATH` and `--databases N`
+abbrev pub store_rule : Rule
+store_rule = record (new_rule (codes "store")) { long = Some (codes "store"); action = Some Set; value_names = 1 }
+
 abbrev pub databases_rule : Rule
 databases_rule = record (new_rule (codes "databases")) { long = Some (codes "databases"); action = Some Set; value_names = 1 }
 
--- the command of these two, to which clap adds `--help`
+-- the command of these three, to which clap adds `--help`
 abbrev pub app : App
-app = with_rule (with_rule (new_app (codes "escrowd")) mode_rule) databases_rule
+app = with_rule (with_rule (with_rule (new_app (codes "escrowd")) mode_rule) store_rule) databases_rule
 
 -- what is wrong with words before their values are read, or that they ask for help: nothing, or one
 -- kind of error
@@ -50,11 +53,11 @@ abbrev pub databases_of : Option Text → Option ℕ
 databases_of None = Some 1
 databases_of (Some value) = allowed (byte_or_zero value)
 
--- the arguments that values ask, where both can be read
+-- the arguments that values ask, where mode and number can be read; the path is any text, or there is none
 abbrev pub values_ask : List Row → Option Args
 values_ask rows =
     option_and_then (λ asked.
-    option_map (λ count. record { mode = asked; databases = count }) (databases_of (first_of (codes "databases") rows)))
+    option_map (λ count. record { mode = asked; path = first_of (codes "store") rows; databases = count }) (databases_of (first_of (codes "databases") rows)))
     (mode_of (first_of (codes "mode") rows))
 
 -- WHAT WORDS ASK, the program's name first: the arguments that their values ask, where nothing else

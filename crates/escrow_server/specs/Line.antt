@@ -27,11 +27,12 @@ database_name place = if place == 0 then codes "bank" else codes "bank" ++ decim
 
 -- WHAT A LINE IS
 
--- a line asks nothing; it ends a phase; it is a statement, of a database by its place, of a session, and
--- with a text; or it is no line
+-- a line asks nothing; it ends a phase; it restarts a database, by its place; it is a statement, of a
+-- database by its place, of a session, and with a text; or it is no line
 pub data Reading : Type 0 where
   nothing : Reading
   join : Reading
+  restart : ℕ → Reading
   statement : ℕ → ℕ → List ℕ → Reading
   no_line : Reading
 
@@ -59,6 +60,16 @@ IsComment content = (rest : List ℕ) × (content ≡ codes "--" ++ rest)
 abbrev pub IsJoin : List ℕ → Type 0
 IsJoin content = (blanks : List ℕ) × AllPass is_blank blanks × (content ≡ codes "@join" ++ blanks)
 
+-- `@restart`, blanks, the name of one of so many databases, and nothing but blanks behind it
+pub record IsRestart (databases : ℕ) (content : List ℕ) (place : ℕ) : Type 0 where
+  pub within : place < databases
+  pub front : List ℕ
+  pub back : List ℕ
+  pub apart : 0 < length front
+  pub front_blank : AllPass is_blank front
+  pub back_blank : AllPass is_blank back
+  pub parts : content ≡ codes "@restart" ++ (front ++ (database_name place ++ back))
+
 -- a statement: the name of one of so many databases, a point, a session in decimal, a colon, and the text
 pub record IsStatement (databases : ℕ) (content : List ℕ) (place session : ℕ) (text : List ℕ) : Type 0 where
   pub within : place < databases
@@ -69,6 +80,7 @@ pub record IsStatement (databases : ℕ) (content : List ℕ) (place session : �
 abbrev pub IsMadeOf : ℕ → List ℕ → Reading → Type 0
 IsMadeOf databases content nothing = (content ≡ []) ⊎ IsComment content
 IsMadeOf databases content join = IsJoin content
+IsMadeOf databases content (restart place) = IsRestart databases content place
 IsMadeOf databases content (statement place session text) = IsStatement databases content place session text
 IsMadeOf databases content no_line = ⊥
 

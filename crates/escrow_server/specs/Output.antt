@@ -16,12 +16,14 @@ use Rattle.escrow_core.specs.declared.reply.Reply.{Reply}
 use Rattle.escrow_core.specs.declared.reply.Reply.TheVariants as reply
 use Rattle.escrow_core.specs.Seen.{Seen}
 use Rattle.escrow_core.specs.State.{State}
+use Rattle.escrow_core.specs.Step as machine
 use Rattle.escrow_core.specs.Step.{StepOrRefusal}
-use Rattle.escrow_reply.specs.Text.{rendered, reply_lines, with_prefix}
+use Rattle.escrow_core.specs.declared.event.Event.TheVariants as event
+use Rattle.escrow_reply.specs.Text.{rendered, rendered_whole, reply_lines, with_prefix}
 use Rattle.escrow_server.specs.declared.fault.ServeFault.{ServeFault}
 use Rattle.escrow_server.specs.declared.fault.ServeFault.TheVariants as serve_fault
 use Rattle.escrow_server.specs.declared.limits.TheConstants.{MAX_SCRIPT}
-use Rattle.escrow_server.specs.Line.{Reading, nothing, join, statement, no_line, database_name, Reads, lines_of}
+use Rattle.escrow_server.specs.Line.{Reading, nothing, join, restart, statement, no_line, database_name, Reads, lines_of}
 
 -- the state in a database, as contracts show it
 abbrev pub state_in : {S : Type 0} → Seen S → State
@@ -58,12 +60,15 @@ Answers s session text answer new = IsServed s session text answer new ⊎ IsRef
 abbrev pub no_line_text : List ℕ
 no_line_text = with_prefix (codes "script> ") (reply_lines (reply.Refused refusal.Line))
 
--- what a line writes, and the states of the databases after it: a statement is answered by the
+-- what a line writes, and the states of the databases after it: a restart and a statement are answered by the
 -- database at its place, and the others stay
 abbrev pub ServesLine : List State → Reading → List ℕ → List State → Type 0
 ServesLine states nothing out new = (out ≡ []) × (new ≡ states)
 ServesLine states join out new = (out ≡ []) × (new ≡ states)
 ServesLine states no_line out new = (out ≡ no_line_text) × (new ≡ states)
+ServesLine states (restart place) out new =
+    IsSomeAnd (slice_get states place) (λ s. (answer : Reply) × (after : State) × machine.IsServed s event.Restart answer after
+    × (out ≡ rendered_whole (database_name place) answer) × (new ≡ slice_set states place after))
 ServesLine states (statement place session text) out new =
     IsSomeAnd (slice_get states place) (λ s. (answer : Reply) × (after : State) × Answers s session text answer after
     × (out ≡ rendered (database_name place) session answer) × (new ≡ slice_set states place after))

@@ -1,15 +1,39 @@
 -- Believed: how the program ends.
-use Rattle.std.specs.Prelude.{◌≡◌, ◌⊎◌, ℕ, Option, Some, List, [], ◌++◌, take, replicate, codes}
+use Rattle.std.specs.Prelude.{◌≡◌, ◌⊎◌, ℕ, ◌+◌, ◌==◌, if◌then◌else◌, Option, Some, List, [], ◌++◌, length, take, slice_get, replicate, codes, decimal}
 use Rattle.std.specs.declared.io.ErrorKind.{ErrorKind}
 use Rattle.std.specs.declared.io.ErrorKind.TheVariants as error
-use Rattle.std.specs.Io.KnownBytes.{Appends, Keeps}
-use Rattle.escrow_core.specs.State.{State, empty}
+use Rattle.std.specs.Io.KnownBytes.{Appends, IsAtEnd, Keeps}
+use Rattle.sqlite.specs.Effect.{Database}
+use Rattle.escrow_cells.specs.Tables.{no_schema}
+use Rattle.escrow_tables.specs.Committed.{Holds}
+use Rattle.escrow_core.specs.State.{State, empty, opened}
 use Rattle.escrow_server.specs.declared.args.ArgFault.{ArgFault}
 use Rattle.escrow_server.specs.declared.args.ArgFault.TheVariants as arg_fault
 use Rattle.escrow_server.specs.declared.fault.RunFault.{RunFault}
 use Rattle.escrow_server.specs.declared.fault.RunFault.TheVariants as run_fault
 use Rattle.escrow_server.specs.declared.fault.ServeFault.{ServeFault}
 use Rattle.escrow_server.specs.Output.{ServesWhole, StopsWithin}
+
+-- WHERE STORES ARE
+
+-- the file of the database at a place: the path, and for each further one the path with a point and its
+-- number, from 2 on
+abbrev pub file_of : List ℕ → ℕ → List ℕ
+file_of path place = if place == 0 then path else path ++ codes "." ++ decimal (place + 1)
+
+-- a database of SQLite without objects begins without tables, and any other with the tables and rows that
+-- it holds; nothing is open
+abbrev pub StartsAs : Database → State → Type 0
+StartsAs db s = ((db.schema ≡ no_schema) × (s ≡ empty)) ⊎ (Holds s.catalog s.rows db × (s ≡ opened s.catalog s.rows))
+
+-- a state is that in which a database begins whose store holds what it may hold
+abbrev pub IsFound : (Database → Type 0) → State → Type 0
+IsFound may_hold s = (db : Database) × may_hold db × StartsAs db s
+
+-- so many states, that at each place found in what the store there may hold
+pub record AreFound (may_hold : ℕ → Database → Type 0) (count : ℕ) (states : List State) : Type 0 where
+  pub length_is : length states ≡ count
+  pub each : (place : ℕ) (s : State) → slice_get states place ≡ Some s → IsFound (may_hold place) s
 
 -- so many databases without tables, in which nothing is open
 abbrev pub empty_states : ℕ → List State
@@ -40,19 +64,32 @@ help_of arg_fault.Memory = []
 
 -- the exit status where a script isn't served to its end: 3 where a store can't be opened, otherwise 1
 abbrev pub run_status : RunFault → ℕ
-run_status (run_fault.Unopened database cause) = 3
+run_status (run_fault.Unopened database place cause) = 3
 run_status (run_fault.Unserved fault) = 1
 
--- what is left where a script isn't served to its end: where a store can't be opened, nothing is read or
--- written
-abbrev pub Stops : RunFault → ℕ → List ℕ → Option (List ℕ) → Option (List ℕ) → Option (List ℕ) → Type 0
-Stops (run_fault.Unopened database cause) count script rest old_bytes new_bytes = Keeps (Some script) rest × WritesNothing old_bytes new_bytes
-Stops (run_fault.Unserved fault) count script rest old_bytes new_bytes = (new : List State) × StopsWithin fault script (empty_states count) new old_bytes new_bytes
+-- what is left where a script isn't served to its end, from these states to those: where a store can't be
+-- opened, nothing is read or written
+abbrev pub Stops : RunFault → (List State → Type 0) → List State → List ℕ → Option (List ℕ) → Option (List ℕ) → Option (List ℕ) → Type 0
+Stops (run_fault.Unopened database place cause) starts new script rest old_bytes new_bytes = Keeps (Some script) rest × WritesNothing old_bytes new_bytes
+Stops (run_fault.Unserved fault) starts new script rest old_bytes new_bytes = (old : List State) × starts old × StopsWithin fault script old new old_bytes new_bytes
 
--- A script was served with status 0, in so many databases that were empty; or it ended at a fault, with
--- status 1; or a store couldn't be opened, with status 3, and nothing was read or written.
+-- A script was served with status 0, from such states to these; or it ended at a fault, with status 1; or a
+-- store couldn't be opened, with status 3, and nothing was read or written.
+abbrev pub Ends : (List State → Type 0) → List State → ℕ → List ℕ → Option (List ℕ) → Option (List ℕ) → Option (List ℕ) → Type 0
+Ends starts new status script rest old_bytes new_bytes =
+    ((status ≡ 0) × (old : List State) × starts old × ServesWhole script old new old_bytes new_bytes)
+    ⊎ ((status ≡ 1) × (fault : ServeFault) × (old : List State) × starts old × StopsWithin fault script old new old_bytes new_bytes)
+    ⊎ ((status ≡ 3) × Keeps (Some script) rest × WritesNothing old_bytes new_bytes)
+
+-- The same in so many databases that were empty.
 abbrev pub EndsScript : ℕ → ℕ → List ℕ → Option (List ℕ) → Option (List ℕ) → Option (List ℕ) → Type 0
 EndsScript count status script rest old_bytes new_bytes =
     ((status ≡ 0) × (new : List State) × ServesWhole script (empty_states count) new old_bytes new_bytes)
     ⊎ ((status ≡ 1) × (fault : ServeFault) × (new : List State) × StopsWithin fault script (empty_states count) new old_bytes new_bytes)
     ⊎ ((status ≡ 3) × Keeps (Some script) rest × WritesNothing old_bytes new_bytes)
+
+-- Over files, of which no contract knows what they hold: with status 0 the script was read to its end, and with
+-- status 3 a store couldn't be opened, and nothing was read or written.
+abbrev pub EndsOverFiles : ℕ → List ℕ → Option (List ℕ) → Option (List ℕ) → Option (List ℕ) → Type 0
+EndsOverFiles status script rest old_bytes new_bytes =
+    ((status ≡ 0) × IsAtEnd rest) ⊎ (status ≡ 1) ⊎ ((status ≡ 3) × Keeps (Some script) rest × WritesNothing old_bytes new_bytes)

@@ -1,8 +1,8 @@
 -- Helps: what a line is, by its parts, found one after another.
-use Rattle.std.specs.Prelude.{ℕ, zero, suc, ◌+◌, ◌-◌, ◌*◌, ◌==◌, Bool, ◌&&◌, ◌||◌, nat_eq, nat_le, if◌then◌else◌, Option, Some, None, List, [], ◌∷◌, length, drop, bytes_eq, codes}
+use Rattle.std.specs.Prelude.{ℕ, zero, suc, ◌+◌, ◌-◌, ◌*◌, ◌==◌, Bool, not, ◌&&◌, ◌||◌, nat_eq, nat_le, if◌then◌else◌, Option, Some, None, List, [], ◌∷◌, length, take, drop, bytes_eq, codes}
 use Rattle.std.specs.Char.{is_ascii_digit}
-use Rattle.std.specs.List.{starts_with, list_all}
-use Rattle.escrow_server.specs.Line.{Reading, nothing, join, statement, no_line, is_blank, database_name}
+use Rattle.std.specs.List.{starts_with, list_all, prefix_len}
+use Rattle.escrow_server.specs.Line.{Reading, nothing, join, restart, statement, no_line, is_blank, after_blanks, database_name}
 use Rattle.escrow_server.specs.declared.line.Line.{Line}
 use Rattle.escrow_server.specs.declared.line.Line.TheVariants as line
 
@@ -10,6 +10,7 @@ use Rattle.escrow_server.specs.declared.line.Line.TheVariants as line
 abbrev pub seen : Line → Reading
 seen line.Nothing = nothing
 seen line.Join = join
+seen (line.Restart database) = restart database
 seen (line.Statement database session text) = statement database session text.now
 seen line.NoLine = no_line
 
@@ -25,6 +26,20 @@ is_join content = starts_with nat_eq content (codes "@join") && list_all is_blan
 abbrev pub place_of : ℕ → List ℕ → Option ℕ
 place_of zero name = None
 place_of (suc n) name = if bytes_eq (database_name n) name then Some n else place_of n name
+
+-- how many bytes stand before the first blank
+abbrev pub word_len : List ℕ → ℕ
+word_len bytes = prefix_len (λ c. not (is_blank c)) bytes
+
+-- the place of the database whose name stands alone behind blanks, of which there is one at least
+abbrev pub named_place : ℕ → List ℕ → Option ℕ
+named_place databases bytes =
+    if prefix_len is_blank bytes == 0 || not (list_all is_blank (drop (word_len (after_blanks bytes)) (after_blanks bytes))) then None
+    else place_of databases (take (word_len (after_blanks bytes)) (after_blanks bytes))
+
+-- the place of the database that is to be restarted
+abbrev pub restart_of : ℕ → List ℕ → Option ℕ
+restart_of databases content = if starts_with nat_eq content (codes "@restart") then named_place databases (drop 8 content) else None
 
 -- a digit from 1 to 9
 abbrev pub is_first_digit : ℕ → Bool

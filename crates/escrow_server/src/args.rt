@@ -1,7 +1,7 @@
-ghost use Rattle.std.specs.Prelude.{◌≡◌, ◌≤◌, ◌⊎◌, Some, None, map, option_map, IfOk, IfSome, IsErrAnd, MatchResult};
-ghost use Rattle.clap.specs.Words.{FailsBy, app_of, found_of, kind_of, matches_of, rows_of};
+ghost use Rattle.std.specs.Prelude.{◌≡◌, ◌≤◌, ◌⊎◌, false, Some, None, map, option_map, IfOk, IfSome, IsErrAnd, MatchResult};
+ghost use Rattle.clap.specs.Words.{FailsBy, app_of, found_of, kind_of, matches_of, rows_of, rule_of};
 ghost use Rattle.escrow_server.specs.declared.args.Args.{Args};
-ghost use Rattle.escrow_server.specs.Args.{app, asked_by, databases_of, fault_status, faults_of, mode_of, refused_status, status_of, values_ask};
+ghost use Rattle.escrow_server.specs.Args.{app, asked_by, databases_of, databases_rule, fault_status, faults_of, mode_of, mode_rule, refused_status, status_of, store_rule, values_ask};
 
 use crate::limits::MAX_DATABASES;
 use clap::error::ErrorKind;
@@ -18,10 +18,13 @@ pub enum Mode {
 }
 
 /// The arguments of the program.
-#[derive(Clone, Copy, Debug, PartialEq, Eq)]
+#[derive(Debug, Drop)]
 pub struct Args {
     /// What it is to do.
     pub mode: Mode,
+    /// The file of the first database's store, if stores are in files. A further database's has the
+    /// same path with a point and its number behind it.
+    pub path: Option<Text>,
     /// How many databases there are, from 1 to 16.
     pub databases: u8,
 }
@@ -53,8 +56,8 @@ impl ArgFault {
     }
 }
 
-/// Reads the words of a command line, the program's name first: `run`, and `--databases N` with N
-/// from 1 to 16, which is 1 where it isn't given.
+/// Reads the words of a command line, the program's name first: `run`, `--store PATH`, which may be left
+/// out, and `--databases N` with N from 1 to 16, which is 1 where it isn't given.
 ///
 /// # Errors
 ///
@@ -69,10 +72,7 @@ pub fn read_args<S: AsStr>(alloc: Global, words: &[S]) -> Result<Args, ArgFault>
     ensures databases { IfOk result (λ args. (1 ≤ args.databases) × (args.databases ≤ MAX_DATABASES)) }
 {
     match parsed(alloc, words) {
-        Ok(matches) => match asked(&matches) {
-            Ok(args) => Ok(args),
-            Err(text) => Err(wrong(alloc, text)),
-        },
+        Ok(matches) => asked(alloc, &matches),
         Err(error) => Err(fault_of(alloc, &error)),
     }
 }
@@ -90,22 +90,51 @@ fn parsed<'a, S: AsStr>(alloc: Global, words: &'a [S]) -> Result<ArgMatches<'a>,
 fn command<'a>(alloc: Global) -> Result<Command<'a>, AllocError>
     ensures { IfOk result (λ command. app_of command ≡ app) }
 {
-    let mode = Arg::new(alloc, "mode")
+    Command::new(alloc, "escrowd")
+        .override_usage("escrowd run [--store <PATH>] [--databases <N>]")
+        .about(ABOUT)
+        .after_help(AFTER_HELP)
+        .arg(mode_arg(alloc))?
+        .arg(store_arg(alloc))?
+        .arg(databases_arg(alloc))
+}
+
+/// The mode.
+fn mode_arg<'a>(alloc: Global) -> Arg<'a>
+    ensures rule { rule_of result ≡ mode_rule }
+    ensures local { result.global ≡ false }
+{
+    Arg::new(alloc, "mode")
         .required(true)
         .action(ArgAction::Set)
         .value_name("MODE")
-        .help("What to do: `run` serves the script line after line");
-    let databases = Arg::new(alloc, "databases")
+        .help("What to do: `run` serves the script line after line")
+}
+
+/// `--store PATH`.
+fn store_arg<'a>(alloc: Global) -> Arg<'a>
+    ensures rule { rule_of result ≡ store_rule }
+    ensures local { result.global ≡ false }
+{
+    Arg::new(alloc, "store")
+        .long("store")
+        .action(ArgAction::Set)
+        .value_name("PATH")
+        .help(
+            "The file that keeps bank; bank2 is kept in PATH.2 and so on [default: all in memory]",
+        )
+}
+
+/// `--databases N`.
+fn databases_arg<'a>(alloc: Global) -> Arg<'a>
+    ensures rule { rule_of result ≡ databases_rule }
+    ensures local { result.global ≡ false }
+{
+    Arg::new(alloc, "databases")
         .long("databases")
         .action(ArgAction::Set)
         .value_name("N")
-        .help("How many databases there are, 1 to 16: bank, bank2, bank3 and so on [default: 1]");
-    Command::new(alloc, "escrowd")
-        .override_usage("escrowd run [--databases <N>]")
-        .about(ABOUT)
-        .after_help(AFTER_HELP)
-        .arg(mode)?
-        .arg(databases)
+        .help("How many databases there are, 1 to 16: bank, bank2, bank3 and so on [default: 1]")
 }
 
 const ABOUT: &str = "A server of tables whose RESERVABLE columns many sessions change at once.
@@ -122,25 +151,46 @@ and a statement:
   bank.1: UPDATE ACCOUNT SET BALANCE = BALANCE - 30 WHERE ID = 1
   bank.1: COMMIT
 
+The line `@restart bank` restarts that database: what is open in it is dropped.
 Empty lines and lines that begin with -- are passed over.
+
+A store's file is made where there is none, and what was committed there is found
+again by the next run. Without --store everything is gone at the end.
 
 Exit status: 0 when all was served and written, 1 when the script can't be read,
 a reply can't be written or memory is short, 2 for wrong arguments, 3 when a
-store can't be opened.";
+store can't be opened, in which case nothing was read.";
 
 /// The arguments that the values ask, or what is wrong with a value.
-fn asked(matches: &ArgMatches<'_>) -> Result<Args, &'static str>
+fn asked(alloc: Global, matches: &ArgMatches<'_>) -> Result<Args, ArgFault>
     ensures values { MatchResult result (λ args. values_ask (rows_of (found_of matches.now)) ≡ Some args)
-        (λ _. values_ask (rows_of (found_of matches.now)) ≡ None) }
+        (λ fault. (fault ≡ ArgFault.Memory) ⊎ ((values_ask (rows_of (found_of matches.now)) ≡ None) × (fault_status fault ≡ 2))) }
     ensures databases { IfOk result (λ args. (1 ≤ args.databases) × (args.databases ≤ MAX_DATABASES)) }
 {
     let Some(mode) = mode_of(matches.get_str("mode")) else {
-        return Err("the mode has to be `run`\n");
+        return Err(wrong(alloc, "the mode has to be `run`\n"));
     };
     let Some(databases) = databases_of(matches.get_str("databases")) else {
-        return Err("--databases has to be a number from 1 to 16\n");
+        return Err(wrong(alloc, "--databases has to be a number from 1 to 16\n"));
     };
-    Ok(Args { mode, databases })
+    match path_of(alloc, matches.get_str("store")) {
+        Ok(path) => Ok(Args {
+            mode,
+            path,
+            databases,
+        }),
+        Err(_) => Err(ArgFault::Memory),
+    }
+}
+
+/// The path that a value asks, if there is one.
+fn path_of(alloc: Global, value: Option<&str>) -> Result<Option<Text>, AllocError>
+    ensures { IfOk result (λ path. path ≡ option_map (λ s. s.now) value.entry) }
+{
+    match value {
+        Some(path) => Ok(Some(Text::from_string(String::from_str(alloc, path)?))),
+        None => Ok(None),
+    }
 }
 
 /// The mode of a name.

@@ -1,58 +1,81 @@
 //! The databases of the program.
-ghost use Rattle.std.specs.Prelude.{◌≡◌, ◌≤◌, ◌⊎◌, IfOk, IfErr};
-ghost use Rattle.escrow_core.specs.State.{empty};
-ghost use Rattle.escrow_server.specs.Output.{states_of};
-ghost use Rattle.escrow_server.specs.Program.{empty_states, run_status};
+ghost use Rattle.std.specs.Prelude.{◌≡◌, ◌≤◌, ◌<◌, [], vec_len, IfOk, IfErr, OnOk};
+ghost use Rattle.sqlite.specs.Held.{state};
+ghost use Rattle.escrow_rows.specs.Answers.{IsUsable};
+ghost use Rattle.escrow_server.specs.Output.{states_of, AreUsable};
+ghost use Rattle.escrow_server.specs.Program.{run_status, AreFound, IsFound, StartsAs};
 
-use crate::fault::{RunFault, ServeFault};
+use crate::fault::RunFault;
 use crate::limits::MAX_DATABASES;
 use crate::names::database_name;
-use escrow_core::{Database, Failure};
-use escrow_num::Refusal;
+use crate::stores::{OpenFault, OpenStore};
+use escrow_core::Database;
 use escrow_recover::open_store;
-use sqlite::{Connection, MemStore};
+use sqlite::{Alter, Connection};
 use std::alloc::Global;
 
-/// So many databases without tables, each over a store of its own in memory.
-pub(crate) fn open_databases(alloc: Global, count: u8) -> Result<Vec<Database<MemStore>>, RunFault>
-    requires { count ≤ MAX_DATABASES }
-    ensures states { IfOk result (λ databases. states_of databases.items ≡ empty_states count) }
-    ensures kind { IfErr result (λ fault. (run_status fault ≡ 3) ⊎ (fault ≡ RunFault.Unserved ServeFault.Memory)) }
+/// Opens so many databases, each over the store at its place, one after another. Those that were opened
+/// before one that can't be are left in `databases`.
+pub(crate) fn open_databases<S: Alter + Drop, O: OpenStore<S>>(
+    alloc: Global,
+    stores: &O,
+    count: u8,
+    databases: &mut Vec<Database<S>>,
+) -> Result<(), RunFault>
+    requires few { count ≤ MAX_DATABASES }
+    requires none { databases.old.items ≡ [] }
+    ensures found { AreUsable S.Store databases.new.items → OnOk result (AreFound (O.may_hold stores.now) count (states_of databases.new.items)) }
+    ensures len { OnOk result (vec_len databases.new ≡ count) }
+    ensures kind { IfErr result (λ fault. run_status fault ≡ 3) }
 {
-    let mut databases = Vec::new(alloc);
     for place in 0..count {
-        let database = match open_database(alloc) {
-            Ok(database) => database,
-            Err(cause) => {
-                let database = database_name(usize::from(place));
-                return Err(RunFault::Unopened { database, cause });
+        match open_database(alloc, stores, place) {
+            Ok(database) => {
+                if databases.push(database).is_err() {
+                    return Err(unopened(place, OpenFault::Memory));
+                }
             }
-        };
-        databases
-            .push(database)
-            .map_err(|_| RunFault::Unserved(ServeFault::Memory))?;
+            Err(cause) => return Err(unopened(place, cause)),
+        }
     }
-    Ok(databases)
+    Ok(())
 }
 
-/// A database without tables, over a store in memory.
-fn open_database(alloc: Global) -> Result<Database<MemStore>, Failure>
-    ensures { IfOk result (λ database. database.state ≡ empty) }
+/// The fault of a store that isn't opened, by its database's place.
+fn unopened(place: u8, cause: OpenFault) -> RunFault
+    requires { place < MAX_DATABASES }
+    ensures { run_status result ≡ 3 }
 {
-    let connection = Connection::open_in_memory(alloc)?;
+    RunFault::Unopened {
+        database: database_name(usize::from(place)),
+        place,
+        cause,
+    }
+}
+
+/// Opens the database at a place.
+fn open_database<S: Alter + Drop, O: OpenStore<S>>(
+    alloc: Global,
+    stores: &O,
+    place: u8,
+) -> Result<Database<S>, OpenFault>
+    ensures { IfOk result (λ d. IsUsable (state S.Store d.store) → IsFound (O.may_hold stores.now place) d.state) }
+{
+    let connection = stores.open(alloc, place)?;
+    over(alloc, connection)
+}
+
+/// The database of what a store holds: its tables and rows, or none where it has no objects. Nothing is
+/// open in it.
+fn over<S: Alter + Drop>(alloc: Global, connection: Connection<S>) -> Result<Database<S>, OpenFault>
+    ensures found { IfOk result (λ d. IsUsable (state S.Store d.store) → StartsAs (state S.Store connection).now d.state) }
+    ensures usable { IfOk result (λ d. IsUsable (state S.Store d.store) → IsUsable (state S.Store connection)) }
+{
     match open_store(alloc, connection) {
         Ok(tables) => match Database::open(alloc, tables) {
             Ok(database) => Ok(database),
-            Err(_) => Err(Failure::Memory),
+            Err(_) => Err(OpenFault::Memory),
         },
-        Err(fault) => Err(failure_of(fault.cause)),
-    }
-}
-
-/// The failure for which a store in memory isn't opened.
-fn failure_of(cause: Refusal) -> Failure {
-    match cause {
-        Refusal::Memory => Failure::Memory,
-        _ => Failure::Store,
+        Err(fault) => Err(OpenFault::from(fault.cause)),
     }
 }

@@ -1,5 +1,5 @@
 use crate::limits::MAX_SCRIPT;
-use escrow_core::Failure;
+use crate::stores::OpenFault;
 use std::alloc::AllocError;
 use thiserror::Error;
 
@@ -29,18 +29,18 @@ impl From<AllocError> for ServeFault {
 }
 
 /// Why the program ends before its script is served to its end.
-#[derive(Clone, Copy, Debug, Error)]
+#[derive(Clone, Copy, Debug)]
 pub(crate) enum RunFault {
     /// The store of a database can't be opened. Nothing was read.
-    #[error("the store of {database} can't be opened: {cause}")]
     Unopened {
         /// The database's name.
         database: &'static str,
+        /// Its place, from 0.
+        place: u8,
         /// Why it can't.
-        cause: Failure,
+        cause: OpenFault,
     },
     /// The script isn't served to its end.
-    #[error("{0}")]
     Unserved(ServeFault),
 }
 

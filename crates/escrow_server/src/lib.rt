@@ -16,6 +16,7 @@ mod names;
 mod program;
 mod script;
 mod serve;
+mod stores;
 mod unread;
 
 pub use args::{ArgFault, Args, Mode, read_args};
@@ -23,3 +24,4 @@ pub use fault::ServeFault;
 pub use limits::{MAX_DATABASES, MAX_LINE, MAX_READS, MAX_SCRIPT};
 pub use program::run_program;
 pub use serve::serve_script;
+pub use stores::{InFiles, InMemory, OpenFault, OpenStore};

@@ -1,7 +1,7 @@
-ghost use Rattle.std.specs.Prelude.{◌≡◌, ◌≤◌, List, ℕ, IfNone, IfSome};
+ghost use Rattle.std.specs.Prelude.{◌≡◌, ◌≤◌, List, ℕ, length, IfNone, IfSome};
 ghost use Rattle.std.specs.List.{prefix_len, list_all};
 ghost use Rattle.escrow_server.specs.Line.{Reads, ReadsContent, IsMadeOf, IsStatement, without_return, after_blanks, content_of, is_blank};
-ghost use Rattle.escrow_server.specs.Reading.{seen, is_nothing, is_join, session_of};
+ghost use Rattle.escrow_server.specs.Reading.{seen, is_nothing, is_join, named_place, restart_of, session_of, word_len};
 
 use crate::limits::{MAX_DATABASES, MAX_LINE};
 use crate::names::place_of;
@@ -14,6 +14,11 @@ pub(crate) enum Line<'a> {
     Nothing,
     /// `@join`: it ends a phase, and has no reply.
     Join,
+    /// `@restart` and the name of a database, which is restarted.
+    Restart {
+        /// The place of the database, from 0.
+        database: usize,
+    },
     /// A statement.
     Statement {
         /// The place of its database, from 0.
@@ -67,7 +72,8 @@ fn is_blank(byte: u8) -> bool
 
 /// How many spaces and tabs a line begins with.
 fn blanks(line: &[u8]) -> usize
-    ensures { result ≡ prefix_len is_blank line.now }
+    ensures value { result ≡ prefix_len is_blank line.now }
+    ensures within { result ≤ length line.now }
 {
     for (len, byte) in line.iter().enumerate() {
         if !is_blank(*byte) {
@@ -94,6 +100,9 @@ fn classify_content(databases: usize, content: &str) -> Line<'_>
     }
     if is_join(content.as_bytes()) {
         return Line::Join;
+    }
+    if let Some(database) = restart_of(databases, content.as_bytes()) {
+        return Line::Restart { database };
     }
     match statement_of(databases, content) {
         Some(statement) => statement,
@@ -122,6 +131,44 @@ fn is_join(content: &[u8]) -> bool
     content.starts_with(b"@join") && is_all_blank(&content[5..])
 }
 
+/// The place of the database that a content asks to be restarted: `@restart` and its name.
+fn restart_of(databases: usize, content: &[u8]) -> Option<usize>
+    requires { databases ≤ MAX_DATABASES }
+    ensures { result ≡ restart_of databases content.now }
+{
+    if content.starts_with(b"@restart") {
+        named_place(databases, &content[8..])
+    } else {
+        None
+    }
+}
+
+/// The place of the database whose name stands alone behind spaces and tabs, of which there is one at least.
+fn named_place(databases: usize, bytes: &[u8]) -> Option<usize>
+    requires { databases ≤ MAX_DATABASES }
+    ensures { result ≡ named_place databases bytes.now }
+{
+    let (front, named) = bytes.split_at(blanks(bytes));
+    let (name, back) = named.split_at(word_len(named));
+    if front.is_empty() || !is_all_blank(back) {
+        return None;
+    }
+    place_of(databases, name)
+}
+
+/// How many bytes stand before the first space or tab.
+fn word_len(bytes: &[u8]) -> usize
+    ensures value { result ≡ word_len bytes.now }
+    ensures within { result ≤ length bytes.now }
+{
+    for (len, byte) in bytes.iter().enumerate() {
+        if is_blank(*byte) {
+            return len;
+        }
+    }
+    bytes.len()
+}
+
 /// A statement: a database's name, a point, a session, a colon, and the text.
 fn statement_of(databases: usize, content: &str) -> Option<Line<'_>>
     requires { databases ≤ MAX_DATABASES }
@@ -130,7 +177,7 @@ fn statement_of(databases: usize, content: &str) -> Option<Line<'_>>
 {
     let (name, rest) = content.split_once('.')?;
     let (number, text) = rest.split_once(':')?;
-    let database = place_of(databases, name)?;
+    let database = place_of(databases, name.as_bytes())?;
     let session = session_of(number.as_bytes())?;
     Some(Line::Statement {
         database,

@@ -31,14 +31,14 @@ pub(crate) fn database_name(place: usize) -> &'static str
 }
 
 /// The place of the database of a name, of so many databases.
-pub(crate) fn place_of(databases: usize, name: &str) -> Option<usize>
+pub(crate) fn place_of(databases: usize, name: &[u8]) -> Option<usize>
     requires { databases ≤ MAX_DATABASES }
     ensures { result ≡ place_of databases name.now }
 {
     let mut left = databases;
     while left > 0 {
         left -= 1;
-        if database_name(left) == name {
+        if database_name(left).as_bytes() == name {
             return Some(left);
         }
     }

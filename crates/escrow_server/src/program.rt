@@ -1,33 +1,37 @@
-ghost use Rattle.std.specs.Prelude.{◌≡◌, ◌≢◌, ◌⊎◌, ◌≤◌, ◌++◌, ℕ, List, Some, None, map, take, codes, IfOk, IfErr, IfSome, OnOk};
-ghost use Rattle.std.specs.Io.KnownBytes.{Keeps};
+ghost use Rattle.std.specs.Prelude.{◌≡◌, ◌≢◌, ◌⊎◌, ◌≤◌, ◌++◌, ℕ, List, Some, None, map, take, codes, [], IfErr, IfSome, IsSome, OnOk};
+ghost use Rattle.std.specs.Io.KnownBytes.{IsAtEnd, Keeps};
 ghost use Rattle.std.specs.Process.{exit_status};
 ghost use Rattle.escrow_core.specs.State.{State};
 ghost use Rattle.escrow_server.specs.declared.args.Args.{Args};
 ghost use Rattle.escrow_server.specs.Args.{asked_by, fault_status, refused_status};
-ghost use Rattle.escrow_server.specs.Output.{ServesWhole};
-ghost use Rattle.escrow_server.specs.Program.{empty_states, help_of, run_status, unread_status, EndsScript, SaysWhy, Stops, WritesFront, WritesNothing};
+ghost use Rattle.escrow_server.specs.Output.{states_of, AreUsable, ServesWhole};
+ghost use Rattle.escrow_server.specs.Program.{help_of, run_status, unread_status, AreFound, EndsOverFiles, EndsScript, SaysWhy, Stops, WritesFront, WritesNothing};
 
-use crate::args::{ArgFault, read_args};
+use crate::args::{ArgFault, Args, read_args};
 use crate::databases::open_databases;
 use crate::fault::RunFault;
 use crate::limits::MAX_DATABASES;
 use crate::serve::{serve_script, write_whole};
-use std::alloc::Global;
+use crate::stores::{InFiles, InMemory, OpenStore, file_of};
+use escrow_core::Database;
+use sqlite::Alter;
+use std::alloc::{AllocError, Global};
 use std::convert::AsStr;
 use std::env::Env;
 use std::io::{ErrorKind, Read, Write};
 use std::process::ExitCode;
 use std::{env, io};
 
-/// Runs the program: reads the words of its command line, makes the databases that they ask, and
-/// serves the script that comes from `input`, with the replies to `output`. Help goes to `output`
-/// too, and why the program ends early to `errors`.
+/// Runs the program: reads the words of its command line from `line`, opens the databases that they ask, in
+/// memory or in files, and serves the script that comes from `input`, with the replies to `output`. Help
+/// goes to `output` too, and why the program ends early to `errors`.
 ///
 /// Exit status: 0 when all was served and written, and for help; 1 when the script can't be read, a
 /// reply can't be written or memory is short; 2 for wrong arguments, one that isn't UTF-8 among them;
 /// 3 when the store of a database can't be opened, before anything is read.
-pub fn run_program<E: Env + AllocGlobal, R: Read, W: Write, F: Write>(
-    rt: &E,
+pub fn run_program<E: Env, R: Read, W: Write, F: Write>(
+    rt: &HostRuntime,
+    line: &E,
     input: &mut R,
     output: &mut W,
     errors: &mut F,
@@ -36,16 +40,16 @@ pub fn run_program<E: Env + AllocGlobal, R: Read, W: Write, F: Write>(
     ensures silent { exit_status result ≡ 0 → WritesNothing (F.contents errors.old) (F.contents errors.new) }
     ensures said { exit_status result ≢ 0 → SaysWhy (F.contents errors.old) (F.contents errors.new) }
 {
-    let status = match words(rt) {
-        Ok(words) => run_words(rt.alloc(), words.as_slice(), input, output, errors),
+    let status = match words(rt.alloc(), line) {
+        Ok(words) => run_words(rt, words.as_slice(), input, output, errors),
         Err(error) => without_words(errors, error.kind()),
     };
     ExitCode::from(status)
 }
 
 /// The words of the command line.
-fn words<E: Env + AllocGlobal>(rt: &E) -> io::Result<Vec<String>> {
-    Ok(env::args(rt)?.collect(rt.alloc())?)
+fn words<E: Env>(alloc: Global, line: &E) -> io::Result<Vec<String>> {
+    Ok(env::args(&(line, alloc))?.collect(alloc)?)
 }
 
 /// Says why the words can't be had, and answers the exit status.
@@ -67,15 +71,17 @@ fn without_words<F: Write>(errors: &mut F, error: ErrorKind) -> u8
 
 /// Runs the program with the words of its command line, its name first, and answers the exit status.
 fn run_words<S: AsStr, R: Read, W: Write, F: Write>(
-    alloc: Global,
+    rt: &HostRuntime,
     words: &[S],
     input: &mut R,
     output: &mut W,
     errors: &mut F,
 ) -> u8
-    // Words that ask have the script served, in as many databases as they ask.
-    ensures asked { (args : Args) → asked_by (map S.text words.now) ≡ Some args → IfSome (R.remaining input.old) (λ script.
+    // Words that ask have the script served, in as many databases as they ask: in memory, or in files.
+    ensures asked { (args : Args) → asked_by (map S.text words.now) ≡ Some args → args.path ≡ None → IfSome (R.remaining input.old) (λ script.
         EndsScript args.databases result script (R.remaining input.new) (W.contents output.old) (W.contents output.new)) }
+    ensures stored { (args : Args) → asked_by (map S.text words.now) ≡ Some args → IsSome args.path → IfSome (R.remaining input.old) (λ script.
+        EndsOverFiles result script (R.remaining input.new) (W.contents output.old) (W.contents output.new)) }
 
     // Other words end with the status of what is wrong with them, or that of memory; nothing is
     // read, and nothing written but help.
@@ -86,31 +92,83 @@ fn run_words<S: AsStr, R: Read, W: Write, F: Write>(
     ensures silent { result ≡ 0 → WritesNothing (F.contents errors.old) (F.contents errors.new) }
     ensures said { result ≢ 0 → SaysWhy (F.contents errors.old) (F.contents errors.new) }
 {
-    match read_args(alloc, words) {
-        Ok(args) => match serve_databases(alloc, args.databases, input, output) {
-            Ok(()) => 0,
-            Err(fault) => stop(alloc, errors, fault),
-        },
+    match read_args(rt.alloc(), words) {
+        Ok(args) => run_args(rt, &args, input, output, errors),
         Err(fault) => refuse(output, errors, &fault),
     }
 }
 
-/// Serves the script in so many databases without tables.
-fn serve_databases<R: Read, W: Write>(
+/// Serves the script in the databases that arguments ask, and answers the exit status.
+fn run_args<R: Read, W: Write, F: Write>(
+    rt: &HostRuntime,
+    args: &Args,
+    input: &mut R,
+    output: &mut W,
+    errors: &mut F,
+) -> u8
+    requires least { 1 ≤ args.now.databases }
+    requires most { args.now.databases ≤ MAX_DATABASES }
+    ensures memory { args.now.path ≡ None → IfSome (R.remaining input.old) (λ script.
+        EndsScript args.now.databases result script (R.remaining input.new) (W.contents output.old) (W.contents output.new)) }
+    ensures files { IfSome (R.remaining input.old) (λ script.
+        EndsOverFiles result script (R.remaining input.new) (W.contents output.old) (W.contents output.new)) }
+    ensures silent { result ≡ 0 → WritesNothing (F.contents errors.old) (F.contents errors.new) }
+    ensures said { result ≢ 0 → SaysWhy (F.contents errors.old) (F.contents errors.new) }
+{
+    let alloc = rt.alloc();
+    match &args.path {
+        None => {
+            let mut databases = Vec::new(alloc);
+            let served = serve_stores(
+                alloc,
+                &InMemory,
+                args.databases,
+                &mut databases,
+                input,
+                output,
+            );
+            status_of(alloc, errors, None, served)
+        }
+        Some(path) => {
+            let path = path.as_str();
+            let mut databases = Vec::new(alloc);
+            let served = serve_stores(
+                alloc,
+                &InFiles { rt, path },
+                args.databases,
+                &mut databases,
+                input,
+                output,
+            );
+            status_of(alloc, errors, Some(path), served)
+        }
+    }
+}
+
+/// Opens so many stores, and serves the script in the databases over them, which are left in `databases`.
+fn serve_stores<S: Alter + Drop, O: OpenStore<S>, R: Read, W: Write>(
     alloc: Global,
+    stores: &O,
     count: u8,
+    databases: &mut Vec<Database<S>>,
     input: &mut R,
     output: &mut W,
 ) -> Result<(), RunFault>
     requires least { 1 ≤ count }
     requires most { count ≤ MAX_DATABASES }
-    ensures served { OnOk result (IfSome (R.remaining input.old) (λ script. (new : List State)
-        × ServesWhole script (empty_states count) new (W.contents output.old) (W.contents output.new))) }
-    ensures stopped { IfErr result (λ fault. IfSome (R.remaining input.old) (λ script.
-        Stops fault count script (R.remaining input.new) (W.contents output.old) (W.contents output.new))) }
+    requires none { databases.old.items ≡ [] }
+    // Where each store can be used in the end, the script was served from the states that the stores held.
+    ensures served { AreUsable S.Store databases.new.items → OnOk result (IfSome (R.remaining input.old) (λ script. (old : List State)
+        × AreFound (O.may_hold stores.now) count old × ServesWhole script old (states_of databases.new.items) (W.contents output.old) (W.contents output.new))) }
+    ensures stopped { AreUsable S.Store databases.new.items → IfErr result (λ fault. IfSome (R.remaining input.old) (λ script.
+        Stops fault (AreFound (O.may_hold stores.now) count) (states_of databases.new.items) script (R.remaining input.new) (W.contents output.old) (W.contents output.new))) }
+
+    // Whatever the stores do, all of the script was read, or nothing was where a store isn't opened.
+    ensures end { OnOk result (IfSome (R.remaining input.old) (λ script. IsAtEnd (R.remaining input.new))) }
+    ensures unopened { IfErr result (λ fault. run_status fault ≡ 3 → Keeps (R.remaining input.old) (R.remaining input.new) × WritesNothing (W.contents output.old) (W.contents output.new)) }
 {
-    let mut databases = open_databases(alloc, count)?;
-    serve_script(alloc, &mut databases, input, output)?;
+    open_databases(alloc, stores, count, databases)?;
+    serve_script(alloc, databases, input, output)?;
     Ok(())
 }
 
@@ -140,17 +198,53 @@ fn print_help<W: Write>(output: &mut W, text: &str)
 /// What is said where memory is short.
 const NO_MEMORY: &str = "out of memory\n";
 
+/// The exit status of what was served, in stores at a path or in memory. Says why where that isn't all.
+fn status_of<F: Write>(
+    alloc: Global,
+    errors: &mut F,
+    path: Option<&str>,
+    served: Result<(), RunFault>,
+) -> u8
+    ensures ok { OnOk served (result ≡ 0) }
+    ensures err { IfErr served (λ fault. result ≡ run_status fault) }
+    ensures silent { result ≡ 0 → WritesNothing (F.contents errors.old) (F.contents errors.new) }
+    ensures said { result ≢ 0 → SaysWhy (F.contents errors.old) (F.contents errors.new) }
+{
+    match served {
+        Ok(()) => 0,
+        Err(fault) => stop(alloc, errors, path, fault),
+    }
+}
+
 /// Says why a script isn't served to its end, and answers the exit status.
-fn stop<F: Write>(alloc: Global, errors: &mut F, fault: RunFault) -> u8
+fn stop<F: Write>(alloc: Global, errors: &mut F, path: Option<&str>, fault: RunFault) -> u8
     ensures status { result ≡ run_status fault }
     ensures failed { 1 ≤ result }
     ensures said { SaysWhy (F.contents errors.old) (F.contents errors.new) }
 {
-    match format!(in alloc; "{fault}\n") {
+    match explained(alloc, path, fault) {
         Ok(text) => say_why(errors, text.as_str()),
         Err(_) => say_why(errors, NO_MEMORY),
     }
     fault.status()
+}
+
+/// Why a script isn't served to its end, with the file of a store that isn't opened.
+fn explained(alloc: Global, path: Option<&str>, fault: RunFault) -> Result<String, AllocError> {
+    match fault {
+        RunFault::Unserved(fault) => format!(in alloc; "{fault}\n"),
+        RunFault::Unopened {
+            database,
+            place,
+            cause,
+        } => match path {
+            None => format!(in alloc; "the store of {database} can't be opened: {cause}\n"),
+            Some(path) => {
+                let file = file_of(alloc, path, place)?;
+                format!(in alloc; "the store of {database}, `{file}`, can't be opened: {cause}\n")
+            }
+        },
+    }
 }
 
 /// Writes the program's name, a colon and a text. Where they can't be written, nothing is left to

@@ -3,7 +3,7 @@ ghost use Rattle.std.specs.Io.KnownBytes.{Appends, IsAtEnd};
 ghost use Rattle.sqlite.specs.Held.{state};
 ghost use Rattle.escrow_sql.specs.declared.statement.Statement.{Statement};
 ghost use Rattle.escrow_rows.specs.Answers.{IsUsable};
-ghost use Rattle.escrow_core.specs.Step.{StepOrRefusal};
+ghost use Rattle.escrow_core.specs.Step.{IsServed, StepOrRefusal};
 ghost use Rattle.escrow_server.specs.Output.{refusal_of, states_of, Answers, AreUsable, ServesBytes, ServesWhole, StopsWithin};
 
 use crate::fault::ServeFault;
@@ -11,9 +11,9 @@ use crate::limits::MAX_DATABASES;
 use crate::line::{Line, classify};
 use crate::names::database_name;
 use crate::script::Script;
-use escrow_core::{Database, Reply};
+use escrow_core::{Database, Event, Reply};
 use escrow_num::{Refusal, Session};
-use escrow_reply::{render, render_lines};
+use escrow_reply::{render, render_lines, render_whole};
 use escrow_sql::{ParseFault, Request, parse};
 use sqlite::Alter;
 use std::alloc::{AllocError, Global};
@@ -101,6 +101,10 @@ fn serve_line<S: Alter>(
     match classify(databases.len(), line) {
         Line::Nothing | Line::Join => Ok(Vec::new(alloc)),
         Line::NoLine => render_lines(alloc, "script> ", &Reply::Refused(Refusal::Line)),
+        Line::Restart { database } => {
+            let reply = restart(alloc, &mut databases[database]);
+            render_whole(alloc, database_name(database), &reply)
+        }
         Line::Statement {
             database,
             session,
@@ -109,6 +113,17 @@ fn serve_line<S: Alter>(
             let reply = answer(alloc, &mut databases[database], session, text);
             render(alloc, database_name(database), session, &reply)
         }
+    }
+}
+
+/// Restarts a database, and answers its reply.
+fn restart<S: Alter>(alloc: Global, database: &mut Database<S>) -> Reply
+    ensures served { IsUsable (state S.Store database.new.store) → IsServed database.old.state Event.Restart result database.new.state }
+    ensures usable { IsUsable (state S.Store database.new.store) → IsUsable (state S.Store database.old.store) }
+{
+    match database.restart(alloc) {
+        Ok(()) => Reply::Restarted,
+        Err(cause) => Reply::Refused(cause),
     }
 }
 

@@ -1,9 +1,15 @@
-//! The program `escrowd`: gives its command line and its streams to the library.
+//! The program `escrowd`: gives the runtime, its command line and its streams to the library.
 #![tactic(auto)]
 
 use escrow_server::run_program;
 use std::process::ExitCode;
 
 fn main(rt: HostRuntime) -> ExitCode {
-    run_program(&rt, &mut rt.stdin(), &mut rt.stdout(), &mut rt.stderr())
+    run_program(
+        &rt,
+        &rt,
+        &mut rt.stdin(),
+        &mut rt.stdout(),
+        &mut rt.stderr(),
+    )
 }

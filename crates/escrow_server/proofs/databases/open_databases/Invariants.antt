@@ -1,8 +1,11 @@
-use Rattle.std.proofs.Common.{◌≡◌}
-use Rattle.escrow_server.specs.Output.{states_of}
-use Rattle.escrow_server.specs.Program.{empty_states}
+use Rattle.std.proofs.Common.{◌≡◌, vec_len}
+use Rattle.escrow_server.specs.Output.{states_of, AreUsable}
+use Rattle.escrow_server.specs.Program.{AreFound}
 use Rattle.escrow_server.proofs.databases.open_databases.Given as goal
 
--- so many databases, each of them empty
+-- so many databases were opened, each as its store was found
 abbrev pub invariant-loop-place : goal.invariant-loop-place
-invariant-loop-place l = states_of l.databases.items ≡ empty_states l.place
+invariant-loop-place g l = record {
+  len : vec_len l.databases ≡ l.place;
+  found : AreUsable g.S.Store l.databases.items → AreFound (g.O.OpenStore.may_hold l.stores) l.place (states_of l.databases.items);
+}

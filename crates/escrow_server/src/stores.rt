@@ -1,0 +1,179 @@
+//! Where the stores of databases are.
+ghost use Rattle.std.specs.Prelude.{◌≡◌, ℕ, IfOk, ⊤, string_bytes};
+ghost use Rattle.sqlite.specs.Effect.{Database};
+ghost use Rattle.sqlite.specs.Held.{state};
+ghost use Rattle.escrow_cells.specs.Tables.{no_schema};
+ghost use Rattle.escrow_rows.specs.Answers.{IsUsable};
+ghost use Rattle.escrow_server.specs.Program.{file_of};
+
+use escrow_num::Refusal;
+use sqlite::{Alter, Connection, Error, ErrorCode, File, FileStore, MemStore, Options, Unknown};
+use sqlite_std_file::OpenError;
+use std::alloc::{AllocError, Global};
+use std::hash::{BuildHasher, RandomState};
+use std::io;
+use thiserror::Error as FaultError;
+
+/// Why a store isn't opened.
+#[derive(Clone, Copy, Debug, FaultError)]
+pub enum OpenFault {
+    /// Memory was refused.
+    #[error("out of memory")]
+    Memory,
+    /// The path is none that a store may have.
+    #[error("a path may not be empty, nor be `:memory:`, nor begin with `file:`")]
+    Path,
+    /// A folder or a device stands there, or the file has several names.
+    #[error("it is no plain file, or it has several names")]
+    NoFile,
+    /// The system doesn't open it.
+    #[error("{0}")]
+    System(io::Error),
+    /// Another program has it open.
+    #[error("another program has it open")]
+    InUse,
+    /// SQLite stopped in the middle of a write, and left a rollback journal, which only it can play back.
+    #[error("SQLite was stopped while it wrote there: open it with sqlite3 once, then here")]
+    Journal,
+    /// Something else is in it, or it was damaged.
+    #[error("it is no store of escrowd's: something else is in it, or it was damaged")]
+    Foreign,
+    /// It is a store of another format.
+    #[error("it was made by another version of escrowd")]
+    Version,
+    /// The disk is full.
+    #[error("the disk is full")]
+    Full,
+    /// It can't be read or written.
+    #[error("it can't be read or written")]
+    Store,
+}
+
+impl From<AllocError> for OpenFault {
+    fn from(_error: AllocError) -> OpenFault {
+        OpenFault::Memory
+    }
+}
+
+impl From<OpenError> for OpenFault {
+    fn from(error: OpenError) -> OpenFault {
+        match error {
+            OpenError::OutOfMemory => OpenFault::Memory,
+            OpenError::Busy => OpenFault::InUse,
+            OpenError::HotJournal => OpenFault::Journal,
+            OpenError::Io(error) => match error.kind() {
+                io::ErrorKind::OutOfMemory => OpenFault::Memory,
+                io::ErrorKind::Unsupported => OpenFault::NoFile,
+                _ => OpenFault::System(error),
+            },
+        }
+    }
+}
+
+impl From<Error> for OpenFault {
+    fn from(error: Error) -> OpenFault {
+        match error {
+            Error::SqliteFailure(ErrorCode::OutOfMemory) => OpenFault::Memory,
+            Error::SqliteFailure(ErrorCode::NotADatabase | ErrorCode::DatabaseCorrupt) => {
+                OpenFault::Foreign
+            }
+            Error::SqliteFailure(ErrorCode::DiskFull) => OpenFault::Full,
+            _ => OpenFault::Store,
+        }
+    }
+}
+
+impl From<Refusal> for OpenFault {
+    fn from(cause: Refusal) -> OpenFault {
+        match cause {
+            Refusal::Memory => OpenFault::Memory,
+            Refusal::ForeignStore => OpenFault::Foreign,
+            Refusal::UnknownVersion => OpenFault::Version,
+            _ => OpenFault::Store,
+        }
+    }
+}
+
+/// What opens the stores of databases.
+pub trait OpenStore<S: Alter> {
+    // What the store of the database at a place may hold as it is opened.
+    ghost may_hold: { Self → ℕ → Database → Type 0 };
+
+    /// Opens the store of the database at a place, counted from 0.
+    fn open(&self, alloc: Global, place: u8) -> Result<Connection<S>, OpenFault>
+        ensures { IfOk result (λ c. IsUsable (state S.Store c) → may_hold self.now place (state S.Store c).now) };
+}
+
+/// Stores in memory, which hold nothing at first.
+#[derive(Clone, Copy, Debug)]
+pub struct InMemory;
+
+impl OpenStore<MemStore> for InMemory {
+    ghost use Rattle.std.specs.Prelude.{◌≡◌};
+    ghost use Rattle.escrow_cells.specs.Tables.{no_schema};
+
+    ghost may_hold = { λ _ _ db. db.schema ≡ no_schema };
+
+    fn open(&self, alloc: Global, _place: u8) -> Result<Connection<MemStore>, OpenFault> {
+        match Connection::open_in_memory(alloc) {
+            Ok(connection) => Ok(connection),
+            Err(_) => Err(OpenFault::Memory),
+        }
+    }
+}
+
+/// Stores in files, of which no contract knows what they hold.
+#[derive(Clone, Copy)]
+pub struct InFiles<'a> {
+    /// What opens them.
+    pub rt: &'a HostRuntime,
+    /// The file of the first database.
+    pub path: &'a str,
+}
+
+impl OpenStore<FileStore<File>> for InFiles<'_> {
+    ghost use Rattle.std.specs.Prelude.{⊤};
+
+    ghost may_hold = { λ _ _ _. ⊤ };
+
+    fn open(&self, alloc: Global, place: u8) -> Result<Connection<FileStore<File>>, OpenFault> {
+        if !is_path(self.path) {
+            return Err(OpenFault::Path);
+        }
+        let file = file_of(alloc, self.path, place)?;
+        open_file(self.rt, file.as_str())
+    }
+}
+
+/// Whether a path may be that of a store. The words that SQLite takes for something else than a file are
+/// none.
+fn is_path(path: &str) -> bool {
+    !path.is_empty() && path != ":memory:" && !path.starts_with("file:")
+}
+
+/// The file of the database at a place, counted from 0: the path itself, or the path with a point and the
+/// database's number behind it.
+pub(crate) fn file_of(alloc: Global, path: &str, place: u8) -> Result<String, AllocError>
+    ensures { IfOk result (λ file. string_bytes file ≡ file_of path.now place) }
+{
+    if place == 0 {
+        String::from_str(alloc, path)
+    } else {
+        let number = u64::from(place) + 1;
+        format!(in alloc; "{path}.{number}")
+    }
+}
+
+/// Opens a file, or makes it. It is supposed of the disk that a write which a crash stops leaves each byte as it
+/// was or as it was to be.
+fn open_file(rt: &HostRuntime, path: &str) -> Result<Connection<FileStore<File>>, OpenFault> {
+    let files = sqlite_std_file::open(rt, path, Unknown)?;
+    let Ok(random) = RandomState::new(rt) else {
+        return Err(OpenFault::Store);
+    };
+    let options = Options::new(random.hash_one(&0u8));
+    match Connection::open_files_with(rt.alloc(), files, options, false) {
+        Ok(connection) => Ok(connection),
+        Err((error, _)) => Err(OpenFault::from(error)),
+    }
+}
