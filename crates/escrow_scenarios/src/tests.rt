@@ -8,7 +8,6 @@ mod lines;
 mod many;
 mod queries;
 mod reservations;
-mod restarts;
 mod savepoints;
 mod schemas;
 mod streams;
