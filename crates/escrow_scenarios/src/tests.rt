@@ -8,6 +8,7 @@ mod lines;
 mod many;
 mod queries;
 mod reservations;
+mod restarts;
 mod savepoints;
 mod schemas;
 mod streams;
