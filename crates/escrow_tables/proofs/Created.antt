@@ -9,11 +9,10 @@ use Rattle.std.proofs.lemmas.Bool.Decides.{Decides-int_eq}
 use Rattle.std.proofs.lemmas.List.{length-map}
 use Rattle.std.proofs.lemmas.List.Sorted.{IsPermutation-insert, IsPermutation-map, length_permutation}
 use Rattle.std.proofs.lemmas.Option.{none-some}
-use Rattle.sqlite_trees.proofs.ListLemmas.{all-map, all-permutation, all_weaker, along_permutation, filter_none}
+use Rattle.sqlite_trees.proofs.ListLemmas.{all-map, all-permutation, all_weaker, filter_none}
 use Rattle.sqlite_trees.specs.declared.store.Store.{Ghosts}
 use Rattle.sqlite.specs.Effect.{Database}
 use Rattle.sqlite.specs.Held.{Held, state}
-use Rattle.escrow_num.specs.Ascending.{IsAscending}
 use Rattle.escrow_num.specs.declared.row.Row.{Row}
 use Rattle.escrow_num.proofs.Items.{find_none, has_all}
 use Rattle.escrow_num.proofs.Orders.{name_same, same_name}
@@ -31,6 +30,7 @@ use Rattle.escrow_rows.specs.Image.{AreTables, AreRows, HasTable, rows_of, store
 use Rattle.escrow_rows.specs.View.{rows_in}
 use Rattle.escrow_rows.proofs.Cells.{row_in}
 use Rattle.escrow_rows.proofs.ImageTables.{has_permutation, still_found}
+use Rattle.escrow_rows.proofs.Listings.{apart_permutation}
 use Rattle.escrow_verify.specs.declared.counted.Counted.{Counted}
 use Rattle.escrow_tables.specs.Calls.{Writes}
 use Rattle.escrow_tables.specs.Inside.{HasCount, IsHeld, Keeps, catalog_of, stored_of}
@@ -49,25 +49,6 @@ unnamed tables name new = named_stored tables name ∙ at (counted_named tables 
     at : (o : Option Counted) → option_map (λ (c : Counted). c.stored.table) o ≡ None → option_map (λ (c : Counted). c.stored) o ≡ None
     at None e = refl
     at (Some c) e = absurd (none-some c.stored.table (sym e))
-
--- each item is apart from all others, in whatever order they stand
-module _ {A : Type 0} (apart : A → A → Bool) (back : (x y : A) → IsTrue (apart x y) → IsTrue (apart y x)) where
-  record AreApart (xs ys : List A) : Type 0 where
-    each : (x : A) → AllByRecursion (λ y. IsTrue (apart x y)) xs → AllByRecursion (λ y. IsTrue (apart x y)) ys
-    all : IsAscending apart xs → IsAscending apart ys
-
-  stay_apart : (xs ys : List A) → IsPermutation xs ys → AreApart xs ys
-  stay_apart = along_permutation AreApart
-      (λ xs. record { each = λ x h. h; all = λ h. h })
-      (λ x xs ys same. record { each = λ y h. (h.0, same.each y h.1); all = λ h. (same.each x h.0, same.all h.1) })
-      (λ x y xs. record {
-        each = λ z h. let rest = h.1 in (rest.0, (h.0, rest.1));
-        all = λ h. let first = h.0 in let rest = h.1 in ((back x y first.0, rest.0), (first.1, rest.1));
-      })
-      (λ xs ys zs first then. record { each = λ x h. then.each x (first.each x h); all = λ h. then.all (first.all h) })
-
-  pub apart_permutation : (xs ys : List A) → IsPermutation xs ys → IsAscending apart xs → IsAscending apart ys
-  apart_permutation xs ys same = (stay_apart xs ys same).all
 
 -- numbers and names that are the same, or differ, are so either way round
 ids_both : (a b : ℤ) → int_eq a b ≡ true → int_eq b a ≡ true
