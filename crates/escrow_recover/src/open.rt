@@ -47,6 +47,7 @@ pub fn open_store<S: Alter>(
     ensures bare { (state S.Store connection).now.schema ≡ no_schema → IfErr result (λ f. (f.cause ≡ refusal.Memory) ⊎ (f.cause ≡ refusal.Store)) }
     ensures foreign { IfErr result (λ f. IsUsable (state S.Store f.connection) → f.cause ≡ refusal.ForeignStore → IsNoStore (state S.Store connection).now) }
     ensures version { IfErr result (λ f. IsUsable (state S.Store f.connection) → f.cause ≡ refusal.UnknownVersion → HasOtherFormat (state S.Store connection).now) }
+    ensures other { IfErr result (λ f. IsUsable (state S.Store f.connection) → f.cause ≡ refusal.ForeignStore → HasOtherFormat (state S.Store connection).now → ⊥) }
 
     // The connection is then as it was.
     ensures kept { IfErr result (λ f. IsUsable (state S.Store f.connection) → (state S.Store f.connection).now ≡ (state S.Store connection).now) }
@@ -105,6 +106,7 @@ fn read_tables<S: Alter>(
     ensures cause { IfErr result (λ f. IsCause f.cause) }
     ensures foreign { IfErr result (λ f. IsUsable (state S.Store f.connection) → f.cause ≡ refusal.ForeignStore → IsNoStore (state S.Store connection).now) }
     ensures version { IfErr result (λ f. IsUsable (state S.Store f.connection) → f.cause ≡ refusal.UnknownVersion → HasOtherFormat (state S.Store connection).now) }
+    ensures other { IfErr result (λ f. IsUsable (state S.Store f.connection) → f.cause ≡ refusal.ForeignStore → HasOtherFormat (state S.Store connection).now → ⊥) }
     ensures outside { IfErr result (λ f. f.connection.in_transaction ≡ false) }
     ensures looks { IfOk result (λ t. Looks (state S.Store connection) (state S.Store t.store)) }
     ensures looks_refused { IfErr result (λ f. Looks (state S.Store connection) (state S.Store f.connection)) }

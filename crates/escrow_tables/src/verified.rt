@@ -27,6 +27,7 @@ impl<S: Alter> Tables<S> {
         ensures store { IfOk result (λ t. HasCleanDisk (state S.Store t.store) → IsTrue (state S.Store t.store).is_open × Holds t.catalog t.rows (state S.Store t.store).now × AllByRecursion (MeetsChecks t.catalog) t.rows) }
         ensures foreign { IfErr result (λ f. IsUsable (state S.Store f.0) → f.1 ≡ refusal.ForeignStore → IsNoStore (state S.Store store).now) }
         ensures version { IfErr result (λ f. IsUsable (state S.Store f.0) → f.1 ≡ refusal.UnknownVersion → HasOtherFormat (state S.Store store).now) }
+        ensures other { IfErr result (λ f. IsUsable (state S.Store f.0) → f.1 ≡ refusal.ForeignStore → HasOtherFormat (state S.Store store).now → ⊥) }
         ensures cause { IfErr result (λ f. IsCause f.1) }
         ensures looks { IfOk result (λ t. Looks (state S.Store store) (state S.Store t.store)) }
         ensures looks_refused { IfErr result (λ f. Looks (state S.Store store) (state S.Store f.0)) }

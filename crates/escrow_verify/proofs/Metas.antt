@@ -1,11 +1,11 @@
 -- What META says, once it is read.
-use Rattle.std.proofs.Common.{◌≡◌, ℤ, pos, List, [], ◌∷◌, refl, ap, subst, IsPermutation}
+use Rattle.std.proofs.Common.{◌≡◌, ℤ, pos, List, [], ◌∷◌, refl, sym, ap, ◌∙◌, subst, IsPermutation}
 use Rattle.std.proofs.lemmas.List.Sorted.{IsPermutation-sym}
 use Rattle.sqlite_value.specs.Order.{Row as SqlRow}
 use Rattle.sqlite.proofs.Callers.{one_permutation}
 use Rattle.sqlite.specs.Effect.{Database}
 use Rattle.escrow_cells.specs.Read.{Takes}
-use Rattle.escrow_cells.specs.Store.{HasTables, metas}
+use Rattle.escrow_cells.specs.Store.{IsStoreSchema, format, metas}
 use Rattle.escrow_verify.specs.declared.format.Meta.{Meta}
 use Rattle.escrow_verify.specs.declared.format.Meta.TheVariants.{Empty, Format, Other}
 use Rattle.escrow_verify.specs.Format.{Tells, format_row}
@@ -39,5 +39,12 @@ none_told db number meta read is =
     at Other rows one h = absurd (h.1 number one)
 
 -- the number of another format
-pub other_format : (db : Database) (number : ℤ) → HasTables db.schema → ¬ (number ≡ pos 1) → metas db ≡ format_row number ∷ [] → HasOtherFormat db
-other_format db number has other is = record { tables = has; number = number; other = other; format_is = is }
+pub other_format : (db : Database) (number : ℤ) → IsStoreSchema db.schema → ¬ (number ≡ pos 1) → metas db ≡ format_row number ∷ [] → HasOtherFormat db
+other_format db number has other is = record { schema = has; number = number; other = other; format_is = is }
+
+-- which the known format isn't
+pub not_other : (db : Database) → metas db ≡ format → HasOtherFormat db → ⊥
+not_other db known h =
+    let rows : format ≡ format_row h.number ∷ [] = sym known ∙ h.format_is in
+    let same : pos 1 ≡ h.number = cc in
+    h.other (sym same)

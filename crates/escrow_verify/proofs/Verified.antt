@@ -16,7 +16,8 @@ use Rattle.escrow_rows.specs.Image.{AreTables, rows_of}
 use Rattle.escrow_rows.proofs.ImageTables.{has_permutation}
 use Rattle.escrow_verify.specs.declared.counted.Counted.{Counted}
 use Rattle.escrow_verify.specs.Inside.{AreOfTables, AreRowsIn, AreTablesIn, HasRows, HaveRows, IsKnown}
-use Rattle.escrow_verify.specs.Stored.{HasCount, IsNoStore, IsStoreOf, catalog_of, stored_of}
+use Rattle.escrow_verify.specs.Stored.{HasCount, HasOtherFormat, IsNoStore, IsStoreOf, catalog_of, stored_of}
+use Rattle.escrow_verify.proofs.Metas.{not_other}
 use Rattle.escrow_verify.proofs.Back.{store_cells, store_rows, store_tables}
 use Rattle.escrow_verify.proofs.Only.{only_tables}
 use Rattle.escrow_verify.proofs.Parts.{counted_store}
@@ -29,6 +30,10 @@ passed_on (Err e) call why cause is was refused = let here : e ≡ cause = cc in
 -- what is clean was clean
 was_clean : (a b : State) → Looks a b → HasCleanDisk b → HasCleanDisk a
 was_clean a b looks clean = let more = looks.survives.clean in omega arith
+
+-- a database whose format was tested is of no other
+pub not_another : (first format last : State) → (HasCleanDisk format → IsTrue format.is_open × IsKnown first.now) → Looks format last → IsUsable last → HasOtherFormat first.now → ⊥
+not_another first format last known looks usable = not_other first.now (known (looks.usable usable).0).1.format_is
 
 -- tables are found in a store: its format is tested, then TAB is read
 pub record Finds (first format tab : State) (tables : List StoredTable) : Type 0 where

@@ -10,7 +10,7 @@ use Rattle.escrow_checks.specs.Grant.{Meets}
 use Rattle.escrow_schema.specs.declared.table.TableDef.{TableDef}
 use Rattle.escrow_schema.specs.Catalog.{table_named}
 use Rattle.escrow_schema.specs.Fit.{values_of}
-use Rattle.escrow_cells.specs.Store.{HasTables, metas}
+use Rattle.escrow_cells.specs.Store.{IsStoreSchema, metas}
 use Rattle.escrow_rows.specs.declared.stored.StoredTable.{StoredTable}
 use Rattle.escrow_rows.specs.Image.{CanBeHeld, IsImage, AreTables, AreRows, rows_of}
 use Rattle.escrow_verify.specs.declared.counted.Counted.{Counted}
@@ -36,9 +36,9 @@ pub record IsStoreOf (tables : List StoredTable) (rows : List Row) (db : Databas
 abbrev pub IsNoStore : Database → Type 0
 IsNoStore db = (tables : List StoredTable) (rows : List Row) → IsStoreOf tables rows db → ⊥
 
--- META has one row, which says that the store has another format
+-- META is that of a store, and has one row, which says that its format is another
 pub record HasOtherFormat (db : Database) : Type 0 where
-  pub tables : HasTables db.schema
+  pub schema : IsStoreSchema db.schema
   pub number : ℤ
   pub other : number ≢ pos 1
   pub format_is : metas db ≡ (Text (codes "format") ∷ Int number ∷ []) ∷ []

@@ -5,7 +5,7 @@ ghost use Rattle.sqlite_value.specs.Value.{owned};
 ghost use Rattle.sqlite.specs.Held.{state};
 ghost use Rattle.sqlite.specs.State.{HasCleanDisk};
 ghost use Rattle.escrow_num.specs.declared.refusal.Refusal.TheVariants as refusal;
-ghost use Rattle.escrow_cells.specs.Store.{HasTables, metas, format};
+ghost use Rattle.escrow_cells.specs.Store.{HasTables, IsStoreSchema, metas, format};
 ghost use Rattle.escrow_rows.specs.Answers.{IsUsable, Looks};
 ghost use Rattle.escrow_verify.specs.Inside.{IsKnown};
 ghost use Rattle.escrow_verify.specs.Stored.{HasOtherFormat, IsCause};
@@ -23,6 +23,7 @@ use sqlite::{Alter, Row};
 pub(crate) fn check_format<S: Alter>(store: &mut RowStore<S>) -> Result<(), Refusal>
     ensures known { HasCleanDisk (state S.Store store.new) → OnOk result (IsTrue (state S.Store store.new).is_open × IsKnown (state S.Store store.old).now) }
     ensures foreign { IsUsable (state S.Store store.new) → result ≡ Err refusal.ForeignStore → IsKnown (state S.Store store.old).now → ⊥ }
+    ensures other { IsUsable (state S.Store store.new) → result ≡ Err refusal.ForeignStore → HasOtherFormat (state S.Store store.old).now → ⊥ }
     ensures version { IsUsable (state S.Store store.new) → result ≡ Err refusal.UnknownVersion → HasOtherFormat (state S.Store store.old).now }
     ensures cause { IfErr result IsCause }
     ensures looks { Looks (state S.Store store.old) (state S.Store store.new) }
@@ -42,7 +43,8 @@ pub(crate) fn check_format<S: Alter>(store: &mut RowStore<S>) -> Result<(), Refu
 fn check_meta<S: Alter>(store: &mut RowStore<S>) -> Result<(), Refusal>
     ensures known { HasCleanDisk (state S.Store store.new) → OnOk result (IsTrue (state S.Store store.new).is_open × (HasTables (state S.Store store.old).now.schema → metas (state S.Store store.old).now ≡ format)) }
     ensures foreign { IsUsable (state S.Store store.new) → result ≡ Err refusal.ForeignStore → HasTables (state S.Store store.old).now.schema → metas (state S.Store store.old).now ≡ format → ⊥ }
-    ensures version { IsUsable (state S.Store store.new) → result ≡ Err refusal.UnknownVersion → HasTables (state S.Store store.old).now.schema → HasOtherFormat (state S.Store store.old).now }
+    ensures other { IsUsable (state S.Store store.new) → result ≡ Err refusal.ForeignStore → HasOtherFormat (state S.Store store.old).now → ⊥ }
+    ensures version { IsUsable (state S.Store store.new) → result ≡ Err refusal.UnknownVersion → IsStoreSchema (state S.Store store.old).now.schema → HasOtherFormat (state S.Store store.old).now }
     ensures cause { IfErr result IsCause }
     ensures looks { Looks (state S.Store store.old) (state S.Store store.new) }
 {

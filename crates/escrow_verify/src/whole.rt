@@ -28,14 +28,15 @@ use std::alloc::Global;
 ///
 /// # Errors
 ///
-/// [`Refusal::ForeignStore`] where it is the store of no tables and rows, [`Refusal::UnknownVersion`] where
-/// its format is another, [`Refusal::Memory`] for want of memory, and [`Refusal::Store`] where the store
-/// refuses a call.
+/// [`Refusal::UnknownVersion`] where its format is another, [`Refusal::ForeignStore`] where it is the store
+/// of no tables and rows otherwise, [`Refusal::Memory`] for want of memory, and [`Refusal::Store`] where the
+/// store refuses a call.
 pub fn verify<S: Alter>(alloc: Global, store: &mut RowStore<S>) -> Result<Vec<Counted>, Refusal>
     ensures tables { IfOk result (λ tables. AreTables (stored_of tables.items) × IsCatalog (catalog_of tables.items)) }
     ensures store { HasCleanDisk (state S.Store store.new) → IfOk result (λ tables. IsTrue (state S.Store store.new).is_open × (rows : List Row) × IsStoreOf (stored_of tables.items) rows (state S.Store store.old).now × AllByRecursion (HasCount rows) tables.items) }
     ensures foreign { IsUsable (state S.Store store.new) → result ≡ Err refusal.ForeignStore → IsNoStore (state S.Store store.old).now }
     ensures version { IsUsable (state S.Store store.new) → result ≡ Err refusal.UnknownVersion → HasOtherFormat (state S.Store store.old).now }
+    ensures other { IsUsable (state S.Store store.new) → result ≡ Err refusal.ForeignStore → HasOtherFormat (state S.Store store.old).now → ⊥ }
     ensures cause { IfErr result IsCause }
     ensures looks { Looks (state S.Store store.old) (state S.Store store.new) }
 {

@@ -10,6 +10,8 @@ returns-in_default-meta g c = record {
   known = λ clean. tt;
   foreign = λ usable same has is.
       c.in_default-meta.not-Format (pos 1) (none_told (state g.S.Store c.args.store.now).now (pos 1) c.metas.new.sink ((c.in_default.ensures.rows usable.0).1 has) is);
+  other = λ usable same is.
+      c.in_default-meta.not-Format is.number (none_told (state g.S.Store c.args.store.now).now is.number c.metas.new.sink ((c.in_default.ensures.rows usable.0).1 is.schema.tables) is.format_is);
   version = λ usable same. absurd (cc);
   cause = inr (inr (inl refl));
   looks = c.metas.ensures.looks;
@@ -24,4 +26,4 @@ returns-then-number-eq-KNOWN-clause-known g c = λ clean.
 pub returns-else-number-eq-KNOWN-clause-version : goal.returns-else-number-eq-KNOWN-clause-version
 returns-else-number-eq-KNOWN-clause-version g c = λ usable same has.
     let db = (state g.S.Store c.args.store.now).now in
-    other_format db c.in-Format.number has (λ number. c.if-number-eq-KNOWN.false (ap (of_z w64) number)) (format_told db c.in-Format.number c.metas.new.sink c.in-Format.is ((c.in_default.ensures.rows usable.0).1 has))
+    other_format db c.in-Format.number has (λ number. c.if-number-eq-KNOWN.false (ap (of_z w64) number)) (format_told db c.in-Format.number c.metas.new.sink c.in-Format.is ((c.in_default.ensures.rows usable.0).1 has.tables))

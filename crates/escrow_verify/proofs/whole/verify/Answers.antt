@@ -1,8 +1,9 @@
 use Rattle.std.proofs.Common.{sym, subst, List}
 use Rattle.sqlite.specs.Held.{state}
 use Rattle.escrow_rows.specs.declared.stored.StoredTable.{StoredTable}
+use Rattle.escrow_rows.proofs.Looking.{looks_then}
 use Rattle.escrow_verify.specs.Inside.{AreOfTables}
-use Rattle.escrow_verify.proofs.Verified.{passed_on, strange_cells, strange_rows, verified, verified_tables}
+use Rattle.escrow_verify.proofs.Verified.{not_another, passed_on, strange_cells, strange_rows, verified, verified_tables}
 use Rattle.escrow_verify.proofs.whole.verify.Goals as goal
 
 pub returns-in_err-check_cells-clause-foreign : goal.returns-in_err-check_cells-clause-foreign
@@ -12,6 +13,20 @@ returns-in_err-check_cells-clause-foreign g c = λ usable same.
     (state g.S.Store c.check_cells.new.store) c.check_cells.ensures.looks usable
     (λ has all. c.check_cells.ensures.foreign usable (passed_on c.from_residual-in_err-check_cells.result c.check_cells.result _ _ c.from_residual-in_err-check_cells.ensures.1 c.in_err-check_cells.was same) has
     (subst (λ (ts : List StoredTable). AreOfTables ts (state g.S.Store c.read_tables.new.store).now) (sym c.as_slice.ensures.value) all))
+
+pub returns-in_err-tables-clause-other : goal.returns-in_err-tables-clause-other
+returns-in_err-tables-clause-other g c = λ usable same.
+    not_another (state g.S.Store c.args.store.now) (state g.S.Store c.check_format.new.store) (state g.S.Store c.read_tables.new.store) c.in_ok-check_format.ensures.known c.read_tables.ensures.looks usable
+
+pub returns-in_err-check_cells-clause-other : goal.returns-in_err-check_cells-clause-other
+returns-in_err-check_cells-clause-other g c = λ usable same.
+    not_another (state g.S.Store c.args.store.now) (state g.S.Store c.check_format.new.store) (state g.S.Store c.check_cells.new.store) c.in_ok-check_format.ensures.known
+    (looks_then _ _ _ c.read_tables.ensures.looks c.check_cells.ensures.looks) usable
+
+pub returns-clause-other : goal.returns-clause-other
+returns-clause-other g c = λ usable same.
+    not_another (state g.S.Store c.args.store.now) (state g.S.Store c.check_format.new.store) (state g.S.Store c.count_all.new.store) c.in_ok-check_format.ensures.known
+    (looks_then _ _ _ (looks_then _ _ _ c.read_tables.ensures.looks c.check_cells.ensures.looks) c.count_all.ensures.looks) usable
 
 pub returns-clause-tables : goal.returns-clause-tables
 returns-clause-tables g c = verified_tables (λ v. v.items) c.count_all.result c.in_ok-tables.tables.items c.in_ok-tables.ensures.tables c.count_all.ensures.tables
