@@ -3,9 +3,11 @@ ghost use Rattle.std.specs.Prelude.{◌≡◌, ◌≤◌, vec_len, IfSome};
 
 mod changes;
 mod databases;
+mod files;
 mod journals;
 mod lines;
 mod many;
+mod program;
 mod queries;
 mod reservations;
 mod restarts;
@@ -15,6 +17,7 @@ mod streams;
 mod sums;
 mod tables;
 mod texts;
+mod words;
 
 use escrow_core::Database;
 use escrow_recover::open_store;

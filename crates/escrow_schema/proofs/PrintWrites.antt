@@ -10,7 +10,7 @@ use Rattle.std.proofs.lemmas.Bool.Decides.{nat_tests}
 use Rattle.escrow_num.specs.Name.{is_name_byte, spells_name}
 use Rattle.escrow_num.specs.declared.name.TheConstants.Name.{MAX_WRITTEN}
 use Rattle.escrow_sql.specs.Grammar.{many}
-use Rattle.escrow_sql.specs.Statement.{body, check, column, condition, constraint, create, digits, item, mark, name, request, signed_term, sum, table_statement, term, test, type_text}
+use Rattle.escrow_sql.specs.Statement.{body, check, column, condition, constraint, create, digits, item, mark, name, request, signed_term, sum, table_statement, term, test_part, type_text}
 use Rattle.escrow_sql.specs.Word.{reserved}
 use Rattle.escrow_sql.specs.declared.statement.Comparison.TheVariants as comparisons
 use Rattle.escrow_sql.specs.declared.statement.Item.{Item}
@@ -146,7 +146,7 @@ writes_form (n ∷ names) (c ∷ coeffs) written small whole some =
       | inr e ↦ rw e (writes_sum (writes_first_term c n parts.0 small.0) (later_behind names coeffs) (writes_later names coeffs parts.1 small.1))
     ]
 
-writes_test : (lo hi : Option ℤ) → (is_some lo || is_some hi) ≡ true → AreAmounts lo hi → Writes is_behind test (limit_words lo hi) (test_tree lo hi)
+writes_test : (lo hi : Option ℤ) → (is_some lo || is_some hi) ≡ true → AreAmounts lo hi → Writes is_behind test_part (limit_words lo hi) (test_tree lo hi)
 writes_test (Some lo) (Some hi) limited amounts =
     elim (cases_Bool (int_eq lo hi)) [
       | inl e ↦ rw e (writes_blank (writes_compare comparisons.Equal lo amounts.0))

@@ -249,6 +249,3 @@ fn wrong(alloc: Global, text: &str) -> ArgFault
         Err(_) => ArgFault::Memory,
     }
 }
-
-#[cfg(test)]
-mod tests;

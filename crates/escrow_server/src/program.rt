@@ -256,6 +256,3 @@ fn say_why<F: Write>(errors: &mut F, text: &str)
         let _ = write_whole(errors, text.as_bytes());
     }
 }
-
-#[cfg(test)]
-mod tests;

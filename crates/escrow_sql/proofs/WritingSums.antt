@@ -14,7 +14,7 @@ use Rattle.escrow_sql.specs.declared.token.Symbol.{Symbol}
 use Rattle.escrow_sql.specs.declared.token.Symbol.TheVariants as symbols
 use Rattle.escrow_sql.specs.declared.word.Word.TheVariants as words
 use Rattle.escrow_sql.specs.Grammar.{Grammar, many, sequence}
-use Rattle.escrow_sql.specs.Statement.{comparison, name, optional, sign, signed, signed_term, sum, term, test}
+use Rattle.escrow_sql.specs.Statement.{comparison, name, optional, sign, signed, signed_term, sum, term, test_part}
 use Rattle.escrow_sql.proofs.Writing.{Writes, is_behind, none_more, writes_both, writes_joined, writes_apart, writes_blank, writes_first, writes_left, writes_right, writes_meaning, writes_nothing}
 use Rattle.escrow_sql.proofs.WritingLists.{digits_no_minus, writes_signed}
 use Rattle.escrow_sql.proofs.WritingTokens.{no_minus, writes_number, writes_symbol, writes_symbol_apart, writes_word, written}
@@ -86,12 +86,12 @@ writes_comparison comparisons.AtLeast = writes_right (writes_right (writes_right
 writes_comparison comparisons.Equal = writes_right (writes_right (writes_right (writes_right (writes_meaning (writes_symbol_apart symbols.Equal)))))
 
 -- a comparison with a number
-pub writes_compare : (c : Comparison) (z : ℤ) → IsAmount z → Writes is_behind test (written (symbol_of c) ++ (codes " " ++ signed_decimal z)) (tests.Compare c (terms.Number z ∷ []))
-unfolding test
+pub writes_compare : (c : Comparison) (z : ℤ) → IsAmount z → Writes is_behind test_part (written (symbol_of c) ++ (codes " " ++ signed_decimal z)) (tests.Compare c (terms.Number z ∷ []))
+unfolding test_part
 writes_compare c z h = writes_left (writes_apart (writes_comparison c) refl (writes_blank (writes_number_sum z h)))
 
 pub writes_between : (lo hi : ℤ) → IsAmount lo → IsAmount hi
-    → Writes is_behind test (codes "BETWEEN " ++ (signed_decimal lo ++ (codes " AND " ++ signed_decimal hi))) (tests.Between lo hi)
-unfolding test
+    → Writes is_behind test_part (codes "BETWEEN " ++ (signed_decimal lo ++ (codes " AND " ++ signed_decimal hi))) (tests.Between lo hi)
+unfolding test_part
 writes_between lo hi l h =
     writes_right (writes_apart (writes_word words.Between) refl (writes_blank (writes_apart (writes_signed lo l) refl (writes_blank (writes_apart (writes_word words.And) refl (writes_blank (writes_signed hi h)))))))

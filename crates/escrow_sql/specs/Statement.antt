@@ -193,15 +193,15 @@ signed_term = sequence sign term signed
 unfoldable pub sum : Grammar (List Term)
 sum = sequence (sequence (optional false sign) term signed) (many signed_term (λ ts. ts)) (λ t ts. t ∷ ts)
 
--- test = comparison sum | BETWEEN snum AND snum
-unfoldable pub test : Grammar Test
-test =
+-- test_part = comparison sum | BETWEEN snum AND snum
+unfoldable pub test_part : Grammar Test
+test_part =
     sequence comparison sum (λ c s. tests.Compare c s)
     or word words.Between then sequence signed_number (word words.And then signed_number) (λ l h. tests.Between l h)
 
--- condition = sum test
+-- condition = sum test_part
 unfoldable pub condition : Grammar Condition
-condition = sequence sum test (λ s t. record { sum = s; test = t })
+condition = sequence sum test_part (λ s t. record { sum = s; test = t })
 
 -- constraint = [ CONSTRAINT name ]
 unfoldable pub constraint : Grammar (Option (List ℕ))

@@ -316,6 +316,3 @@ impl Statement {
         }
     }
 }
-
-#[cfg(test)]
-mod tests;

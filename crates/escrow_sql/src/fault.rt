@@ -31,13 +31,3 @@ impl<T: Drop> From<AllocFailed<T>> for ParseFault {
         ParseFault::Memory
     }
 }
-
-/// The column of a fault, or 0 where there is none.
-#[cfg(test)]
-pub(crate) fn column_of<T: Drop>(read: Result<T, ParseFault>) -> Result<u32, ParseFault> {
-    match read {
-        Ok(_) => Ok(0),
-        Err(ParseFault::Syntax { column }) => Ok(column),
-        Err(ParseFault::Memory) => Err(ParseFault::Memory),
-    }
-}

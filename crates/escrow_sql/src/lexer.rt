@@ -111,6 +111,3 @@ pub fn lex(alloc: Global, text: &str) -> Result<Seq<Token>, ParseFault>
     }
     Ok(tokens)
 }
-
-#[cfg(test)]
-mod tests;

@@ -244,6 +244,3 @@ pub fn parse(alloc: Global, text: &str) -> Result<Request, ParseFault>
         }),
     }
 }
-
-#[cfg(test)]
-mod tests;

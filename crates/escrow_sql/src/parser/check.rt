@@ -2,7 +2,7 @@ ghost use Rattle.std.specs.Prelude.{◌≡◌, pos, false, Some, None};
 ghost use Rattle.escrow_sql.specs.Grammar.{sequence};
 ghost use Rattle.escrow_sql.specs.Predictive.{run, starts, first};
 ghost use Rattle.escrow_sql.specs.Cursor.{Advances};
-ghost use Rattle.escrow_sql.specs.Statement.{optional, meaning, ◌then◌, word, symbol, name, number, sign, signed, signed_number, times, term, signed_term, sum, test, comparison, condition, constraint, check};
+ghost use Rattle.escrow_sql.specs.Statement.{optional, meaning, ◌then◌, word, symbol, name, number, sign, signed, signed_number, times, term, signed_term, sum, test_part, comparison, condition, constraint, check};
 ghost use Rattle.escrow_sql.specs.declared.statement.Term.TheVariants as terms;
 ghost use Rattle.escrow_sql.specs.declared.statement.Test.TheVariants as tests;
 ghost use Rattle.escrow_sql.specs.declared.token.Symbol.TheVariants as symbols;
@@ -160,9 +160,9 @@ impl Cursor<'_> {
     }
 
     /// `comparison sum | BETWEEN signed_number AND signed_number`
-    #[tactic(auto, unfolding(crate::specs::Statement::test, crate::specs::Statement::comparison))]
-    fn test(&mut self, alloc: Global) -> Result<Test, Halt>
-        ensures { Advances self.new.tokens.now result (run test self.old.tokens.now) }
+    #[tactic(auto, unfolding(crate::specs::Statement::test_part, crate::specs::Statement::comparison))]
+    fn test_part(&mut self, alloc: Global) -> Result<Test, Halt>
+        ensures { Advances self.new.tokens.now result (run test_part self.old.tokens.now) }
     {
         if !self.is_at_comparison() {
             return self.between();
@@ -172,13 +172,13 @@ impl Cursor<'_> {
         Ok(Test::Compare { comparison, sum })
     }
 
-    /// `sum test`
+    /// `sum test_part`
     #[tactic(auto, unfolding(crate::specs::Statement::condition))]
     fn condition(&mut self, alloc: Global) -> Result<Condition, Halt>
         ensures { Advances self.new.tokens.now result (run condition self.old.tokens.now) }
     {
         let sum = self.sum(alloc)?;
-        let test = self.test(alloc)?;
+        let test = self.test_part(alloc)?;
         Ok(Condition { sum, test })
     }
 
@@ -249,6 +249,3 @@ impl Part for Condition {
         cursor.condition(alloc)
     }
 }
-
-#[cfg(test)]
-mod tests;

@@ -1,5 +1,5 @@
-use crate::parser::parse;
-use crate::statement::Request;
+//! Statements that are copied, and told apart.
+use escrow_sql::{Request, parse};
 use std::test::Fail;
 
 #[test]

@@ -1,7 +1,7 @@
-use super::*;
-use crate::fault::column_of;
-use crate::token::{Kind, Symbol};
-use crate::word::Word;
+//! Tokens: their places, what they say, and the leftmost fault of a text.
+use super::column_of;
+use escrow_sql::{Kind, ParseFault, Symbol, Token, Word, lex};
+use std::alloc::Global;
 use std::test::Fail;
 
 #[test]

@@ -1,7 +1,6 @@
-use super::*;
-use crate::fault::{ParseFault, column_of};
-use crate::parser::parse;
-use crate::statement::{Item, Request, Statement};
+//! The conditions of a CHECK, and the first fault of one.
+use super::column_of;
+use escrow_sql::{Comparison, Condition, Item, ParseFault, Request, Statement, Term, Test, parse};
 use std::alloc::AllocGlobal;
 use std::process::Abort;
 use std::test::Fail;

@@ -1,6 +1,6 @@
-use super::*;
-use crate::fault::column_of;
-use crate::statement::{Assigned, ColumnMark, Item, Literal, TypeText};
+//! What statements ask, and the first fault of a text.
+use super::column_of;
+use escrow_sql::{Assigned, ColumnMark, Item, Literal, Request, Statement, TypeText, parse};
 use std::alloc::AllocGlobal;
 use std::process::Abort;
 use std::test::Fail;

@@ -1,4 +1,5 @@
-use super::*;
+//! The words of command lines, and what they ask.
+use escrow_server::{Mode, read_args};
 use std::test::Fail;
 
 /// Words, and the path and how many databases they ask.
