@@ -121,10 +121,7 @@ fn restart<S: Alter>(alloc: Global, database: &mut Database<S>) -> Reply
     ensures served { IsUsable (state S.Store database.new.store) → IsServed database.old.state Event.Restart result database.new.state }
     ensures usable { IsUsable (state S.Store database.new.store) → IsUsable (state S.Store database.old.store) }
 {
-    match database.restart(alloc) {
-        Ok(()) => Reply::Restarted,
-        Err(cause) => Reply::Refused(cause),
-    }
+    Reply::to_restart(database.restart(alloc))
 }
 
 /// Serves the text of a statement: a text that is none is refused, and changes nothing.
