@@ -36,7 +36,7 @@ pub record IsStoreOf (tables : List StoredTable) (rows : List Row) (db : Databas
 abbrev pub IsNoStore : Database → Type 0
 IsNoStore db = (tables : List StoredTable) (rows : List Row) → IsStoreOf tables rows db → ⊥
 
--- META is that of a store, and has one row, which says that its format is another
+-- the tables are those of a store, and META has one row, which says that the format is another
 pub record HasOtherFormat (db : Database) : Type 0 where
   pub schema : IsStoreSchema db.schema
   pub number : ℤ

@@ -6,7 +6,6 @@ use std::alloc::Global;
 
 impl<S: Alter> Database<S> {
     ghost use Rattle.std.specs.Prelude.{◌≡◌, ◌⊎◌, IfErr, OnOk, OnErr, IsTrue};
-    ghost use Rattle.std.specs.List.{AllByRecursion};
     ghost use Rattle.sqlite.specs.Held.{state};
     ghost use Rattle.sqlite.specs.State.{HasCleanDisk, Survives};
     ghost use Rattle.escrow_rows.specs.Answers.{IsUsable};
@@ -14,7 +13,6 @@ impl<S: Alter> Database<S> {
     ghost use Rattle.escrow_core.specs.Reply.{restart_reply};
     ghost use Rattle.escrow_core.specs.State.{opened};
     ghost use Rattle.escrow_core.specs.Step.{IsServed};
-    ghost use Rattle.escrow_core.specs.Valid.{MeetsChecks};
 
     /// Restarts the database: verifies its store, and then drops all reservations and savepoints; the next
     /// id is 1. Catalog and rows stay. Refused for want of memory (51), or where the store refuses or
@@ -23,9 +21,6 @@ impl<S: Alter> Database<S> {
         ensures event { IsUsable (state S.Store self.new.store) → IsServed self.old.state event.Restart (restart_reply result) self.new.state }
         ensures usable { IsUsable (state S.Store self.new.store) → IsUsable (state S.Store self.old.store) }
         ensures open { HasCleanDisk (state S.Store self.new.store) → OnOk result (IsTrue (state S.Store self.new.store).is_open) }
-
-        // All that is stored was read again: whatever was written there, each row meets the checks of its table.
-        ensures meet { IsUsable (state S.Store self.new.store) → OnOk result (AllByRecursion (MeetsChecks self.new.state.catalog) self.new.state.rows) }
 
         // Whatever the store is like, nothing is open after it, or all that was; and the catalog stays.
         ensures done { OnOk result (self.new.state ≡ opened self.old.state.catalog self.new.state.rows) }
