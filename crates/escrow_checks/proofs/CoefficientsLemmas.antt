@@ -1,11 +1,11 @@
 -- Coefficients in their place, with zeros behind them.
-use Rattle.std.proofs.Common.{◌≡◌, ℕ, suc, ◌+◌, ◌-◌, ◌≤◌, ◌<◌, ℤ, pos, List, [], ◌∷◌, ◌++◌, length, take, drop, set, get_or, replicate, refl, ap, ap₂, ◌∙◌, sym, subst, arith, append_assoc, length-append}
+use Rattle.std.proofs.Common.{◌≡◌, ℕ, suc, ◌+◌, ◌-◌, ◌≤◌, ◌<◌, ℤ, pos, List, [], ◌∷◌, ◌++◌, length, take, set, get_or, replicate, ap, ap₂, ◌∙◌, sym, subst, arith, append_assoc, length-append}
 use Rattle.std.specs.Prelude.{slice_set, All, bytes_eq, if◌then◌else◌, Bool, true, false, ◌&&◌, int_le, neg_ℤ, map}
 use Rattle.std.specs.List.{list_all}
 use Rattle.std.proofs.lemmas.Int.{ints}
 use Rattle.std.proofs.lemmas.Bool.{and_parts}
 use Rattle.std.proofs.lemmas.List.Folds.{list_all-map, list_all_at, list_all_more}
-use Rattle.std.proofs.lemmas.List.{drop-replicate, length-map, length-replicate, length-set, length-take-le, map-append, replicate-append-replicate, set-append_left, take_more, take_all}
+use Rattle.std.proofs.lemmas.List.{length-map, length-replicate, length-set, length-take-le, map-append, replicate-append-replicate, set-append_left, take_more, take_all}
 use Rattle.std.proofs.lemmas.List.Elements.{All-set, All-replicate, All-nil, All-cons}
 use Rattle.std.proofs.Math.Seq.{set-append_seam, take-append_seam}
 use Rattle.escrow_checks.specs.Checks.{unit_of, is_coefficient}
@@ -122,10 +122,3 @@ pub summed_kept : (f : List ℕ → ℤ) (columns : List (List ℕ)) (values : L
 summed_kept f columns values i is few small whole =
     let all : list_all is_coefficient (map f columns) ≡ true = sym (ap (λ (names : List (List ℕ)). list_all is_coefficient (map f names)) (take_all i columns (omega arith))) ∙ small in
     (mapped_kept f columns values i is few (All-small (map f columns) all) whole, all)
-
--- ---- a list of coefficients in front of zeros
-
-pub listed_kept : (coeffs front : List ℤ) (zero : ℤ) → zero ≡ pos 0 → front ≡ coeffs → AreCoefficients coeffs
-    → Keeps coeffs (front ++ drop (length coeffs) (replicate MAX_LEN zero)) (length coeffs)
-listed_kept coeffs front zero is_zero is are =
-    rw (is_zero, is) (kept coeffs (coeffs ++ drop (length coeffs) (replicate MAX_LEN (pos 0))) (length coeffs) refl are (ap (λ zs. coeffs ++ zs) (drop-replicate (length coeffs) MAX_LEN (pos 0))))

@@ -11,6 +11,5 @@ pub mod LinearLemmas
 pub mod NameLemmas
 pub mod Products
 pub mod ReachedLemmas
-pub mod SlowLemmas
 pub mod SpreadLemmas
 pub mod TermLemmas

@@ -101,8 +101,3 @@ fn product(coefficient: Amount, amount: Amount) -> Wide
 {
     Wide::new(i128::from(coefficient.get()) * i128::from(amount.get())).unwrap()
 }
-
-#[cfg(test)]
-mod slow;
-#[cfg(test)]
-mod tests;

@@ -136,6 +136,3 @@ impl Debug for Coefficients {
         self.as_slice().fmt(f)
     }
 }
-
-#[cfg(test)]
-pub(crate) mod listed;

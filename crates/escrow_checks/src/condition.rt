@@ -123,6 +123,3 @@ fn is_column(columns: &[Name], term: &Term) -> bool
         Term::Column { column, .. } => columns.contains(column),
     }
 }
-
-#[cfg(test)]
-mod tests;

@@ -9,6 +9,3 @@ pub mod laws;
 mod lists;
 
 pub use journal::Journal;
-
-#[cfg(test)]
-mod tests;

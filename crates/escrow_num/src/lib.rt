@@ -34,6 +34,3 @@ pub use span::{Side, Span};
 pub use text::Text;
 pub use value::{RowName, Value};
 pub use wide::Wide;
-
-#[cfg(test)]
-mod tests;

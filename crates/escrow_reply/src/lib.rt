@@ -12,6 +12,3 @@ mod values;
 mod words;
 
 pub use lines::{render, render_lines, render_whole};
-
-#[cfg(test)]
-mod tests;

@@ -1,29 +1,36 @@
-//! Scenarios across the crates: scripts that are served from their bytes to their replies.
+//! Scenarios across the crates: scripts that are served from their bytes to their replies, as data.
 //!
-//! The program serves the examples, over stores in memory and in files. Each is a file `NAME.script` of the folder that it is run in, and
-//! its replies have to be the file `NAME.replies` beside it. All other scenarios are tests, with
-//! readers and writers over memory.
+//! The program serves each file `NAME.script` of the folders `examples` and `scenarios` by the command line that a user would give,
+//! over stores in memory and in files, and says whether the replies are those of the file `NAME.replies` beside it.
+//!
+//! A scenario's two files have the same parts. A line `== TITLE` begins one. Each part is served in databases of its own, and
+//! comments at its head say how: `-- databases: 3` asks for so many, and `-- opened again` for the store of the part before it,
+//! in files alone. An example is one part without a title.
 #![tactic(auto)]
 
-use escrow_core::Database;
-use escrow_recover::open_store;
-use escrow_server::serve_script;
-use sqlite::{Alter, Connection};
-use std::alloc::Global;
+mod command_line;
+mod part;
+
+use command_line::CommandLine;
+use escrow_server::run_program;
+use part::{Part, parts};
+use std::process::ExitCode;
 use std::{fs, io};
 
 fn main(rt: HostRuntime) -> io::Result<()> {
-    for name in names(&rt)?.iter() {
-        let outcome = outcome(&rt, name.as_str())?;
-        println!(rt; "{name}: {outcome}")?;
+    for folder in ["examples", "scenarios"] {
+        for name in names(&rt, folder)?.iter() {
+            let path = format!(in rt.alloc(); "{folder}/{name}")?;
+            compare(&rt, path.as_str())?;
+        }
     }
     Ok(())
 }
 
-/// The names of the examples, in their order.
-fn names(rt: &HostRuntime) -> io::Result<Vec<String>> {
+/// The names of a folder's scripts, in their order.
+fn names(rt: &HostRuntime, folder: &str) -> io::Result<Vec<String>> {
     let mut names = Vec::new(rt.alloc());
-    for entry in fs::read_dir(rt, ".")? {
+    for entry in fs::read_dir(rt, folder)? {
         let entry = entry?;
         if let Some(name) = entry.file_name().strip_suffix(".script") {
             names.push(String::from_str(rt.alloc(), name)?)?;
@@ -33,49 +40,64 @@ fn names(rt: &HostRuntime) -> io::Result<Vec<String>> {
     Ok(names)
 }
 
-/// Serves an example over a store in memory and over one in a file, which it leaves beside the example,
-/// and says whether the replies are those expected.
-fn outcome(rt: &HostRuntime, name: &str) -> io::Result<&'static str> {
+/// Serves a script, and says whether its replies are those expected, or which aren't.
+fn compare(rt: &HostRuntime, path: &str) -> io::Result<()> {
     let alloc = rt.alloc();
-    let script = fs::read(rt, format!(in alloc; "{name}.script")?)?;
-    let expected = fs::read(rt, format!(in alloc; "{name}.replies")?)?;
-    let path = format!(in alloc; "{name}.db")?;
-    let in_memory = Connection::open_in_memory(alloc)?;
-    if !is_served(alloc, in_memory, script.as_slice(), expected.as_slice()) {
-        return Ok("other replies over a store in memory");
+    let script = fs::read(rt, format!(in alloc; "{path}.script")?)?;
+    let replies = fs::read(rt, format!(in alloc; "{path}.replies")?)?;
+    let scripts = parts(alloc, script.as_slice())?;
+    let expected = parts(alloc, replies.as_slice())?;
+    if scripts.len() != expected.len() {
+        println!(rt; "{path}: as many scripts as replies are wanted")?;
     }
-    let Ok(in_file) = Connection::open(rt, path.as_str()) else {
-        return Ok("no store in a file");
-    };
-    if !is_served(alloc, in_file, script.as_slice(), expected.as_slice()) {
-        return Ok("other replies over a store in a file");
+    let mut opened = 1;
+    for (number, (part, replies)) in (1..u32::MAX).zip(scripts.iter().zip(expected.iter())) {
+        if !part.is_opened_again() {
+            opened = number;
+        }
+        let store = format!(in alloc; "{path}-{opened}.db")?;
+        if let Some(fault) = fault(rt, part, replies, store.as_str()) {
+            tell(rt, path, fault, part)?;
+        }
     }
-    Ok("as expected")
+    println!(rt; "{path}: compared")
 }
 
-/// Whether these are the replies to a script, in a database without tables over the store of a connection.
-fn is_served<S: Alter + Drop>(
-    alloc: Global,
-    conn: Connection<S>,
-    script: &[u8],
-    expected: &[u8],
-) -> bool {
-    match replies(alloc, conn, script) {
-        Some(replies) => replies.as_slice() == expected,
-        None => false,
+/// Says of a part what is wrong with its replies.
+fn tell(rt: &HostRuntime, path: &str, fault: &str, part: &Part) -> io::Result<()> {
+    let title = str::from_utf8(part.title).unwrap_or_default();
+    println!(rt; "{path}: {fault}: {title}")
+}
+
+/// What is wrong with the replies to a part, if anything.
+fn fault(rt: &HostRuntime, part: &Part, replies: &Part, store: &str) -> Option<&'static str> {
+    if part.title != replies.title {
+        return Some("other titles");
     }
+    let count = part.databases();
+    let in_memory: &[&[u8]] = &[b"escrowd", b"run", b"--databases", count];
+    if !part.is_opened_again() && !is_served(rt, in_memory, part, replies) {
+        return Some("other replies over stores in memory");
+    }
+    let store = store.as_bytes();
+    let in_files: &[&[u8]] = &[b"escrowd", b"run", b"--databases", count, b"--store", store];
+    if !is_served(rt, in_files, part, replies) {
+        return Some("other replies over stores in files");
+    }
+    None
 }
 
-/// The replies to a script, in a database without tables over the store of a connection.
-fn replies<S: Alter + Drop>(alloc: Global, conn: Connection<S>, script: &[u8]) -> Option<Vec<u8>> {
-    let tables = open_store(alloc, conn).ok()?;
-    let database = Database::open(alloc, tables).ok()?;
-    let mut databases = Vec::new(alloc);
-    databases.push(database).ok()?;
-    let mut replies = Vec::new(alloc);
-    serve_script(alloc, &mut databases, &mut &script[..], &mut replies).ok()?;
-    Some(replies)
+/// Whether a command line serves a script to its end, with these replies.
+fn is_served(rt: &HostRuntime, words: &[&[u8]], script: &Part, replies: &Part) -> bool {
+    let mut input = script.text.as_slice();
+    let mut output = Vec::new(rt.alloc());
+    let mut said = Vec::new(rt.alloc());
+    let status = run_program(
+        rt,
+        &CommandLine { words },
+        &mut input,
+        &mut output,
+        &mut said,
+    );
+    status == ExitCode::SUCCESS && output == replies.text
 }
-
-#[cfg(test)]
-mod tests;

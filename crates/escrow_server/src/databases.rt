@@ -10,7 +10,7 @@ use crate::limits::MAX_DATABASES;
 use crate::names::database_name;
 use crate::stores::{OpenFault, OpenStore};
 use escrow_core::Database;
-use escrow_recover::open_store;
+use escrow_tables::open_store;
 use sqlite::{Alter, Connection};
 use std::alloc::Global;
 

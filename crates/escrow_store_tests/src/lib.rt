@@ -2,24 +2,4 @@
 #![tactic(auto)]
 
 #[cfg(test)]
-mod cells;
-#[cfg(test)]
-mod crashes;
-#[cfg(test)]
-mod databases;
-#[cfg(test)]
-mod disks;
-#[cfg(test)]
-mod files;
-#[cfg(test)]
-mod lent;
-#[cfg(test)]
-mod limits;
-#[cfg(test)]
-mod opened;
-#[cfg(test)]
-mod refusals;
-#[cfg(test)]
-mod rows;
-#[cfg(test)]
-mod stores;
+mod tests;

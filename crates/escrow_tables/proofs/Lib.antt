@@ -9,6 +9,7 @@ pub mod Named
 pub mod NewRows
 pub mod Numbers
 pub mod OneHeld
+mod Opening
 pub mod Placed
 pub mod Puts
 pub mod Reading

@@ -1,6 +1,7 @@
 pub mod Applied
 pub mod Calls
 pub mod Committed
+pub mod Found
 pub mod Inside
 pub mod Laws
 pub mod Puts

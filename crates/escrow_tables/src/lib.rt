@@ -1,12 +1,15 @@
 //! The committed tables of a database: their definitions, and their rows in a store that SQLite writes to.
 //!
 //! Its one contract: a call that writes makes the named change of the tables and rows, as plain lists, or
-//! leaves them; also over a crash.
+//! leaves them; also over a crash. What is opened ([`open_store`]) is read whole and left as it is, or refused where it isn't a
+//! store; a database without objects becomes an empty store, in one transaction.
 #![tactic(auto)]
 
 mod apply;
+mod bare;
 mod create;
 pub mod laws;
+mod open;
 mod read;
 mod tables;
 mod verified;
@@ -14,4 +17,5 @@ mod write;
 
 pub use escrow_rows::{Failure, StoredTable};
 pub use escrow_verify::refusal_of;
+pub use open::{StoreFault, open_store};
 pub use tables::Tables;

@@ -8,6 +8,3 @@ mod merge;
 mod table;
 
 pub use table::TxnTable;
-
-#[cfg(test)]
-mod tests;

@@ -1,0 +1,10 @@
+//! The tests.
+
+mod cells;
+mod crashes;
+mod databases;
+mod lent;
+mod opened;
+mod refusals;
+mod rows;
+mod stores;

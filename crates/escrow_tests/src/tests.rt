@@ -1,0 +1,7 @@
+//! The tests.
+
+mod checks;
+mod num;
+mod schema;
+mod sql;
+mod txn;

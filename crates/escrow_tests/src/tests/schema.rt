@@ -1,0 +1,350 @@
+//! Definitions with names that no text has, the longest printed text, rows of values, and the catalog.
+ghost use Rattle.std.specs.Prelude.{IfOk};
+ghost use Rattle.escrow_schema.specs.Definition.{IsTable};
+
+use escrow_num::{Name, Refusal, Row, Seq, Value, are_same};
+use escrow_schema::{
+    Catalog, TableDef, define, is_value, print_table, row_of, value_of, values_of,
+};
+use escrow_sql::{
+    ColumnText, CreateText, InsertText, Item, Literal, Request, Statement, TypeText, parse,
+};
+use std::alloc::{AllocError, Global};
+use std::process::Abort;
+use std::test::Fail;
+
+fn name(rt: &impl Abort, text: &str) -> Name {
+    Name::new(text.as_bytes()).expect(rt, "a name")
+}
+
+/// 0, or the number of the refusal.
+fn number_of<T: Drop>(answer: Result<T, Refusal>) -> u8 {
+    answer.err().map_or(0, |refusal| refusal.number())
+}
+
+/// What a CREATE TABLE asks.
+fn create_text(rt: &impl Abort, alloc: Global, text: &str) -> Result<CreateText, Fail> {
+    match parse(alloc, text)? {
+        Request::Statement(Statement::Create(create)) => Ok(create),
+        _ => panic!(rt; "no CREATE TABLE: {text}"),
+    }
+}
+
+/// What an INSERT asks.
+fn insert_text(rt: &impl Abort, alloc: Global, text: &str) -> Result<InsertText, Fail> {
+    match parse(alloc, text)? {
+        Request::Statement(Statement::Insert(insert)) => Ok(insert),
+        _ => panic!(rt; "no INSERT: {text}"),
+    }
+}
+
+/// The table that a text defines.
+fn table(rt: &impl Abort, alloc: Global, text: &str) -> Result<TableDef, Fail>
+    ensures { IfOk result IsTable }
+{
+    let create = create_text(rt, alloc, text)?;
+    Ok(define(alloc, &create)?)
+}
+
+/// A name of 30 bytes.
+const LONGEST: &str = "A23456789_123456789_123456789_";
+
+/// A name of 31 bytes.
+const TOO_LONG: &str = "A23456789_123456789_123456789_1";
+
+/// Names of a table, a column and a check, and the answer to a definition with them. The parser reads no names like those of
+/// the last six rows.
+const NAMES: [(&str, &str, &str, u8); 8] = [
+    ("T", "P", "C", 0),
+    (LONGEST, LONGEST, LONGEST, 0),
+    (TOO_LONG, "P", "C", 22),
+    ("T", TOO_LONG, "C", 22),
+    ("T", "P", TOO_LONG, 22),
+    ("SELECT", "P", "C", 22),
+    ("T", "WORK", "C", 22),
+    ("T", "P", "RESERVABLE", 22),
+];
+
+/// The text of a table with these names of its own, of a plain column and of a check.
+fn named_text(
+    rt: &impl Abort,
+    alloc: Global,
+    table: Name,
+    column: Name,
+    check: Name,
+) -> Result<CreateText, Fail> {
+    let text = "CREATE TABLE T (ID NUMBER PRIMARY KEY, A NUMBER RESERVABLE, CHECK (A >= 0))";
+    let mut items = create_text(rt, alloc, text)?.items.into_vec();
+    let Some(Item::Check(mut conditions)) = items.pop() else {
+        panic!(rt; "no check at the end: {text}");
+    };
+    conditions.name = Some(check);
+    items.push(Item::Check(conditions))?;
+    items.push(Item::Column(ColumnText {
+        name: column,
+        kind: TypeText::Integer,
+        marks: Seq::new(alloc),
+    }))?;
+    Ok(CreateText {
+        table,
+        items: Seq::from_vec(items),
+    })
+}
+
+/// A definition is refused where no text could have a name of it.
+#[test]
+fn keeps_to_names_that_can_be_written(rt: HostRuntime) -> Result<(), Fail> {
+    let alloc = rt.alloc();
+    for (table, column, check, want) in NAMES {
+        let text = named_text(
+            &rt,
+            alloc,
+            name(&rt, table),
+            name(&rt, column),
+            name(&rt, check),
+        )?;
+        let found = number_of(define(alloc, &text));
+        assert_eq!(rt; found, want, "{table} {column} {check}");
+    }
+    Ok(())
+}
+
+/// The places of the columns of the longest text.
+const COLUMNS: [&str; 10] = ["0", "1", "2", "3", "4", "5", "6", "7", "8", "9"];
+
+/// The places of its checks.
+const CHECKS: [&str; 32] = [
+    "10", "11", "12", "13", "14", "15", "16", "17", "18", "19", "20", "21", "22", "23", "24", "25",
+    "26", "27", "28", "29", "30", "31", "32", "33", "34", "35", "36", "37", "38", "39", "40", "41",
+];
+
+/// The form of the ten columns, with the longest names and coefficients.
+fn longest_form(alloc: Global) -> Result<String, AllocError> {
+    let mut form = String::new(alloc);
+    for place in COLUMNS {
+        form.push_str(if place == "0" { "-" } else { " - " })?;
+        form.push_str("1000000 * C")?;
+        form.push_str(place)?;
+        form.push_str("3456789_123456789_123456789_")?;
+    }
+    Ok(form)
+}
+
+/// Adds the longest check of a name, over a form.
+fn push_check(text: &mut String, place: &str, form: &str) -> Result<(), AllocError> {
+    text.push_str(", CONSTRAINT D")?;
+    text.push_str(place)?;
+    text.push_str("456789_123456789_123456789_ CHECK (")?;
+    text.push_str(form)?;
+    text.push_str(" BETWEEN -999999999999999 AND 999999999999999)")
+}
+
+/// The canonical text of a table with 10 RESERVABLE columns and 32 checks of all of them, with the
+/// longest names, coefficients and limits.
+fn longest_text(alloc: Global) -> Result<String, AllocError> {
+    let form = longest_form(alloc)?;
+    let mut text = String::from_str(
+        alloc,
+        "CREATE TABLE T23456789_123456789_123456789_ (K NUMBER(15) PRIMARY KEY",
+    )?;
+    for place in COLUMNS {
+        text.push_str(", C")?;
+        text.push_str(place)?;
+        text.push_str("3456789_123456789_123456789_ NUMBER(15) RESERVABLE")?;
+    }
+    for place in CHECKS {
+        push_check(&mut text, place, form.as_str())?;
+    }
+    text.push_str(")")?;
+    Ok(text)
+}
+
+/// The longest text, which no line of a script has, is read, and its table is printed as it.
+#[test]
+fn prints_the_longest_text(rt: HostRuntime) -> Result<(), Fail> {
+    let alloc = rt.alloc();
+    let text = longest_text(alloc)?;
+    let table = table(&rt, alloc, text.as_str())?;
+    let printed = print_table(alloc, &table)?;
+    assert_eq!(rt; printed.as_str(), text.as_str());
+    Ok(())
+}
+
+/// The plain columns LABEL, a text of 4 bytes, and SHELF, of two digits; STOCK, which is RESERVABLE; and behind
+/// it the key CODE, a text.
+const GOODS: &str = "CREATE TABLE GOODS (LABEL VARCHAR2(4), SHELF NUMBER(2), \
+    STOCK INTEGER RESERVABLE, CODE VARCHAR2(255), CHECK (STOCK >= 0), PRIMARY KEY (CODE))";
+
+/// Values, and whether they are those of a row of GOODS.
+const ROWS: [(&str, bool); 6] = [
+    ("INSERT INTO GOODS VALUES ('four', 99, 500, 'x')", true),
+    ("INSERT INTO GOODS VALUES ('fours', 99, 500, 'x')", false),
+    ("INSERT INTO GOODS VALUES ('four', 99, 500, '')", false),
+    ("INSERT INTO GOODS VALUES ('four', 99, 500)", false),
+    ("INSERT INTO GOODS VALUES ('fours', 99, 500)", false),
+    ("INSERT INTO GOODS VALUES ('four', 99, 500, 'x', 1)", false),
+];
+
+/// The values of literals, in order.
+fn values_in(alloc: Global, literals: &[Literal]) -> Result<Vec<Value>, AllocError> {
+    let mut values = Vec::new(alloc);
+    for literal in literals {
+        values.push(value_of(alloc, literal)?)?;
+    }
+    Ok(values)
+}
+
+/// The row is that of the label 'four', the shelf 99, a stock of 500 and the code 'x', and these are its values.
+fn expect_row(
+    rt: &impl Abort,
+    alloc: Global,
+    goods: &TableDef,
+    row: &Row,
+    values: &[Value],
+) -> Result<(), Fail> {
+    assert_eq!(rt; row.name.table.as_str(), "GOODS");
+    assert!(rt; matches!(&row.name.key, Value::Text(code) if code.as_str() == "x"));
+    assert!(rt; matches!(row.amounts.as_slice(), [stock] if stock.get() == 500));
+    assert!(rt;
+        matches!(row.plain.as_slice(), [Value::Text(label), Value::Number(shelf)] if label.as_str() == "four" && shelf.get() == 99)
+    );
+    let found = values_of(alloc, goods, row)?;
+    assert!(rt; are_same(found.as_slice(), values));
+    Ok(())
+}
+
+/// Values make a row where each fits its column, and there is one for each. They are then the values of that row.
+#[test]
+fn makes_rows_of_values(rt: HostRuntime) -> Result<(), Fail> {
+    let alloc = rt.alloc();
+    let goods = table(&rt, alloc, GOODS)?;
+    for (text, fits) in ROWS {
+        let insert = insert_text(&rt, alloc, text)?;
+        let values = values_in(alloc, insert.values.as_slice())?;
+        let row = row_of(alloc, &goods, values.as_slice())?;
+        assert_eq!(rt; row.is_some(), fits, "{text}");
+        if let Some(row) = row {
+            expect_row(&rt, alloc, &goods, &row, values.as_slice())?;
+        }
+    }
+    Ok(())
+}
+
+/// A literal is its own value, and no other: numbers are no texts, and the case of letters counts.
+#[test]
+fn tells_values_of_literals(rt: HostRuntime) -> Result<(), Fail> {
+    let alloc = rt.alloc();
+    let text = "INSERT INTO T VALUES (7, 8, '7', 'seven', 'SEVEN')";
+    let insert = insert_text(&rt, alloc, text)?;
+    let literals = insert.values.as_slice();
+    let values = values_in(alloc, literals)?;
+    for (i, literal) in literals.iter().enumerate() {
+        for (j, value) in values.as_slice().iter().enumerate() {
+            assert_eq!(rt; is_value(literal, value), i == j, "at {i} and {j}");
+        }
+    }
+    Ok(())
+}
+
+/// A table of a name.
+fn table_named(rt: &impl Abort, alloc: Global, name: Name) -> Result<TableDef, Fail>
+    ensures { IfOk result IsTable }
+{
+    let text = "CREATE TABLE T (ID NUMBER PRIMARY KEY, A NUMBER RESERVABLE)";
+    let mut create = create_text(rt, alloc, text)?;
+    create.table = name;
+    Ok(define(alloc, &create)?)
+}
+
+/// Tables that are added (`true`) or taken out, each with the answer, and the names of those that then stand.
+const STEPS: [(bool, &str, u8, &[&str]); 7] = [
+    (true, "B", 0, &["B"]),
+    (true, "C", 0, &["B", "C"]),
+    (true, "A", 0, &["A", "B", "C"]),
+    (true, "B", 20, &["A", "B", "C"]),
+    (false, "D", 21, &["A", "B", "C"]),
+    (false, "B", 0, &["A", "C"]),
+    (false, "B", 21, &["A", "C"]),
+];
+
+/// More of them, until as many stand as there may be; and one that stands is then told before want of room.
+const MORE: [(bool, &str, u8); 34] = [
+    (true, "T0", 0),
+    (true, "T1", 0),
+    (true, "T2", 0),
+    (true, "T3", 0),
+    (true, "T4", 0),
+    (true, "T5", 0),
+    (true, "T6", 0),
+    (true, "T7", 0),
+    (true, "T8", 0),
+    (true, "T9", 0),
+    (true, "T10", 0),
+    (true, "T11", 0),
+    (true, "T12", 0),
+    (true, "T13", 0),
+    (true, "T14", 0),
+    (true, "T15", 0),
+    (true, "T16", 0),
+    (true, "T17", 0),
+    (true, "T18", 0),
+    (true, "T19", 0),
+    (true, "T20", 0),
+    (true, "T21", 0),
+    (true, "T22", 0),
+    (true, "T23", 0),
+    (true, "T24", 0),
+    (true, "T25", 0),
+    (true, "T26", 0),
+    (true, "T27", 0),
+    (true, "T28", 0),
+    (true, "T29", 0),
+    (true, "U", 35),
+    (true, "T7", 20),
+    (false, "T7", 0),
+    (true, "U", 0),
+];
+
+/// The answer of a catalog that adds a table of a name, or takes it out.
+fn step(
+    rt: &impl Abort,
+    alloc: Global,
+    catalog: &mut Catalog,
+    adds: bool,
+    name: Name,
+) -> Result<u8, Fail> {
+    if adds {
+        return Ok(number_of(catalog.add(table_named(rt, alloc, name)?)));
+    }
+    match catalog.remove(name) {
+        Ok(taken) => {
+            assert_eq!(rt; taken.name, name);
+            Ok(0)
+        }
+        Err(refusal) => Ok(refusal.number()),
+    }
+}
+
+/// A catalog has its tables in order of name, each once, and 32 at most.
+#[test]
+fn keeps_tables_in_order(rt: HostRuntime) -> Result<(), Fail> {
+    let alloc = rt.alloc();
+    let mut catalog = Catalog::new(alloc);
+    for (adds, text, want, names) in STEPS {
+        let name = name(&rt, text);
+        let answer = step(&rt, alloc, &mut catalog, adds, name)?;
+        assert_eq!(rt; answer, want, "{text}");
+        let found = catalog.find(name).map(|table| table.name);
+        assert!(rt; found == if adds { Some(name) } else { None }, "{text}");
+        assert_eq!(rt; catalog.tables().len(), names.len(), "{text}");
+        for (table, want) in catalog.tables().iter().zip(names) {
+            assert_eq!(rt; table.name.as_str(), *want, "{text}");
+        }
+    }
+    for (adds, text, want) in MORE {
+        let answer = step(&rt, alloc, &mut catalog, adds, name(&rt, text))?;
+        assert_eq!(rt; answer, want, "{text}");
+    }
+    assert_eq!(rt; catalog.tables().len(), 32);
+    Ok(())
+}

@@ -1,0 +1,187 @@
+//! Tokens with their places, the leftmost fault of a text, and statements that are copied and told apart.
+use escrow_sql::{Kind, MAX_TEXT, ParseFault, Request, Symbol, Word, lex, parse};
+use std::alloc::Global;
+use std::test::Fail;
+
+/// The column of a fault, or 0 where there is none.
+fn column_of<T: Drop>(read: Result<T, ParseFault>) -> Result<u32, ParseFault> {
+    match read {
+        Ok(_) => Ok(0),
+        Err(ParseFault::Syntax { column }) => Ok(column),
+        Err(ParseFault::Memory) => Err(ParseFault::Memory),
+    }
+}
+
+/// Texts, and the column of what is no token, or 0 where all are tokens.
+const FAULTS: [(&str, u32); 19] = [
+    ("", 0),
+    ("5x", 0),
+    ("a ? !", 3),
+    ("aé", 2),
+    ("999999999999999", 0),
+    ("000000999999999999999", 0),
+    ("a 1000000000000000", 3),
+    ("abcdefghijklmnopqrstuvwxyz_$#0", 0),
+    (" abcdefghijklmnopqrstuvwxyz_$#01", 2),
+    ("a 'b''c", 3),
+    ("'''", 1),
+    ("a '\u{1f}''", 3),
+    ("'b\t\n'", 3),
+    ("a 'b\tc", 3),
+    ("a 'b\tc'", 5),
+    ("a '\u{7f}'", 4),
+    ("'é'", 0),
+    ("a -- '?\u{1}", 0),
+    ("a -- '?\r?\n ?", 12),
+];
+
+/// The leftmost fault is told; and one behind all is what stands past 65,536 bytes, which no line of a script has.
+#[test]
+fn finds_leftmost_fault(rt: HostRuntime) -> Result<(), Fail> {
+    let alloc = rt.alloc();
+    for (text, column) in FAULTS {
+        assert_eq!(rt; column_of(lex(alloc, text))?, column, "in {text}");
+    }
+    let mut text = String::from_str(alloc, "COMMIT")?;
+    for _ in text.len()..MAX_TEXT {
+        text.push(' ')?;
+    }
+    assert_eq!(rt; column_of(parse(alloc, text.as_str()))?, 0);
+    text.push(' ')?;
+    assert_eq!(rt; column_of(parse(alloc, text.as_str()))?, 65_537);
+    Ok(())
+}
+
+/// Each token says what it is, and where its bytes are.
+#[test]
+fn gives_tokens_with_their_places(rt: HostRuntime) -> Result<(), Fail> {
+    let tokens = lex(rt.alloc(), "sEt a$1<=-5--x\n'b''c'")?;
+    let [set, name, at_most, minus, five, quoted] = tokens.as_slice() else {
+        assert!(rt; false, "not six tokens");
+        return Ok(());
+    };
+    assert!(rt; matches!(&set.kind, Kind::Word(Word::Set)));
+    assert!(rt; matches!(&name.kind, Kind::Name(text) if text.as_str() == "A$1"));
+    assert!(rt; matches!(&at_most.kind, Kind::Symbol(Symbol::AtMost)));
+    assert!(rt; matches!(&minus.kind, Kind::Symbol(Symbol::Minus)));
+    assert!(rt; matches!(&five.kind, Kind::Number(number) if number.get() == 5));
+    assert!(rt; matches!(&quoted.kind, Kind::Text(text) if text.as_str() == "b'c"));
+    assert_eq!(rt; (name.start, name.end), (4, 7));
+    assert_eq!(rt; (at_most.start, at_most.end), (7, 9));
+    assert_eq!(rt; (quoted.start, quoted.end), (15, 21));
+    Ok(())
+}
+
+/// Pairs of statements that don't ask the same. Statements of each kind stand first in a pair.
+const PAIRS: [(&str, &str); 35] = [
+    ("DROP TABLE T", "SHOW TABLE T"),
+    (
+        "CREATE TABLE T (A VARCHAR2(9))",
+        "CREATE TABLE T (A VARCHAR2(8))",
+    ),
+    (
+        "CREATE TABLE T (A NUMBER PRIMARY KEY)",
+        "CREATE TABLE T (A NUMBER, PRIMARY KEY (A))",
+    ),
+    (
+        "CREATE TABLE T (CHECK (A + B < 5))",
+        "CREATE TABLE T (CHECK (A - B < 5))",
+    ),
+    (
+        "CREATE TABLE T (CHECK (A < 5))",
+        "CREATE TABLE T (CHECK (A < +4))",
+    ),
+    (
+        "CREATE TABLE T (CHECK (A < 5))",
+        "CREATE TABLE T (CHECK (A < 5 AND A < 5))",
+    ),
+    (
+        "CREATE TABLE T (CHECK (A BETWEEN 1 AND 5))",
+        "CREATE TABLE T (CHECK (A BETWEEN 1 AND 6))",
+    ),
+    (
+        "CREATE TABLE T (CHECK (A BETWEEN 1 AND 5))",
+        "CREATE TABLE T (CHECK (A >= 1 AND A <= 5))",
+    ),
+    (
+        "INSERT INTO T VALUES (1, 20)",
+        "INSERT INTO T (A, B) VALUES (1, 20)",
+    ),
+    (
+        "INSERT INTO T (A, B) VALUES (1, 20)",
+        "INSERT INTO T (B, A) VALUES (1, 20)",
+    ),
+    ("INSERT INTO T VALUES (1)", "INSERT INTO T VALUES ('1')"),
+    (
+        "UPDATE T SET B = 5 WHERE A = 1",
+        "UPDATE T SET B = B + 5 WHERE A = 1",
+    ),
+    (
+        "UPDATE T SET B = 5 WHERE A = 1",
+        "UPDATE T SET B = 5, B = 5 WHERE A = 1",
+    ),
+    ("DELETE FROM T WHERE A = 'a'", "DELETE FROM T WHERE A = 'A'"),
+    ("SELECT * FROM T", "SELECT * FROM T WHERE A = 1"),
+    ("SHOW BOUNDS T WHERE A = 1", "SHOW BOUNDS T WHERE B = 1"),
+    ("SHOW BOUNDS T WHERE A = 1", "DELETE FROM T WHERE A = 1"),
+    ("SHOW JOURNAL", "SHOW JOURNAL T"),
+    ("SHOW JOURNAL T", "SHOW JOURNAL U"),
+    ("SHOW JOURNAL T", "SHOW TABLE T"),
+    ("ROLLBACK", "ROLLBACK TO S"),
+    ("ROLLBACK TO R", "ROLLBACK TO S"),
+    ("ROLLBACK TO S", "SAVEPOINT S"),
+    ("SAVEPOINT R", "SAVEPOINT S"),
+    (
+        "CREATE TABLE T (A INTEGER PRIMARY KEY, B NUMBER(5) RESERVABLE CHECK (B >= 10))",
+        "CREATE TABLE T (A INTEGER PRIMARY KEY, B NUMBER(5) RESERVABLE CHECK (B > 10))",
+    ),
+    (
+        "CREATE TABLE T (A VARCHAR2(9), B NUMBER, PRIMARY KEY (A), CONSTRAINT C CHECK (B < 5))",
+        "CREATE TABLE T (A VARCHAR2(9), B NUMBER, PRIMARY KEY (A), CHECK (B < 5))",
+    ),
+    (
+        "CREATE TABLE T (CONSTRAINT C CHECK (2*A - B + 1 >= 5 AND A BETWEEN -1 AND 1 AND A = B))",
+        "CREATE TABLE T (CONSTRAINT D CHECK (2*A - B + 1 >= 5 AND A BETWEEN -1 AND 1 AND A = B))",
+    ),
+    (
+        "INSERT INTO T (B, A) VALUES (20, 'b''1')",
+        "INSERT INTO T (B, A) VALUES (20, 'b1')",
+    ),
+    (
+        "UPDATE T SET B = B - 5 WHERE A = 1",
+        "UPDATE T SET B = B + 5 WHERE A = 1",
+    ),
+    (
+        "UPDATE T SET A = 'é', B = 7, C = B + 1 WHERE A = 'a'",
+        "UPDATE T SET A = 'é', B = 7, C = C + 1 WHERE A = 'a'",
+    ),
+    (
+        "SELECT * FROM T WHERE A = 'a'",
+        "SELECT * FROM T WHERE B = 'a'",
+    ),
+    ("SHOW TABLE T", "SHOW TABLE U"),
+    ("SHOW BOUNDS T WHERE A = 'a'", "SHOW BOUNDS U WHERE A = 'a'"),
+    ("COMMIT", "ROLLBACK"),
+    ("SAVEPOINT S", "SAVEPOINT R"),
+];
+
+/// Whether a copy of the first text's statement is the same as it, and as that of the other text.
+fn copied(alloc: Global, text: &str, other: &str) -> Result<(bool, bool), ParseFault> {
+    let Request::Statement(statement) = parse(alloc, text)?;
+    let Request::Statement(other) = parse(alloc, other)?;
+    match statement.copy(alloc) {
+        Ok(copied) => Ok((copied.is_same(&statement), copied.is_same(&other))),
+        Err(_) => Err(ParseFault::Memory),
+    }
+}
+
+/// A copy of a statement is the same, and another one is not, although it may mean as much.
+#[test]
+fn copies_statements_and_tells_them_apart(rt: HostRuntime) -> Result<(), Fail> {
+    for (text, other) in PAIRS {
+        let (is_same, is_other) = copied(rt.alloc(), text, other)?;
+        assert!(rt; is_same, "at {text}");
+        assert!(rt; !is_other, "at {text}");
+    }
+    Ok(())
+}
