@@ -2,8 +2,8 @@
 use Rattle.sqlite.specs.declared.error.Error.{Error}
 use Rattle.sqlite.specs.declared.error.Error.TheVariants.{SqliteFailure}
 use Rattle.sqlite.specs.declared.error.ErrorCode.TheVariants.{OutOfMemory}
-use Rattle.escrow_cells.specs.declared.failure.Failure.{Failure}
-use Rattle.escrow_cells.specs.declared.failure.Failure.TheVariants.{Memory, Store}
+use Rattle.escrow_num.specs.declared.failure.Failure.{Failure}
+use Rattle.escrow_num.specs.declared.failure.Failure.TheVariants.{Memory, Store}
 
 -- want of memory is told as that, and any other error as the store's refusal
 abbrev pub failure_of : Error → Failure

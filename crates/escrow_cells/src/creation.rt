@@ -8,7 +8,8 @@ ghost use Rattle.escrow_cells.specs.Tables.{no_schema};
 ghost use Rattle.escrow_cells.specs.Store.{IsEmpty, Creates};
 ghost use Rattle.escrow_cells.specs.Making.{with_meta, with_tab, with_cell, IsBare, HasMade};
 
-use crate::failure::Failure;
+use crate::failure::failure_of;
+use escrow_num::Failure;
 use sqlite::{Alter, Connection, Error, Transaction};
 
 fn create_meta<S: Alter>(tx: &mut Transaction<'_, S>) -> Result<usize, Error>
@@ -83,8 +84,7 @@ pub fn create<S: Alter>(conn: &mut Connection<S>) -> Result<(), Failure>
     if !conn.is_autocommit() {
         return Err(Failure::Store);
     }
-    create_outside(conn)?;
-    Ok(())
+    create_outside(conn).map_err(failure_of)
 }
 
 /// The same, in a connection that is outside a transaction.

@@ -10,9 +10,10 @@ ghost use Rattle.escrow_cells.specs.Read.{Rests};
 ghost use Rattle.escrow_cells.specs.Store.{HasTables, AreNumbered, AreAllNumbered};
 ghost use Rattle.escrow_cells.specs.Tables.{meta_tree, tab_tree, cell_tree};
 
-use crate::failure::Failure;
+use crate::failure::failure_of;
 use crate::read::read_each;
 use crate::sink::Sink;
+use escrow_num::Failure;
 use sqlite::{Alter, Connection, Row};
 use sqlite_value::value::ValueRef;
 
@@ -55,7 +56,7 @@ impl Sink for Numbers {
     ghost has_taken = { λ first numbers rows. numbers ≡ with_numbers first rows };
 
     fn take(&mut self, row: &Row) -> Result<(), Failure> {
-        self.add(row.get_ref(0)?);
+        self.add(row.get_ref(0).map_err(failure_of)?);
         Ok(())
     }
 }

@@ -11,8 +11,9 @@ ghost use Rattle.escrow_cells.specs.Read.{AreOfRow, AreOfTable, AreKeys, AreTabl
 ghost use Rattle.escrow_cells.specs.Query.{OnlyReads};
 
 use crate::datum::Datum;
-use crate::failure::Failure;
+use crate::failure::failure_of;
 use crate::sink::{Counter, Sink};
+use escrow_num::Failure;
 use sqlite::types::{ToSql, ValueRef};
 use sqlite::{Alter, Connection, Row, params};
 
@@ -30,7 +31,10 @@ fn read_all<S: Alter>(
     if !conn.is_autocommit() {
         return Err(Failure::Store);
     }
-    Ok(conn.query_all(sql, params)?)
+    match conn.query_all(sql, params) {
+        Ok(rows) => Ok(rows),
+        Err(error) => Err(failure_of(error)),
+    }
 }
 
 /// The rows of a query, each given to a sink as it is read.
@@ -48,9 +52,16 @@ pub(crate) fn read_each<S: Alter, K: Sink>(
     if !conn.is_autocommit() {
         return Err(Failure::Store);
     }
-    let mut rows = conn.query(sql, params)?;
+    let mut rows = match conn.query(sql, params) {
+        Ok(rows) => rows,
+        Err(error) => return Err(failure_of(error)),
+    };
     'rows: for _ in 0..u64::MAX {
-        let Some(row) = rows.next()? else {
+        let next = match rows.next() {
+            Ok(next) => next,
+            Err(error) => return Err(failure_of(error)),
+        };
+        let Some(row) = next else {
             return Ok(());
         };
         sink.take(row)?;

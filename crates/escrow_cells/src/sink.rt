@@ -2,7 +2,7 @@
 ghost use Rattle.std.specs.Prelude.{List, [], ◌∷◌, ◌++◌, OnOk};
 ghost use Rattle.sqlite_value.specs.Order.{Row as Cells};
 
-use crate::failure::Failure;
+use escrow_num::Failure;
 use sqlite::Row;
 
 /// Takes rows, one after another.

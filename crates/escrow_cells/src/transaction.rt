@@ -5,9 +5,10 @@ ghost use Rattle.sqlite_trees.specs.Tree.{Trees};
 ghost use Rattle.sqlite.specs.Effect.{Database};
 ghost use Rattle.escrow_cells.specs.Step.{Does};
 
-use crate::failure::Failure;
+use crate::failure::failure_of;
 use crate::statement::do_step;
 use crate::step::Step;
+use escrow_num::Failure;
 use sqlite::{Alter, Connection, Error};
 
 /// Does steps, one after another, in one transaction: all of them, or none. A connection that is
@@ -23,8 +24,7 @@ pub fn run<S: Alter>(conn: &mut Connection<S>, steps: &[Step<'_>]) -> Result<(),
     if !conn.is_autocommit() {
         return Err(Failure::Store);
     }
-    transact(conn, steps)?;
-    Ok(())
+    transact(conn, steps).map_err(failure_of)
 }
 
 /// The same, in a connection that is outside a transaction.

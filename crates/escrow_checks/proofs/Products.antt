@@ -1,10 +1,9 @@
 -- Products of a coefficient and an amount: their sums, and their bounds.
-use Rattle.std.proofs.Common.{◌≡◌, ℕ, ◌*◌, ◌^◌, ◌≤◌, ℤ, pos, negsuc, ◌+ℤ◌, ◌*ℤ◌, ◌-ℤ◌, neg_ℤ, ◌≤ℤ◌, ap, ◌∙◌, arith}
+use Rattle.std.proofs.Common.{◌≡◌, ℕ, ◌*◌, ◌^◌, ◌≤◌, ℤ, pos, negsuc, ◌+ℤ◌, ◌*ℤ◌, ◌-ℤ◌, neg_ℤ, ◌≤ℤ◌, ap, ◌∙◌, arith, to_z, of_z, SFits}
 use Rattle.std.specs.Int.RustNames.{unsigned_abs}
 use Rattle.escrow_num.specs.Amount.{IsAmount}
 use Rattle.escrow_checks.specs.Coefficients.{IsCoefficient}
 use Rattle.escrow_checks.specs.Contribution.{IsProduct}
-use Rattle.std.proofs.Common.{to_z, of_z, SFits}
 use Rattle.std.specs.Int.{w128}
 use Rattle.std.proofs.lemmas.Int.{ints, unsigned_abs-mul, to_z-of_z, fits_signed_from_abs, fits_signed_mul}
 use Rattle.std.proofs.lemmas.Nat.{mul-le}

@@ -1,5 +1,5 @@
 -- Believed: the statements of the laws in src/laws.rt.
-use Rattle.std.specs.Prelude.{◌≡◌, ℕ, ℤ, ◌≤◌, ◌+ℤ◌, ◌≤ℤ◌, ◌<ℤ◌, ◌↔◌, Bool, not, List, [], ◌∷◌, ◌++◌, length, map, filter, All, Contains, Some, None, bytes_eq}
+use Rattle.std.specs.Prelude.{◌≡◌, ℕ, ℤ, pos, ◌≤◌, ◌+ℤ◌, ◌≤ℤ◌, ◌<ℤ◌, ◌↔◌, Bool, not, List, [], ◌∷◌, ◌++◌, length, map, filter, All, Contains, Some, None, bytes_eq}
 use Rattle.std.specs.List.{IsDistinct, flat_map}
 use Rattle.escrow_num.specs.Span.{Holds}
 use Rattle.escrow_num.specs.declared.span.Span.{Span}
@@ -8,7 +8,9 @@ use Rattle.escrow_num.specs.declared.span.Side.TheVariants.{Low, High}
 use Rattle.escrow_num.specs.declared.refusal.Breach.{Breach}
 use Rattle.escrow_sql.specs.declared.statement.CheckText.{CheckText}
 use Rattle.escrow_checks.specs.declared.check.Check.{Check}
-use Rattle.escrow_checks.specs.declared.condition.TheConstants.{MAX_CHECKS}
+use Rattle.escrow_checks.specs.declared.coefficients.TheConstants.Coefficients.{MAX, MAX_LEN}
+use Rattle.escrow_checks.specs.declared.condition.TheConstants.{MAX_CHECKS, MAX_COEFFICIENT}
+use Rattle.escrow_checks.specs.declared.spread.TheConstants.Spread.{MAX_OPEN}
 use Rattle.escrow_checks.specs.Checks.{checks_of, unit_of}
 use Rattle.escrow_checks.specs.Condition.{amount_of}
 use Rattle.escrow_checks.specs.DeclaredCheck.{IsDeclared}
@@ -128,3 +130,11 @@ NewRowIsSafe = (check : Check) (amounts : List ℤ) (reservations : List (List �
     → broken_by check amounts [] [] ≡ None
     → All (λ changes. changes ≡ []) reservations
     → AlwaysMeets check amounts reservations
+
+-- the limits of this layer, as numbers
+pub record Limits : Type 0 where
+  pub conditions : MAX_CHECKS ≡ 32
+  pub written_coefficients : MAX_COEFFICIENT ≡ pos 1000000
+  pub coefficients : MAX ≡ pos 1000000000000
+  pub terms : MAX_LEN ≡ 10
+  pub open_ones : MAX_OPEN ≡ 16384

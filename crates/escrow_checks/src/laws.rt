@@ -1,7 +1,7 @@
 //! Laws of checks and of the grant rule: facts about their definitions, each the contract of a
 //! function that does nothing. What keeps a database's state valid stands on them.
 
-ghost use Rattle.escrow_checks.specs.Laws.{ChecksMeanTheirTexts, ChecksAreWhole, ChecksAreDeclared, UnitGivesTheAmount, ExtremesAreReached, GrantedWhereAlwaysMet, GrantedWhereAllAlwaysMet, BoundsDecide, GrantedStaysSafe, RefusedNamesAChoice, AnyChoiceCanCommit, AnyChoiceCanRollBack, ChangesKeepTheNumber, OtherRowsStaySafe, NewRowIsSafe};
+ghost use Rattle.escrow_checks.specs.Laws.{ChecksMeanTheirTexts, ChecksAreWhole, ChecksAreDeclared, UnitGivesTheAmount, ExtremesAreReached, GrantedWhereAlwaysMet, GrantedWhereAllAlwaysMet, BoundsDecide, GrantedStaysSafe, RefusedNamesAChoice, AnyChoiceCanCommit, AnyChoiceCanRollBack, ChangesKeepTheNumber, OtherRowsStaySafe, NewRowIsSafe, Limits};
 ghost use Rattle.escrow_checks.specs.Spread.{OtherRowsAddNothing};
 
 /// A row meets all the checks that CHECKs declare exactly where it meets all the CHECKs as they are
@@ -93,4 +93,10 @@ pub fn new_row_is_safe()
 /// A reservation of another row adds nothing to a row's spread.
 pub fn other_rows_add_nothing()
     ensures { OtherRowsAddNothing }
+{}
+
+/// A table declares 32 conditions at most; a coefficient as it is written is at most 1,000,000, as it is kept
+/// at most 10^12, and a form has 10 at most; and at most 16,384 reservations are open, 256 of each session.
+pub fn limits()
+    ensures { Limits }
 {}

@@ -7,25 +7,26 @@ use Rattle.sqlite_trees.specs.declared.store.Store.{Ghosts}
 use Rattle.escrow_num.specs.declared.reservation.Reservation.{Reservation}
 use Rattle.escrow_num.specs.declared.row.Row.{Row}
 use Rattle.escrow_sql.specs.declared.statement.Statement.TheVariants as statement
-use Rattle.escrow_cells.specs.declared.failure.Failure.{Failure}
+use Rattle.escrow_num.specs.declared.failure.Failure.{Failure}
 use Rattle.escrow_journal.specs.Reservations.{own}
 use Rattle.escrow_tables.specs.Calls.{Writes}
 use Rattle.escrow_tables.specs.Committed.{Committed}
-use Rattle.escrow_tables.specs.Told.{told}
+use Rattle.escrow_num.specs.Refusal.{told}
 use Rattle.escrow_txn.specs.Open.{Open, ended}
-use Rattle.escrow_core.specs.declared.reply.Reply.{Reply}
-use Rattle.escrow_core.specs.declared.reply.Reply.TheVariants as reply
+use Rattle.escrow_machine.specs.declared.reply.Reply.{Reply}
+use Rattle.escrow_machine.specs.declared.reply.Reply.TheVariants as reply
 use Rattle.escrow_core.specs.Inside.{seen_of}
 use Rattle.escrow_core.specs.Seen.{IsKept}
 use Rattle.escrow_core.specs.Serves.{Serves}
-use Rattle.escrow_core.specs.Serving.{PassesEarly}
-use Rattle.escrow_core.specs.State.{State, applied}
-use Rattle.escrow_core.specs.Step.{step, StepOrRefusal}
-use Rattle.escrow_core.specs.Turn.{turn_of, after_commit, after_rollback}
-use Rattle.escrow_core.proofs.Applying.{applied_none}
+use Rattle.escrow_machine.specs.Accepted.{PassesEarly}
+use Rattle.escrow_machine.specs.State.{State}
+use Rattle.escrow_machine.specs.Rows.{applied}
+use Rattle.escrow_machine.specs.Step.{step, StepOrRefusal}
+use Rattle.escrow_machine.specs.Turn.{turn_of, after_commit, after_rollback}
+use Rattle.escrow_machine.proofs.Applying.{applied_none}
 use Rattle.escrow_core.proofs.Served.{commit_serves}
 use Rattle.escrow_core.proofs.Serving.{apart_keeps, served_apart, wrote, write_failed, wrote_keeps}
-use Rattle.escrow_core.proofs.ValidEnds.{commit_orderly, commit_valid, rollback_orderly, rollback_valid}
+use Rattle.escrow_machine.proofs.ValidEnds.{commit_orderly, commit_valid, rollback_orderly, rollback_valid}
 
 -- a list that isn't empty has items, and one that is has none
 pub holds_some : (all mine : List Reservation) → all ≡ mine → false ≡ (length all == 0) → nat_lt 0 (length mine) ≡ true
@@ -80,7 +81,7 @@ module _ {S : Type 0} (g : Ghosts S) (session : ℕ) (t : Committed S) (o : Open
         → Serves g session statement.Commit (seen_of t o) (done session o) (seen_of new (ended session o))
     committed holds writes =
         let s : State = (seen_of t o).state in
-        wrote g session statement.Commit t new o (ended session o) (done session o) (after_commit s session) holds (passes s session) refl writes (λ _. commit_step s session) refl
+        wrote g session statement.Commit t new o (ended session o) (done session o) (after_commit s session) holds (passes s session) refl refl writes (λ _. commit_step s session) refl
 
     pub committed_keeps : IsKept g (seen_of t o) → Writes g t new true t.catalog (applied t.rows (own session o.reservations)) → IsKept g (seen_of new (ended session o))
     committed_keeps kept writes =

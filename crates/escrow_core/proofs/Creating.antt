@@ -4,10 +4,10 @@ use Rattle.std.proofs.Common.{refl, ap, ◌∙◌}
 use Rattle.std.proofs.lemmas.Bool.{le-leb, lt-leb}
 use Rattle.sqlite_trees.specs.declared.store.Store.{Ghosts}
 use Rattle.escrow_num.specs.declared.refusal.Refusal.TheVariants as refusal
-use Rattle.escrow_num.specs.Refusal.{refuse_if}
+use Rattle.escrow_num.specs.Refusal.{refuse_if, told}
 use Rattle.escrow_sql.specs.declared.statement.CreateText.{CreateText}
 use Rattle.escrow_sql.specs.declared.statement.Statement.TheVariants as statement
-use Rattle.escrow_cells.specs.declared.failure.Failure.{Failure}
+use Rattle.escrow_num.specs.declared.failure.Failure.{Failure}
 use Rattle.escrow_schema.specs.declared.catalog.TheConstants.Catalog.{MAX_TABLES}
 use Rattle.escrow_schema.specs.declared.table.TableDef.{TableDef}
 use Rattle.escrow_schema.specs.Catalog.{table_named, with_table}
@@ -15,19 +15,18 @@ use Rattle.escrow_schema.specs.Definition.{definition_of}
 use Rattle.escrow_schema.proofs.LawLemmas.{name_of_table}
 use Rattle.escrow_tables.specs.Calls.{Writes}
 use Rattle.escrow_tables.specs.Committed.{Committed}
-use Rattle.escrow_tables.specs.Told.{told}
 use Rattle.escrow_txn.specs.Open.{Open}
-use Rattle.escrow_core.specs.declared.reply.Reply.TheVariants as reply
+use Rattle.escrow_machine.specs.declared.reply.Reply.TheVariants as reply
 use Rattle.escrow_core.specs.Inside.{seen_of}
 use Rattle.escrow_core.specs.Seen.{IsKept}
 use Rattle.escrow_core.specs.Serves.{Serves}
-use Rattle.escrow_core.specs.Serving.{IsRefusal, PassesEarly}
-use Rattle.escrow_core.specs.State.{State, is_open}
-use Rattle.escrow_core.specs.Step.{step}
-use Rattle.escrow_core.specs.Turn.{turn_of}
-use Rattle.escrow_core.proofs.Refusals.{passed, failed, none_there}
+use Rattle.escrow_machine.specs.Accepted.{IsRefusal, PassesEarly}
+use Rattle.escrow_machine.specs.State.{State, is_open}
+use Rattle.escrow_machine.specs.Step.{step}
+use Rattle.escrow_machine.specs.Turn.{turn_of}
+use Rattle.escrow_machine.proofs.Refusals.{passed, failed, none_there}
 use Rattle.escrow_core.proofs.Serving.{accepted_step, late_applies, none_applies, wrote, write_failed, wrote_keeps}
-use Rattle.escrow_core.proofs.ValidCreate.{create_orderly, create_valid}
+use Rattle.escrow_machine.proofs.ValidCreate.{create_orderly, create_valid}
 
 -- a table's name is new where no early refusal applies
 new_text : (s : State) (session : ℕ) (text : CreateText) → PassesEarly s session (statement.Create text) → table_named s.catalog text.table ≡ None
@@ -65,7 +64,7 @@ module _ {S : Type 0} (g : Ghosts S) (session : ℕ) (text : CreateText) (t new 
   pub created : Writes g t new true (with_table table t.catalog) t.rows → Serves g session (statement.Create text) (seen_of t o) (reply.Created text.table) (seen_of new o)
   created writes =
       let s : State = (seen_of t o).state in
-      wrote g session (statement.Create text) t new o o (reply.Created text.table) (record s { catalog = with_table table s.catalog }) refl early refl writes
+      wrote g session (statement.Create text) t new o o (reply.Created text.table) (record s { catalog = with_table table s.catalog }) refl early refl refl writes
       (λ _. created_step s session text table early made room) refl
 
   pub created_keeps : IsKept g (seen_of t o) → Writes g t new true (with_table table t.catalog) t.rows → IsKept g (seen_of new o)

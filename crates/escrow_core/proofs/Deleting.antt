@@ -5,28 +5,28 @@ use Rattle.sqlite.specs.Held.{state}
 use Rattle.sqlite_trees.specs.declared.store.Store.{Ghosts}
 use Rattle.escrow_num.specs.declared.refusal.Refusal.TheVariants as refusal
 use Rattle.escrow_num.specs.declared.value.RowName.{RowName}
-use Rattle.escrow_num.specs.Refusal.{refuse_if}
+use Rattle.escrow_num.specs.Refusal.{refuse_if, told}
 use Rattle.escrow_sql.specs.declared.statement.RowText.{RowText}
 use Rattle.escrow_sql.specs.declared.statement.Statement.TheVariants as statement
-use Rattle.escrow_cells.specs.declared.failure.Failure.{Failure}
+use Rattle.escrow_num.specs.declared.failure.Failure.{Failure}
 use Rattle.escrow_schema.specs.Catalog.{table_named}
 use Rattle.escrow_rows.specs.Answers.{IsUsable}
 use Rattle.escrow_tables.specs.Calls.{Writes}
 use Rattle.escrow_tables.specs.Committed.{Committed}
-use Rattle.escrow_tables.specs.Told.{told}
 use Rattle.escrow_txn.specs.Open.{Open}
-use Rattle.escrow_core.specs.declared.reply.Reply.TheVariants as reply
-use Rattle.escrow_core.specs.Asked.{key_refusal_of, named_by}
+use Rattle.escrow_machine.specs.declared.reply.Reply.TheVariants as reply
+use Rattle.escrow_machine.specs.Asked.{key_refusal_of, named_by}
 use Rattle.escrow_core.specs.Inside.{seen_of}
 use Rattle.escrow_core.specs.Seen.{Seen, IsKept}
 use Rattle.escrow_core.specs.Serves.{Serves}
-use Rattle.escrow_core.specs.Serving.{IsRefusal, PassesEarly}
-use Rattle.escrow_core.specs.State.{State, is_open, is_reserved, row_named, without_row}
-use Rattle.escrow_core.specs.Step.{step}
-use Rattle.escrow_core.specs.Turn.{turn_of}
-use Rattle.escrow_core.proofs.Refusals.{lacking, passed, standing, there}
+use Rattle.escrow_machine.specs.Accepted.{IsRefusal, PassesEarly}
+use Rattle.escrow_machine.specs.State.{State, is_open, is_reserved}
+use Rattle.escrow_machine.specs.Rows.{row_named, without_row}
+use Rattle.escrow_machine.specs.Step.{step}
+use Rattle.escrow_machine.specs.Turn.{turn_of}
+use Rattle.escrow_machine.proofs.Refusals.{lacking, passed, standing, there}
 use Rattle.escrow_core.proofs.Serving.{accepted_step, fails, late_applies, late_refused, none_applies, write_failed, write_keeps, wrote}
-use Rattle.escrow_core.proofs.ValidDelete.{delete_valid}
+use Rattle.escrow_machine.proofs.ValidDelete.{delete_valid}
 
 -- the table is there
 pub delete_table : (s : State) (session : ℕ) (text : RowText) → PassesEarly s session (statement.Delete text) → IsSome (table_named s.catalog text.table)
@@ -86,7 +86,7 @@ module _ {S : Type 0} (g : Ghosts S) (session : ℕ) (text : RowText) (name : Ro
       → (IsUsable (state g t.store) → IsSome (row_named t.rows name)) → is_reserved (seen_of t o).state name ≡ false
       → Writes g t new true t.catalog (without_row name t.rows) → Serves g session (statement.Delete text) (seen_of t o) reply.Deleted (seen_of new o)
   row_deleted t new o early stands free writes =
-      wrote g session (statement.Delete text) t new o o reply.Deleted (record (seen_of t o).state { rows = without_row name t.rows }) refl early refl writes
+      wrote g session (statement.Delete text) t new o o reply.Deleted (record (seen_of t o).state { rows = without_row name t.rows }) refl early refl refl writes
       (steps_by_name (seen_of t o) early stands free) refl
 
   pub delete_failed : (t new : Committed S) (o : Open) (f : Failure) → PassesEarly (seen_of t o).state session (statement.Delete text)

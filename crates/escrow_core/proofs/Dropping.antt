@@ -5,26 +5,26 @@ use Rattle.std.specs.Option.{option_copied}
 use Rattle.std.proofs.Common.{refl}
 use Rattle.sqlite_trees.specs.declared.store.Store.{Ghosts}
 use Rattle.escrow_num.specs.declared.refusal.Refusal.TheVariants as refusal
-use Rattle.escrow_num.specs.Refusal.{refuse_if, first_refusal}
+use Rattle.escrow_num.specs.Refusal.{refuse_if, first_refusal, told}
 use Rattle.escrow_sql.specs.declared.statement.Statement.TheVariants as statement
-use Rattle.escrow_cells.specs.declared.failure.Failure.{Failure}
+use Rattle.escrow_num.specs.declared.failure.Failure.{Failure}
 use Rattle.escrow_schema.specs.declared.table.TableDef.{TableDef}
 use Rattle.escrow_schema.specs.Catalog.{table_named, without_table}
 use Rattle.escrow_tables.specs.Calls.{Writes}
 use Rattle.escrow_tables.specs.Committed.{Committed}
-use Rattle.escrow_tables.specs.Told.{told}
 use Rattle.escrow_txn.specs.Open.{Open}
-use Rattle.escrow_core.specs.declared.reply.Reply.TheVariants as reply
+use Rattle.escrow_machine.specs.declared.reply.Reply.TheVariants as reply
 use Rattle.escrow_core.specs.Inside.{seen_of}
 use Rattle.escrow_core.specs.Seen.{IsKept}
 use Rattle.escrow_core.specs.Serves.{Serves}
-use Rattle.escrow_core.specs.Serving.{PassesEarly}
-use Rattle.escrow_core.specs.State.{State, is_open, is_table_reserved, without_rows_of}
-use Rattle.escrow_core.specs.Step.{step}
-use Rattle.escrow_core.specs.Turn.{turn_of, after_drop}
-use Rattle.escrow_core.proofs.Accepted.{DropStands, drop_stands}
+use Rattle.escrow_machine.specs.Accepted.{PassesEarly}
+use Rattle.escrow_machine.specs.State.{State, is_open, is_table_reserved}
+use Rattle.escrow_machine.specs.Rows.{without_rows_of}
+use Rattle.escrow_machine.specs.Step.{step}
+use Rattle.escrow_machine.specs.Turn.{turn_of, after_drop}
+use Rattle.escrow_machine.proofs.Accepted.{DropStands, drop_stands}
 use Rattle.escrow_core.proofs.Serving.{accepted_step, none_applies, wrote, write_failed, wrote_keeps}
-use Rattle.escrow_core.proofs.ValidDrop.{drop_orderly, drop_valid}
+use Rattle.escrow_machine.proofs.ValidDrop.{drop_orderly, drop_valid}
 
 -- a table that was found is there
 found_there : (o : Option (Bor TableDef)) (named : Option TableDef) → option_copied o ≡ named → is_some o ≡ true → is_none named ≡ false
@@ -60,7 +60,7 @@ module _ {S : Type 0} (g : Ghosts S) (session : ℕ) (name : List ℕ) (t new : 
   pub dropped : Writes g t new true (without_table name t.catalog) (without_rows_of name t.rows) → Serves g session (statement.Drop name) (seen_of t o) (reply.Dropped name) (seen_of new o)
   dropped writes =
       let s : State = (seen_of t o).state in
-      wrote g session (statement.Drop name) t new o o (reply.Dropped name) (after_drop s name) refl early refl writes (λ _. dropped_step s session name early) refl
+      wrote g session (statement.Drop name) t new o o (reply.Dropped name) (after_drop s name) refl early refl refl writes (λ _. dropped_step s session name early) refl
 
   pub dropped_keeps : IsKept g (seen_of t o) → Writes g t new true (without_table name t.catalog) (without_rows_of name t.rows) → IsKept g (seen_of new o)
   dropped_keeps kept writes =

@@ -7,7 +7,7 @@ use Rattle.sqlite_trees.specs.declared.store.Store.{Ghosts}
 use Rattle.escrow_num.specs.declared.refusal.Refusal.{Refusal}
 use Rattle.escrow_num.specs.declared.refusal.Refusal.TheVariants as refusal
 use Rattle.escrow_num.specs.declared.row.Row.{Row}
-use Rattle.escrow_num.specs.Refusal.{refuse_if, first_refusal}
+use Rattle.escrow_num.specs.Refusal.{refuse_if, first_refusal, told}
 use Rattle.escrow_num.proofs.Items.{find_has}
 use Rattle.escrow_num.proofs.Orders.{name_same}
 use Rattle.escrow_sql.specs.declared.statement.InsertText.{InsertText}
@@ -16,27 +16,26 @@ use Rattle.escrow_schema.specs.declared.table.TableDef.{TableDef}
 use Rattle.escrow_schema.specs.Catalog.{table_named}
 use Rattle.escrow_schema.specs.Fit.{IsRowOf, inserted_row}
 use Rattle.escrow_schema.proofs.LawLemmas.{rows_of_table}
-use Rattle.escrow_cells.specs.declared.failure.Failure.{Failure}
+use Rattle.escrow_num.specs.declared.failure.Failure.{Failure}
 use Rattle.escrow_rows.specs.Answers.{IsUsable}
-use Rattle.escrow_rows.specs.declared.stored.TheConstants.StoredTable.{MAX_ROWS}
+use Rattle.escrow_schema.specs.declared.table.TheConstants.TableDef.{MAX_ROWS}
 use Rattle.escrow_tables.specs.Calls.{Writes}
 use Rattle.escrow_tables.specs.Committed.{Committed}
-use Rattle.escrow_tables.specs.Told.{told}
 use Rattle.escrow_txn.specs.Open.{Open}
-use Rattle.escrow_core.specs.declared.reply.Reply.TheVariants as reply
-use Rattle.escrow_core.specs.Asked.{row_of, insert_breach}
+use Rattle.escrow_machine.specs.declared.reply.Reply.TheVariants as reply
+use Rattle.escrow_machine.specs.Asked.{row_of, insert_breach}
 use Rattle.escrow_core.specs.Inside.{seen_of}
 use Rattle.escrow_core.specs.Seen.{Seen, IsKept}
 use Rattle.escrow_core.specs.Serves.{Serves}
-use Rattle.escrow_core.specs.Serving.{IsAccepted, IsRefusal, PassesEarly}
-use Rattle.escrow_core.specs.State.{State, row_named, rows_of, with_row}
-use Rattle.escrow_core.specs.Step.{step}
-use Rattle.escrow_core.specs.Turn.{turn_of}
-use Rattle.escrow_core.specs.Valid.{HasTable}
-use Rattle.escrow_core.proofs.Refusals.{passed, failed, below}
-use Rattle.escrow_core.proofs.Safe.{some_from}
+use Rattle.escrow_machine.specs.Accepted.{IsAccepted, IsRefusal, PassesEarly}
+use Rattle.escrow_machine.specs.State.{State}
+use Rattle.escrow_machine.specs.Rows.{row_named, rows_of, with_row, HasTable}
+use Rattle.escrow_machine.specs.Step.{step}
+use Rattle.escrow_machine.specs.Turn.{turn_of}
+use Rattle.escrow_machine.proofs.Refusals.{passed, failed, below}
+use Rattle.escrow_machine.proofs.Safe.{some_from}
 use Rattle.escrow_core.proofs.Serving.{accepted_step, late_applies, none_applies, wrote, wrote_keeps, write_failed}
-use Rattle.escrow_core.proofs.Turns.{inserted_valid}
+use Rattle.escrow_machine.proofs.Turns.{inserted_valid}
 
 -- why a row of a name that no row has isn't put
 abbrev pub new_refusals : State → InsertText → List (Option Refusal)
@@ -141,7 +140,7 @@ module _ {S : Type 0} (g : Ghosts S) (session : ℕ) (text : InsertText) (row : 
   -- it was put
   pub put_serves : Writes g t new true t.catalog (with_row row t.rows) → Serves g session (statement.Insert text) (seen_of t o) reply.Inserted (seen_of new o)
   put_serves writes =
-      wrote g session (statement.Insert text) t new o o reply.Inserted (record (seen_of t o).state { rows = with_row row t.rows }) refl is_new.early refl writes steps refl
+      wrote g session (statement.Insert text) t new o o reply.Inserted (record (seen_of t o).state { rows = with_row row t.rows }) refl is_new.early refl refl writes steps refl
 
   pub put_keeps : IsKept g (seen_of t o) → Writes g t new true t.catalog (with_row row t.rows) → IsKept g (seen_of new o)
   put_keeps kept writes =

@@ -5,7 +5,7 @@ use Rattle.std.proofs.lemmas.List.{map-append, take_more}
 use Rattle.std.proofs.lemmas.List.Elements.{filter-append}
 use Rattle.escrow_num.specs.declared.reservation.Reservation.{Reservation}
 use Rattle.escrow_schema.specs.declared.table.TableDef.{TableDef}
-use Rattle.escrow_core.specs.Journal.{entry_of, of_table, named_changes}
+use Rattle.escrow_machine.specs.Journal.{entry_of, of_table, named_changes}
 
 of_table_append : (table : Option (List ℕ)) (xs ys : List Reservation) → of_table table (xs ++ ys) ≡ of_table table xs ++ of_table table ys
 of_table_append None xs ys = refl

@@ -15,14 +15,14 @@ use Rattle.escrow_schema.specs.declared.plan.Plan.TheVariants as plan
 use Rattle.escrow_schema.specs.declared.table.TableDef.{TableDef}
 use Rattle.escrow_schema.specs.Catalog.{table_named}
 use Rattle.escrow_schema.specs.Plan.{planned}
-use Rattle.escrow_cells.specs.declared.failure.Failure.{Failure}
-use Rattle.escrow_cells.specs.declared.failure.Failure.TheVariants as failure
-use Rattle.escrow_core.specs.Asked.{plan_of}
-use Rattle.escrow_core.specs.Serving.{IsAccepted, IsRefusal, PassesEarly}
-use Rattle.escrow_core.specs.State.{State}
-use Rattle.escrow_core.specs.Step.{refusals}
-use Rattle.escrow_core.specs.Turn.{turn_of, update_refusals}
-use Rattle.escrow_core.proofs.Shapes.{HasOrder, is_table_found}
+use Rattle.escrow_num.specs.declared.failure.Failure.{Failure}
+use Rattle.escrow_num.specs.declared.failure.Failure.TheVariants as failure
+use Rattle.escrow_machine.specs.Asked.{plan_of}
+use Rattle.escrow_machine.specs.Accepted.{IsAccepted, IsRefusal, PassesEarly}
+use Rattle.escrow_machine.specs.State.{State}
+use Rattle.escrow_machine.specs.Step.{refusals}
+use Rattle.escrow_machine.specs.Turn.{turn_of, update_refusals}
+use Rattle.escrow_machine.proofs.Shapes.{HasOrder, is_table_found}
 use Rattle.escrow_schema.proofs.LawLemmas.{few_reservable}
 use Rattle.escrow_schema.proofs.PlanLemmas.{plans_of_whole_row}
 

@@ -8,20 +8,20 @@ use Rattle.escrow_num.specs.Refusal.{first_refusal}
 use Rattle.escrow_sql.specs.declared.statement.Statement.{Statement}
 use Rattle.escrow_sql.specs.declared.statement.Statement.TheVariants as statement
 use Rattle.escrow_journal.specs.Reservations.{own}
-use Rattle.escrow_core.specs.declared.reply.Reply.{Reply}
-use Rattle.escrow_core.specs.declared.reply.Reply.TheVariants as reply
-use Rattle.escrow_cells.specs.declared.failure.Failure.{Failure}
-use Rattle.escrow_core.specs.Promised.{asks_store, needs_nothing, is_plain_refusal, is_promised}
-use Rattle.escrow_core.specs.Reply.{failure_of}
+use Rattle.escrow_machine.specs.declared.reply.Reply.{Reply}
+use Rattle.escrow_machine.specs.declared.reply.Reply.TheVariants as reply
+use Rattle.escrow_num.specs.declared.failure.Failure.{Failure}
+use Rattle.escrow_machine.specs.Promised.{asks_store, needs_nothing, is_plain_refusal, is_promised}
+use Rattle.escrow_machine.specs.Reply.{failure_of}
 use Rattle.escrow_core.specs.Seen.{Seen}
 use Rattle.escrow_core.specs.Serves.{Serves}
-use Rattle.escrow_core.specs.State.{State}
-use Rattle.escrow_core.specs.Step.{step, may_fail, IsStep}
-use Rattle.escrow_core.specs.Turn.{turn_of}
-use Rattle.escrow_core.proofs.LawsSteps.{step_has}
-use Rattle.escrow_core.proofs.Refusals.{first_among, first_in_front}
-use Rattle.escrow_core.proofs.TurnWords.{NeedsMore}
-use Rattle.escrow_core.proofs.Turns.{is_turn}
+use Rattle.escrow_machine.specs.State.{State}
+use Rattle.escrow_machine.specs.Step.{step, may_fail, IsStep}
+use Rattle.escrow_machine.specs.Turn.{turn_of}
+use Rattle.escrow_machine.proofs.LawsSteps.{step_has}
+use Rattle.escrow_machine.proofs.Refusals.{first_among, first_in_front}
+use Rattle.escrow_machine.proofs.TurnWords.{NeedsMore}
+use Rattle.escrow_machine.proofs.Turns.{is_turn}
 
 -- a reply that is a refusal without need is a refusal
 plain_refused : (asked : Statement) (answer : Reply) → is_plain_refusal asked answer ≡ true → (r : Refusal) × (answer ≡ reply.Refused r)

@@ -6,28 +6,28 @@ use Rattle.escrow_num.specs.declared.row.Row.{Row}
 use Rattle.escrow_num.specs.declared.value.RowName.{RowName}
 use Rattle.escrow_num.specs.Ascending.{IsAscending}
 use Rattle.escrow_num.specs.Order.{same_row}
-use Rattle.escrow_num.specs.Refusal.{refuse_if}
+use Rattle.escrow_num.specs.Refusal.{refuse_if, told}
 use Rattle.escrow_sql.specs.declared.statement.RowText.{RowText}
 use Rattle.escrow_sql.specs.declared.statement.SelectText.{SelectText}
 use Rattle.escrow_sql.specs.declared.statement.Statement.TheVariants as statement
 use Rattle.escrow_schema.specs.declared.table.TableDef.{TableDef}
 use Rattle.escrow_schema.specs.Catalog.{table_named}
 use Rattle.escrow_schema.specs.Print.{canonical}
-use Rattle.escrow_cells.specs.declared.failure.Failure.{Failure}
-use Rattle.escrow_cells.specs.declared.failure.Failure.TheVariants as failure
-use Rattle.escrow_tables.specs.Told.{told}
-use Rattle.escrow_core.specs.declared.reply.Reply.{Reply}
-use Rattle.escrow_core.specs.declared.reply.Reply.TheVariants as reply
-use Rattle.escrow_core.specs.Asked.{key_refusal_of, named_by, select_refusal_of, select_reply}
-use Rattle.escrow_core.specs.Bounds.{bounds_in, bounds_reply}
-use Rattle.escrow_core.specs.Journal.{journal_reply}
-use Rattle.escrow_core.specs.Serving.{IsAccepted, IsRefusal, PassesEarly, is_known}
-use Rattle.escrow_core.specs.State.{State, row_named}
-use Rattle.escrow_core.specs.Step.{StepOrRefusal}
-use Rattle.escrow_core.specs.Turn.{turn_of}
-use Rattle.escrow_core.specs.Valid.{row_before}
+use Rattle.escrow_num.specs.declared.failure.Failure.{Failure}
+use Rattle.escrow_num.specs.declared.failure.Failure.TheVariants as failure
+use Rattle.escrow_machine.specs.declared.reply.Reply.{Reply}
+use Rattle.escrow_machine.specs.declared.reply.Reply.TheVariants as reply
+use Rattle.escrow_machine.specs.Asked.{key_refusal_of, named_by, select_refusal_of, select_reply}
+use Rattle.escrow_machine.specs.Bounds.{bounds_in, bounds_reply}
+use Rattle.escrow_machine.specs.Journal.{journal_reply}
+use Rattle.escrow_machine.specs.Accepted.{IsAccepted, IsRefusal, PassesEarly}
+use Rattle.escrow_core.specs.Serving.{is_known}
+use Rattle.escrow_machine.specs.State.{State}
+use Rattle.escrow_machine.specs.Rows.{row_named, row_before}
+use Rattle.escrow_machine.specs.Step.{StepOrRefusal}
+use Rattle.escrow_machine.specs.Turn.{turn_of}
 use Rattle.escrow_rows.proofs.OneRow.{rows_named}
-use Rattle.escrow_core.proofs.Refusals.{lacking, none_there, passed, some_found, there}
+use Rattle.escrow_machine.proofs.Refusals.{lacking, none_there, passed, some_found, there}
 use Rattle.escrow_core.proofs.Serving.{fails, late_applies, none_applies}
 use Rattle.escrow_core.proofs.Served.{rule_serves, accepted_serves, memory_serves}
 

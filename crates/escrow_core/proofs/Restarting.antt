@@ -5,9 +5,9 @@ use Rattle.escrow_tables.specs.Committed.{Committed}
 use Rattle.escrow_txn.specs.Open.{Open, nothing_open}
 use Rattle.escrow_core.specs.Inside.{seen_of}
 use Rattle.escrow_core.specs.Seen.{IsKept}
-use Rattle.escrow_core.specs.State.{State}
-use Rattle.escrow_core.specs.Valid.{IsValid}
-use Rattle.escrow_core.proofs.ValidEmpty.{opened_orderly, opened_valid}
+use Rattle.escrow_machine.specs.State.{State}
+use Rattle.escrow_machine.specs.Valid.{IsValid}
+use Rattle.escrow_machine.proofs.ValidEmpty.{opened_orderly, opened_valid}
 
 pub restarted_keeps : {S : Type 0} (g : Ghosts S) (t new : Committed S) (o : Open) → IsKept g (seen_of t o) → Reads g t new → IsKept g (seen_of new nothing_open)
 restarted_keeps g t new o kept reads =

@@ -1,10 +1,10 @@
 -- A run of events, one more at its end.
 use Rattle.std.specs.Prelude.{List, [], ◌∷◌, ◌++◌}
 use Rattle.std.proofs.Common.{subst, refl}
-use Rattle.escrow_core.specs.declared.event.Event.{Event}
-use Rattle.escrow_core.specs.declared.reply.Reply.{Reply}
-use Rattle.escrow_core.specs.State.{State}
-use Rattle.escrow_core.specs.Step.{IsServed, IsRun}
+use Rattle.escrow_machine.specs.declared.event.Event.{Event}
+use Rattle.escrow_machine.specs.declared.reply.Reply.{Reply}
+use Rattle.escrow_machine.specs.State.{State}
+use Rattle.escrow_machine.specs.Step.{IsServed, IsRun}
 
 pub run_more : (s : State) (events : List Event) (answers : List Reply) (mid : State) (happened : Event) (answer : Reply) (new : State)
     → IsRun s events answers mid → IsServed mid happened answer new → IsRun s (events ++ happened ∷ []) (answers ++ answer ∷ []) new

@@ -9,30 +9,30 @@ use Rattle.sqlite_trees.specs.declared.store.Store.{Ghosts}
 use Rattle.sqlite_trees.specs.Tree.{Trees}
 use Rattle.escrow_num.specs.declared.refusal.Refusal.{Refusal}
 use Rattle.escrow_num.specs.declared.row.Row.{Row}
-use Rattle.escrow_num.specs.Refusal.{first_refusal}
+use Rattle.escrow_num.specs.Refusal.{first_refusal, told}
 use Rattle.escrow_sql.specs.declared.statement.Statement.{Statement}
 use Rattle.escrow_sql.specs.declared.statement.Statement.TheVariants as statement
-use Rattle.escrow_cells.specs.declared.failure.Failure.{Failure}
+use Rattle.escrow_num.specs.declared.failure.Failure.{Failure}
 use Rattle.escrow_rows.specs.Answers.{IsUsable}
 use Rattle.escrow_tables.specs.Calls.{Writes}
 use Rattle.escrow_tables.specs.Committed.{Committed, AreHeld}
-use Rattle.escrow_tables.specs.Told.{told}
 use Rattle.escrow_txn.specs.Open.{Open}
-use Rattle.escrow_core.specs.declared.reply.Reply.{Reply}
-use Rattle.escrow_core.specs.declared.reply.Reply.TheVariants as reply
+use Rattle.escrow_machine.specs.declared.reply.Reply.{Reply}
+use Rattle.escrow_machine.specs.declared.reply.Reply.TheVariants as reply
 use Rattle.escrow_core.specs.Inside.{seen_of}
-use Rattle.escrow_core.specs.Promised.{asks_store}
-use Rattle.escrow_core.specs.Reply.{failure_of, tells_write}
+use Rattle.escrow_machine.specs.Promised.{asks_store}
+use Rattle.escrow_machine.specs.Reply.{failure_of, is_refused, tells_write}
 use Rattle.escrow_core.specs.Seen.{Seen, IsKept}
 use Rattle.escrow_core.specs.Serves.{AreAfter, Serves}
-use Rattle.escrow_core.specs.Serving.{IsAccepted, IsRefusal, Looks, PassesEarly}
-use Rattle.escrow_core.specs.State.{State}
-use Rattle.escrow_core.specs.Step.{refusals, step, StepOrRefusal}
-use Rattle.escrow_core.specs.Turn.{turn_of}
-use Rattle.escrow_core.specs.Valid.{IsOrderly, AreSafeRows, IsValid}
-use Rattle.escrow_core.proofs.LawsSteps.{early_refusals_stand}
-use Rattle.escrow_core.proofs.Refusals.{first_behind, first_in_front}
-use Rattle.escrow_core.proofs.Served.{refused_serves, stepped}
+use Rattle.escrow_machine.specs.Accepted.{IsAccepted, IsRefusal, PassesEarly}
+use Rattle.escrow_core.specs.Serving.{Looks}
+use Rattle.escrow_machine.specs.State.{State}
+use Rattle.escrow_machine.specs.Step.{refusals, step, StepOrRefusal}
+use Rattle.escrow_machine.specs.Turn.{turn_of}
+use Rattle.escrow_machine.specs.Valid.{IsOrderly, AreSafeRows, IsValid}
+use Rattle.escrow_machine.proofs.LawsSteps.{early_refusals_stand}
+use Rattle.escrow_machine.proofs.Refusals.{first_behind, first_in_front}
+use Rattle.escrow_core.proofs.Served.{refused_serves, refused_stays, stepped}
 
 -- where no refusal applies the step is the turn's
 pub accepted_step : (s : State) (session : ℕ) (asked : Statement) → IsAccepted s session asked
@@ -115,6 +115,7 @@ module _ {S : Type 0} (g : Ghosts S) (session : ℕ) (asked : Statement) where
     usable = λ u. u;
     early = λ other first. (ap reply.Refused (early_answered d.state session asked r other is first), refl);
     apart = λ _. (refl, refused_serves d.state session asked r is);
+    refused = λ _. refl;
     survives = survives_itself (state g d.store) _;
     durable = λ e. absurd (no_write r e);
   }
@@ -129,14 +130,16 @@ module _ {S : Type 0} (g : Ghosts S) (session : ℕ) (asked : Statement) where
   pub served : (old new : Seen S) (answer : Reply) → asks_store old.state session asked ≡ true → PassesEarly old.state session asked
       → (IsUsable (state g new.store) → StepOrRefusal old.state session asked answer new.state)
       → (IsUsable (state g new.store) → IsUsable (state g old.store))
+      → (IsTrue (is_refused answer) → new.state ≡ record old.state { rows = new.state.rows })
       → Survives (state g old.store) (state g new.store) (λ trees. IsTrue (state g old.store).is_open → AreAfter old.state session asked trees)
       → (IsTrue (tells_write answer) → HasCleanDisk (state g new.store) → (trees : Trees) → (state g new.store).may_leave trees → AreHeld new.state.catalog new.state.rows trees)
       → Serves g session asked old answer new
-  served old new answer asks early event usable survives durable = record {
+  served old new answer asks early event usable refused survives durable = record {
     event = event;
     usable = usable;
     early = λ r first. let both : None ≡ Some r = sym early ∙ first in absurd (cc);
     apart = λ not_asked. absurd (false≢true (sym not_asked ∙ asks));
+    refused = refused;
     survives = survives;
     durable = durable;
   }
@@ -145,7 +148,7 @@ module _ {S : Type 0} (g : Ghosts S) (session : ℕ) (asked : Statement) where
   pub answered : (d : Seen S) (answer : Reply) → asks_store d.state session asked ≡ true → PassesEarly d.state session asked → tells_write answer ≡ false
       → (IsUsable (state g d.store) → StepOrRefusal d.state session asked answer d.state) → Serves g session asked d answer d
   answered d answer asks early quiet event =
-      served d d answer asks early event (λ u. u) (survives_itself (state g d.store) _) (λ e. absurd (false≢true (sym quiet ∙ e)))
+      served d d answer asks early event (λ u. u) (λ _. refl) (survives_itself (state g d.store) _) (λ e. absurd (false≢true (sym quiet ∙ e)))
 
   -- refused for what was looked at
   pub late_refused : (d : Seen S) (r : Refusal) → asks_store d.state session asked ≡ true → PassesEarly d.state session asked
@@ -167,7 +170,8 @@ module _ {S : Type 0} (g : Ghosts S) (session : ℕ) (asked : Statement) where
       looks.survives serves.survives in
       served old new answer asks early
       (λ u. subst (λ (s : State). StepOrRefusal s session asked answer new.state) (looks.same (serves.usable u)) (serves.event u))
-      (λ u. looks.usable (serves.usable u)) crashes serves.durable
+      (λ u. looks.usable (serves.usable u))
+      (λ is. serves.refused is ∙ ap (λ (s : State). record s { rows = new.state.rows }) looks.rest) crashes serves.durable
 
   -- a statement is served that leaves the store, and tells of no write
   pub served_apart : (old new : Seen S) (answer : Reply) → tells_write answer ≡ false → new.store ≡ old.store → StepOrRefusal old.state session asked answer new.state
@@ -182,6 +186,7 @@ module _ {S : Type 0} (g : Ghosts S) (session : ℕ) (asked : Statement) where
             let stands = early_refusals_stand old.state session asked answer new.state r event first in
             (stands.0, ap₂ (λ (h : Held S) (s : State). record { store = h; state = s }) same stands.1);
         apart = λ _. (same, event);
+        refused = λ is. let stays = refused_stays old.state session asked answer new.state event is in subst (λ (s : State). s ≡ record old.state { rows = s.rows }) (sym stays) refl;
         survives = subst (λ (h : Held S). Survives (state g old.store) (state g h) (λ trees. IsTrue (state g old.store).is_open → AreAfter old.state session asked trees)) (sym same) unwritten;
         durable = λ e. absurd (false≢true (sym quiet ∙ e));
       }
@@ -193,6 +198,7 @@ module _ {S : Type 0} (g : Ghosts S) (session : ℕ) (asked : Statement) where
       served old new (reply.Refused r) asks early
       (λ u. subst (λ (s : State). StepOrRefusal old.state session asked (reply.Refused r) s) (sym (looks.same u)) (refused_serves old.state session asked r (is u)))
       looks.usable
+      (λ _. looks.rest)
       (survives_weaker (state g old.store) (state g new.store) (λ _. ⊥) _ (λ _ trees none. absurd none) looks.survives)
       (λ e. absurd (no_write r e))
 
@@ -210,17 +216,17 @@ module _ {S : Type 0} (g : Ghosts S) (session : ℕ) (asked : Statement) where
 
   -- a write was done, and the reply is the step's
   pub wrote : (t new : Committed S) (o after : Open) (answer : Reply) (next : State)
-      → asks_store (seen_of t o).state session asked ≡ true → PassesEarly (seen_of t o).state session asked → failure_of answer ≡ None
+      → asks_store (seen_of t o).state session asked ≡ true → PassesEarly (seen_of t o).state session asked → failure_of answer ≡ None → is_refused answer ≡ false
       → Writes g t new true next.catalog next.rows
       → (IsUsable (state g t.store) → step (seen_of t o).state session asked ≡ (answer, next))
       → next ≡ record (seen_of new after).state { catalog = next.catalog; rows = next.rows }
       → Serves g session asked (seen_of t o) answer (seen_of new after)
-  wrote t new o after answer next asks early succeeds writes steps is =
+  wrote t new o after answer next asks early succeeds accepted writes steps is =
       let same : IsUsable (state g new.store) → (seen_of new after).state ≡ next =
       λ u. ap (λ (c : _ × _). record (seen_of new after).state { catalog = c.0; rows = c.1 }) (ap₂ (λ a b. (a, b)) (writes.done_catalog refl) (writes.done_rows refl u)) ∙ sym is in
       served (seen_of t o) (seen_of new after) answer asks early
       (λ u. stepped (seen_of t o).state session asked answer (seen_of new after).state succeeds (ap (λ (s : State). (answer, s)) (same u) ∙ sym (steps (writes.usable u))))
-      writes.usable (crashed t new o answer next true writes steps)
+      writes.usable (λ is_refusal. absurd (false≢true (sym accepted ∙ is_refusal))) (crashed t new o answer next true writes steps)
       (λ _ clean trees may.
       subst (λ c. AreHeld c new.rows trees) (sym (writes.done_catalog refl))
       (subst (λ rs. AreHeld next.catalog rs trees) (sym (writes.done_rows refl (clean, writes.opened refl clean))) (writes.durable refl clean trees may)))
@@ -237,7 +243,7 @@ module _ {S : Type 0} (g : Ghosts S) (session : ℕ) (asked : Statement) where
       λ u. ap (λ (c : _ × _). record s { catalog = c.0; rows = c.1 }) (ap₂ (λ a b. (a, b)) (writes.kept_catalog refl) (writes.kept_rows refl u)) in
       served (seen_of t o) (seen_of new o) (reply.Refused (told f)) asks early
       (λ u. subst (λ (after : State). StepOrRefusal s session asked (reply.Refused (told f)) after) (sym (same u)) (refused_serves s session asked (told f) (fails s session asked f early takes)))
-      writes.usable (crashed t new o answer next false writes steps) (λ e. absurd (no_write (told f) e))
+      writes.usable (λ _. ap (λ c. record s { catalog = c; rows = new.rows }) (writes.kept_catalog refl)) (crashed t new o answer next false writes steps) (λ e. absurd (no_write (told f) e))
 
   -- what a database keeps after a write that was done, and after one that failed
   pub wrote_keeps : (t new : Committed S) (o after : Open) (next : State) → IsKept g (seen_of t o)

@@ -7,7 +7,7 @@ use Rattle.escrow_checks.specs.declared.spread.Spread.{Spread}
 use Rattle.escrow_checks.specs.Spread.{IsSpread}
 use Rattle.escrow_checks.specs.Grant.{broken_by, broken}
 use Rattle.escrow_checks.proofs.SpreadLemmas.{adds_nothing}
-use Rattle.escrow_core.specs.Serving.{AreSpreads}
+use Rattle.escrow_machine.specs.Walked.{AreSpreads}
 
 -- there are as many spreads as checks, or more
 pub enough_spreads : (checks : List Check) (reservations : List (List ℤ)) (spreads : List Spread) → AreSpreads checks reservations spreads → length checks ≤ length spreads

@@ -14,10 +14,11 @@ use Rattle.escrow_journal.specs.Reservations.{own}
 use Rattle.escrow_journal.specs.Savepoints.{savepoint_of}
 use Rattle.escrow_txn.specs.Open.{Open, grant_refusal, savepoint_refusal, cut_back}
 use Rattle.escrow_txn.specs.Open as txn
-use Rattle.escrow_core.specs.Asked.{row_name, reservation_from, breach_of}
-use Rattle.escrow_core.specs.Serving.{IsAccepted}
-use Rattle.escrow_core.specs.State.{State, row_named}
-use Rattle.escrow_core.specs.Turn.{turn_of, update_refusals, after_rollback_to, returned_to}
+use Rattle.escrow_machine.specs.Asked.{row_name, reservation_from, breach_of}
+use Rattle.escrow_machine.specs.Accepted.{IsAccepted}
+use Rattle.escrow_machine.specs.State.{State}
+use Rattle.escrow_machine.specs.Rows.{row_named}
+use Rattle.escrow_machine.specs.Turn.{turn_of, update_refusals, after_rollback_to, returned_to}
 
 -- what is open in a state
 abbrev pub open_in : State → Open

@@ -11,7 +11,7 @@ use Rattle.escrow_num.specs.declared.reservation.TheConstants.Reservation.{MAX_I
 use Rattle.escrow_num.specs.declared.row.Row.{Row}
 use Rattle.escrow_num.specs.declared.value.RowName.{RowName}
 use Rattle.escrow_num.specs.declared.value.Value.{Value}
-use Rattle.escrow_num.specs.Refusal.{refuse_if, first_refusal}
+use Rattle.escrow_num.specs.Refusal.{refuse_if, first_refusal, told}
 use Rattle.escrow_num.specs.Session.{IsSession}
 use Rattle.escrow_sql.specs.declared.statement.UpdateText.{UpdateText}
 use Rattle.escrow_sql.specs.declared.statement.Statement.TheVariants as statement
@@ -22,30 +22,30 @@ use Rattle.escrow_journal.specs.declared.journal.TheConstants.Journal.{MAX_RESER
 use Rattle.escrow_journal.specs.Reservations.{own}
 use Rattle.escrow_txn.specs.Open.{Open, grant_refusal}
 use Rattle.escrow_txn.specs.Open as txn
-use Rattle.escrow_cells.specs.declared.failure.Failure.{Failure}
-use Rattle.escrow_cells.specs.declared.failure.Failure.TheVariants as failure
+use Rattle.escrow_num.specs.declared.failure.Failure.{Failure}
+use Rattle.escrow_num.specs.declared.failure.Failure.TheVariants as failure
 use Rattle.escrow_rows.specs.Answers.{IsUsable}
 use Rattle.escrow_tables.specs.Calls.{Writes}
-use Rattle.escrow_tables.specs.Committed.{Committed, HasTable}
-use Rattle.escrow_tables.specs.Told.{told}
-use Rattle.escrow_core.specs.declared.reply.Reply.TheVariants as reply
-use Rattle.escrow_core.specs.Asked.{plan_of, row_name, reservation_from}
+use Rattle.escrow_tables.specs.Committed.{Committed}
+use Rattle.escrow_machine.specs.Rows.{HasTable, row_named, with_plain}
+use Rattle.escrow_machine.specs.declared.reply.Reply.TheVariants as reply
+use Rattle.escrow_machine.specs.Asked.{plan_of, row_name, reservation_from}
 use Rattle.escrow_core.specs.Inside.{seen_of}
 use Rattle.escrow_core.specs.Seen.{Seen, IsKept}
 use Rattle.escrow_core.specs.Serves.{Serves}
-use Rattle.escrow_core.specs.Serving.{IsAccepted, IsRefusal}
-use Rattle.escrow_core.specs.State.{State, row_named, is_open, with_plain}
-use Rattle.escrow_core.specs.Step.{step, StepOrRefusal}
-use Rattle.escrow_core.specs.Turn.{turn_of, granted, update_refusals, update_reply, after_update}
-use Rattle.escrow_core.specs.Valid.{IsOrderly, IsValid}
+use Rattle.escrow_machine.specs.Accepted.{IsAccepted, IsRefusal}
+use Rattle.escrow_machine.specs.State.{State, is_open}
+use Rattle.escrow_machine.specs.Step.{step, StepOrRefusal}
+use Rattle.escrow_machine.specs.Turn.{turn_of, granted, update_refusals, update_reply, after_update}
+use Rattle.escrow_machine.specs.Valid.{IsOrderly, IsValid}
 use Rattle.escrow_core.proofs.Planned.{planned_in, plan_refused, plan_accepted, planned_early, update_fails}
-use Rattle.escrow_core.proofs.Refusals.{passed, failed, below, not_above}
+use Rattle.escrow_machine.proofs.Refusals.{passed, failed, below, not_above}
 use Rattle.escrow_core.proofs.Served.{update_serves}
 use Rattle.escrow_core.proofs.Serving.{accepted_step, fails, late_refused, served, survives_itself, wrote, wrote_keeps, write_failed}
-use Rattle.escrow_core.proofs.Shapes.{HasOrder}
-use Rattle.escrow_core.proofs.TurnUpdate.{reserved_valid, replaced_valid}
+use Rattle.escrow_machine.proofs.Shapes.{HasOrder}
+use Rattle.escrow_machine.proofs.TurnUpdate.{reserved_valid, replaced_valid}
 use Rattle.escrow_core.proofs.Txns.{grant_accepted}
-use Rattle.escrow_core.proofs.ValidUpdate.{granted_orderly}
+use Rattle.escrow_machine.proofs.ValidUpdate.{granted_orderly}
 
 -- REFUSALS
 
@@ -124,7 +124,7 @@ module _ {S : Type 0} (g : Ghosts S) (session : ℕ) (text : UpdateText) (name :
     pub replace_serves : Writes g t new true t.catalog (with_plain name values t.rows) → Serves g session (statement.Update text) (seen_of t o) reply.Updated (seen_of new o)
     replace_serves writes =
         wrote g session (statement.Update text) t new o o reply.Updated (record (seen_of t o).state { rows = with_plain name values t.rows }) refl
-        (planned_early (seen_of t o).state session text (plan.Plain name.key values) may.planned) refl writes replace_step refl
+        (planned_early (seen_of t o).state session text (plan.Plain name.key values) may.planned) refl refl writes replace_step refl
 
     pub replace_keeps : IsKept g (seen_of t o) → Writes g t new true t.catalog (with_plain name values t.rows) → IsKept g (seen_of new o)
     replace_keeps kept writes =
@@ -218,7 +218,7 @@ module _ {S : Type 0} (g : Ghosts S) (session : ℕ) (text : UpdateText) (row : 
         served g session (statement.Update text) (seen_of t o) (seen_of t (txn.granted session name changes o)) (reply.Reserved o.next_id) refl (planned_early s session text asked is.may.planned)
         (λ u. subst (λ (after : State). StepOrRefusal s session (statement.Update text) (reply.Reserved o.next_id) after) after_grant
         (update_serves s session text asked (reserve_accepted u) is.may.planned))
-        (λ u. u) (survives_itself (state g t.store) _) (λ writes. absurd (false≢true writes))
+        (λ u. u) (λ is_refusal. absurd (false≢true is_refusal)) (survives_itself (state g t.store) _) (λ writes. absurd (false≢true writes))
 
     pub grant_keeps : IsKept g (seen_of t o) → IsSession session → grant_refusal session o ≡ None → IsKept g (seen_of t (txn.granted session name changes o))
     grant_keeps kept of_session none =

@@ -1,16 +1,4 @@
-pub mod Asked
-pub mod Bounds
-pub mod Event
 pub mod Inside
-pub mod Journal
-pub mod Laws
-pub mod Promised
-pub mod Reply
 pub mod Seen
 pub mod Serves
 pub mod Serving
-pub mod Settle
-pub mod State
-pub mod Step
-pub mod Turn
-pub mod Valid

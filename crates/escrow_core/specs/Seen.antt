@@ -12,8 +12,8 @@ use Rattle.escrow_num.specs.declared.row.Row.{Row}
 use Rattle.escrow_schema.specs.contracts.table.TableDef as table
 use Rattle.escrow_schema.specs.declared.table.TableDef.{TableDef}
 use Rattle.escrow_rows.specs.Answers.{IsUsable}
-use Rattle.escrow_core.specs.State.{State}
-use Rattle.escrow_core.specs.Valid.{IsOrderly, AreSafeRows}
+use Rattle.escrow_machine.specs.State.{State}
+use Rattle.escrow_machine.specs.Valid.{IsOrderly, AreSafeRows}
 
 -- what contracts see of a database: the connection to its store, and its state
 pub record Seen (S : Type 0) : Type 0 where

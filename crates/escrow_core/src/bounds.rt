@@ -4,12 +4,12 @@ ghost use Rattle.escrow_checks.specs.Form.{IsCovered};
 ghost use Rattle.escrow_checks.specs.Spread.{IsSpread};
 ghost use Rattle.escrow_schema.specs.Definition.{IsTable};
 ghost use Rattle.escrow_schema.specs.Fit.{IsRowOf};
-ghost use Rattle.escrow_core.specs.Bounds.{bounds_in, check_bounds};
-ghost use Rattle.escrow_core.specs.Serving.{AreOpen, AreSpreads, columns_from};
+ghost use Rattle.escrow_machine.specs.Bounds.{bounds_in, check_bounds};
+ghost use Rattle.escrow_machine.specs.Walked.{AreOpen, AreSpreads, columns_from};
 
-use crate::reply::{CheckBounds, ColumnBounds, Reply};
 use crate::spreads::spreads_over;
 use escrow_checks::{Check, Spread};
+use escrow_machine::{CheckBounds, ColumnBounds, Reply};
 use escrow_num::{Amount, Name, Row, Seq, copy_all};
 use escrow_schema::{TableDef, reservable_names};
 use escrow_txn::TxnTable;

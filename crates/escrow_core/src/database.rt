@@ -14,12 +14,11 @@ mod settle;
 mod show;
 mod update;
 
-use crate::reply::Reply;
+use escrow_machine::Reply;
 use escrow_num::{Refusal, Session};
 use escrow_sql::Statement;
 use escrow_tables::Tables;
 use escrow_txn::TxnTable;
-pub use settle::{Settled, Stop};
 use sqlite::Alter;
 use std::alloc::Global;
 use std::marker::Model;
@@ -54,13 +53,14 @@ impl<S: Alter> Database<S> {
     ghost use Rattle.escrow_txn.specs.Open.{id_left};
     ghost use Rattle.escrow_rows.specs.Answers.{IsUsable};
     ghost use Rattle.escrow_tables.specs.Committed.{AreHeld};
-    ghost use Rattle.escrow_core.specs.Promised.{asks_store, is_promised};
-    ghost use Rattle.escrow_core.specs.Reply.{tells_write};
+    ghost use Rattle.escrow_machine.specs.Promised.{asks_store, is_promised};
+    ghost use Rattle.escrow_machine.specs.Reply.{is_refused, tells_write};
     ghost use Rattle.escrow_core.specs.Seen.{IsKept};
     ghost use Rattle.escrow_core.specs.Serves.{AreAfter, Serves};
-    ghost use Rattle.escrow_core.specs.State.{is_open, opened};
-    ghost use Rattle.escrow_core.specs.Step.{IsStep, StepOrRefusal};
-    ghost use Rattle.escrow_core.specs.Valid.{IsValid, MeetsChecks};
+    ghost use Rattle.escrow_machine.specs.State.{is_open, opened};
+    ghost use Rattle.escrow_machine.specs.Step.{IsStep, StepOrRefusal};
+    ghost use Rattle.escrow_machine.specs.Valid.{IsValid};
+    ghost use Rattle.escrow_machine.specs.Rows.{MeetsChecks};
 
     /// A database of tables and rows that were committed, in which nothing is open and the next id is 1.
     /// Each row has to meet the checks of its table. Out of memory is the only error, and hands the
@@ -81,12 +81,15 @@ impl<S: Alter> Database<S> {
 
     /// The id that the next reservation takes, or `None` where there are no more ids. Where the store
     /// can be used the state is valid at any time: whichever of the open reservations are applied, each
-    /// row meets each check of its table.
+    /// row meets each check of its table; and a crash leaves just its tables and rows.
     pub fn next_id(&self) -> Option<u64>
         ensures value { result ≡ id_left self.now.state.next_id }
         ensures kept { IsKept S.Store self.now }
         ensures valid { IsUsable (state S.Store self.now.store) → IsValid self.now.state }
+        ensures left { IsUsable (state S.Store self.now.store) → (trees : Trees) → (state S.Store self.now.store).may_leave trees → AreHeld self.now.state.catalog self.now.state.rows trees }
     {
+        // What a crash leaves is told where the tables are counted.
+        let _ = self.tables.len();
         self.open.next_id()
     }
 
@@ -115,6 +118,9 @@ impl<S: Alter> Database<S> {
         ensures usable { IsUsable (state S.Store self.new.store) → IsUsable (state S.Store self.old.store) }
         ensures succeeds { IsTrue (is_promised self.old.state session statement.now) → (self.new.store ≡ self.old.store) × IsStep self.old.state session statement.now result self.new.state }
         ensures apart { asks_store self.old.state session statement.now ≡ false → (self.new.store ≡ self.old.store) × StepOrRefusal self.old.state session statement.now result self.new.state }
+
+        // What is refused leaves all but the rows, whatever the store is like.
+        ensures refused { IsTrue (is_refused result) → self.new.state ≡ record self.old.state { rows = self.new.state.rows } }
 
         // A crash leaves what it might have left before, or what the step makes; once a write was
         // answered, the tables and rows that there then are.

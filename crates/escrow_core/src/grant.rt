@@ -5,8 +5,8 @@ ghost use Rattle.escrow_checks.specs.Form.{IsCovered};
 ghost use Rattle.escrow_checks.specs.Grant.{broken};
 ghost use Rattle.escrow_checks.specs.declared.coefficients.TheConstants.Coefficients.{MAX_LEN};
 ghost use Rattle.escrow_core.specs.declared.spreads.TheConstants.{MOST_CHECKS};
-ghost use Rattle.escrow_core.specs.Serving.{AreOpen, AreSpreads};
-ghost use Rattle.escrow_core.specs.State.{changes_to};
+ghost use Rattle.escrow_machine.specs.Walked.{AreOpen, AreSpreads};
+ghost use Rattle.escrow_machine.specs.Rows.{changes_to};
 
 use crate::spreads::{counted, spreads_over};
 use escrow_checks::{Check, Spread};

@@ -3,9 +3,9 @@ ghost use Rattle.std.specs.Prelude.{◌≡◌, ◌++◌, ◌∷◌, [], IfOk, On
 ghost use Rattle.std.specs.Option.{option_copied};
 ghost use Rattle.escrow_schema.specs.Catalog.{table_named};
 ghost use Rattle.escrow_schema.specs.Column.{names_of, reservables};
-ghost use Rattle.escrow_core.specs.Journal.{columns_of, entry_of, of_table, named_changes};
+ghost use Rattle.escrow_machine.specs.Journal.{columns_of, entry_of, of_table, named_changes};
 
-use crate::reply::{ColumnChange, JournalEntry};
+use escrow_machine::{ColumnChange, JournalEntry};
 use escrow_num::{Amount, Copied, Name, Reservation, Seq};
 use escrow_schema::reservable_names;
 use escrow_tables::Tables;

@@ -7,18 +7,15 @@
 #![tactic(auto)]
 
 mod bounds;
-mod copies;
 mod database;
-mod event;
 mod grant;
 mod journal;
-pub mod laws;
-mod reply;
 mod reservations;
 mod shown;
 mod spreads;
 
-pub use database::{Database, Settled, Stop};
-pub use escrow_tables::Failure;
-pub use event::Event;
-pub use reply::{CheckBounds, ColumnBounds, ColumnChange, JournalEntry, Reply};
+pub use database::Database;
+pub use escrow_machine::{
+    CheckBounds, ColumnBounds, ColumnChange, Event, JournalEntry, Reply, Settled, Stop,
+};
+pub use escrow_num::Failure;

@@ -3,7 +3,7 @@ ghost use Rattle.std.specs.List.{list_any};
 ghost use Rattle.escrow_num.specs.Order.{same_row};
 ghost use Rattle.escrow_num.specs.declared.session.TheConstants.Session.{MAX};
 ghost use Rattle.escrow_journal.specs.Reservations.{own};
-ghost use Rattle.escrow_core.specs.Serving.{AreOpen};
+ghost use Rattle.escrow_machine.specs.Walked.{AreOpen};
 
 use escrow_num::{Name, Reservation, RowName, Session};
 use escrow_txn::TxnTable;

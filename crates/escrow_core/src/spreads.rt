@@ -4,8 +4,8 @@ ghost use Rattle.escrow_num.specs.Reservation.{counted};
 ghost use Rattle.escrow_checks.specs.declared.spread.TheConstants.Spread.{MAX_OPEN};
 ghost use Rattle.escrow_checks.specs.declared.check.Check.{Check};
 ghost use Rattle.escrow_core.specs.declared.spreads.TheConstants.{MOST_CHECKS};
-ghost use Rattle.escrow_core.specs.Serving.{AreOpen, AreSpreads, IsShort};
-ghost use Rattle.escrow_core.specs.State.{changes_to};
+ghost use Rattle.escrow_machine.specs.Walked.{AreOpen, AreSpreads, IsShort};
+ghost use Rattle.escrow_machine.specs.Rows.{changes_to};
 
 use crate::reservations::reservations_at;
 use escrow_checks::{Check, Coefficients, MAX_CHECKS, Spread};

@@ -1,6 +1,8 @@
--- Believed: each refusal's number, and the first refusal of several.
+-- Believed: each refusal's number, the refusal that a failure is told as, and the first refusal of several.
 use Rattle.std.specs.Prelude.{ℕ, Bool, if◌then◌else◌, Option, Some, None, List, [], ◌∷◌}
 use Rattle.escrow_num.specs.Span.{first_of_two}
+use Rattle.escrow_num.specs.declared.failure.Failure.{Failure}
+use Rattle.escrow_num.specs.declared.failure.Failure.TheVariants as failure
 use Rattle.escrow_num.specs.declared.refusal.Refusal.{Refusal}
 use Rattle.escrow_num.specs.declared.refusal.Refusal.TheVariants as refusal
 
@@ -31,6 +33,11 @@ number_of refusal.TranscriptFull = 52
 number_of refusal.Store = 60
 number_of refusal.ForeignStore = 61
 number_of refusal.UnknownVersion = 62
+
+-- want of memory is told as 51, and any other failure as 60
+abbrev pub told : Failure → Refusal
+told failure.Memory = refusal.Memory
+told failure.Store = refusal.Store
 
 -- a refusal where a test holds
 abbrev pub refuse_if : Bool → Refusal → Option Refusal

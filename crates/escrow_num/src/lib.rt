@@ -9,6 +9,7 @@
 mod amount;
 mod changes;
 mod copied;
+mod failure;
 pub mod laws;
 mod name;
 mod refusal;
@@ -24,6 +25,7 @@ mod wide;
 pub use amount::Amount;
 pub use changes::Changes;
 pub use copied::{Copied, are_same, copy_all};
+pub use failure::{Failure, refusal_of};
 pub use name::Name;
 pub use refusal::{Breach, Refusal};
 pub use reservation::{Reservation, Savepoint};

@@ -12,12 +12,12 @@ use Rattle.escrow_num.specs.Refusal.{number_of}
 use Rattle.escrow_num.specs.declared.value.Value.{Value}
 use Rattle.escrow_num.specs.declared.value.Value.TheVariants as value
 use Rattle.escrow_sql.specs.Lex.{doubled}
-use Rattle.escrow_core.specs.declared.reply.CheckBounds.{CheckBounds}
-use Rattle.escrow_core.specs.declared.reply.ColumnBounds.{ColumnBounds}
-use Rattle.escrow_core.specs.declared.reply.ColumnChange.{ColumnChange}
-use Rattle.escrow_core.specs.declared.reply.JournalEntry.{JournalEntry}
-use Rattle.escrow_core.specs.declared.reply.Reply.{Reply}
-use Rattle.escrow_core.specs.declared.reply.Reply.TheVariants as reply
+use Rattle.escrow_machine.specs.declared.reply.CheckBounds.{CheckBounds}
+use Rattle.escrow_machine.specs.declared.reply.ColumnBounds.{ColumnBounds}
+use Rattle.escrow_machine.specs.declared.reply.ColumnChange.{ColumnChange}
+use Rattle.escrow_machine.specs.declared.reply.JournalEntry.{JournalEntry}
+use Rattle.escrow_machine.specs.declared.reply.Reply.{Reply}
+use Rattle.escrow_machine.specs.declared.reply.Reply.TheVariants as reply
 
 -- VALUES, AND WHAT IS SHOWN OF A ROW
 

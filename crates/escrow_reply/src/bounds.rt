@@ -3,7 +3,7 @@ ghost use Rattle.std.specs.Fmt.{signed_decimal};
 ghost use Rattle.escrow_reply.specs.Text.{with_prefix, column_text, check_text, limit_text};
 
 use crate::push::{push_bytes, push_measure, push_text};
-use escrow_core::{CheckBounds, ColumnBounds};
+use escrow_machine::{CheckBounds, ColumnBounds};
 use escrow_num::{Span, Wide};
 use std::alloc::{AllocError, Global};
 

@@ -4,7 +4,7 @@ ghost use Rattle.escrow_reply.specs.Text.{with_prefix, entry_text, change_text, 
 
 use crate::push::{push_bytes, push_counted, push_number, push_signed, push_text};
 use crate::values::push_value;
-use escrow_core::{ColumnChange, JournalEntry};
+use escrow_machine::{ColumnChange, JournalEntry};
 use escrow_num::Amount;
 use std::alloc::{AllocError, Global};
 

@@ -6,7 +6,7 @@ use crate::journal::push_entry_lines;
 use crate::push::{push_bytes, push_number, push_text};
 use crate::values::{push_header, push_row};
 use crate::words::push_words;
-use escrow_core::Reply;
+use escrow_machine::Reply;
 use escrow_num::{Name, Seq, Session, Value};
 use std::alloc::{AllocError, Global};
 

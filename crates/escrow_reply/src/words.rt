@@ -2,7 +2,7 @@ ghost use Rattle.std.specs.Prelude.{◌≡◌, ◌++◌, OnOk, codes, decimal};
 ghost use Rattle.escrow_reply.specs.Text.{reply_text, refusal_text, breach_text, side_text};
 
 use crate::push::{push_bytes, push_counted, push_measure, push_text};
-use escrow_core::Reply;
+use escrow_machine::Reply;
 use escrow_num::{Breach, Name, Refusal, Side};
 use std::alloc::{AllocError, Global};
 

@@ -26,7 +26,8 @@ use Rattle.escrow_cells.specs.Read.{AreOfRow}
 use Rattle.escrow_cells.specs.Step.{is_of}
 use Rattle.escrow_cells.specs.Store.{IsStore, cells}
 use Rattle.escrow_rows.specs.declared.stored.StoredTable.{StoredTable}
-use Rattle.escrow_rows.specs.Answers.{row_named, TellsRow}
+use Rattle.escrow_machine.specs.Rows.{row_named}
+use Rattle.escrow_rows.specs.Answers.{TellsRow}
 use Rattle.escrow_rows.specs.Image.{stored, cells_in, cells_of, AreTables, AreRows, HasTable}
 use Rattle.escrow_rows.specs.Changes.{Stands, name_in}
 use Rattle.escrow_rows.specs.Placed.{placed, IsFound}

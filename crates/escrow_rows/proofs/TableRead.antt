@@ -37,7 +37,8 @@ use Rattle.escrow_rows.specs.declared.stored.StoredTable.{StoredTable}
 use Rattle.escrow_rows.specs.Answers.{TellsRows}
 use Rattle.escrow_rows.specs.Changes.{Stands}
 use Rattle.escrow_rows.specs.Gathered.{gathered_cells, IsMadeOf}
-use Rattle.escrow_rows.specs.Image.{cells_of, row_before, AreTables, AreRows, HasTable, rows_of}
+use Rattle.escrow_rows.specs.Image.{cells_of, AreTables, AreRows, HasTable}
+use Rattle.escrow_machine.specs.Rows.{row_before, rows_of}
 use Rattle.escrow_rows.proofs.Cells.{filter_pieces, is_in_row, row_of_stored, stands_has}
 use Rattle.escrow_rows.proofs.KeyedCells.{cell_cmp, cell_cmp_total, cells_keyed, gathered_rise, gathered_same, HasValues, KeysRise, with_key}
 use Rattle.escrow_rows.proofs.RowRead.{no_row}

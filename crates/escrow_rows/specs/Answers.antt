@@ -1,17 +1,16 @@
 -- Believed: what each reading call answers of an image.
-use Rattle.std.specs.Prelude.{◌≡◌, ℕ, Option, List, map, find, length, IsTrue, IsPermutation}
+use Rattle.std.specs.Prelude.{◌≡◌, ℕ, Option, List, map, length, IsTrue, IsPermutation}
 use Rattle.std.specs.Ordering.{is_lt, int_cmp}
 use Rattle.sqlite.specs.Effect.{Database}
 use Rattle.sqlite.specs.State.{State, HasCleanDisk, Survives}
 use Rattle.escrow_num.specs.Ascending.{IsAscending}
 use Rattle.escrow_num.specs.declared.row.Row.{Row}
-use Rattle.escrow_num.specs.declared.value.RowName.{RowName}
 use Rattle.escrow_num.specs.declared.value.Value.{Value}
-use Rattle.escrow_num.specs.Order.{same_row}
 use Rattle.escrow_schema.specs.Print.{canonical}
 use Rattle.escrow_rows.specs.declared.stored.StoredTable.{StoredTable}
 use Rattle.escrow_rows.specs.declared.listed.ListedTable.{ListedTable}
-use Rattle.escrow_rows.specs.Image.{IsImage, AreTables, AreRows, rows_of}
+use Rattle.escrow_rows.specs.Image.{IsImage, AreTables, AreRows}
+use Rattle.escrow_machine.specs.Rows.{row_named, rows_of}
 use Rattle.escrow_rows.specs.Changes.{Stands, name_in}
 
 -- a store that can be used: its disk has returned what was written, and no fault has shut it
@@ -24,10 +23,6 @@ pub record Looks (old new : State) : Type 0 where
   pub same : IsUsable new → new.now ≡ old.now
   pub usable : IsUsable new → IsUsable old
   pub survives : Survives old new (λ _. ⊥)
-
--- the row of a name
-abbrev pub row_named : List Row → RowName → Option Row
-row_named rows name = find (λ row. same_row row.name name) rows
 
 -- an answer is this one of the rows, whatever tables and rows the database is the image of, one of them
 -- a table that is named

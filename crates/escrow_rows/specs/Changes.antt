@@ -1,12 +1,12 @@
 -- Believed: what each writing call makes of an image.
-use Rattle.std.specs.Prelude.{◌≡◌, ℕ, ℤ, IsPermutation, not, if◌then◌else◌, Option, Some, unwrap_or, List, [], ◌∷◌, map, filter, fold, bytes_eq}
+use Rattle.std.specs.Prelude.{◌≡◌, ℕ, ℤ, IsPermutation, not, if◌then◌else◌, Option, Some, List, ◌∷◌, map, filter, fold, bytes_eq}
 use Rattle.std.specs.List.{AllByRecursion}
-use Rattle.std.specs.Ordering.{is_lt}
 use Rattle.sqlite.specs.Effect.{Database}
 use Rattle.escrow_num.specs.declared.row.Row.{Row}
 use Rattle.escrow_num.specs.declared.value.RowName.{RowName}
 use Rattle.escrow_num.specs.declared.value.Value.{Value}
-use Rattle.escrow_num.specs.Order.{same_row, row_cmp}
+use Rattle.escrow_num.specs.Order.{same_row}
+use Rattle.escrow_machine.specs.Rows.{with_row, without_row, without_rows_of, replaced, with_plain}
 use Rattle.escrow_rows.specs.declared.stored.StoredTable.{StoredTable}
 use Rattle.escrow_rows.specs.declared.amounts.NewAmounts.{NewAmounts}
 use Rattle.escrow_rows.specs.Image.{IsImage, AreTables, AreRows, stored_named}
@@ -24,33 +24,6 @@ TurnsRows s after old new =
 -- the name of the row of a key, in a table
 abbrev pub name_in : StoredTable → Value → RowName
 name_in s key = record { table = s.table.name; key = key }
-
--- a row put among the rows, in their order
-abbrev pub with_row : Row → List Row → List Row
-with_row row [] = row ∷ []
-with_row row (other ∷ rest) = if is_lt (row_cmp row.name other.name) then row ∷ other ∷ rest else other ∷ with_row row rest
-
--- the rows without the one of a name
-abbrev pub without_row : RowName → List Row → List Row
-without_row name rows = filter (λ row. not (same_row row.name name)) rows
-
--- the rows without those of a table
-abbrev pub without_rows_of : List ℕ → List Row → List Row
-without_rows_of table rows = filter (λ row. not (bytes_eq row.name.table table)) rows
-
--- the items, each replaced by the one beside it where there is one
-abbrev pub replaced : {A : Type 0} → List (Option A) → List A → List A
-replaced [] items = items
-replaced (new ∷ news) [] = []
-replaced (new ∷ news) (x ∷ items) = unwrap_or new x ∷ replaced news items
-
--- a row with plain values replaced where it is the one of a name, else as it is
-abbrev pub with_values : RowName → List (Option Value) → Row → Row
-with_values name values row = if same_row row.name name then record row { plain = replaced values row.plain } else row
-
--- the rows with plain values of one of them replaced
-abbrev pub with_plain : RowName → List (Option Value) → List Row → List Row
-with_plain name values rows = map (with_values name values) rows
 
 -- a row with amounts replaced where it is the one of a name, else as it is
 abbrev pub with_new_amounts : RowName → List (Option ℤ) → Row → Row

@@ -1,7 +1,7 @@
 -- Believed: when a store is the image of tables and rows.
-use Rattle.std.specs.Prelude.{◌≡◌, ◌≤◌, ℕ, ℤ, pos, ◌+ℤ◌, Bool, not, Option, option_map, unwrap_or, IsSomeAnd, List, [], ◌∷◌, length, map, filter, find, bytes_eq, IsTrue, int_le, IsPermutation}
+use Rattle.std.specs.Prelude.{◌≡◌, ◌≤◌, ℕ, ℤ, pos, ◌+ℤ◌, not, Option, option_map, unwrap_or, IsSomeAnd, List, [], ◌∷◌, length, map, find, bytes_eq, IsTrue, int_le, IsPermutation}
 use Rattle.std.specs.List.{AllByRecursion, flat_map}
-use Rattle.std.specs.Ordering.{is_lt, int_eq}
+use Rattle.std.specs.Ordering.{int_eq}
 use Rattle.sqlite_value.specs.declared.value.Value.{Value as Sql}
 use Rattle.sqlite_value.specs.declared.value.Value.TheVariants as sql
 use Rattle.sqlite_value.specs.Order.{Row as SqlRow}
@@ -12,14 +12,14 @@ use Rattle.escrow_num.specs.declared.value.Value.TheVariants.{Number, Text}
 use Rattle.std.specs.Str.{IsUtf8}
 use Rattle.escrow_num.specs.Amount.{IsAmount}
 use Rattle.escrow_num.specs.Ascending.{IsAscending}
-use Rattle.escrow_num.specs.Order.{row_cmp}
 use Rattle.escrow_schema.specs.declared.catalog.TheConstants.Catalog.{MAX_TABLES}
 use Rattle.escrow_schema.specs.Definition.{IsTable}
 use Rattle.escrow_schema.specs.Fit.{IsRowOf, values_of}
 use Rattle.escrow_schema.specs.Print.{canonical}
+use Rattle.escrow_machine.specs.Rows.{row_before, rows_of}
 use Rattle.escrow_cells.specs.Store.{IsStore, format, metas, tabs, cells}
 use Rattle.escrow_rows.specs.declared.stored.StoredTable.{StoredTable}
-use Rattle.escrow_rows.specs.declared.stored.TheConstants.StoredTable.{MAX_ROWS}
+use Rattle.escrow_schema.specs.declared.table.TheConstants.TableDef.{MAX_ROWS}
 
 -- a value as SQLite keeps it
 abbrev pub stored : Value → Sql
@@ -67,14 +67,6 @@ pub record AreTables (tables : List StoredTable) : Type 0 where
   pub ids_apart : IsAscending (λ a b. not (int_eq a.id b.id)) tables
   pub names_apart : IsAscending (λ a b. not (bytes_eq a.table.name b.table.name)) tables
   pub few : length tables ≤ MAX_TABLES
-
--- rows are in order of table and key, no two of one table and key
-abbrev pub row_before : Row → Row → Bool
-row_before a b = is_lt (row_cmp a.name b.name)
-
--- the rows of a table
-abbrev pub rows_of : List Row → List ℕ → List Row
-rows_of rows table = filter (λ row. bytes_eq row.name.table table) rows
 
 -- a row is one of the tables
 abbrev pub HasTable : List StoredTable → Row → Type 0

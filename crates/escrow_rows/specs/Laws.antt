@@ -5,7 +5,6 @@ use Rattle.sqlite.specs.Effect.{Database}
 use Rattle.escrow_num.specs.declared.row.Row.{Row}
 use Rattle.escrow_cells.specs.Store.{cells}
 use Rattle.escrow_rows.specs.declared.stored.StoredTable.{StoredTable}
-use Rattle.escrow_rows.specs.declared.stored.TheConstants.StoredTable.{MAX_ROWS}
 use Rattle.escrow_rows.specs.Image.{AreTables, AreRows, cells_of}
 use Rattle.escrow_rows.specs.View.{rows_in}
 
@@ -14,7 +13,3 @@ abbrev pub TheRowsOfAnImage : Type 0
 TheRowsOfAnImage =
     (tables : List StoredTable) (rows : List Row) (db : Database) → AreTables tables → AreRows tables rows
     → IsPermutation (flat_map (cells_of tables) rows) (cells db) → rows_in tables db ≡ rows
-
--- a table has 65,536 rows at most
-abbrev pub MostRows : Type 0
-MostRows = MAX_ROWS ≡ 65536

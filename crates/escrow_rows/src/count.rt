@@ -1,6 +1,7 @@
 use crate::store::RowStore;
 use crate::stored::StoredTable;
-use escrow_cells::{Failure, count_keys};
+use escrow_cells::count_keys;
+use escrow_num::Failure;
 use sqlite::Alter;
 
 impl<S: Alter> RowStore<S> {

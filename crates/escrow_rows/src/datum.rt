@@ -4,8 +4,8 @@ ghost use Rattle.escrow_cells.specs.Step.{kept};
 ghost use Rattle.escrow_rows.specs.Image.{stored, CanBeHeld};
 ghost use Rattle.escrow_num.specs.declared.value.Value.{Value as HeldValue};
 
-use escrow_cells::{Datum, Failure};
-use escrow_num::{Amount, Text, Value};
+use escrow_cells::Datum;
+use escrow_num::{Amount, Failure, Text, Value};
 use sqlite_value::value::ValueRef;
 use std::alloc::{AllocError, Global};
 

@@ -1,8 +1,8 @@
 use crate::datum::datum;
 use crate::store::RowStore;
 use crate::stored::StoredTable;
-use escrow_cells::{Failure, Step, run};
-use escrow_num::Value;
+use escrow_cells::{Step, run};
+use escrow_num::{Failure, Value};
 use sqlite::Alter;
 
 impl<S: Alter> RowStore<S> {

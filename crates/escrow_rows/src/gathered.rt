@@ -5,8 +5,8 @@ ghost use Rattle.escrow_rows.specs.Gathered.{GoesOn};
 ghost use Rattle.escrow_rows.specs.Image.{stored};
 
 use crate::datum::held;
-use escrow_cells::{Failure, Sink};
-use escrow_num::{Seq, Value};
+use escrow_cells::{Sink, failure_of};
+use escrow_num::{Failure, Seq, Value};
 use sqlite::Row;
 use std::alloc::{AllocError, Global};
 
@@ -118,8 +118,8 @@ fn read_cell(alloc: Global, row: &Row) -> Result<Cell, Failure>
     if row.column_count() != 3 {
         return Err(Failure::Store);
     }
-    let key = held(alloc, row.get_ref(0)?)?;
-    let place: u64 = row.get(1)?;
-    let value = held(alloc, row.get_ref(2)?)?;
+    let key = held(alloc, row.get_ref(0).map_err(failure_of)?)?;
+    let place: u64 = row.get(1).map_err(failure_of)?;
+    let value = held(alloc, row.get_ref(2).map_err(failure_of)?)?;
     Ok(Cell { key, place, value })
 }

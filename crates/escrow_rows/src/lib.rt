@@ -24,7 +24,6 @@ mod unverified;
 
 pub use amounts::NewAmounts;
 pub use datum::read_value;
-pub use escrow_cells::Failure;
 pub use listed::ListedTable;
 pub use store::RowStore;
 pub use stored::StoredTable;

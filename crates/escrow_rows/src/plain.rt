@@ -7,8 +7,8 @@ use crate::cell::push_cell;
 use crate::datum::datum;
 use crate::store::RowStore;
 use crate::stored::StoredTable;
-use escrow_cells::{Datum, Failure, Step, run};
-use escrow_num::Value;
+use escrow_cells::{Datum, Step, run};
+use escrow_num::{Failure, Value};
 use sqlite::Alter;
 use std::alloc::{AllocError, Global};
 

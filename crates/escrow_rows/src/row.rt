@@ -8,8 +8,8 @@ ghost use Rattle.escrow_rows.specs.Placed.{placed, IsFound};
 use crate::datum::{datum, held};
 use crate::store::RowStore;
 use crate::stored::StoredTable;
-use escrow_cells::{Failure, row_cells};
-use escrow_num::{Row, Value};
+use escrow_cells::{failure_of, row_cells};
+use escrow_num::{Failure, Row, Value};
 use escrow_schema::{TableDef, row_of};
 use sqlite::Alter;
 use std::alloc::Global;
@@ -96,9 +96,9 @@ fn read_cell(alloc: Global, cell: &sqlite::Row, place: usize) -> Result<Value, F
     requires { place < 2 ^ 63 }
     ensures { IfOk result (λ v. cell.now ≡ Int (pos place) ∷ stored v ∷ []) }
 {
-    let at: i64 = cell.get(0)?;
+    let at: i64 = cell.get(0).map_err(failure_of)?;
     if cell.column_count() != 2 || at != place as i64 {
         return Err(Failure::Store);
     }
-    held(alloc, cell.get_ref(1)?)
+    held(alloc, cell.get_ref(1).map_err(failure_of)?)
 }

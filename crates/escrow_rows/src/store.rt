@@ -21,7 +21,9 @@ impl<S: Alter> Model for RowStore<S> {
 }
 
 impl<S: Alter> RowStore<S> {
-    ghost use Rattle.std.specs.Prelude.{◌≡◌, false};
+    ghost use Rattle.std.specs.Prelude.{◌≡◌, false, IsTrue};
+    ghost use Rattle.sqlite.specs.Held.{state};
+    ghost use Rattle.sqlite_trees.specs.Tree.{Trees};
 
     /// The rows in the store of a connection that is outside a transaction. Makes no store call.
     pub fn over(conn: Connection<S>) -> Self
@@ -37,6 +39,14 @@ impl<S: Alter> RowStore<S> {
         ensures outside { result.in_transaction ≡ false }
     {
         self.conn
+    }
+
+    /// While no fault has shut the store a crash leaves what it holds, and nothing else. Makes no store call.
+    pub fn rests(&self)
+        ensures { IsTrue (state S.Store self.now).is_open → (trees : Trees) → (state S.Store self.now).may_leave trees → trees ≡ (state S.Store self.now).now.trees }
+    {
+        // What was committed last is what is seen, outside a transaction.
+        let _ = self.conn.is_autocommit();
     }
 
     /// Limits the steps that a statement of the store may take; with `None` there is no limit. A call

@@ -8,8 +8,3 @@ pub struct StoredTable {
     /// The definition.
     pub table: TableDef,
 }
-
-impl StoredTable {
-    /// The most rows of a table.
-    pub const MAX_ROWS: usize = 65_536;
-}

@@ -5,8 +5,8 @@ ghost use Rattle.escrow_rows.specs.Listing.{listed_row};
 use crate::listed::ListedTable;
 use crate::store::RowStore;
 use crate::stored::StoredTable;
-use escrow_cells::{Failure, Step, run, tabs};
-use escrow_num::Text;
+use escrow_cells::{Step, failure_of, run, tabs};
+use escrow_num::{Failure, Text};
 use escrow_schema::print_table;
 use sqlite::{Alter, Row};
 use std::alloc::Global;
@@ -99,9 +99,9 @@ fn listed_table(row: &Row) -> Result<ListedTable, Failure>
     if row.column_count() != 3 {
         return Err(Failure::Store);
     }
-    let id: i64 = row.get(0)?;
-    let name: String = row.get(1)?;
-    let text: String = row.get(2)?;
+    let id: i64 = row.get(0).map_err(failure_of)?;
+    let name: String = row.get(1).map_err(failure_of)?;
+    let text: String = row.get(2).map_err(failure_of)?;
     Ok(ListedTable {
         id,
         name: Text::from_string(name),

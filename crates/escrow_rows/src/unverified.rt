@@ -1,7 +1,8 @@
 //! What is read of a store before it is known to be an image.
 use crate::store::RowStore;
 use crate::stored::StoredTable;
-use escrow_cells::{Failure, Sink, is_store_schema};
+use escrow_cells::{Sink, is_store_schema};
+use escrow_num::Failure;
 use sqlite::{Alter, Row};
 
 impl<S: Alter> RowStore<S> {

@@ -22,7 +22,8 @@ use Rattle.escrow_schema.specs.declared.column.Column.{Column}
 use Rattle.escrow_schema.specs.declared.table.TableDef.{TableDef}
 use Rattle.escrow_schema.specs.Column.{names_of, reservables}
 use Rattle.escrow_schema.specs.Definition.{IsTable, are_distinct, definition_of, range_check, range_checks}
-use Rattle.escrow_schema.specs.Print.{ReadsBack, canonical, check_words, columns_words, declared_checks}
+use Rattle.escrow_schema.specs.ReadBack.{ReadsBack}
+use Rattle.escrow_schema.specs.Print.{canonical, check_words, columns_words, declared_checks}
 use Rattle.escrow_schema.specs.Rules.{FollowsRules}
 use Rattle.escrow_schema.proofs.ColumnsLemmas.{HasType, reservables_distinct, reservables_written}
 use Rattle.escrow_schema.proofs.DefinedLemmas.{defined}
@@ -136,7 +137,7 @@ asks_tree table s =
     asks_written (writes_table table.name (columns ++ checks) (items_tree table) s.name (some_item table.columns table.key (map (check_item names) (declared_checks table)) s.some) each)
     (table_length table.name (columns ++ checks) s.name short few)
 
-pub read_back : (table : TableDef) → IsTable table → ReadsBack table
+pub read_back : (table : TableDef) → IsTable table → ReadsBack table (canonical table)
 read_back table (text, e) =
     let h = follows_rules text table e in
     let s = sound text table e h in

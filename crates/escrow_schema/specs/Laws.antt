@@ -19,6 +19,8 @@ use Rattle.escrow_checks.specs.declared.condition.TheConstants.{MAX_CHECKS}
 use Rattle.escrow_checks.specs.Condition.{MeetsText}
 use Rattle.escrow_checks.specs.Grant.{Meets}
 use Rattle.escrow_schema.specs.declared.catalog.TheConstants.Catalog.{MAX_TABLES}
+use Rattle.escrow_schema.specs.declared.column.TheConstants.ColumnType.{MAX_DIGITS, MAX_BYTES}
+use Rattle.escrow_schema.specs.declared.table.TheConstants.TableDef.{MIN_COLUMNS, MAX_COLUMNS, MAX_ROWS}
 use Rattle.escrow_schema.specs.declared.column.Column.{Column}
 use Rattle.escrow_schema.specs.declared.plan.Plan.{Plan}
 use Rattle.escrow_schema.specs.declared.plan.Plan.TheVariants.{Reserve, Plain}
@@ -138,6 +140,11 @@ ChecksMeanConditions =
 abbrev pub DefinitionsFollowRules : Type 0
 DefinitionsFollowRules = (text : CreateText) (table : TableDef) → (definition_of text ≡ Some table) ↔ FollowsRules text table
 
--- a database has 32 tables at most
-abbrev pub MostTables : Type 0
-MostTables = MAX_TABLES ≡ 32
+-- the limits of this layer, as numbers
+pub record Limits : Type 0 where
+  pub tables : MAX_TABLES ≡ 32
+  pub rows : MAX_ROWS ≡ 65536
+  pub fewest_columns : MIN_COLUMNS ≡ 2
+  pub columns : MAX_COLUMNS ≡ 30
+  pub digits : MAX_DIGITS ≡ 15
+  pub bytes : MAX_BYTES ≡ 255

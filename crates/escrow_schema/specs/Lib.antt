@@ -7,5 +7,6 @@ pub mod Fit
 pub mod Laws
 pub mod Plan
 pub mod Print
+pub mod ReadBack
 pub mod Rules
 pub mod Typed

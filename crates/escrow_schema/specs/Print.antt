@@ -1,20 +1,15 @@
--- Believed: the canonical text of a table, to the byte, and that it is read back as that table.
+-- Believed: the canonical text of a table, to the byte.
 use Rattle.std.specs.Prelude.{◌≡◌, ℕ, ℤ, pos, negsuc, ◌+◌, ◌-◌, ◌==◌, Bool, true, false, if◌then◌else◌, Option, Some, None, List, [], ◌∷◌, ◌++◌, length, take, map, codes, decimal}
 use Rattle.std.specs.Fmt.{signed_decimal}
 use Rattle.std.specs.Int.RustNames.{unsigned_abs}
 use Rattle.std.specs.Ordering.{int_eq}
 use Rattle.escrow_sql.specs.Joined.{joined}
-use Rattle.escrow_sql.specs.Parser.{Asks}
-use Rattle.escrow_sql.specs.declared.statement.CreateText.{CreateText}
-use Rattle.escrow_sql.specs.declared.statement.Request.TheVariants as requests
-use Rattle.escrow_sql.specs.declared.statement.Statement.TheVariants as statements
 use Rattle.escrow_checks.specs.declared.check.Check.{Check}
 use Rattle.escrow_schema.specs.declared.column.Column.{Column}
 use Rattle.escrow_schema.specs.declared.column.ColumnType.{ColumnType}
 use Rattle.escrow_schema.specs.declared.column.ColumnType.TheVariants.{Number, Varchar2}
 use Rattle.escrow_schema.specs.declared.table.TableDef.{TableDef}
 use Rattle.escrow_schema.specs.Column.{reservables, names_of}
-use Rattle.escrow_schema.specs.Definition.{definition_of}
 
 -- a type: NUMBER and its digits, or VARCHAR2 and its bytes
 abbrev pub type_words : ColumnType → List ℕ
@@ -81,7 +76,3 @@ abbrev pub canonical : TableDef → List ℕ
 canonical table =
     table_words table.name
     (columns_words table.columns 0 table.key ++ map (check_words (names_of (reservables table.columns))) (declared_checks table))
-
--- the canonical text of a table asks a CREATE TABLE, and that defines the same table
-abbrev pub ReadsBack : TableDef → Type 0
-ReadsBack table = (text : CreateText) × Asks (canonical table) (requests.Statement (statements.Create text)) × (definition_of text ≡ Some table)

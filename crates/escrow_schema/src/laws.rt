@@ -1,6 +1,6 @@
 //! What holds of every table that a text defines, and of the rows and plans of it: each law is the
 //! contract of a function that does nothing.
-ghost use Rattle.escrow_schema.specs.Laws.{NameOfTable, FewReservable, ChecksOfWholeRow, ChecksKeepAmounts, FewChecks, RowsOfTable, ValuesOfRow, ValuesBesideNames, ValuesFit, ChecksMeanConditions, DefinitionsFollowRules, PlansOfWholeRow, PlainPlansFit, ChangesAsAssigned, NewValuesAsAssigned, KeysOfPlans, RefusalsOfPlans, RefusalsOfKeys, MostTables};
+ghost use Rattle.escrow_schema.specs.Laws.{NameOfTable, FewReservable, ChecksOfWholeRow, ChecksKeepAmounts, FewChecks, RowsOfTable, ValuesOfRow, ValuesBesideNames, ValuesFit, ChecksMeanConditions, DefinitionsFollowRules, PlansOfWholeRow, PlainPlansFit, ChangesAsAssigned, NewValuesAsAssigned, KeysOfPlans, RefusalsOfPlans, RefusalsOfKeys, Limits};
 
 /// A text defines a table exactly where the two follow the rules of definitions, one by one.
 pub fn definitions_follow_rules()
@@ -100,7 +100,8 @@ pub fn refusals_of_keys()
     ensures { RefusalsOfKeys }
 {}
 
-/// A database has 32 tables at most.
-pub fn most_tables()
-    ensures { MostTables }
+/// A database has 32 tables at most, a table 2 to 30 columns and 65,536 rows at most, a number 15 digits at
+/// most, and a text 255 bytes.
+pub fn limits()
+    ensures { Limits }
 {}

@@ -4,7 +4,8 @@ ghost use Rattle.std.specs.List.{flat_map};
 ghost use Rattle.escrow_sql.specs.Joined.{joined};
 ghost use Rattle.escrow_schema.specs.Column.{reservables, names_of};
 ghost use Rattle.escrow_schema.specs.Definition.{IsTable};
-ghost use Rattle.escrow_schema.specs.Print.{ReadsBack, canonical, check_words, column_words, columns_words, declared_checks, form_words, limit_words, marks_words, table_words, type_words};
+ghost use Rattle.escrow_schema.specs.ReadBack.{ReadsBack};
+ghost use Rattle.escrow_schema.specs.Print.{canonical, check_words, column_words, columns_words, declared_checks, form_words, limit_words, marks_words, table_words, type_words};
 
 mod words;
 
@@ -22,7 +23,7 @@ use std::alloc::{AllocError, Global};
 pub fn print_table(alloc: Global, table: &TableDef) -> Result<Text, AllocError>
     requires { IsTable table.now }
     ensures text { IfOk result (λ text. text ≡ canonical table.now) }
-    ensures read_back { ReadsBack table.now }
+    ensures read_back { IfOk result (λ text. ReadsBack table.now text) }
 {
     let mut text = String::new(alloc);
     push_table(alloc, &mut text, table)?;

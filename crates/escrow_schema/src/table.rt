@@ -27,6 +27,9 @@ impl TableDef {
     /// The most columns of a table.
     pub const MAX_COLUMNS: usize = 30;
 
+    /// The most rows of a table.
+    pub const MAX_ROWS: usize = 65_536;
+
     /// The columns, in order, each of which has a type and the key among them.
     pub(crate) fn typed_columns(&self) -> &[Column]
         requires { IsTable self.now }

@@ -13,7 +13,7 @@ use Rattle.escrow_cells.specs.Store.{HasTables}
 use Rattle.escrow_cells.specs.Tables.{no_schema}
 use Rattle.escrow_rows.specs.Answers.{IsUsable}
 use Rattle.escrow_core.specs.Seen.{Seen}
-use Rattle.escrow_core.specs.State.{State, empty}
+use Rattle.escrow_machine.specs.State.{State, empty}
 use Rattle.escrow_server.specs.Output.{AreUsable, states_of}
 use Rattle.escrow_server.specs.Program.{empty_states, AreFound, IsFound, StartsAs}
 

@@ -6,13 +6,13 @@ use Rattle.std.proofs.lemmas.List.{append-nil, take_all, take-append-drop, lengt
 use Rattle.std.proofs.lemmas.Option.{slice_get-get_or, slice_get-map}
 use Rattle.std.proofs.lemmas.Bool.{cases_lt}
 use Rattle.sqlite_trees.specs.declared.store.Store.{Ghosts}
-use Rattle.escrow_core.specs.declared.reply.Reply.{Reply}
+use Rattle.escrow_machine.specs.declared.reply.Reply.{Reply}
 use Rattle.escrow_core.specs.Seen.{Seen}
-use Rattle.escrow_core.specs.State.{State}
+use Rattle.escrow_machine.specs.State.{State}
 use Rattle.escrow_server.specs.declared.fault.ServeFault.{ServeFault}
 use Rattle.escrow_server.specs.declared.fault.ServeFault.TheVariants as fault
-use Rattle.escrow_core.specs.Step as machine
-use Rattle.escrow_core.specs.declared.event.Event.TheVariants as event
+use Rattle.escrow_machine.specs.Step as machine
+use Rattle.escrow_machine.specs.declared.event.Event.TheVariants as event
 use Rattle.escrow_server.specs.Line.{Reading, restart, statement, no_line, database_name, Reads, lines_of}
 use Rattle.escrow_reply.specs.Text.{rendered, rendered_whole}
 use Rattle.escrow_server.specs.Output.{state_in, states_of, Answers, AreUsable, ServesLine, ServesBytes, ServesLines, ServesWhole, Leaves, StopsWithin}

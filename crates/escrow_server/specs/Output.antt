@@ -12,13 +12,13 @@ use Rattle.escrow_sql.specs.declared.statement.Statement.{Statement}
 use Rattle.escrow_sql.specs.declared.statement.Request.TheVariants as request
 use Rattle.escrow_sql.specs.Parser.{Asks, IsFaultIn}
 use Rattle.escrow_rows.specs.Answers.{IsUsable}
-use Rattle.escrow_core.specs.declared.reply.Reply.{Reply}
-use Rattle.escrow_core.specs.declared.reply.Reply.TheVariants as reply
+use Rattle.escrow_machine.specs.declared.reply.Reply.{Reply}
+use Rattle.escrow_machine.specs.declared.reply.Reply.TheVariants as reply
 use Rattle.escrow_core.specs.Seen.{Seen}
-use Rattle.escrow_core.specs.State.{State}
-use Rattle.escrow_core.specs.Step as machine
-use Rattle.escrow_core.specs.Step.{StepOrRefusal}
-use Rattle.escrow_core.specs.declared.event.Event.TheVariants as event
+use Rattle.escrow_machine.specs.State.{State}
+use Rattle.escrow_machine.specs.Step as machine
+use Rattle.escrow_machine.specs.Step.{StepOrRefusal}
+use Rattle.escrow_machine.specs.declared.event.Event.TheVariants as event
 use Rattle.escrow_reply.specs.Text.{rendered, rendered_whole, reply_lines, with_prefix}
 use Rattle.escrow_server.specs.declared.fault.ServeFault.{ServeFault}
 use Rattle.escrow_server.specs.declared.fault.ServeFault.TheVariants as serve_fault

@@ -6,7 +6,7 @@ use Rattle.std.specs.Io.KnownBytes.{Appends, IsAtEnd, Keeps}
 use Rattle.sqlite.specs.Effect.{Database}
 use Rattle.escrow_cells.specs.Tables.{no_schema}
 use Rattle.escrow_tables.specs.Committed.{Holds}
-use Rattle.escrow_core.specs.State.{State, empty, opened}
+use Rattle.escrow_machine.specs.State.{State, empty, opened}
 use Rattle.escrow_server.specs.declared.args.ArgFault.{ArgFault}
 use Rattle.escrow_server.specs.declared.args.ArgFault.TheVariants as arg_fault
 use Rattle.escrow_server.specs.declared.fault.RunFault.{RunFault}

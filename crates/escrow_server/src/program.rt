@@ -1,7 +1,7 @@
 ghost use Rattle.std.specs.Prelude.{◌≡◌, ◌≢◌, ◌⊎◌, ◌≤◌, ◌++◌, ℕ, List, Some, None, map, take, codes, [], IfErr, IfSome, IsSome, OnOk};
 ghost use Rattle.std.specs.Io.KnownBytes.{IsAtEnd, Keeps};
 ghost use Rattle.std.specs.Process.{exit_status};
-ghost use Rattle.escrow_core.specs.State.{State};
+ghost use Rattle.escrow_machine.specs.State.{State};
 ghost use Rattle.escrow_server.specs.declared.args.Args.{Args};
 ghost use Rattle.escrow_server.specs.Args.{asked_by, fault_status, refused_status};
 ghost use Rattle.escrow_server.specs.Output.{states_of, AreUsable, ServesWhole};

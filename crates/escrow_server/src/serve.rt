@@ -3,7 +3,7 @@ ghost use Rattle.std.specs.Io.KnownBytes.{Appends, IsAtEnd};
 ghost use Rattle.sqlite.specs.Held.{state};
 ghost use Rattle.escrow_sql.specs.declared.statement.Statement.{Statement};
 ghost use Rattle.escrow_rows.specs.Answers.{IsUsable};
-ghost use Rattle.escrow_core.specs.Step.{IsServed, StepOrRefusal};
+ghost use Rattle.escrow_machine.specs.Step.{IsServed, StepOrRefusal};
 ghost use Rattle.escrow_server.specs.Output.{refusal_of, states_of, Answers, AreUsable, ServesBytes, ServesWhole, StopsWithin};
 
 use crate::fault::ServeFault;

@@ -1,6 +1,7 @@
 -- Believed: what laws say of texts.
 use Rattle.std.specs.Prelude.{◌≡◌, ℕ, ◌⊎◌, ◌↔◌, Result, List}
 use Rattle.escrow_sql.specs.declared.statement.Request.{Request}
+use Rattle.escrow_sql.specs.declared.lexer.TheConstants.{MAX_TEXT}
 use Rattle.escrow_sql.specs.declared.token.Token.{Token}
 use Rattle.escrow_sql.specs.Factored.{factored_request}
 use Rattle.escrow_sql.specs.Grammar.{Sentence, IsFirstFault}
@@ -25,3 +26,7 @@ pub record EachIsAnsweredOnce : Type 0 where
 pub record FactoringKeepsSentences : Type 0 where
   pub sentences : (tokens : List Token) (r : Request) → Sentence request tokens r ↔ Sentence factored_request tokens r
   pub faults : (tokens : List Token) (k : ℕ) → IsFirstFault request tokens k ↔ IsFirstFault factored_request tokens k
+
+-- a text has 65,536 bytes at most
+abbrev pub Limits : Type 0
+Limits = MAX_TEXT ≡ 65536

@@ -1,6 +1,6 @@
 //! Laws of the definitions: facts about them, each the contract of a function that does nothing.
 
-ghost use Rattle.escrow_sql.specs.Laws.{EachIsAnsweredOnce, EachIsLexedOnce, FactoringKeepsSentences};
+ghost use Rattle.escrow_sql.specs.Laws.{EachIsAnsweredOnce, EachIsLexedOnce, FactoringKeepsSentences, Limits};
 
 /// What is lexed of a text stands fast: tokens, or the column of a fault, and never two answers.
 pub fn each_is_lexed_once()
@@ -17,4 +17,9 @@ pub fn each_is_answered_once()
 /// those of the grammar of requests and mean the same, and where one goes wrong the other does.
 pub fn factoring_keeps_sentences()
     ensures { FactoringKeepsSentences }
+{}
+
+/// A text has 65,536 bytes at most.
+pub fn limits()
+    ensures { Limits }
 {}

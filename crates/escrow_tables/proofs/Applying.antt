@@ -11,11 +11,11 @@ use Rattle.escrow_checks.proofs.FormLemmas.{length-all_changed}
 use Rattle.escrow_schema.specs.Fit.{IsRowOf}
 use Rattle.escrow_rows.specs.declared.amounts.NewAmounts.{NewAmounts}
 use Rattle.escrow_rows.specs.declared.stored.StoredTable.{StoredTable}
-use Rattle.escrow_rows.specs.declared.stored.TheConstants.StoredTable.{MAX_ROWS}
+use Rattle.escrow_schema.specs.declared.table.TheConstants.TableDef.{MAX_ROWS}
 use Rattle.escrow_rows.specs.Changes.{Stands, PutsAmounts}
-use Rattle.escrow_rows.specs.Image.{AreTables, AreRows, HasTable, row_before, rows_of, stored_named}
+use Rattle.escrow_rows.specs.Image.{AreTables, AreRows, HasTable, stored_named}
+use Rattle.escrow_machine.specs.Rows.{row_before, rows_of, changes_to, row_after, applied}
 use Rattle.escrow_verify.specs.declared.counted.Counted.{Counted}
-use Rattle.escrow_tables.specs.Applied.{changes_to, row_after, applied}
 use Rattle.escrow_tables.specs.Inside.{stored_of, HasCount, IsHeld}
 use Rattle.escrow_tables.specs.Puts.{ArePuts, TellsPut, put_by}
 use Rattle.escrow_tables.proofs.Puts.{put_all_rows, puts_apply}

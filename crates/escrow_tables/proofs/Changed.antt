@@ -6,8 +6,7 @@ use Rattle.escrow_num.specs.declared.row.Row.{Row}
 use Rattle.escrow_num.specs.Order.{same_row}
 use Rattle.escrow_num.specs.Reservation.{counted}
 use Rattle.escrow_checks.specs.Form.{changed, all_changed}
-use Rattle.escrow_rows.specs.Changes.{replaced}
-use Rattle.escrow_tables.specs.Applied.{changes_to}
+use Rattle.escrow_machine.specs.Rows.{replaced, changes_to}
 
 -- no changes change nothing
 pub changed_nil : (amounts : List ℤ) → changed amounts [] ≡ amounts

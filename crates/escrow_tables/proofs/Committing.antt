@@ -12,7 +12,7 @@ use Rattle.escrow_rows.specs.Answers.{IsUsable, Looks}
 use Rattle.escrow_rows.specs.Changes.{PutsAmounts}
 use Rattle.escrow_rows.specs.View.{rows_in}
 use Rattle.escrow_rows.specs.declared.amounts.NewAmounts.{NewAmounts}
-use Rattle.escrow_tables.specs.Applied.{applied}
+use Rattle.escrow_machine.specs.Rows.{applied}
 use Rattle.escrow_tables.specs.Calls.{Writes}
 use Rattle.escrow_tables.specs.Inside.{IsHeld, Keeps, catalog_of, stored_of}
 use Rattle.escrow_tables.specs.Puts.{ArePuts, TellsPut, put_by}

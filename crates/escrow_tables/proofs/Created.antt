@@ -26,7 +26,8 @@ use Rattle.escrow_schema.specs.Fit.{IsRowOf}
 use Rattle.escrow_schema.proofs.CatalogLemmas.{with_new, with_table_put}
 use Rattle.escrow_rows.specs.declared.stored.StoredTable.{StoredTable}
 use Rattle.escrow_rows.specs.Changes.{Creates}
-use Rattle.escrow_rows.specs.Image.{AreTables, AreRows, HasTable, rows_of, stored_named}
+use Rattle.escrow_rows.specs.Image.{AreTables, AreRows, HasTable, stored_named}
+use Rattle.escrow_machine.specs.Rows.{rows_of}
 use Rattle.escrow_rows.specs.View.{rows_in}
 use Rattle.escrow_rows.proofs.Cells.{row_in}
 use Rattle.escrow_rows.proofs.ImageTables.{has_permutation, still_found}

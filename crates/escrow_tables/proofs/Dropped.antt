@@ -18,8 +18,9 @@ use Rattle.escrow_schema.specs.Definition.{IsTable}
 use Rattle.escrow_schema.specs.Fit.{IsRowOf}
 use Rattle.escrow_schema.proofs.CatalogLemmas.{Once, once_named, taken_out, without_one}
 use Rattle.escrow_rows.specs.declared.stored.StoredTable.{StoredTable}
-use Rattle.escrow_rows.specs.Changes.{Drops, without_rows_of, without_stored}
-use Rattle.escrow_rows.specs.Image.{AreTables, AreRows, HasTable, rows_of}
+use Rattle.escrow_rows.specs.Changes.{Drops, without_stored}
+use Rattle.escrow_machine.specs.Rows.{without_rows_of, rows_of}
+use Rattle.escrow_rows.specs.Image.{AreTables, AreRows, HasTable}
 use Rattle.escrow_rows.specs.View.{rows_in}
 use Rattle.escrow_rows.proofs.ImageTables.{found_without}
 use Rattle.escrow_verify.specs.declared.counted.Counted.{Counted}

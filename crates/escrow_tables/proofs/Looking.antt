@@ -11,9 +11,9 @@ use Rattle.escrow_num.proofs.Items.{all_has, find_has}
 use Rattle.escrow_schema.specs.Definition.{IsTable}
 use Rattle.escrow_rows.specs.declared.stored.StoredTable.{StoredTable}
 use Rattle.escrow_rows.specs.Answers.{TellsRow}
-use Rattle.escrow_rows.specs.Changes.{Stands, replaced}
+use Rattle.escrow_rows.specs.Changes.{Stands}
+use Rattle.escrow_machine.specs.Rows.{replaced, row_after}
 use Rattle.escrow_rows.specs.Image.{AreTables}
-use Rattle.escrow_tables.specs.Applied.{row_after}
 use Rattle.escrow_tables.specs.Puts.{Put, ArePuts, TellsPut, row_of}
 use Rattle.escrow_tables.proofs.Puts.{for_more, for_itself, for_same}
 

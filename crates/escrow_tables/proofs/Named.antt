@@ -14,7 +14,7 @@ use Rattle.escrow_rows.specs.declared.stored.StoredTable.{StoredTable}
 use Rattle.escrow_rows.specs.Changes.{Stands}
 use Rattle.escrow_rows.specs.Image.{AreRows, stored_named, HasTable as StoredHas}
 use Rattle.escrow_verify.specs.declared.counted.Counted.{Counted}
-use Rattle.escrow_tables.specs.Committed.{AreRowsOf, HasTable}
+use Rattle.escrow_machine.specs.Rows.{AreRowsOf, HasTable}
 use Rattle.escrow_tables.specs.Inside.{stored_of, catalog_of}
 
 -- the table of a name, with its count

@@ -14,11 +14,10 @@ use Rattle.escrow_num.specs.Order.{row_cmp, same_row}
 use Rattle.escrow_num.specs.declared.row.Row.{Row}
 use Rattle.escrow_num.specs.declared.value.RowName.{RowName}
 use Rattle.escrow_num.specs.declared.value.Value.{Value}
-use Rattle.escrow_rows.specs.Answers.{row_named}
-use Rattle.escrow_rows.specs.Changes.{replaced, with_plain, with_row, with_values, without_row}
-use Rattle.escrow_rows.specs.Image.{AreRows, HasTable, row_before, rows_of}
+use Rattle.escrow_machine.specs.Rows.{row_named, replaced, with_plain, with_row, with_values, without_row, row_before, rows_of}
+use Rattle.escrow_rows.specs.Image.{AreRows, HasTable}
 use Rattle.escrow_rows.specs.declared.stored.StoredTable.{StoredTable}
-use Rattle.escrow_rows.specs.declared.stored.TheConstants.StoredTable.{MAX_ROWS}
+use Rattle.escrow_schema.specs.declared.table.TheConstants.TableDef.{MAX_ROWS}
 use Rattle.escrow_rows.proofs.OneRow.{rows_named}
 
 -- INSERT: the row is put among the rows in their order

@@ -11,7 +11,8 @@ use Rattle.escrow_num.proofs.Items.{Has, all_has}
 use Rattle.escrow_num.proofs.Orders.{same_name}
 use Rattle.escrow_num.specs.Ascending.{IsAscending}
 use Rattle.escrow_num.specs.declared.row.Row.{Row}
-use Rattle.escrow_rows.specs.Image.{AreTables, rows_of}
+use Rattle.escrow_rows.specs.Image.{AreTables}
+use Rattle.escrow_machine.specs.Rows.{rows_of}
 use Rattle.escrow_rows.specs.declared.stored.StoredTable.{StoredTable}
 use Rattle.escrow_tables.specs.Inside.{HasCount, catalog_of, stored_of}
 use Rattle.escrow_verify.specs.declared.counted.Counted.{Counted}

@@ -13,7 +13,7 @@ use Rattle.escrow_rows.specs.Answers.{IsUsable, Tells}
 use Rattle.escrow_rows.specs.Changes.{name_in}
 use Rattle.escrow_rows.specs.View.{rows_in}
 use Rattle.escrow_verify.specs.declared.counted.Counted.{Counted}
-use Rattle.escrow_tables.specs.Committed.{HasTable}
+use Rattle.escrow_machine.specs.Rows.{HasTable}
 use Rattle.escrow_tables.specs.Inside.{Keeps, stored_of, catalog_of}
 use Rattle.escrow_tables.proofs.Named.{IsNamed, named_has}
 

@@ -12,14 +12,14 @@ use Rattle.escrow_num.specs.declared.value.RowName.{RowName}
 use Rattle.escrow_num.specs.declared.value.Value.{Value}
 use Rattle.escrow_schema.specs.Catalog.{IsCatalog}
 use Rattle.escrow_schema.specs.declared.table.TableDef.{TableDef}
-use Rattle.escrow_rows.specs.Answers.{IsUsable, row_named}
-use Rattle.escrow_rows.specs.Changes.{TurnsRows, with_plain, with_row, without_row}
-use Rattle.escrow_rows.specs.Image.{AreRows, AreTables, HasTable as StoredHas, IsImage, rows_of}
+use Rattle.escrow_rows.specs.Answers.{IsUsable}
+use Rattle.escrow_machine.specs.Rows.{row_named, with_plain, with_row, without_row, rows_of, HasTable}
+use Rattle.escrow_rows.specs.Changes.{TurnsRows}
+use Rattle.escrow_rows.specs.Image.{AreRows, AreTables, HasTable as StoredHas, IsImage}
 use Rattle.escrow_rows.specs.View.{rows_in}
 use Rattle.escrow_rows.specs.declared.stored.StoredTable.{StoredTable}
-use Rattle.escrow_rows.specs.declared.stored.TheConstants.StoredTable.{MAX_ROWS}
+use Rattle.escrow_schema.specs.declared.table.TheConstants.TableDef.{MAX_ROWS}
 use Rattle.escrow_tables.specs.Calls.{Writes}
-use Rattle.escrow_tables.specs.Committed.{HasTable}
 use Rattle.escrow_tables.specs.Inside.{HasCount, IsHeld, Keeps, catalog_of, stored_of}
 use Rattle.escrow_verify.specs.declared.counted.Counted.{Counted}
 use Rattle.escrow_tables.proofs.Named.{stored_has}

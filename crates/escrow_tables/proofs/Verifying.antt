@@ -31,7 +31,8 @@ use Rattle.escrow_rows.specs.View.{rows_in}
 use Rattle.escrow_rows.specs.declared.stored.StoredTable.{StoredTable}
 use Rattle.escrow_rows.proofs.Order.{sorted_permutation}
 use Rattle.escrow_rows.proofs.ViewLemmas.{rows_are}
-use Rattle.escrow_verify.specs.Stored.{IsStoreOf, MeetsChecks}
+use Rattle.escrow_verify.specs.Stored.{IsStoreOf}
+use Rattle.escrow_machine.specs.Rows.{MeetsChecks}
 use Rattle.escrow_verify.specs.declared.counted.Counted.{Counted}
 use Rattle.escrow_tables.specs.Committed.{Holds}
 use Rattle.escrow_tables.specs.Inside.{HasCount, IsHeld, Keeps, catalog_of, stored_of}

@@ -1,20 +1,15 @@
 -- Believed: what contracts see of the tables of a database, and when a store holds them.
-use Rattle.std.specs.Prelude.{◌≡◌, ◌≤◌, ℕ, refl, IsSomeAnd, List, map, length}
-use Rattle.std.specs.List.{AllByRecursion}
+use Rattle.std.specs.Prelude.{◌≡◌, refl, List, map}
 use Rattle.std.specs.Coded.{Coded, code_by, coded×, coded_list}
 use Rattle.sqlite.specs.Effect.{Database}
 use Rattle.sqlite.specs.Held.{Held, held_code}
 use Rattle.sqlite_trees.specs.Tree.{Trees}
 use Rattle.escrow_num.specs.contracts.row.Row as row
 use Rattle.escrow_num.specs.declared.row.Row.{Row}
-use Rattle.escrow_num.specs.Ascending.{IsAscending}
 use Rattle.escrow_schema.specs.contracts.table.TableDef as table
 use Rattle.escrow_schema.specs.declared.table.TableDef.{TableDef}
-use Rattle.escrow_schema.specs.Catalog.{table_named}
-use Rattle.escrow_schema.specs.Fit.{IsRowOf}
 use Rattle.escrow_rows.specs.declared.stored.StoredTable.{StoredTable}
-use Rattle.escrow_rows.specs.declared.stored.TheConstants.StoredTable.{MAX_ROWS}
-use Rattle.escrow_rows.specs.Image.{IsImage, AreTables, AreRows, row_before, rows_of}
+use Rattle.escrow_rows.specs.Image.{IsImage, AreTables, AreRows}
 
 -- what contracts see: the connection to the store, the tables in order of name, and their rows in order
 -- of table and key
@@ -27,17 +22,6 @@ abbrev pub committed_code : {S : Type 0} → Coded S → Coded (Committed S)
 committed_code {S} store =
     code_by (Held S × (List TableDef × List Row)) (coded× (held_code store) (coded× (coded_list table.the_row.coded) (coded_list row.the_row.coded)))
     (λ c. (c.store, (c.catalog, c.rows))) (λ p. record { store = p.0; catalog = p.1.0; rows = p.1.1 }) (λ _. refl)
-
--- a row is one of a table in the catalog
-abbrev pub HasTable : List TableDef → Row → Type 0
-HasTable catalog row = IsSomeAnd (table_named catalog row.name.table) (λ table. IsRowOf table row)
-
--- rows are of tables in the catalog, in order of table and key, no two of one table and key; at most 65,536
--- of one table
-pub record AreRowsOf (catalog : List TableDef) (rows : List Row) : Type 0 where
-  pub tables : AllByRecursion (HasTable catalog) rows
-  pub row_order : IsAscending row_before rows
-  pub few_rows : (table : List ℕ) → length (rows_of rows table) ≤ MAX_ROWS
 
 -- a database of SQLite holds these tables and these rows, whatever numbers the tables have in it
 pub record Holds (catalog : List TableDef) (rows : List Row) (db : Database) : Type 0 where

@@ -1,8 +1,6 @@
-pub mod Applied
 pub mod Calls
 pub mod Committed
 pub mod Found
 pub mod Inside
 pub mod Laws
 pub mod Puts
-pub mod Told

@@ -9,10 +9,9 @@ use Rattle.escrow_num.specs.declared.value.Value.{Value}
 use Rattle.escrow_num.specs.Order.{same_row}
 use Rattle.escrow_rows.specs.declared.amounts.NewAmounts.{NewAmounts}
 use Rattle.escrow_rows.specs.declared.stored.StoredTable.{StoredTable}
-use Rattle.escrow_rows.specs.Answers.{row_named}
-use Rattle.escrow_rows.specs.Changes.{Stands, name_in, replaced}
+use Rattle.escrow_machine.specs.Rows.{row_named, replaced, row_after}
+use Rattle.escrow_rows.specs.Changes.{Stands, name_in}
 use Rattle.escrow_rows.specs.Image.{IsImage, AreTables, AreRows}
-use Rattle.escrow_tables.specs.Applied.{row_after}
 use Rattle.escrow_tables.specs.declared.apply.Change.{Change}
 
 -- new amounts of the row of a key

@@ -6,15 +6,15 @@ ghost use Rattle.escrow_num.specs.Order.{same_row};
 ghost use Rattle.escrow_num.specs.Reservation.{counted};
 ghost use Rattle.escrow_checks.specs.Form.{changed};
 ghost use Rattle.escrow_rows.specs.Answers.{IsUsable, Looks};
-ghost use Rattle.escrow_rows.specs.Changes.{Stands, replaced};
+ghost use Rattle.escrow_rows.specs.Changes.{Stands};
+ghost use Rattle.escrow_machine.specs.Rows.{replaced, row_after};
 ghost use Rattle.escrow_rows.specs.Image.{AreTables};
-ghost use Rattle.escrow_tables.specs.Applied.{row_after};
 ghost use Rattle.escrow_tables.specs.Inside.{stored_of};
 ghost use Rattle.escrow_tables.specs.Puts.{ArePuts, TellsPut, put_by, put_of, row_of};
 
 use crate::tables::{Tables, find_counted};
-use escrow_num::{Amount, Reservation, Row, RowName, Seq, Value};
-use escrow_rows::{Failure, NewAmounts, RowStore, StoredTable};
+use escrow_num::{Amount, Failure, Reservation, Row, RowName, Seq, Value};
+use escrow_rows::{NewAmounts, RowStore, StoredTable};
 use escrow_verify::Counted;
 use sqlite::Alter;
 use std::alloc::{AllocError, Global};
@@ -30,7 +30,7 @@ struct Change<'a> {
 
 impl<S: Alter> Tables<S> {
     ghost use Rattle.std.specs.Prelude.{is_ok};
-    ghost use Rattle.escrow_tables.specs.Applied.{applied};
+    ghost use Rattle.escrow_machine.specs.Rows.{applied};
     ghost use Rattle.escrow_tables.specs.Calls.{Writes};
 
     /// COMMIT: adds the changes of reservations to the amounts of their rows, in one transaction. Each row

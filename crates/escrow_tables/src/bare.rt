@@ -10,8 +10,7 @@ ghost use Rattle.escrow_rows.specs.Answers.{IsUsable};
 ghost use Rattle.escrow_tables.specs.Found.{IsFounded};
 
 use escrow_cells::create;
-use escrow_num::Refusal;
-use escrow_verify::refusal_of;
+use escrow_num::{Refusal, refusal_of};
 use sqlite::{Alter, Connection};
 use sqlite_schema::schema::Schema;
 

@@ -6,8 +6,8 @@ ghost use Rattle.std.specs.Cmp.Lexicographic.{slice_cmp};
 ghost use Rattle.escrow_verify.specs.declared.counted.Counted.{Counted as Kept};
 
 use crate::tables::{Tables, place_of};
-use escrow_num::Name;
-use escrow_rows::{Failure, StoredTable};
+use escrow_num::{Failure, Name};
+use escrow_rows::StoredTable;
 use escrow_schema::TableDef;
 use escrow_verify::Counted;
 use sqlite::Alter;
@@ -18,7 +18,7 @@ impl<S: Alter> Tables<S> {
     ghost use Rattle.escrow_schema.specs.declared.catalog.TheConstants.Catalog.{MAX_TABLES};
     ghost use Rattle.escrow_schema.specs.Catalog.{table_named, with_table, without_table};
     ghost use Rattle.escrow_schema.specs.Definition.{IsTable};
-    ghost use Rattle.escrow_rows.specs.Changes.{without_rows_of};
+    ghost use Rattle.escrow_machine.specs.Rows.{without_rows_of};
     ghost use Rattle.escrow_tables.specs.Calls.{Writes};
 
     /// CREATE TABLE: puts a new table, without rows. Room for it is taken before the store is asked.

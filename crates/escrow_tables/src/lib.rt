@@ -15,7 +15,6 @@ mod tables;
 mod verified;
 mod write;
 
-pub use escrow_rows::{Failure, StoredTable};
-pub use escrow_verify::refusal_of;
+pub use escrow_rows::StoredTable;
 pub use open::{StoreFault, open_store};
 pub use tables::Tables;

@@ -6,7 +6,8 @@ ghost use Rattle.sqlite_trees.specs.Tree.{Trees};
 ghost use Rattle.escrow_num.specs.declared.refusal.Refusal.TheVariants as refusal;
 ghost use Rattle.escrow_cells.specs.Tables.{no_schema};
 ghost use Rattle.escrow_rows.specs.Answers.{IsUsable, Looks};
-ghost use Rattle.escrow_verify.specs.Stored.{IsNoStore, HasOtherFormat, IsCause, MeetsChecks};
+ghost use Rattle.escrow_verify.specs.Stored.{IsNoStore, HasOtherFormat, IsCause};
+ghost use Rattle.escrow_machine.specs.Rows.{MeetsChecks};
 ghost use Rattle.escrow_tables.specs.Committed.{Holds};
 ghost use Rattle.escrow_tables.specs.Found.{IsFounded};
 

@@ -1,6 +1,5 @@
 use crate::tables::{Tables, find_counted};
-use escrow_num::{Name, Row, RowName};
-use escrow_rows::Failure;
+use escrow_num::{Failure, Name, Row, RowName};
 use sqlite::Alter;
 use std::alloc::Global;
 
@@ -10,10 +9,9 @@ impl<S: Alter> Tables<S> {
     ghost use Rattle.sqlite.specs.Held.{state};
     ghost use Rattle.sqlite.specs.State.{HasCleanDisk};
     ghost use Rattle.escrow_schema.specs.Catalog.{table_named};
-    ghost use Rattle.escrow_rows.specs.Answers.{IsUsable, row_named};
-    ghost use Rattle.escrow_rows.specs.Image.{rows_of};
+    ghost use Rattle.escrow_rows.specs.Answers.{IsUsable};
+    ghost use Rattle.escrow_machine.specs.Rows.{row_named, rows_of, HasTable};
     ghost use Rattle.escrow_tables.specs.Calls.{Reads};
-    ghost use Rattle.escrow_tables.specs.Committed.{HasTable};
 
     /// The committed row of a name, if there is one.
     pub fn row(&mut self, alloc: Global, name: &RowName) -> Result<Option<Row>, Failure>

@@ -36,11 +36,13 @@ impl<S: Alter> Model for Tables<S> {
 impl<S: Alter> Tables<S> {
     ghost use Rattle.std.specs.Prelude.{◌≡◌, ◌↔◌, [], length, IfSome, IsSome, IsTrue, option_copied};
     ghost use Rattle.sqlite.specs.Held.{state};
+    ghost use Rattle.sqlite_trees.specs.Tree.{Trees};
     ghost use Rattle.escrow_schema.specs.Catalog.{table_named, IsCatalog};
     ghost use Rattle.escrow_schema.specs.Definition.{IsTable};
     ghost use Rattle.escrow_rows.specs.Answers.{IsUsable};
-    ghost use Rattle.escrow_rows.specs.Image.{IsImage, rows_of};
-    ghost use Rattle.escrow_tables.specs.Committed.{AreRowsOf};
+    ghost use Rattle.escrow_rows.specs.Image.{IsImage};
+    ghost use Rattle.escrow_machine.specs.Rows.{rows_of, AreRowsOf};
+    ghost use Rattle.escrow_tables.specs.Committed.{AreHeld};
 
     /// The tables of an empty store: none. Makes no store call, and takes no memory.
     pub fn empty(alloc: Global, store: RowStore<S>) -> Self
@@ -56,12 +58,14 @@ impl<S: Alter> Tables<S> {
     }
 
     /// How many tables there are. Makes no store call. The catalog is one at any time, and the rows are
-    /// its rows where the store can be used.
+    /// its rows where the store can be used; a crash then leaves just these.
     pub fn len(&self) -> usize
         ensures len { result ≡ length self.now.catalog }
         ensures catalog { IsCatalog self.now.catalog }
         ensures rows { IsUsable (state S.Store self.now.store) → AreRowsOf self.now.catalog self.now.rows }
+        ensures left { IsUsable (state S.Store self.now.store) → (trees : Trees) → (state S.Store self.now.store).may_leave trees → AreHeld self.now.catalog self.now.rows trees }
     {
+        self.store.rests();
         self.tables.len()
     }
 

@@ -1,6 +1,6 @@
 use crate::tables::Tables;
-use escrow_num::Refusal;
-use escrow_rows::{Failure, RowStore};
+use escrow_num::{Failure, Refusal};
+use escrow_rows::RowStore;
 use escrow_verify::verify;
 use sqlite::Alter;
 use std::alloc::Global;
@@ -12,7 +12,8 @@ impl<S: Alter> Tables<S> {
     ghost use Rattle.sqlite.specs.State.{HasCleanDisk};
     ghost use Rattle.escrow_num.specs.declared.refusal.Refusal.TheVariants as refusal;
     ghost use Rattle.escrow_rows.specs.Answers.{IsUsable, Looks};
-    ghost use Rattle.escrow_verify.specs.Stored.{IsNoStore, HasOtherFormat, IsCause, MeetsChecks};
+    ghost use Rattle.escrow_verify.specs.Stored.{IsNoStore, HasOtherFormat, IsCause};
+    ghost use Rattle.escrow_machine.specs.Rows.{MeetsChecks};
     ghost use Rattle.escrow_tables.specs.Calls.{Reads};
     ghost use Rattle.escrow_tables.specs.Committed.{Holds};
 

@@ -1,6 +1,5 @@
 use crate::tables::{Tables, place_of};
-use escrow_num::{Row, RowName, Value};
-use escrow_rows::Failure;
+use escrow_num::{Failure, Row, RowName, Value};
 use sqlite::Alter;
 use std::alloc::Global;
 
@@ -9,12 +8,10 @@ impl<S: Alter> Tables<S> {
     ghost use Rattle.std.specs.List.{AllByRecursion};
     ghost use Rattle.sqlite.specs.Held.{state};
     ghost use Rattle.escrow_schema.specs.Catalog.{table_named};
-    ghost use Rattle.escrow_rows.specs.declared.stored.TheConstants.StoredTable.{MAX_ROWS};
-    ghost use Rattle.escrow_rows.specs.Answers.{IsUsable, row_named};
-    ghost use Rattle.escrow_rows.specs.Changes.{with_row, without_row, with_plain};
-    ghost use Rattle.escrow_rows.specs.Image.{rows_of};
+    ghost use Rattle.escrow_schema.specs.declared.table.TheConstants.TableDef.{MAX_ROWS};
+    ghost use Rattle.escrow_rows.specs.Answers.{IsUsable};
+    ghost use Rattle.escrow_machine.specs.Rows.{row_named, with_row, without_row, with_plain, rows_of, HasTable};
     ghost use Rattle.escrow_tables.specs.Calls.{Writes};
-    ghost use Rattle.escrow_tables.specs.Committed.{HasTable};
 
     /// INSERT: puts a new row of a table among the rows.
     pub fn insert(&mut self, alloc: Global, row: &Row) -> Result<(), Failure>

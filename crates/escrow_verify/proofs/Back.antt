@@ -19,12 +19,13 @@ use Rattle.escrow_cells.specs.Step.{is_in}
 use Rattle.escrow_cells.specs.Store.{cells}
 use Rattle.escrow_rows.specs.declared.stored.StoredTable.{StoredTable}
 use Rattle.escrow_rows.specs.Changes.{Stands}
-use Rattle.escrow_rows.specs.Image.{CanBeHeld, HasTable, cells_in, cells_of, row_before, rows_of, tab_row}
+use Rattle.escrow_rows.specs.Image.{CanBeHeld, HasTable, cells_in, cells_of, tab_row}
+use Rattle.escrow_machine.specs.Rows.{row_before, rows_of, MeetsChecks}
 use Rattle.escrow_rows.proofs.Cells.{cells_name, filter_pieces, is_in_row, row_in, row_of_stored}
 use Rattle.escrow_rows.proofs.ImageTables.{has_permutation, pieces_same}
 use Rattle.escrow_rows.proofs.KeyedCells.{with_key, cells_keyed}
 use Rattle.escrow_verify.specs.Inside.{AreOfTables, AreRowsIn, AreTablesIn, IsKnown, IsNumberOf, IsSoundRow, keyed_cells}
-use Rattle.escrow_verify.specs.Stored.{HasHeldValues, IsStoreOf, MeetsChecks}
+use Rattle.escrow_verify.specs.Stored.{HasHeldValues, IsStoreOf}
 use Rattle.escrow_verify.proofs.Parts.{find_mapped, found_named}
 use Rattle.escrow_verify.proofs.Split.{has_number}
 

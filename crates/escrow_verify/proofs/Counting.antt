@@ -10,7 +10,7 @@ use Rattle.escrow_schema.specs.declared.table.TableDef.{TableDef}
 use Rattle.escrow_schema.specs.Fit.{values_of}
 use Rattle.escrow_schema.proofs.BackLemmas.{length-values_of}
 use Rattle.escrow_schema.proofs.RuleLemmas.{key_stands}
-use Rattle.escrow_rows.specs.declared.stored.TheConstants.StoredTable.{MAX_ROWS}
+use Rattle.escrow_schema.specs.declared.table.TheConstants.TableDef.{MAX_ROWS}
 use Rattle.escrow_rows.specs.Gathered.{keyed}
 use Rattle.escrow_rows.specs.Image.{stored, CanBeHeld}
 use Rattle.escrow_rows.proofs.Gathering.{keyed-push}

@@ -23,14 +23,15 @@ use Rattle.escrow_schema.specs.Fit.{IsRowOf, values_of}
 use Rattle.escrow_cells.specs.Step.{is_in}
 use Rattle.escrow_cells.specs.Store.{cells}
 use Rattle.escrow_rows.specs.declared.stored.StoredTable.{StoredTable}
-use Rattle.escrow_rows.specs.declared.stored.TheConstants.StoredTable.{MAX_ROWS}
-use Rattle.escrow_rows.specs.Image.{AreTables, CanBeHeld, HasTable, cells_in, cells_of, row_before, rows_of, stored_named}
+use Rattle.escrow_schema.specs.declared.table.TheConstants.TableDef.{MAX_ROWS}
+use Rattle.escrow_rows.specs.Image.{AreTables, CanBeHeld, HasTable, cells_in, cells_of, stored_named}
+use Rattle.escrow_machine.specs.Rows.{row_before, rows_of, MeetsChecks}
 use Rattle.escrow_rows.specs.Changes.{Stands}
 use Rattle.escrow_rows.proofs.Cells.{filter_pieces, one_name, row_of_stored}
 use Rattle.escrow_rows.proofs.ImageTables.{pieces_same}
 use Rattle.escrow_verify.specs.declared.counted.Counted.{Counted}
 use Rattle.escrow_verify.specs.Inside.{AreOfTables, AreRowsIn, AreTablesIn, HasRows, IsKnown, IsSoundRow}
-use Rattle.escrow_verify.specs.Stored.{HasCount, HasHeldValues, IsStoreOf, MeetsChecks, stored_of}
+use Rattle.escrow_verify.specs.Stored.{HasCount, HasHeldValues, IsStoreOf, stored_of}
 use Rattle.escrow_verify.proofs.Split.{cells_of_part, cells_split, of_one}
 
 -- items whose images ascend

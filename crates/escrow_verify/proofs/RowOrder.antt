@@ -25,7 +25,7 @@ use Rattle.escrow_cells.specs.Read.{AreOfTable}
 use Rattle.escrow_cells.specs.Store.{cells}
 use Rattle.escrow_rows.specs.declared.stored.StoredTable.{StoredTable}
 use Rattle.escrow_rows.specs.Gathered.{gathered_cells, keyed}
-use Rattle.escrow_rows.specs.Image.{row_before}
+use Rattle.escrow_machine.specs.Rows.{row_before}
 use Rattle.escrow_rows.proofs.KeyedCells.{Below, cell_cmp, cell_cmp_total, gathered_rise, stored_cmp}
 use Rattle.escrow_cells.proofs.Rising.{AtMost, ascending_from_sorted}
 use Rattle.escrow_rows.proofs.TableRead.{keys_rise, values_in}

@@ -12,7 +12,8 @@ use Rattle.escrow_schema.specs.Catalog.{IsCatalog}
 use Rattle.escrow_cells.specs.Store.{HasTables, IsStore}
 use Rattle.escrow_rows.specs.declared.stored.StoredTable.{StoredTable}
 use Rattle.escrow_rows.specs.Answers.{IsUsable, Looks}
-use Rattle.escrow_rows.specs.Image.{AreTables, rows_of}
+use Rattle.escrow_rows.specs.Image.{AreTables}
+use Rattle.escrow_machine.specs.Rows.{rows_of}
 use Rattle.escrow_rows.proofs.ImageTables.{has_permutation}
 use Rattle.escrow_verify.specs.declared.counted.Counted.{Counted}
 use Rattle.escrow_verify.specs.Inside.{AreOfTables, AreRowsIn, AreTablesIn, HasRows, HaveRows, IsKnown}

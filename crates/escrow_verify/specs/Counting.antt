@@ -9,7 +9,7 @@ use Rattle.escrow_checks.specs.Grant.{Meets}
 use Rattle.escrow_schema.specs.declared.table.TableDef.{TableDef}
 use Rattle.escrow_schema.specs.Definition.{IsTable}
 use Rattle.escrow_schema.specs.Fit.{IsRowOf, values_of}
-use Rattle.escrow_rows.specs.declared.stored.TheConstants.StoredTable.{MAX_ROWS}
+use Rattle.escrow_schema.specs.declared.table.TheConstants.TableDef.{MAX_ROWS}
 use Rattle.escrow_rows.specs.Gathered.{keyed}
 use Rattle.escrow_rows.specs.Image.{stored, CanBeHeld}
 use Rattle.escrow_verify.specs.declared.rows.cell.Cell.{Cell}

@@ -16,9 +16,10 @@ use Rattle.escrow_schema.specs.Fit.{IsRowOf, values_of}
 use Rattle.escrow_cells.specs.Step.{is_in}
 use Rattle.escrow_cells.specs.Store.{IsStore, format, cells, metas, tabs}
 use Rattle.escrow_rows.specs.declared.stored.StoredTable.{StoredTable}
-use Rattle.escrow_rows.specs.declared.stored.TheConstants.StoredTable.{MAX_ROWS}
+use Rattle.escrow_schema.specs.declared.table.TheConstants.TableDef.{MAX_ROWS}
 use Rattle.escrow_rows.specs.Gathered.{keyed}
-use Rattle.escrow_rows.specs.Image.{AreTables, CanBeHeld, row_before, tab_row}
+use Rattle.escrow_rows.specs.Image.{AreTables, CanBeHeld, tab_row}
+use Rattle.escrow_machine.specs.Rows.{row_before}
 use Rattle.escrow_verify.specs.declared.counted.Counted.{Counted}
 
 -- why a part of a store isn't verified: 51, 60, or 61

@@ -3,4 +3,3 @@ pub mod Format
 pub mod Inside
 pub mod Stored
 pub mod Tabs
-pub mod Told

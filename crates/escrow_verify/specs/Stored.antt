@@ -6,18 +6,14 @@ use Rattle.sqlite.specs.Effect.{Database}
 use Rattle.escrow_num.specs.declared.refusal.Refusal.{Refusal}
 use Rattle.escrow_num.specs.declared.refusal.Refusal.TheVariants as refusal
 use Rattle.escrow_num.specs.declared.row.Row.{Row}
-use Rattle.escrow_checks.specs.Grant.{Meets}
 use Rattle.escrow_schema.specs.declared.table.TableDef.{TableDef}
 use Rattle.escrow_schema.specs.Catalog.{table_named}
 use Rattle.escrow_schema.specs.Fit.{values_of}
 use Rattle.escrow_cells.specs.Store.{IsStoreSchema, metas}
 use Rattle.escrow_rows.specs.declared.stored.StoredTable.{StoredTable}
-use Rattle.escrow_rows.specs.Image.{CanBeHeld, IsImage, AreTables, AreRows, rows_of}
+use Rattle.escrow_rows.specs.Image.{CanBeHeld, IsImage, AreTables, AreRows}
+use Rattle.escrow_machine.specs.Rows.{rows_of, MeetsChecks}
 use Rattle.escrow_verify.specs.declared.counted.Counted.{Counted}
-
--- a row meets each check of its table
-abbrev pub MeetsChecks : List TableDef → Row → Type 0
-MeetsChecks catalog row = IsSomeAnd (table_named catalog row.name.table) (λ table. AllByRecursion (λ check. Meets check row.amounts) table.checks)
 
 -- each value of a row is one that a column can hold: an amount, or a text in UTF-8
 abbrev pub HasHeldValues : List TableDef → Row → Type 0

@@ -9,9 +9,8 @@ ghost use Rattle.escrow_cells.specs.Store.{HasTables};
 ghost use Rattle.escrow_rows.specs.Answers.{IsUsable, Looks};
 ghost use Rattle.escrow_verify.specs.Inside.{AreOfTables, IsPartCause, is_number_of};
 
-use crate::failure::refusal_of;
-use escrow_cells::{Failure, Sink};
-use escrow_num::Refusal;
+use escrow_cells::{Sink, failure_of};
+use escrow_num::{Failure, Refusal, refusal_of};
 use escrow_rows::{RowStore, StoredTable};
 use sqlite::{Alter, Row};
 
@@ -57,7 +56,10 @@ impl<'a> Sink for Owners<'a> {
     ghost has_taken = { λ first owners rows. (owners.tables ≡ first.tables) × (IsTrue first.known → (IsTrue owners.known ↔ AllByRecursion (λ row. IsNumberOf first.tables.now (column row 0)) rows)) };
 
     fn take(&mut self, row: &Row) -> Result<(), Failure> {
-        let id: i64 = row.get(0)?;
+        let id: i64 = match row.get(0) {
+            Ok(id) => id,
+            Err(error) => return Err(failure_of(error)),
+        };
         if !has_number(self.tables, id) {
             self.known = false;
         }

@@ -11,9 +11,8 @@ ghost use Rattle.escrow_verify.specs.Inside.{IsKnown};
 ghost use Rattle.escrow_verify.specs.Stored.{HasOtherFormat, IsCause};
 ghost use Rattle.escrow_verify.specs.Format.{Tells};
 
-use crate::failure::refusal_of;
-use escrow_cells::{Failure, Sink};
-use escrow_num::Refusal;
+use escrow_cells::{Sink, failure_of};
+use escrow_num::{Failure, Refusal, refusal_of};
 use escrow_rows::RowStore;
 use sqlite::types::ValueRef;
 use sqlite::{Alter, Row};
@@ -99,8 +98,8 @@ fn read_meta(row: &Row) -> Result<Meta, Failure>
     if row.column_count() != 2 {
         return Ok(Meta::Other);
     }
-    let name = row.get_ref(0)?;
-    let number = row.get_ref(1)?;
+    let name = row.get_ref(0).map_err(failure_of)?;
+    let number = row.get_ref(1).map_err(failure_of)?;
     if !is_format(name) {
         return Ok(Meta::Other);
     }

@@ -6,12 +6,10 @@
 
 mod cells;
 mod counted;
-mod failure;
 mod format;
 mod rows;
 mod tables;
 mod whole;
 
 pub use counted::Counted;
-pub use failure::refusal_of;
 pub use whole::verify;

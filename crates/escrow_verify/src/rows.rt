@@ -13,17 +13,16 @@ mod cell;
 mod counter;
 mod defined;
 
-use crate::failure::refusal_of;
 use counter::RowCounter;
 use defined::DefinedTable;
-use escrow_num::Refusal;
+use escrow_num::{Refusal, refusal_of};
 use escrow_rows::{RowStore, StoredTable};
 use sqlite::Alter;
 use std::alloc::Global;
 
 /// How many rows a table of a store has. Each one is tested as its cells are read: it has a value that fits
 /// for each column of the table, and it meets the table's checks. No row is kept. Where a cell is none of
-/// such a row, or there are more than [`StoredTable::MAX_ROWS`] rows, the store is refused as foreign.
+/// such a row, or there are more than [`TableDef::MAX_ROWS`] rows, the store is refused as foreign.
 pub(crate) fn count_rows<S: Alter>(
     alloc: Global,
     store: &mut RowStore<S>,

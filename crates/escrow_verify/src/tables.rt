@@ -14,9 +14,8 @@ ghost use Rattle.escrow_verify.specs.Tabs.{CanStand, IsTab, apart, are_apart, by
 
 mod tab;
 
-use crate::failure::refusal_of;
 use crate::tables::tab::table_of;
-use escrow_num::Refusal;
+use escrow_num::{Refusal, refusal_of};
 use escrow_rows::{RowStore, StoredTable};
 use escrow_schema::Catalog;
 use sqlite::{Alter, Row};

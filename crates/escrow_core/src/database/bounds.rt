@@ -1,10 +1,9 @@
 use crate::bounds::row_bounds;
 use crate::database::Database;
-use crate::reply::Reply;
-use escrow_num::{Refusal, Row, RowName, Session};
+use escrow_machine::Reply;
+use escrow_num::{Refusal, Row, RowName, Session, refusal_of};
 use escrow_schema::{check_key, value_of};
 use escrow_sql::{RowText, Statement};
-use escrow_tables::refusal_of;
 use sqlite::Alter;
 use std::alloc::Global;
 
@@ -14,12 +13,11 @@ impl<S: Alter> Database<S> {
     ghost use Rattle.sqlite.specs.Held.{state};
     ghost use Rattle.escrow_num.specs.Refusal.{first_refusal};
     ghost use Rattle.escrow_rows.specs.Answers.{IsUsable};
-    ghost use Rattle.escrow_core.specs.Asked.{named_by};
+    ghost use Rattle.escrow_machine.specs.Asked.{named_by};
     ghost use Rattle.escrow_core.specs.Serves.{Serves};
-    ghost use Rattle.escrow_core.specs.Serving.{PassesEarly};
-    ghost use Rattle.escrow_core.specs.State.{row_named};
-    ghost use Rattle.escrow_core.specs.Turn.{turn_of};
-    ghost use Rattle.escrow_core.specs.Valid.{HasTable};
+    ghost use Rattle.escrow_machine.specs.Accepted.{PassesEarly};
+    ghost use Rattle.escrow_machine.specs.Rows.{row_named, HasTable};
+    ghost use Rattle.escrow_machine.specs.Turn.{turn_of};
 
     /// SHOW BOUNDS: how far the open reservations of all sessions can move the RESERVABLE columns and the
     /// declared checks of a row. Nothing changes.
@@ -42,7 +40,7 @@ impl<S: Alter> Database<S> {
     }
 
     /// Why a SHOW BOUNDS is refused before its row is looked for, if it is.
-    #[tactic(auto, unfolding(crate::specs::Turn::turn_of))]
+    #[tactic(auto, unfolding(escrow_machine::specs::Turn::turn_of))]
     fn check_bounds(&self, session: Session, text: &RowText) -> Result<(), Refusal>
         ensures { result_err result ≡ first_refusal (turn_of self.now.state session (Statement.ShowBounds text.now)).early }
     {

@@ -1,9 +1,8 @@
 use crate::database::Database;
-use crate::reply::Reply;
-use escrow_num::{Refusal, Session};
+use escrow_machine::Reply;
+use escrow_num::{Refusal, Session, refusal_of};
 use escrow_schema::{Catalog, TableDef, define};
 use escrow_sql::{CreateText, Statement};
-use escrow_tables::refusal_of;
 use sqlite::Alter;
 use std::alloc::Global;
 
@@ -11,7 +10,7 @@ impl<S: Alter> Database<S> {
     ghost use Rattle.std.specs.Prelude.{◌≡◌, Some, IfOk, IfErr, OnOk};
     ghost use Rattle.escrow_schema.specs.Definition.{definition_of};
     ghost use Rattle.escrow_core.specs.Serves.{Serves};
-    ghost use Rattle.escrow_core.specs.Serving.{IsRefusal, PassesEarly};
+    ghost use Rattle.escrow_machine.specs.Accepted.{IsRefusal, PassesEarly};
 
     /// CREATE TABLE: the table that the text defines is put into the catalog.
     pub(crate) fn create(&mut self, alloc: Global, session: Session, text: &CreateText) -> Reply
@@ -24,7 +23,7 @@ impl<S: Alter> Database<S> {
     }
 
     /// The table that a CREATE TABLE makes, or why it makes none.
-    #[tactic(auto, unfolding(crate::specs::Turn::turn_of))]
+    #[tactic(auto, unfolding(escrow_machine::specs::Turn::turn_of))]
     fn plan_create(
         &self,
         alloc: Global,

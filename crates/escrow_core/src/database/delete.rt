@@ -1,10 +1,9 @@
 use crate::database::Database;
-use crate::reply::Reply;
 use crate::reservations::is_reserved;
-use escrow_num::{Refusal, RowName, Session};
+use escrow_machine::Reply;
+use escrow_num::{Refusal, RowName, Session, refusal_of};
 use escrow_schema::{check_key, value_of};
 use escrow_sql::{RowText, Statement};
-use escrow_tables::refusal_of;
 use sqlite::Alter;
 use std::alloc::Global;
 
@@ -14,11 +13,11 @@ impl<S: Alter> Database<S> {
     ghost use Rattle.sqlite.specs.Held.{state};
     ghost use Rattle.escrow_num.specs.Refusal.{first_refusal};
     ghost use Rattle.escrow_rows.specs.Answers.{IsUsable};
-    ghost use Rattle.escrow_core.specs.Asked.{named_by};
+    ghost use Rattle.escrow_machine.specs.Asked.{named_by};
     ghost use Rattle.escrow_core.specs.Serves.{Serves};
-    ghost use Rattle.escrow_core.specs.Serving.{PassesEarly};
-    ghost use Rattle.escrow_core.specs.State.{row_named};
-    ghost use Rattle.escrow_core.specs.Turn.{turn_of};
+    ghost use Rattle.escrow_machine.specs.Accepted.{PassesEarly};
+    ghost use Rattle.escrow_machine.specs.Rows.{row_named};
+    ghost use Rattle.escrow_machine.specs.Turn.{turn_of};
 
     /// DELETE: the row is taken out.
     pub(crate) fn delete(&mut self, alloc: Global, session: Session, text: &RowText) -> Reply
@@ -40,7 +39,7 @@ impl<S: Alter> Database<S> {
     }
 
     /// Why a DELETE is refused before its row is looked for, if it is.
-    #[tactic(auto, unfolding(crate::specs::Turn::turn_of))]
+    #[tactic(auto, unfolding(escrow_machine::specs::Turn::turn_of))]
     fn check_delete(&self, session: Session, text: &RowText) -> Result<(), Refusal>
         ensures { result_err result ≡ first_refusal (turn_of self.now.state session (Statement.Delete text.now)).early }
     {

@@ -1,9 +1,8 @@
 use crate::database::Database;
-use crate::reply::Reply;
 use crate::reservations::is_table_reserved;
-use escrow_num::{Name, Refusal, Session};
+use escrow_machine::Reply;
+use escrow_num::{Name, Refusal, Session, refusal_of};
 use escrow_sql::Statement;
-use escrow_tables::refusal_of;
 use sqlite::Alter;
 
 impl<S: Alter> Database<S> {
@@ -11,7 +10,7 @@ impl<S: Alter> Database<S> {
     ghost use Rattle.std.specs.Result.{result_err};
     ghost use Rattle.escrow_num.specs.Refusal.{first_refusal};
     ghost use Rattle.escrow_core.specs.Serves.{Serves};
-    ghost use Rattle.escrow_core.specs.Turn.{turn_of};
+    ghost use Rattle.escrow_machine.specs.Turn.{turn_of};
 
     /// DROP TABLE: the table and its rows are taken out.
     pub(crate) fn drop_table(&mut self, session: Session, name: Name) -> Reply
@@ -27,7 +26,7 @@ impl<S: Alter> Database<S> {
     }
 
     /// Why a DROP TABLE is refused, if it is.
-    #[tactic(auto, unfolding(crate::specs::Turn::turn_of))]
+    #[tactic(auto, unfolding(escrow_machine::specs::Turn::turn_of))]
     fn check_drop(&self, session: Session, name: Name) -> Result<(), Refusal>
         ensures { result_err result ≡ first_refusal (turn_of self.now.state session (Statement.Drop name)).early }
     {

@@ -4,23 +4,24 @@ ghost use Rattle.escrow_journal.specs.Reservations.{own};
 ghost use Rattle.escrow_txn.specs.Open.{ended};
 
 use crate::database::Database;
-use crate::reply::Reply;
-use escrow_num::{End, Session};
+use escrow_machine::Reply;
+use escrow_num::{End, Failure, Session, refusal_of};
 use escrow_sql::Statement;
-use escrow_tables::{Failure, refusal_of};
 use escrow_txn::TxnTable;
 use sqlite::Alter;
 use std::alloc::Global;
 
 impl<S: Alter> Database<S> {
-    ghost use Rattle.std.specs.Prelude.{◌<◌, IfOk, IfErr, OnOk, OnErr};
+    ghost use Rattle.std.specs.Prelude.{◌<◌, IfOk, IfErr, IsTrue, OnOk, OnErr};
     ghost use Rattle.sqlite.specs.Held.{state};
+    ghost use Rattle.sqlite.specs.State.{HasCleanDisk, Survives};
     ghost use Rattle.escrow_journal.specs.Reservations.{others};
     ghost use Rattle.escrow_rows.specs.Answers.{IsUsable};
-    ghost use Rattle.escrow_tables.specs.Told.{told};
+    ghost use Rattle.escrow_num.specs.Refusal.{told};
     ghost use Rattle.escrow_core.specs.Serves.{Serves};
-    ghost use Rattle.escrow_core.specs.Settle.{after_end};
-    ghost use Rattle.escrow_core.specs.Turn.{after_rollback};
+    ghost use Rattle.escrow_core.specs.Serving.{AreAfterEnd};
+    ghost use Rattle.escrow_machine.specs.Settle.{after_end};
+    ghost use Rattle.escrow_machine.specs.Turn.{after_rollback};
 
     /// COMMIT.
     pub(crate) fn commit(&mut self, alloc: Global, session: Session) -> Reply
@@ -46,6 +47,8 @@ impl<S: Alter> Database<S> {
         ensures left { OnOk result (self.new.state.reservations ≡ others session self.old.state.reservations) }
         ensures commit { OnErr result (end ≡ End.Commit) }
         ensures held { OnErr result (0 < length (own session self.old.state.reservations)) }
+        ensures stays { HasCleanDisk (state S.Store self.new.store) → OnOk result (IsTrue (state S.Store self.old.store).is_open → IsTrue (state S.Store self.new.store).is_open) }
+        ensures crash { Survives (state S.Store self.old.store) (state S.Store self.new.store) (λ trees. IsTrue (state S.Store self.old.store).is_open → AreAfterEnd self.old.state session end trees) }
     {
         match end {
             End::Commit => self.apply(alloc, session),
@@ -62,6 +65,7 @@ impl<S: Alter> Database<S> {
         ensures count { IfOk result (λ count. count ≡ length (own session self.old.state.reservations)) }
         ensures left { OnOk result (self.new.state.reservations ≡ others session self.old.state.reservations) }
         ensures held { OnErr result (0 < length (own session self.old.state.reservations)) }
+        ensures stays { HasCleanDisk (state S.Store self.new.store) → OnOk result (IsTrue (state S.Store self.old.store).is_open → IsTrue (state S.Store self.new.store).is_open) }
     {
         let reservations = self.open.journal(session).all();
         if reservations.is_empty() {

@@ -1,11 +1,10 @@
 use crate::database::Database;
 use crate::grant::first_breach;
-use crate::reply::Reply;
 use crate::spreads::no_spreads;
-use escrow_num::{Refusal, Row, Session};
-use escrow_schema::fit_row;
+use escrow_machine::Reply;
+use escrow_num::{Refusal, Row, Session, refusal_of};
+use escrow_schema::{TableDef, fit_row};
 use escrow_sql::{InsertText, Statement};
-use escrow_tables::{StoredTable, refusal_of};
 use sqlite::Alter;
 use std::alloc::Global;
 
@@ -13,12 +12,12 @@ impl<S: Alter> Database<S> {
     ghost use Rattle.std.specs.Prelude.{◌≡◌, [], ◌∷◌, None, Some, IfOk, IfErr, nat_le, length, option_map};
     ghost use Rattle.sqlite.specs.Held.{state};
     ghost use Rattle.escrow_num.specs.Refusal.{first_refusal, refuse_if};
-    ghost use Rattle.escrow_rows.specs.declared.stored.TheConstants.StoredTable.{MAX_ROWS};
+    ghost use Rattle.escrow_schema.specs.declared.table.TheConstants.TableDef.{MAX_ROWS};
     ghost use Rattle.escrow_rows.specs.Answers.{IsUsable};
-    ghost use Rattle.escrow_core.specs.Asked.{insert_breach, row_of};
+    ghost use Rattle.escrow_machine.specs.Asked.{insert_breach, row_of};
     ghost use Rattle.escrow_core.specs.Serves.{Serves};
-    ghost use Rattle.escrow_core.specs.Serving.{IsRefusal, PassesEarly};
-    ghost use Rattle.escrow_core.specs.State.{row_named, rows_of};
+    ghost use Rattle.escrow_machine.specs.Accepted.{IsRefusal, PassesEarly};
+    ghost use Rattle.escrow_machine.specs.Rows.{row_named, rows_of};
 
     /// INSERT: the row that the values make is put among the committed rows. The key is read first, so that
     /// no write is refused for a row that stands.
@@ -32,7 +31,7 @@ impl<S: Alter> Database<S> {
     }
 
     /// The row that an INSERT makes, or why it makes none.
-    #[tactic(auto, unfolding(crate::specs::Turn::turn_of))]
+    #[tactic(auto, unfolding(escrow_machine::specs::Turn::turn_of))]
     fn plan_insert(
         &self,
         alloc: Global,
@@ -97,7 +96,7 @@ impl<S: Alter> Database<S> {
             ∷ []) }
     {
         let table = self.tables.find(text.table)?;
-        if self.tables.count(text.table) >= StoredTable::MAX_ROWS {
+        if self.tables.count(text.table) >= TableDef::MAX_ROWS {
             return Some(Refusal::TableFull);
         }
         first_breach(table.checks.as_slice(), row, &[], &no_spreads()).map(Refusal::Check)

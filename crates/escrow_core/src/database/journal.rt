@@ -1,6 +1,6 @@
 use crate::database::Database;
 use crate::journal::journal_entries;
-use crate::reply::Reply;
+use escrow_machine::Reply;
 use escrow_num::{Name, Refusal, Session};
 use escrow_sql::Statement;
 use sqlite::Alter;
@@ -8,9 +8,10 @@ use std::alloc::Global;
 
 impl<S: Alter> Database<S> {
     ghost use Rattle.std.specs.Prelude.{◌≡◌, IfOk, IfErr};
-    ghost use Rattle.escrow_core.specs.Journal.{journal_reply};
+    ghost use Rattle.escrow_machine.specs.Journal.{journal_reply};
     ghost use Rattle.escrow_core.specs.Serves.{Serves};
-    ghost use Rattle.escrow_core.specs.Serving.{IsAccepted, IsRefusal, is_known};
+    ghost use Rattle.escrow_machine.specs.Accepted.{IsAccepted, IsRefusal};
+    ghost use Rattle.escrow_core.specs.Serving.{is_known};
 
     /// SHOW JOURNAL: the open reservations of all sessions, or those of the rows of a table, in order of
     /// id. Nothing changes, and the store isn't asked.

@@ -1,6 +1,5 @@
 use crate::database::Database;
-use escrow_num::{Name, Row, RowName};
-use escrow_tables::Failure;
+use escrow_num::{Failure, Name, Row, RowName};
 use sqlite::Alter;
 use std::alloc::Global;
 
@@ -12,8 +11,7 @@ impl<S: Alter> Database<S> {
     ghost use Rattle.escrow_schema.specs.Catalog.{table_named};
     ghost use Rattle.escrow_rows.specs.Answers.{IsUsable};
     ghost use Rattle.escrow_core.specs.Serving.{Looks};
-    ghost use Rattle.escrow_core.specs.State.{row_named, rows_of};
-    ghost use Rattle.escrow_core.specs.Valid.{HasTable, row_before};
+    ghost use Rattle.escrow_machine.specs.Rows.{row_named, rows_of, HasTable, row_before};
 
     /// The committed row of a name, if there is one; all rows are in order.
     pub(crate) fn row(&mut self, alloc: Global, name: &RowName) -> Result<Option<Row>, Failure>

@@ -1,6 +1,5 @@
 use crate::database::Database;
-use escrow_num::Refusal;
-use escrow_tables::refusal_of;
+use escrow_num::{Refusal, refusal_of};
 use sqlite::Alter;
 use std::alloc::Global;
 
@@ -9,10 +8,10 @@ impl<S: Alter> Database<S> {
     ghost use Rattle.sqlite.specs.Held.{state};
     ghost use Rattle.sqlite.specs.State.{HasCleanDisk, Survives};
     ghost use Rattle.escrow_rows.specs.Answers.{IsUsable};
-    ghost use Rattle.escrow_core.specs.declared.event.Event.TheVariants as event;
-    ghost use Rattle.escrow_core.specs.Reply.{restart_reply};
-    ghost use Rattle.escrow_core.specs.State.{opened};
-    ghost use Rattle.escrow_core.specs.Step.{IsServed};
+    ghost use Rattle.escrow_machine.specs.declared.event.Event.TheVariants as event;
+    ghost use Rattle.escrow_machine.specs.Reply.{restart_reply};
+    ghost use Rattle.escrow_machine.specs.State.{opened};
+    ghost use Rattle.escrow_machine.specs.Step.{IsServed};
 
     /// Restarts the database: verifies its store, and then drops all reservations and savepoints; the next
     /// id is 1. Catalog and rows stay. Refused for want of memory (51), or where the store refuses or

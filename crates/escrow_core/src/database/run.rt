@@ -2,8 +2,7 @@ ghost use Rattle.std.specs.Prelude.{◌≡◌, ◌+◌, ◌<◌, ◌++◌, ◌�
 ghost use Rattle.std.specs.Vec.{vec_len, vec_capacity};
 
 use crate::database::Database;
-use crate::event::Event;
-use crate::reply::Reply;
+use escrow_machine::{Event, Reply};
 use escrow_num::Refusal;
 use sqlite::Alter;
 use std::alloc::{AllocError, Global};
@@ -12,7 +11,7 @@ impl<S: Alter> Database<S> {
     ghost use Rattle.std.specs.Prelude.{◌≡◌, IfOk, OnErr};
     ghost use Rattle.sqlite.specs.Held.{state};
     ghost use Rattle.escrow_rows.specs.Answers.{IsUsable};
-    ghost use Rattle.escrow_core.specs.Step.{IsServed, IsRun};
+    ghost use Rattle.escrow_machine.specs.Step.{IsServed, IsRun};
 
     /// Serves events, one after another, and answers their replies. Room for the replies is taken
     /// first: where it is refused, nothing was served.

@@ -1,5 +1,5 @@
 use crate::database::Database;
-use crate::reply::Reply;
+use escrow_machine::Reply;
 use escrow_num::{Name, Session};
 use escrow_sql::Statement;
 use sqlite::Alter;
@@ -7,7 +7,7 @@ use sqlite::Alter;
 impl<S: Alter> Database<S> {
     ghost use Rattle.std.specs.Prelude.{◌≡◌};
     ghost use Rattle.escrow_core.specs.Serves.{Serves};
-    ghost use Rattle.escrow_core.specs.Turn.{after_rollback_to, released};
+    ghost use Rattle.escrow_machine.specs.Turn.{after_rollback_to, released};
 
     /// SAVEPOINT: makes a savepoint of the session. An earlier one of its name is taken out.
     pub(crate) fn savepoint(&mut self, session: Session, name: Name) -> Reply

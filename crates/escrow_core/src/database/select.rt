@@ -1,12 +1,11 @@
 ghost use Rattle.std.specs.Prelude.{◌≡◌, ◌++◌, ◌∷◌, [], OnOk};
 
 use crate::database::Database;
-use crate::reply::Reply;
 use crate::shown::shown_rows;
-use escrow_num::{Refusal, Row, RowName, Seq, Session};
+use escrow_machine::Reply;
+use escrow_num::{Failure, Refusal, Row, RowName, Seq, Session, refusal_of};
 use escrow_schema::{check_key, names_of, value_of};
 use escrow_sql::{SelectText, Statement, WhereText};
-use escrow_tables::{Failure, refusal_of};
 use sqlite::Alter;
 use std::alloc::{AllocError, Global};
 
@@ -18,11 +17,12 @@ impl<S: Alter> Database<S> {
     ghost use Rattle.escrow_num.specs.Refusal.{first_refusal};
     ghost use Rattle.escrow_schema.specs.Catalog.{table_named};
     ghost use Rattle.escrow_rows.specs.Answers.{IsUsable};
-    ghost use Rattle.escrow_core.specs.Asked.{is_shown, select_reply};
-    ghost use Rattle.escrow_core.specs.Reply.{tells_write};
+    ghost use Rattle.escrow_machine.specs.Asked.{is_shown, select_reply};
+    ghost use Rattle.escrow_machine.specs.Reply.{tells_write};
     ghost use Rattle.escrow_core.specs.Serves.{Serves};
-    ghost use Rattle.escrow_core.specs.Serving.{Looks, PassesEarly};
-    ghost use Rattle.escrow_core.specs.Turn.{turn_of};
+    ghost use Rattle.escrow_core.specs.Serving.{Looks};
+    ghost use Rattle.escrow_machine.specs.Accepted.{PassesEarly};
+    ghost use Rattle.escrow_machine.specs.Turn.{turn_of};
 
     /// SELECT: the committed rows of a table, or the one of a key, in order of key. Nothing changes.
     pub(crate) fn select(&mut self, alloc: Global, session: Session, text: &SelectText) -> Reply
@@ -38,7 +38,7 @@ impl<S: Alter> Database<S> {
     }
 
     /// Why a SELECT is refused, if it is.
-    #[tactic(auto, unfolding(crate::specs::Turn::turn_of))]
+    #[tactic(auto, unfolding(escrow_machine::specs::Turn::turn_of))]
     fn check_select(&self, session: Session, text: &SelectText) -> Result<(), Refusal>
         ensures { result_err result ≡ first_refusal (turn_of self.now.state session (Statement.Select text.now)).early }
     {

@@ -1,5 +1,5 @@
 use crate::database::Database;
-use crate::reply::Reply;
+use escrow_machine::Reply;
 use escrow_num::{Name, Refusal, Session};
 use escrow_schema::print_table;
 use escrow_sql::Statement;

@@ -1,10 +1,9 @@
 use crate::database::Database;
 use crate::grant::breach_of;
-use crate::reply::Reply;
-use escrow_num::{Amount, Changes, Refusal, Row, RowName, Seq, Session, Value};
+use escrow_machine::Reply;
+use escrow_num::{Amount, Changes, Refusal, Row, RowName, Seq, Session, Value, refusal_of};
 use escrow_schema::{Plan, plan_update};
 use escrow_sql::{Statement, UpdateText};
-use escrow_tables::refusal_of;
 use sqlite::Alter;
 use std::alloc::Global;
 
@@ -15,12 +14,12 @@ impl<S: Alter> Database<S> {
     ghost use Rattle.escrow_num.specs.Session.{IsSession};
     ghost use Rattle.escrow_checks.specs.declared.coefficients.TheConstants.Coefficients.{MAX_LEN};
     ghost use Rattle.escrow_rows.specs.Answers.{IsUsable};
-    ghost use Rattle.escrow_core.specs.Asked.{plan_of, row_name};
+    ghost use Rattle.escrow_machine.specs.Asked.{plan_of, row_name};
     ghost use Rattle.escrow_core.specs.Serves.{Serves};
-    ghost use Rattle.escrow_core.specs.Serving.{IsRefusal};
-    ghost use Rattle.escrow_core.specs.State.{row_named, is_open};
-    ghost use Rattle.escrow_core.specs.Turn.{update_refusals};
-    ghost use Rattle.escrow_core.specs.Valid.{HasTable};
+    ghost use Rattle.escrow_machine.specs.Accepted.{IsRefusal};
+    ghost use Rattle.escrow_machine.specs.Rows.{row_named, HasTable};
+    ghost use Rattle.escrow_machine.specs.State.{is_open};
+    ghost use Rattle.escrow_machine.specs.Turn.{update_refusals};
 
     /// UPDATE, of RESERVABLE columns or of plain ones, by its plan.
     pub(crate) fn update(&mut self, alloc: Global, session: Session, text: &UpdateText) -> Reply
@@ -34,7 +33,7 @@ impl<S: Alter> Database<S> {
     }
 
     /// What an UPDATE asks of a row, or why it can't be planned.
-    #[tactic(auto, unfolding(crate::specs::Turn::turn_of))]
+    #[tactic(auto, unfolding(escrow_machine::specs::Turn::turn_of))]
     fn plan(&self, alloc: Global, session: Session, text: &UpdateText) -> Result<Plan, Refusal>
         ensures plan { IfOk result (λ plan. plan_of self.now.state text.now ≡ Some plan) }
         ensures refused { IfErr result (IsRefusal self.now.state session (Statement.Update text.now)) }

@@ -1,8 +1,7 @@
-ghost use Rattle.std.specs.Prelude.{◌≡◌, refl};
+ghost use Rattle.std.specs.Prelude.{◌≡◌, refl, false};
 ghost use Rattle.escrow_sql.specs.Predictive.{run, starts, first};
 ghost use Rattle.escrow_sql.specs.Cursor.{Advances};
 ghost use Rattle.escrow_sql.specs.Statement.{optional, sign, signed_number, with_sign, literal, where_part, change, assigned, assign, update};
-ghost use Rattle.std.specs.Prelude.{false};
 
 use crate::cursor::Cursor;
 use crate::halt::Halt;

@@ -3,7 +3,8 @@ use super::databases::is_text;
 use super::stores::{
     cells, closed, contents, count, done, empty, keys, listed, make, opened, refused, tables,
 };
-use escrow_cells::{Datum, Failure, Step};
+use escrow_cells::{Datum, Step, failure_of};
+use escrow_num::Failure;
 use sqlite::{Alter, Connection, Error, MemStore};
 use std::alloc::Global;
 use std::fs;
@@ -207,25 +208,25 @@ fn taken_in_memory(alloc: Global, runs: &[Run]) -> Result<usize, Failure> {
 
 /// Makes an empty store in a file.
 fn make_in_file(rt: &HostRuntime, path: &str) -> Result<(), Failure> {
-    let mut conn = opened(rt, path)?;
+    let mut conn = opened(rt, path).map_err(failure_of)?;
     let made = make(&mut conn);
-    closed(conn)?;
+    closed(conn).map_err(failure_of)?;
     made
 }
 
 /// Whether steps go as they should in a store in a file, which is opened for them.
 fn is_taken_in_file(rt: &HostRuntime, path: &str, run: &Run) -> Result<bool, Failure> {
-    let mut conn = opened(rt, path)?;
+    let mut conn = opened(rt, path).map_err(failure_of)?;
     let is_taken = is_taken(rt.alloc(), &mut conn, run);
-    closed(conn)?;
+    closed(conn).map_err(failure_of)?;
     is_taken
 }
 
 /// Whether a store in a file, which is opened again, holds what it should.
 fn is_held_in_file(rt: &HostRuntime, path: &str, run: &Run) -> Result<bool, Failure> {
-    let mut conn = opened(rt, path)?;
+    let mut conn = opened(rt, path).map_err(failure_of)?;
     let is_held = is_held(rt.alloc(), &mut conn, run);
-    closed(conn)?;
+    closed(conn).map_err(failure_of)?;
     is_held
 }
 

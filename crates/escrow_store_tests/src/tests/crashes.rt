@@ -3,8 +3,8 @@
 use super::databases::{ask, is_text, over};
 use super::lent::Lent;
 use super::stores::{listed, metas, tables};
-use escrow_cells::Failure;
 use escrow_core::Database;
+use escrow_num::Failure;
 use sqlite::{Alter, Connection, FileStore, Files, Options};
 use sqlite_disk::{Crash, Disk, Fuse, Memory};
 use std::alloc::Global;

@@ -1,7 +1,8 @@
 //! Stores that were written before, opened again.
 use super::databases::{ask_all, over};
 use super::stores::{done, empty};
-use escrow_cells::{Datum, Failure, Step};
+use escrow_cells::{Datum, Step, failure_of};
+use escrow_num::Failure;
 use escrow_tables::open_store;
 use sqlite::{Connection, Error, MemStore};
 use std::alloc::Global;
@@ -78,7 +79,7 @@ fn execute(conn: &mut Connection<MemStore>, text: &str) -> Result<(), Error> {
 fn changed(alloc: Global, change: &str) -> Result<Connection<MemStore>, Failure> {
     let mut conn = empty(alloc)?;
     done(&mut conn, &ACCOUNT)?;
-    execute(&mut conn, change)?;
+    execute(&mut conn, change).map_err(failure_of)?;
     Ok(conn)
 }
 

@@ -3,8 +3,8 @@ ghost use Rattle.std.specs.Prelude.{IfOk};
 ghost use Rattle.escrow_schema.specs.Definition.{IsTable};
 
 use super::databases::{ask_all, over};
-use escrow_cells::{Failure, create};
-use escrow_num::{Refusal, Row};
+use escrow_cells::create;
+use escrow_num::{Failure, Refusal, Row};
 use escrow_rows::{RowStore, StoredTable};
 use escrow_schema::{define, fit_row};
 use escrow_sql::{Request, Statement, parse};

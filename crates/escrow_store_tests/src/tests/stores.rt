@@ -1,8 +1,9 @@
 //! Stores for tests, and what they hold, printed. These have no clause, so that the proof of a test
 //! does not carry the state of each call.
 use escrow_cells::{
-    Datum, Failure, Sink, Step, count_keys, create, key_cells, row_cells, run, table_cells, tabs,
+    Datum, Sink, Step, count_keys, create, failure_of, key_cells, row_cells, run, table_cells, tabs,
 };
+use escrow_num::Failure;
 use sqlite::{Alter, Connection, Error, File, FileStore, MemStore, Row};
 use std::alloc::Global;
 
@@ -49,7 +50,9 @@ pub fn contents<S: Alter>(alloc: Global, conn: &mut Connection<S>) -> Result<Str
 
 /// The rows of META.
 pub fn metas<S: Alter>(alloc: Global, conn: &mut Connection<S>) -> Result<String, Failure> {
-    let rows = conn.query_all("SELECT K, V FROM META", &[])?;
+    let rows = conn
+        .query_all("SELECT K, V FROM META", &[])
+        .map_err(failure_of)?;
     shown(alloc, rows.as_slice())
 }
 
@@ -172,7 +175,7 @@ fn push_value(alloc: Global, text: &mut String, row: &Row, at: usize) -> Result<
     match number {
         Ok(number) => text.push_str(format!(in alloc; "{number}")?.as_str())?,
         Err(_) => {
-            let words: String = row.get(at)?;
+            let words: String = row.get(at).map_err(failure_of)?;
             text.push_str(words.as_str())?;
         }
     }

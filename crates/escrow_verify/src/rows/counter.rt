@@ -5,15 +5,14 @@ ghost use Rattle.sqlite_value.specs.Order.{Row as SqlRow};
 ghost use Rattle.escrow_num.specs.declared.row.Row.{Row as HeldRow};
 ghost use Rattle.escrow_checks.specs.Grant.{Meets};
 ghost use Rattle.escrow_schema.specs.Definition.{IsTable};
-ghost use Rattle.escrow_rows.specs.declared.stored.TheConstants.StoredTable.{MAX_ROWS};
+ghost use Rattle.escrow_schema.specs.declared.table.TheConstants.TableDef.{MAX_ROWS};
 ghost use Rattle.escrow_verify.specs.Counting.{HasCounted, IsNext, IsNextOf, IsRowWith};
 
 use crate::rows::cell::{Cell, read_cell};
 use crate::rows::defined::DefinedTable;
-use escrow_cells::{Failure, Sink};
+use escrow_cells::Sink;
 use escrow_checks::Check;
-use escrow_num::{Amount, Seq, Value};
-use escrow_rows::StoredTable;
+use escrow_num::{Amount, Failure, Seq, Value};
 use escrow_schema::{TableDef, row_of};
 use sqlite::Row;
 use std::alloc::{AllocError, Global};
@@ -105,7 +104,7 @@ impl<'a> RowCounter<'a> {
         ensures done { IfOk result (λ done. IsTrue done → (self.old.rows < MAX_ROWS) × (row : HeldRow) × IsRowWith self.old.table self.old.key self.old.values row × (self.new ≡ record self.old { values = []; rows = self.old.rows + 1 })) }
         ensures other { result ≡ Ok false → (self.new ≡ self.old) × (self.old.rows < MAX_ROWS → (row : HeldRow) → IsRowWith self.old.table self.old.key self.old.values row → ⊥) }
     {
-        if self.rows >= StoredTable::MAX_ROWS {
+        if self.rows >= TableDef::MAX_ROWS {
             return Ok(false);
         }
         if !is_row(

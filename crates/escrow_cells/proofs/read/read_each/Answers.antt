@@ -6,20 +6,20 @@ use Rattle.escrow_cells.proofs.Streaming.{begins_taking, takes_more, ends_taking
 use Rattle.escrow_cells.proofs.read.read_each.Goals as goal
 
 pub rows-init : goal.rows-init
-rows-init g c = (refl, begins_taking _ _ _ _ c.requires _ _ _ c.in_ok-rows.ensures.begun c.in_ok-rows.ensures.mode c.in_ok-rows.ensures.survives)
+rows-init g c = (refl, begins_taking _ _ _ _ c.requires _ _ _ c.in-Ok.ensures.begun c.in-Ok.ensures.mode c.in-Ok.ensures.survives)
 
-pub returns-in_err-rows-clause-rests : goal.returns-in_err-rows-clause-rests
-returns-in_err-rows-clause-rests g c outside =
+pub returns-in-Err-clause-rests : goal.returns-in-Err-clause-rests
+returns-in-Err-clause-rests g c outside =
     let old = state g.S.Store c.args.conn.now in
     let settled : IsTrue old.is_open → old.now ≡ old.committed = search rules in
-    refused_rests _ _ _ c.requires c.args.conn.now c.query.follows.lender-at-none _ settled (rw c.in_err-rows.was at c.query.follows.holds-at-none) outside
+    refused_rests _ _ _ c.requires c.args.conn.now c.query.follows.lender-at-none _ settled (rw c.in-Err.is at c.query.follows.holds-at-none) outside
 
 pub returns-in_default-clause-taken : goal.returns-in_default-clause-taken
 returns-in_default-clause-taken g c clean =
     let moved = c.next.follows.holds-at-none in
     let now = c.next.follows.lender-at-none.conn.now in
     let late : HasCleanDisk (state g.S.Store now) = search rules in
-    let all = ends_taking g.S.Store g.K.Sink.has_taken _ _ c.requires c.args.conn.now c.args.sink.now c.rows.rows.conn.now now c.rows.sink c.rows.invariant.1 moved.survives late (rw (c.in_ok-row.was, c.in_default.is) at (moved.ok late)) in
+    let all = ends_taking g.S.Store g.K.Sink.has_taken _ _ c.requires c.args.conn.now c.args.sink.now c.rows.rows.conn.now now c.rows.sink c.rows.invariant.1 moved.survives late (rw (c.in-Ok-next.is, c.in_default.is) at (moved.ok late)) in
     search rules
 
 pub rows-preserved : goal.rows-preserved
@@ -28,5 +28,5 @@ rows-preserved g c =
     let now = c.next.follows.lender-at-none.conn.now in (
       moved.same_reference ∙ c.rows.invariant.0,
       takes_more g.S.Store g.K.Sink.has_taken _ _ c.requires c.args.conn.now c.args.sink.now c.rows.rows.conn.now now c.rows.sink c.rows.invariant.1 moved.survives c.in-Some.row.now c.take.new.self moved.mode
-          (λ clean. rw c.in_ok-row.was at (moved.same clean)) (λ clean. rw (c.in_ok-row.was, c.in-Some.is) at (moved.ok clean)) c.in_ok-take.ensures,
+          (λ clean. rw c.in-Ok-next.is at (moved.same clean)) (λ clean. rw (c.in-Ok-next.is, c.in-Some.is) at (moved.ok clean)) c.in_ok-take.ensures,
     )

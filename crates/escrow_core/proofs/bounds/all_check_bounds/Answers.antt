@@ -3,8 +3,8 @@ use Rattle.std.proofs.lemmas.List.{map_more}
 use Rattle.escrow_num.proofs.Items.{all_at}
 use Rattle.escrow_checks.specs.declared.check.Check.{Check}
 use Rattle.escrow_checks.specs.Form.{IsCovered}
-use Rattle.escrow_core.specs.declared.reply.CheckBounds.{CheckBounds}
-use Rattle.escrow_core.specs.Bounds.{check_bounds}
+use Rattle.escrow_machine.specs.declared.reply.CheckBounds.{CheckBounds}
+use Rattle.escrow_machine.specs.Bounds.{check_bounds}
 use Rattle.escrow_core.proofs.SpreadLemmas.{spread_at}
 use Rattle.escrow_core.proofs.bounds.all_check_bounds.Goals as goal
 

@@ -1,5 +1,5 @@
 use Rattle.std.proofs.Common.{◌≡◌, ◌++◌, drop}
-use Rattle.escrow_core.specs.Serving.{columns_from}
+use Rattle.escrow_machine.specs.Walked.{columns_from}
 use Rattle.escrow_core.proofs.bounds.all_column_bounds.Given as goal
 
 abbrev pub invariant-loop-i : goal.invariant-loop-i

@@ -7,13 +7,13 @@ use Rattle.escrow_schema.specs.declared.column.Column.{Column}
 use Rattle.escrow_schema.specs.Column.{names_of, reservables}
 use Rattle.escrow_schema.proofs.LawLemmas.{few_checks}
 use Rattle.escrow_schema.specs.Print.{declared_checks}
-use Rattle.escrow_core.specs.declared.reply.CheckBounds.{CheckBounds}
-use Rattle.escrow_core.specs.declared.reply.ColumnBounds.{ColumnBounds}
-use Rattle.escrow_core.specs.declared.reply.Reply.TheVariants as reply
-use Rattle.escrow_core.specs.Bounds.{check_bounds, column_bounds}
-use Rattle.escrow_core.specs.State.{changes_to}
-use Rattle.escrow_core.proofs.BoundsLemmas.{columns_same, split, shown_checks, shown_columns, ranges_shown, names_shown}
-use Rattle.escrow_core.proofs.Shapes.{covered}
+use Rattle.escrow_machine.specs.declared.reply.CheckBounds.{CheckBounds}
+use Rattle.escrow_machine.specs.declared.reply.ColumnBounds.{ColumnBounds}
+use Rattle.escrow_machine.specs.declared.reply.Reply.TheVariants as reply
+use Rattle.escrow_machine.specs.Bounds.{check_bounds, column_bounds}
+use Rattle.escrow_machine.specs.Rows.{changes_to}
+use Rattle.escrow_machine.proofs.BoundsLemmas.{columns_same, split, shown_checks, shown_columns, ranges_shown, names_shown}
+use Rattle.escrow_machine.proofs.Shapes.{covered}
 use Rattle.escrow_core.proofs.SpreadLemmas.{enough_spreads}
 use Rattle.escrow_core.proofs.bounds.row_bounds.Goals as goal
 

@@ -1,5 +1,5 @@
 use Rattle.std.specs.Prelude.{map}
-use Rattle.escrow_core.specs.State.{changes_to}
+use Rattle.escrow_machine.specs.Rows.{changes_to}
 use Rattle.escrow_core.proofs.SpreadLemmas.{enough_spreads}
 use Rattle.escrow_core.proofs.grant.breach_of.Goals as goal
 

@@ -1,6 +1,6 @@
 use Rattle.std.proofs.Common.{◌≡◌, ℤ, List, drop}
 use Rattle.escrow_checks.specs.Grant.{broken}
-use Rattle.escrow_core.specs.Serving.{AreSpreads}
+use Rattle.escrow_machine.specs.Walked.{AreSpreads}
 use Rattle.escrow_core.proofs.grant.first_breach.Given as goal
 
 abbrev pub invariant-loop-i : goal.invariant-loop-i

@@ -1,6 +1,6 @@
 use Rattle.std.proofs.Common.{◌≡◌, take}
 use Rattle.std.specs.Prelude.{map}
-use Rattle.escrow_core.specs.Journal.{entry_of, of_table}
+use Rattle.escrow_machine.specs.Journal.{entry_of, of_table}
 use Rattle.escrow_core.proofs.journal.journal_entries.Given as goal
 
 abbrev pub invariant-loop-r : goal.invariant-loop-r

@@ -1,5 +1,5 @@
 use Rattle.std.proofs.Common.{◌≡◌, ◌++◌}
-use Rattle.escrow_core.specs.Journal.{named_changes}
+use Rattle.escrow_machine.specs.Journal.{named_changes}
 use Rattle.escrow_core.proofs.journal.named_changes.Given as goal
 
 abbrev pub invariant-loop-name : goal.invariant-loop-name

@@ -1,7 +1,7 @@
 use Rattle.std.proofs.Common.{◌≡◌, false}
 use Rattle.std.specs.List.{list_any}
 use Rattle.escrow_num.specs.Order.{same_row}
-use Rattle.escrow_core.proofs.Sessions.{first_sessions}
+use Rattle.escrow_machine.proofs.Sessions.{first_sessions}
 use Rattle.escrow_core.proofs.reservations.is_reserved.Given as goal
 
 abbrev pub invariant-loop-i : goal.invariant-loop-i

@@ -2,7 +2,7 @@ use Rattle.std.proofs.Common.{◌≡◌, ◌+◌, Bool, refl, sym, ◌∙◌, ar
 use Rattle.std.specs.Prelude.{bytes_eq}
 use Rattle.escrow_num.specs.declared.reservation.Reservation.{Reservation}
 use Rattle.escrow_num.specs.declared.session.TheConstants.Session.{MAX}
-use Rattle.escrow_core.proofs.Sessions.{sessions_none, sessions_all, none_next, any_own}
+use Rattle.escrow_machine.proofs.Sessions.{sessions_none, sessions_all, none_next, any_own}
 use Rattle.escrow_core.proofs.reservations.is_table_reserved.Goals as goal
 
 pub loop-i-init : goal.loop-i-init

@@ -1,7 +1,7 @@
 use Rattle.std.proofs.Common.{◌≡◌, false}
 use Rattle.std.specs.List.{list_any}
 use Rattle.std.specs.Prelude.{bytes_eq}
-use Rattle.escrow_core.proofs.Sessions.{first_sessions}
+use Rattle.escrow_machine.proofs.Sessions.{first_sessions}
 use Rattle.escrow_core.proofs.reservations.is_table_reserved.Given as goal
 
 abbrev pub invariant-loop-i : goal.invariant-loop-i

@@ -1,5 +1,5 @@
 use Rattle.std.proofs.Common.{ℤ, List, [], ◌∷◌, ◌++◌}
-use Rattle.escrow_core.specs.Serving.{AreSpreads}
+use Rattle.escrow_machine.specs.Walked.{AreSpreads}
 use Rattle.escrow_core.proofs.SpreadLemmas.{AreMixed}
 use Rattle.escrow_core.proofs.spreads.add_to_each.Given as goal
 

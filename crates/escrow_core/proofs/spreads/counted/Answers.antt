@@ -1,6 +1,6 @@
 use Rattle.std.proofs.Common.{◌<◌, pos, unwrap_or, length, ◌∙◌, arith}
 use Rattle.std.proofs.lemmas.List.{length-set, take_more_set}
-use Rattle.escrow_core.proofs.Applying.{counted_push}
+use Rattle.escrow_machine.proofs.Applying.{counted_push}
 use Rattle.escrow_core.proofs.spreads.counted.Goals as goal
 
 pub loop-i-preserved : goal.loop-i-preserved

@@ -1,7 +1,7 @@
 use Rattle.std.specs.Prelude.{map}
-use Rattle.escrow_core.specs.Serving.{AreSpreads}
-use Rattle.escrow_core.specs.State.{changes_to}
-use Rattle.escrow_core.proofs.Sessions.{first_sessions}
+use Rattle.escrow_machine.specs.Walked.{AreSpreads}
+use Rattle.escrow_machine.specs.Rows.{changes_to}
+use Rattle.escrow_machine.proofs.Sessions.{first_sessions}
 use Rattle.escrow_core.proofs.spreads.spreads_over.Given as goal
 
 abbrev pub invariant-loop-i : goal.invariant-loop-i

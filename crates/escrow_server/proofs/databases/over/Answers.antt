@@ -1,6 +1,6 @@
 use Rattle.std.proofs.Common.{◌∙◌, ap₂, refl, subst, sym, inl, inr}
 use Rattle.sqlite.specs.Held.{Held, state}
-use Rattle.escrow_core.specs.State.{opened}
+use Rattle.escrow_machine.specs.State.{opened}
 use Rattle.escrow_rows.specs.Answers.{IsUsable}
 use Rattle.escrow_tables.specs.Committed.{Holds}
 use Rattle.escrow_server.specs.Program.{StartsAs}

@@ -1,7 +1,7 @@
 use Rattle.std.proofs.Common.{inl, inr, refl, ap, subst}
 use Rattle.escrow_sql.specs.declared.statement.Request.{Request}
 use Rattle.escrow_sql.specs.Parser.{Asks}
-use Rattle.escrow_core.specs.declared.reply.Reply.TheVariants.{Refused}
+use Rattle.escrow_machine.specs.declared.reply.Reply.TheVariants.{Refused}
 use Rattle.escrow_server.proofs.serve.answer.Goals as goal
 
 pub returns-in-Ok-clause-served : goal.returns-in-Ok-clause-served

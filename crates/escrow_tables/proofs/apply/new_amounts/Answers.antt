@@ -3,7 +3,7 @@ use Rattle.std.proofs.lemmas.List.{take_all}
 use Rattle.escrow_num.specs.Reservation.{counted}
 use Rattle.escrow_checks.specs.Form.{changed, all_changed}
 use Rattle.escrow_checks.proofs.FormLemmas.{length-all_changed}
-use Rattle.escrow_tables.specs.Applied.{changes_to}
+use Rattle.escrow_machine.specs.Rows.{changes_to}
 use Rattle.escrow_tables.proofs.Changed.{changed_nil, changes_more, changes_own, changes_other}
 use Rattle.escrow_tables.proofs.apply.new_amounts.Goals as goal
 use Rattle.escrow_tables.proofs.apply.new_amounts.Goals.{then-is_same+in_ok-add_changes, else-is_same}

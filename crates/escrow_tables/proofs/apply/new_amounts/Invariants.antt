@@ -1,6 +1,6 @@
 use Rattle.std.proofs.Common.{◌≡◌, map, take}
 use Rattle.escrow_checks.specs.Form.{all_changed}
-use Rattle.escrow_tables.specs.Applied.{changes_to}
+use Rattle.escrow_machine.specs.Rows.{changes_to}
 use Rattle.escrow_tables.proofs.apply.new_amounts.Given as goal
 
 abbrev pub invariant-loop-r : goal.invariant-loop-r

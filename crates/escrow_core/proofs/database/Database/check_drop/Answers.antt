@@ -1,7 +1,7 @@
 use Rattle.std.proofs.Common.{true, false, sym, ◌∙◌}
 use Rattle.escrow_core.specs.Inside.{seen_of}
 use Rattle.escrow_core.proofs.Dropping.{left_to_reserved}
-use Rattle.escrow_core.proofs.Sessions.{open_ones}
+use Rattle.escrow_machine.proofs.Sessions.{open_ones}
 use Rattle.escrow_core.proofs.database.Database.check_drop.Goals as goal
 
 pub is_table_reserved-requires : goal.is_table_reserved-requires

@@ -2,10 +2,10 @@ use Rattle.std.proofs.Common.{◌≡◌, Some, refl, sym, subst}
 use Rattle.escrow_schema.specs.Catalog.{table_named}
 use Rattle.escrow_core.specs.Inside.{seen_of}
 use Rattle.escrow_core.specs.Seen.{Seen}
-use Rattle.escrow_core.specs.State.{State}
-use Rattle.escrow_core.specs.Valid.{HasTable}
-use Rattle.escrow_core.proofs.Sessions.{open_ones}
-use Rattle.escrow_core.proofs.Shapes.{covered_read}
+use Rattle.escrow_machine.specs.State.{State}
+use Rattle.escrow_machine.specs.Rows.{HasTable}
+use Rattle.escrow_machine.proofs.Sessions.{open_ones}
+use Rattle.escrow_machine.proofs.Shapes.{covered_read}
 use Rattle.escrow_core.proofs.database.Database.grant_refusal.Goals as goal
 
 pub breach_of-requires-clause-open : goal.breach_of-requires-clause-open

@@ -1,5 +1,5 @@
 use Rattle.std.proofs.Common.{ap, sym}
-use Rattle.escrow_core.specs.declared.reply.Reply.TheVariants as reply
+use Rattle.escrow_machine.specs.declared.reply.Reply.TheVariants as reply
 use Rattle.escrow_core.proofs.Queries.{journal_accepted, journal_refuses, journal_wants}
 use Rattle.escrow_core.proofs.database.Database.journal.Goals as goal
 

@@ -1,6 +1,6 @@
 use Rattle.std.proofs.Common.{List, ◌++◌, ◌∷◌, [], ap, ◌∙◌}
 use Rattle.escrow_num.specs.declared.row.Row.{Row}
-use Rattle.escrow_core.specs.Asked.{named_by}
+use Rattle.escrow_machine.specs.Asked.{named_by}
 use Rattle.escrow_core.proofs.Queries.{selects_one}
 use Rattle.escrow_core.proofs.database.Database.keyed.Goals.{in-Some+in_ok-keep, in_default}
 use Rattle.escrow_core.proofs.database.Database.keyed.Goals as goal

@@ -1,4 +1,4 @@
-use Rattle.escrow_core.proofs.ValidEmpty.{opened_orderly, opened_safe}
+use Rattle.escrow_machine.proofs.ValidEmpty.{opened_orderly, opened_safe}
 use Rattle.escrow_core.proofs.database.Database.open.Goals as goal
 
 pub invariant_of-result : goal.invariant_of-result

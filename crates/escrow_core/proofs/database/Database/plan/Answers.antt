@@ -2,7 +2,7 @@ use Rattle.std.proofs.Common.{◌≡◌, Some, sym, ap}
 use Rattle.escrow_schema.specs.Catalog.{table_named}
 use Rattle.escrow_core.specs.Inside.{seen_of}
 use Rattle.escrow_core.specs.Seen.{Seen}
-use Rattle.escrow_core.specs.State.{State}
+use Rattle.escrow_machine.specs.State.{State}
 use Rattle.escrow_core.proofs.Planned.{unplanned}
 use Rattle.escrow_core.proofs.database.Database.plan.Goals as goal
 

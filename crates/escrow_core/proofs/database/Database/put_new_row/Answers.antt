@@ -1,10 +1,11 @@
 use Rattle.std.proofs.Common.{◌≡◌, ◌<◌, Some, length, refl, sym, subst}
 use Rattle.escrow_sql.specs.declared.statement.Statement.TheVariants as statement
-use Rattle.escrow_rows.specs.declared.stored.TheConstants.StoredTable.{MAX_ROWS}
-use Rattle.escrow_core.specs.Asked.{row_of}
+use Rattle.escrow_schema.specs.declared.table.TheConstants.TableDef.{MAX_ROWS}
+use Rattle.escrow_machine.specs.Asked.{row_of}
 use Rattle.escrow_core.specs.Inside.{seen_of}
 use Rattle.escrow_core.specs.Seen.{Seen}
-use Rattle.escrow_core.specs.State.{State, rows_of}
+use Rattle.escrow_machine.specs.State.{State}
+use Rattle.escrow_machine.specs.Rows.{rows_of}
 use Rattle.escrow_core.proofs.Inserting.{IsNew, is_made, new_refused, new_room, put_serves, put_keeps, put_fails}
 use Rattle.escrow_core.proofs.Serving.{late_refused, failed_keeps}
 use Rattle.escrow_core.proofs.database.Database.put_new_row.Goals as goal

@@ -1,7 +1,7 @@
 use Rattle.escrow_core.specs.Inside.{seen_of}
-use Rattle.escrow_core.specs.Turn.{after_rollback}
+use Rattle.escrow_machine.specs.Turn.{after_rollback}
 use Rattle.escrow_core.proofs.Serving.{apart_keeps}
-use Rattle.escrow_core.proofs.ValidEnds.{rollback_orderly, rollback_valid}
+use Rattle.escrow_machine.proofs.ValidEnds.{rollback_orderly, rollback_valid}
 use Rattle.escrow_core.proofs.database.Database.rollback.Goals as goal
 
 pub invariant_of-self : goal.invariant_of-self

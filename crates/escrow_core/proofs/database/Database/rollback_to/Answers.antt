@@ -1,11 +1,11 @@
 use Rattle.std.proofs.Common.{subst}
 use Rattle.escrow_core.specs.Inside.{seen_of}
 use Rattle.escrow_core.specs.Seen.{IsKept}
-use Rattle.escrow_core.specs.State.{State}
-use Rattle.escrow_core.specs.Turn.{after_rollback_to}
+use Rattle.escrow_machine.specs.State.{State}
+use Rattle.escrow_machine.specs.Turn.{after_rollback_to}
 use Rattle.escrow_core.proofs.Serving.{apart_keeps}
 use Rattle.escrow_core.proofs.Txns.{back_is}
-use Rattle.escrow_core.proofs.ValidEnds.{back_orderly, back_valid}
+use Rattle.escrow_machine.proofs.ValidEnds.{back_orderly, back_valid}
 use Rattle.escrow_core.proofs.database.Database.rollback_to.Goals as goal
 
 pub invariant_of-self : goal.invariant_of-self

@@ -1,11 +1,11 @@
 use Rattle.std.proofs.Common.{◌≡◌, Some, sym, subst}
 use Rattle.escrow_schema.specs.Catalog.{table_named}
 use Rattle.escrow_schema.specs.Fit.{inserted_row}
-use Rattle.escrow_core.specs.Asked.{row_of}
+use Rattle.escrow_machine.specs.Asked.{row_of}
 use Rattle.escrow_core.specs.Inside.{seen_of}
 use Rattle.escrow_core.specs.Seen.{Seen}
-use Rattle.escrow_core.specs.State.{State}
-use Rattle.escrow_core.proofs.Shapes.{covered_made}
+use Rattle.escrow_machine.specs.State.{State}
+use Rattle.escrow_machine.proofs.Shapes.{covered_made}
 use Rattle.escrow_core.proofs.database.Database.row_refusal.Goals as goal
 
 pub first_breach-requires-clause-covered : goal.first_breach-requires-clause-covered

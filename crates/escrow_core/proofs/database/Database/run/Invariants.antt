@@ -2,7 +2,7 @@ use Rattle.std.proofs.Common.{◌≡◌, ◌≤◌, take, length, vec_len}
 use Rattle.std.specs.Vec.{vec_capacity}
 use Rattle.sqlite.specs.Held.{state}
 use Rattle.escrow_rows.specs.Answers.{IsUsable}
-use Rattle.escrow_core.specs.Step.{IsRun}
+use Rattle.escrow_machine.specs.Step.{IsRun}
 use Rattle.escrow_core.proofs.database.Database.run.Given as goal
 
 abbrev pub invariant-loop-event : goal.invariant-loop-event

@@ -1,6 +1,6 @@
 use Rattle.std.proofs.Common.{refl, sym}
 use Rattle.escrow_sql.specs.declared.statement.Statement.TheVariants as statement
-use Rattle.escrow_tables.specs.Told.{told}
+use Rattle.escrow_num.specs.Refusal.{told}
 use Rattle.escrow_core.proofs.Queries.{select_fails}
 use Rattle.escrow_core.proofs.Serving.{after_look, early_refused, look_refused, still_passes}
 use Rattle.escrow_core.proofs.database.Database.select.Goals as goal

@@ -1,5 +1,7 @@
 use Rattle.std.proofs.Common.{◌≤◌, length, drop, arith}
-use Rattle.escrow_core.proofs.Settling.{counts_end, counts_fit, counts_next, ends_all, ends_next, stops}
+use Rattle.sqlite.specs.Held.{state}
+use Rattle.escrow_machine.proofs.Settling.{counts_end, counts_fit, counts_next, ends_all, ends_next, stops}
+use Rattle.escrow_core.proofs.Ending.{ends_survive}
 use Rattle.escrow_core.proofs.database.Database.settle.Goals as goal
 
 pub add-requires : goal.add-requires
@@ -16,6 +18,12 @@ returns-in-Err-clause-stop g c = λ usable.
     stops c.args.plan.now (record { place = so_far.place; cause = c.in-Err.cause }) c.index-plan-place.result c.args.self.now.state so_far.self.state c.finish.new.self.state
     c.loop-place-test.true c.index-plan-place.is before (c.in-Err.ensures.failed usable) c.in-Err.ensures.commit c.in-Err.ensures.held
 
+pub returns-in-Err-clause-crash : goal.returns-in-Err-clause-crash
+returns-in-Err-clause-crash g c =
+    let so_far = c.loop-place in
+    ends_survive (state g.S.Store c.args.self.now.store) (state g.S.Store so_far.self.store) (state g.S.Store c.finish.new.self.store) c.args.plan.now so_far.place c.index-plan-place.result
+    c.args.self.now.state so_far.self.state c.loop-place-test.true c.index-plan-place.is so_far.invariant.ended so_far.invariant.stays so_far.invariant.crash c.finish.ensures.crash
+
 pub loop-place-preserved : goal.loop-place-preserved
 loop-place-preserved g c =
     let plan = c.args.plan.now in
@@ -25,6 +33,11 @@ loop-place-preserved g c =
     let new = c.finish.new.self.state in
     record {
       usable = λ usable. so_far.invariant.usable (c.finish.ensures.usable usable);
+      stays = λ clean was_open.
+          c.in-Ok.ensures.stays clean (so_far.invariant.stays (omega (arith, c.finish.ensures.crash.clean, clean)) was_open);
+      crash =
+          ends_survive (state g.S.Store c.args.self.now.store) (state g.S.Store so_far.self.store) (state g.S.Store c.finish.new.self.store) plan so_far.place entry s so_far.self.state
+          c.loop-place-test.true c.index-plan-place.is so_far.invariant.ended so_far.invariant.stays so_far.invariant.crash c.finish.ensures.crash;
       ended = λ usable.
           ends_next plan so_far.place entry s so_far.self.state new c.loop-place-test.true c.index-plan-place.is
           (so_far.invariant.ended (c.finish.ensures.usable usable)) (c.in-Ok.ensures.done usable);

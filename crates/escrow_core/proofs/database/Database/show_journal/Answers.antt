@@ -1,6 +1,6 @@
 use Rattle.std.proofs.Common.{refl}
 use Rattle.escrow_sql.specs.declared.statement.Statement.TheVariants as statement
-use Rattle.escrow_core.specs.Journal.{journal_reply}
+use Rattle.escrow_machine.specs.Journal.{journal_reply}
 use Rattle.escrow_core.proofs.Queries.{journal_serves}
 use Rattle.escrow_core.proofs.Serving.{refused, served_apart}
 use Rattle.escrow_core.proofs.database.Database.show_journal.Goals as goal

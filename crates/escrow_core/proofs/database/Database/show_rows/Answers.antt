@@ -1,7 +1,7 @@
 use Rattle.std.proofs.Common.{refl}
 use Rattle.escrow_num.specs.declared.refusal.Refusal.TheVariants as refusal
 use Rattle.escrow_sql.specs.declared.statement.Statement.TheVariants as statement
-use Rattle.escrow_cells.specs.declared.failure.Failure.TheVariants as failure
+use Rattle.escrow_num.specs.declared.failure.Failure.TheVariants as failure
 use Rattle.escrow_core.proofs.Queries.{select_answers, select_fails, select_table}
 use Rattle.escrow_core.proofs.Serving.{answered, refused}
 use Rattle.escrow_core.proofs.database.Database.show_rows.Goals as goal

@@ -2,16 +2,16 @@ use Rattle.std.proofs.Common.{◌≡◌, Some, refl, sym, subst}
 use Rattle.sqlite.specs.Held.{state}
 use Rattle.escrow_num.specs.declared.refusal.Refusal.TheVariants as refusal
 use Rattle.escrow_sql.specs.declared.statement.Statement.TheVariants as statement
-use Rattle.escrow_cells.specs.declared.failure.Failure.TheVariants as failure
+use Rattle.escrow_num.specs.declared.failure.Failure.TheVariants as failure
 use Rattle.escrow_rows.specs.Answers.{IsUsable}
 use Rattle.escrow_schema.specs.Catalog.{table_named}
 use Rattle.escrow_core.specs.Inside.{seen_of}
 use Rattle.escrow_core.specs.Serves.{Serves}
-use Rattle.escrow_core.specs.Serving.{PassesEarly}
-use Rattle.escrow_core.specs.State.{row_named}
+use Rattle.escrow_machine.specs.Accepted.{PassesEarly}
+use Rattle.escrow_machine.specs.Rows.{row_named}
 use Rattle.escrow_core.proofs.Queries.{bounds_answers, bounds_fails}
 use Rattle.escrow_core.proofs.Serving.{answered, refused}
-use Rattle.escrow_core.proofs.Sessions.{open_ones}
+use Rattle.escrow_machine.proofs.Sessions.{open_ones}
 use Rattle.escrow_core.proofs.database.Database.show_standing_row.Goals.{in-Ok, in-Err}
 use Rattle.escrow_core.proofs.database.Database.show_standing_row.Goals as goal
 

@@ -1,7 +1,7 @@
 use Rattle.std.proofs.Common.{refl}
 use Rattle.escrow_num.specs.declared.refusal.Refusal.TheVariants as refusal
 use Rattle.escrow_sql.specs.declared.statement.Statement.TheVariants as statement
-use Rattle.escrow_tables.specs.Told.{told}
+use Rattle.escrow_num.specs.Refusal.{told}
 use Rattle.escrow_core.proofs.Deleting.{delete_fails, delete_lack, delete_table}
 use Rattle.escrow_core.proofs.Serving.{after_look, look_refused, still_passes}
 use Rattle.escrow_core.proofs.database.Database.take_row.Goals as goal

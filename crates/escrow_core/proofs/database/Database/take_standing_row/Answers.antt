@@ -4,13 +4,14 @@ use Rattle.sqlite.specs.Held.{state}
 use Rattle.escrow_num.specs.declared.refusal.Refusal.TheVariants as refusal
 use Rattle.escrow_sql.specs.declared.statement.Statement.TheVariants as statement
 use Rattle.escrow_rows.specs.Answers.{IsUsable}
-use Rattle.escrow_core.specs.declared.reply.Reply.TheVariants as reply
+use Rattle.escrow_machine.specs.declared.reply.Reply.TheVariants as reply
 use Rattle.escrow_core.specs.Inside.{seen_of}
 use Rattle.escrow_core.specs.Serves.{Serves}
-use Rattle.escrow_core.specs.Serving.{PassesEarly}
-use Rattle.escrow_core.specs.State.{is_reserved, row_named}
+use Rattle.escrow_machine.specs.Accepted.{PassesEarly}
+use Rattle.escrow_machine.specs.State.{is_reserved}
+use Rattle.escrow_machine.specs.Rows.{row_named}
 use Rattle.escrow_core.proofs.Deleting.{delete_failed, delete_keeps, delete_table, reserved_refused, row_deleted}
-use Rattle.escrow_core.proofs.Sessions.{open_ones}
+use Rattle.escrow_machine.proofs.Sessions.{open_ones}
 use Rattle.escrow_core.proofs.database.Database.take_standing_row.Goals.{in-Ok, in-Err}
 use Rattle.escrow_core.proofs.database.Database.take_standing_row.Goals as goal
 

@@ -1,6 +1,6 @@
 use Rattle.std.proofs.Common.{◌≡◌, ◌∙◌, List, None, Some, ap, length, subst}
 use Rattle.escrow_num.proofs.Items.{all_has}
-use Rattle.escrow_rows.specs.Image.{rows_of}
+use Rattle.escrow_machine.specs.Rows.{rows_of}
 use Rattle.escrow_rows.specs.View.{rows_in}
 use Rattle.escrow_verify.specs.declared.counted.Counted.{Counted}
 use Rattle.sqlite.specs.Held.{state}

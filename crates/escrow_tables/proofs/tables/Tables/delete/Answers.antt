@@ -4,8 +4,9 @@ use Rattle.std.proofs.lemmas.Bool.{false≢true}
 use Rattle.std.proofs.lemmas.Result.{err_from_is_err_and}
 use Rattle.sqlite.specs.Held.{state}
 use Rattle.escrow_num.specs.declared.value.RowName.{RowName}
-use Rattle.escrow_rows.specs.Answers.{IsUsable, row_named}
-use Rattle.escrow_rows.specs.Changes.{Deletes, TurnsRows, without_row}
+use Rattle.escrow_rows.specs.Answers.{IsUsable}
+use Rattle.escrow_machine.specs.Rows.{row_named, without_row}
+use Rattle.escrow_rows.specs.Changes.{Deletes, TurnsRows}
 use Rattle.escrow_rows.specs.View.{rows_in}
 use Rattle.escrow_tables.specs.Calls.{Writes}
 use Rattle.escrow_tables.specs.Inside.{Keeps, catalog_of, stored_of}

@@ -3,7 +3,8 @@ use Rattle.std.proofs.lemmas.Bool.{false≢true}
 use Rattle.std.proofs.lemmas.Result.{err_from_is_err_and}
 use Rattle.sqlite.specs.Held.{state}
 use Rattle.escrow_schema.specs.Catalog.{without_table}
-use Rattle.escrow_rows.specs.Changes.{Drops, without_rows_of}
+use Rattle.escrow_rows.specs.Changes.{Drops}
+use Rattle.escrow_machine.specs.Rows.{without_rows_of}
 use Rattle.escrow_rows.specs.View.{rows_in}
 use Rattle.escrow_verify.specs.declared.counted.Counted.{Counted}
 use Rattle.escrow_tables.specs.Calls.{Writes}

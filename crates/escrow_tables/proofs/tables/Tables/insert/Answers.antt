@@ -3,13 +3,12 @@ use Rattle.std.proofs.lemmas.Bool.{false≢true}
 use Rattle.std.proofs.lemmas.Result.{err_from_is_err_and}
 use Rattle.sqlite.specs.Held.{state}
 use Rattle.std.specs.Prelude.{is_ok}
-use Rattle.escrow_rows.specs.Answers.{IsUsable, row_named}
-use Rattle.escrow_rows.specs.Changes.{Inserts, with_row}
-use Rattle.escrow_rows.specs.Image.{rows_of}
+use Rattle.escrow_rows.specs.Answers.{IsUsable}
+use Rattle.escrow_machine.specs.Rows.{row_named, with_row, rows_of, HasTable}
+use Rattle.escrow_rows.specs.Changes.{Inserts}
 use Rattle.escrow_rows.specs.View.{rows_in}
-use Rattle.escrow_rows.specs.declared.stored.TheConstants.StoredTable.{MAX_ROWS}
+use Rattle.escrow_schema.specs.declared.table.TheConstants.TableDef.{MAX_ROWS}
 use Rattle.escrow_tables.specs.Calls.{Writes}
-use Rattle.escrow_tables.specs.Committed.{HasTable}
 use Rattle.escrow_tables.specs.Inside.{Keeps, catalog_of, stored_of}
 use Rattle.escrow_tables.proofs.Placed.{IsPlaced, is_placed, recounted}
 use Rattle.escrow_tables.proofs.RowWrites.{Turned, insert_turns, row_writes, row_keeps}

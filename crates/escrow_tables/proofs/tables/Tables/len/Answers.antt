@@ -2,6 +2,7 @@ use Rattle.sqlite.specs.Held.{state}
 use Rattle.escrow_rows.specs.View.{rows_in}
 use Rattle.escrow_tables.specs.Inside.{stored_of}
 use Rattle.escrow_tables.proofs.Named.{rows_of_catalog}
+use Rattle.escrow_tables.proofs.Writing.{holds}
 use Rattle.escrow_tables.proofs.tables.Tables.len.Goals as goal
 
 pub returns-clause-rows : goal.returns-clause-rows
@@ -9,3 +10,10 @@ returns-clause-rows g c =
     let tables = c.self.inside.tables.items in
     let rows = rows_in (stored_of tables) (state g.S.Store c.self.inside.store).now in
     rw (← c.self.view_is) (λ usable. rows_of_catalog tables rows (c.self.invariant.held usable).are_rows)
+
+pub returns-clause-left : goal.returns-clause-left
+returns-clause-left g c =
+    let tables = c.self.inside.tables.items in
+    let db = (state g.S.Store c.self.inside.store).now in
+    rw (← c.self.view_is) (λ usable trees left.
+    (db, holds tables (rows_in (stored_of tables) db) db c.self.invariant.are_tables (c.self.invariant.held usable), c.rests.ensures usable.1 trees left))

@@ -3,7 +3,7 @@ use Rattle.std.specs.Prelude.{IfOk, IsTrue}
 use Rattle.sqlite.specs.Held.{state}
 use Rattle.escrow_num.specs.declared.row.Row.{Row}
 use Rattle.escrow_num.specs.declared.value.RowName.{RowName}
-use Rattle.escrow_rows.specs.Answers.{row_named}
+use Rattle.escrow_machine.specs.Rows.{row_named}
 use Rattle.escrow_rows.specs.Changes.{name_in}
 use Rattle.escrow_rows.specs.View.{rows_in}
 use Rattle.escrow_verify.specs.declared.counted.Counted.{Counted}

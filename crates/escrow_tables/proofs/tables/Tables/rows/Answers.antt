@@ -2,7 +2,7 @@ use Rattle.std.proofs.Common.{◌≡◌, ℕ, List, Some, Vec, Global, subst}
 use Rattle.std.specs.Prelude.{IfOk, IsTrue}
 use Rattle.sqlite.specs.Held.{state}
 use Rattle.escrow_num.specs.declared.row.Row.{Row}
-use Rattle.escrow_rows.specs.Image.{rows_of}
+use Rattle.escrow_machine.specs.Rows.{rows_of}
 use Rattle.escrow_rows.specs.View.{rows_in}
 use Rattle.escrow_verify.specs.declared.counted.Counted.{Counted}
 use Rattle.escrow_tables.specs.Inside.{stored_of}

@@ -4,11 +4,11 @@ use Rattle.std.specs.List.{AllByRecursion}
 use Rattle.sqlite.specs.Held.{state}
 use Rattle.escrow_num.specs.declared.value.RowName.{RowName}
 use Rattle.escrow_rows.specs.Answers.{IsUsable}
-use Rattle.escrow_rows.specs.Changes.{SetsPlain, TurnsRows, with_plain}
+use Rattle.escrow_rows.specs.Changes.{SetsPlain, TurnsRows}
+use Rattle.escrow_machine.specs.Rows.{with_plain, HasTable}
 use Rattle.escrow_rows.specs.View.{rows_in}
 use Rattle.escrow_verify.specs.declared.counted.Counted.{Counted}
 use Rattle.escrow_tables.specs.Calls.{Writes}
-use Rattle.escrow_tables.specs.Committed.{HasTable}
 use Rattle.escrow_tables.specs.Inside.{Keeps, catalog_of, stored_of}
 use Rattle.escrow_tables.proofs.Placed.{IsPlaced, is_placed, recounted_itself}
 use Rattle.escrow_tables.proofs.Reading.{name_of}

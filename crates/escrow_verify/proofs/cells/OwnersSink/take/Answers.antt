@@ -6,7 +6,7 @@ use Rattle.escrow_verify.proofs.cells.OwnersSink.take.Goals as goal
 
 pub returns-else-not-has_number : goal.returns-else-not-has_number
 returns-else-not-has_number c =
-    let number = to_z-of_z w64 c.in_ok-id.id (search rules) in
+    let number = to_z-of_z w64 c.in-Ok.id (search rules) in
     λ first rows so_far.
-    still_known first c.args.self.now rows c.args.row.now c.in_ok-id.id c.in_ok-id.ensures.ok.1
+    still_known first c.args.self.now rows c.args.row.now c.in-Ok.id c.in-Ok.ensures.ok.1
     (ap (is_number_of c.args.self.now.tables.now) (sym number) ∙ sym c.has_number.ensures ∙ c.if-not-has_number.false) so_far

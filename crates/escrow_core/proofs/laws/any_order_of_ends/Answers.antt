@@ -1,5 +1,0 @@
-use Rattle.escrow_core.proofs.LawsEnds.{any_order_of_ends}
-use Rattle.escrow_core.proofs.laws.any_order_of_ends.Goals as goal
-
-pub returns : goal.returns
-returns c = any_order_of_ends

@@ -1,5 +1,0 @@
-use Rattle.escrow_core.proofs.LawsBack.{back_at_once_changes_nothing}
-use Rattle.escrow_core.proofs.laws.back_at_once_changes_nothing.Goals as goal
-
-pub returns : goal.returns
-returns c = back_at_once_changes_nothing

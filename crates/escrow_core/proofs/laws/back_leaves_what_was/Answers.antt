@@ -1,5 +1,0 @@
-use Rattle.escrow_core.proofs.LawsSavepoints.{back_leaves_what_was}
-use Rattle.escrow_core.proofs.laws.back_leaves_what_was.Goals as goal
-
-pub returns : goal.returns
-returns c = back_leaves_what_was

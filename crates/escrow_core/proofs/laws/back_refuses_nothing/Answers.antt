@@ -1,5 +1,0 @@
-use Rattle.escrow_core.proofs.LawsBack.{back_refuses_nothing}
-use Rattle.escrow_core.proofs.laws.back_refuses_nothing.Goals as goal
-
-pub returns : goal.returns
-returns c = back_refuses_nothing

@@ -1,5 +1,0 @@
-use Rattle.escrow_core.proofs.LawsDecide.{bounds_decide_grants}
-use Rattle.escrow_core.proofs.laws.bounds_decide_grants.Goals as goal
-
-pub returns : goal.returns
-returns c = bounds_decide_grants

@@ -1,5 +1,0 @@
-use Rattle.escrow_core.proofs.LawsSteps.{commit_answers}
-use Rattle.escrow_core.proofs.laws.commit_is_never_refused.Goals as goal
-
-pub returns : goal.returns
-returns c = commit_answers

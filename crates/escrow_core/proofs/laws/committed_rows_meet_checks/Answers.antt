@@ -1,5 +1,0 @@
-use Rattle.escrow_core.proofs.Safe.{committed_rows_meet_checks}
-use Rattle.escrow_core.proofs.laws.committed_rows_meet_checks.Goals as goal
-
-pub returns : goal.returns
-returns c = committed_rows_meet_checks

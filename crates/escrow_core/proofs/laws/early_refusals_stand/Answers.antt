@@ -1,5 +1,0 @@
-use Rattle.escrow_core.proofs.LawsSteps.{early_refusals_stand}
-use Rattle.escrow_core.proofs.laws.early_refusals_stand.Goals as goal
-
-pub returns : goal.returns
-returns c = early_refusals_stand

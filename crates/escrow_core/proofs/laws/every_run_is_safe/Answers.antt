@@ -1,5 +1,0 @@
-use Rattle.escrow_core.proofs.LawsRows.{every_run_is_safe}
-use Rattle.escrow_core.proofs.laws.every_run_is_safe.Goals as goal
-
-pub returns : goal.returns
-returns c = every_run_is_safe

@@ -1,5 +1,0 @@
-use Rattle.escrow_core.proofs.LawsGrants.{granted_in_every_choice}
-use Rattle.escrow_core.proofs.laws.granted_in_every_choice.Goals as goal
-
-pub returns : goal.returns
-returns c = granted_in_every_choice

@@ -1,5 +1,0 @@
-use Rattle.escrow_core.proofs.LawsSteps.{queries_see_commits_alone}
-use Rattle.escrow_core.proofs.laws.queries_see_commits_alone.Goals as goal
-
-pub returns : goal.returns
-returns c = queries_see_commits_alone

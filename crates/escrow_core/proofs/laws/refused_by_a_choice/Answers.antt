@@ -1,5 +1,0 @@
-use Rattle.escrow_core.proofs.LawsGrants.{refused_by_a_choice}
-use Rattle.escrow_core.proofs.laws.refused_by_a_choice.Goals as goal
-
-pub returns : goal.returns
-returns c = refused_by_a_choice

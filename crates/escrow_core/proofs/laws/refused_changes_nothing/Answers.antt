@@ -1,5 +1,0 @@
-use Rattle.escrow_core.proofs.LawsSteps.{refused_changes_nothing}
-use Rattle.escrow_core.proofs.laws.refused_changes_nothing.Goals as goal
-
-pub returns : goal.returns
-returns c = refused_changes_nothing

@@ -1,5 +1,0 @@
-use Rattle.escrow_core.proofs.LawsChanges.{reservations_keep_rows}
-use Rattle.escrow_core.proofs.laws.reservations_keep_rows.Goals as goal
-
-pub returns : goal.returns
-returns c = reservations_keep_rows

@@ -1,5 +1,0 @@
-use Rattle.escrow_core.proofs.LawsSteps.{run_keeps_valid}
-use Rattle.escrow_core.proofs.laws.run_keeps_valid.Goals as goal
-
-pub returns : goal.returns
-returns c = run_keeps_valid

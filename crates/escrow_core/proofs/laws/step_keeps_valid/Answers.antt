@@ -1,5 +1,0 @@
-use Rattle.escrow_core.proofs.LawsSteps.{step_keeps_valid}
-use Rattle.escrow_core.proofs.laws.step_keeps_valid.Goals as goal
-
-pub returns : goal.returns
-returns c = step_keeps_valid

@@ -1,5 +1,0 @@
-use Rattle.escrow_core.proofs.LawsEnds.{transactions_commute}
-use Rattle.escrow_core.proofs.laws.transactions_commute.Goals as goal
-
-pub returns : goal.returns
-returns c = transactions_commute

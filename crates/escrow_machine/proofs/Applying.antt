@@ -1,0 +1,33 @@
+-- The changes that reservations make to rows, one after another.
+use Rattle.std.proofs.Common.{◌≡◌, ℕ, Option, unwrap_or, pos, ◌+◌, ◌<◌, ℤ, List, [], ◌∷◌, ◌++◌, length, take, get_or, refl, ap, true, false, sym}
+use Rattle.std.proofs.lemmas.List.{map-append, take_more, map_more}
+use Rattle.std.specs.Prelude.{map}
+use Rattle.escrow_num.specs.declared.row.Row.{Row}
+use Rattle.escrow_num.specs.declared.reservation.Reservation.{Reservation}
+use Rattle.escrow_num.specs.Reservation.{counted}
+use Rattle.escrow_machine.specs.Rows.{changes_to, applied}
+use Rattle.escrow_num.specs.Order.{same_row}
+
+-- the changes that count, one more of them
+pub counted_push : (changes : List (Option ℤ)) (i : ℕ) (o : Option ℤ) (done : List ℤ) → i < length changes → o ≡ get_or changes i o
+    → done ≡ counted (take i changes) → done ++ unwrap_or o (pos 0) ∷ [] ≡ counted (take (i + 1) changes)
+counted_push changes i o done below at is =
+    rw (is, at) (sym (map_more (λ (c : Option ℤ). unwrap_or c (pos 0)) changes i o below))
+
+-- nothing chosen leaves the rows as they are
+pub applied_none : (rows : List Row) → applied rows [] ≡ rows
+applied_none [] = refl
+applied_none (row ∷ rows) = ap (λ rest. row ∷ rest) (applied_none rows)
+
+-- the changes to a row of one more reservation
+pub changes_more : (row : Row) (reservations : List Reservation) (i : ℕ) (r : Reservation) → i < length reservations → r ≡ get_or reservations i r
+    → map (changes_to row) (take (i + 1) reservations) ≡ map (changes_to row) (take i reservations) ++ changes_to row r ∷ []
+changes_more row reservations i r below at = rw (take_more reservations i r below, ← at) (map-append (changes_to row) (take i reservations) (r ∷ []))
+
+-- a reservation changes its own row
+pub changes_own : (row : Row) (r : Reservation) → same_row row.name r.row ≡ true → changes_to row r ≡ counted r.changes
+changes_own row r same = rw same refl
+
+-- and no other one
+pub changes_other : (row : Row) (r : Reservation) → same_row row.name r.row ≡ false → changes_to row r ≡ []
+changes_other row r other = rw other refl

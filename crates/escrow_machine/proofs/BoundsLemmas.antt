@@ -1,0 +1,113 @@
+-- The bounds of a row, from those of its table's checks.
+use Rattle.std.specs.Prelude.{◌≡◌, ℕ, ℤ, ◌-◌, ◌≤◌, bytes_eq, true, false, List, [], ◌∷◌, ◌++◌, length, take, drop, map}
+use Rattle.std.specs.List.{AllZip, list_any}
+use Rattle.std.proofs.Common.{refl, ap, ap₂, ◌∙◌, arith, length-append, length-drop}
+use Rattle.std.proofs.Math.Seq.{drop-append_seam}
+use Rattle.std.proofs.lemmas.Bool.{or_parts}
+use Rattle.std.proofs.lemmas.List.{length-map, take-map, drop-map}
+use Rattle.escrow_num.specs.declared.row.Row.{Row}
+use Rattle.escrow_checks.specs.declared.check.Check.{Check}
+use Rattle.escrow_checks.specs.Condition.{amount_of}
+use Rattle.escrow_schema.specs.declared.column.Column.{Column}
+use Rattle.escrow_schema.specs.declared.table.TableDef.{TableDef}
+use Rattle.escrow_schema.specs.Column.{names_of, reservables}
+use Rattle.escrow_schema.specs.Definition.{IsTable, are_distinct, range_check, range_checks}
+use Rattle.escrow_schema.specs.Fit.{IsRowOf}
+use Rattle.escrow_schema.specs.Print.{declared_checks}
+use Rattle.escrow_schema.proofs.ColumnsLemmas.{reservables_distinct}
+use Rattle.escrow_schema.proofs.DistinctLemmas.{same_name, first_apart}
+use Rattle.escrow_schema.proofs.RuleLemmas.{rules_on}
+use Rattle.escrow_schema.proofs.TableLemmas.{parts}
+use Rattle.escrow_machine.specs.declared.reply.CheckBounds.{CheckBounds}
+use Rattle.escrow_machine.specs.Bounds.{check_bounds, column_bounds}
+use Rattle.escrow_machine.specs.Walked.{columns_from}
+
+-- each column of distinct names has its own amount
+abbrev HasAmount : List (List ℕ) → List ℤ → Column → ℤ → Type 0
+HasAmount names amounts column a = amount_of names amounts column.name ≡ a
+
+amounts_behind : (first : List ℕ) (names : List (List ℕ)) (a : ℤ) (all rest : List ℤ) (columns : List Column)
+    → list_any (λ other. bytes_eq first other) (names_of columns) ≡ false
+    → AllZip (HasAmount names all) columns rest → AllZip (HasAmount (first ∷ names) (a ∷ all)) columns rest
+amounts_behind first names a all [] [] none have = tt
+amounts_behind first names a all (b ∷ rest) [] none have = have
+amounts_behind first names a all [] (column ∷ columns) none have = have
+amounts_behind first names a all (b ∷ rest) (column ∷ columns) none have =
+    let apart = or_parts (bytes_eq first column.name) (list_any (λ other. bytes_eq first other) (names_of columns)) none in
+    (rw apart.0 have.0, amounts_behind first names a all rest columns apart.1 have.1)
+
+have_amounts : (columns : List Column) (amounts : List ℤ) → are_distinct (names_of columns) ≡ true → length amounts ≡ length columns
+    → AllZip (HasAmount (names_of columns) amounts) columns amounts
+have_amounts [] [] distinct same = tt
+have_amounts [] (a ∷ amounts) distinct same = absurd (omega arith)
+have_amounts (column ∷ columns) [] distinct same = absurd (omega arith)
+have_amounts (column ∷ columns) (a ∷ amounts) distinct same =
+    let apart = first_apart column.name (names_of columns) distinct in
+    (rw (same_name column.name) refl, amounts_behind column.name (names_of columns) a amounts amounts columns apart.0 (have_amounts columns amounts apart.1 (omega arith)))
+
+-- a column's bounds are its amount and the bounds of its range
+columns_shown : (names : List (List ℕ)) (amounts rest : List ℤ) (reservations : List (List ℤ)) (columns : List Column)
+    → AllZip (HasAmount names amounts) columns rest
+    → columns_from (names_of columns) rest (map (check_bounds amounts reservations) (map (range_check names) columns))
+    ≡ map (column_bounds names amounts reservations) (names_of columns)
+columns_shown names amounts [] reservations [] have = refl
+columns_shown names amounts (a ∷ rest) reservations [] have = refl
+columns_shown names amounts [] reservations (column ∷ columns) have = absurd have
+columns_shown names amounts (a ∷ rest) reservations (column ∷ columns) have =
+    rw (← have.0, columns_shown names amounts rest reservations columns have.1) refl
+
+-- the ranges are the last checks of a table, and its declared checks are those before them
+pub record Split (table : TableDef) (row : Row) : Type 0 where
+  pub within : length row.amounts ≤ length table.checks
+  pub declared : take (length table.checks - length row.amounts) table.checks ≡ declared_checks table
+  pub ranges : drop (length table.checks - length row.amounts) table.checks ≡ range_checks table.columns
+  pub distinct : are_distinct (names_of (reservables table.columns)) ≡ true
+
+pub split : (table : TableDef) (row : Row) → IsTable table → IsRowOf table row → Split table row
+split table row is_table is_row =
+    let p = parts is_table.0 table is_table.1 in
+    let written = p.written in
+    let ranges = range_checks table.columns in
+    let many : length ranges ≡ length (reservables table.columns) = length-map (reservables table.columns) (range_check (names_of (reservables table.columns))) in
+    let all : length table.checks ≡ length (written ++ ranges) = ap length p.checks in
+    let at : length table.checks - length row.amounts ≡ length written = omega (arith, length-append written ranges, is_row.amounts) in
+    record {
+      within = omega (arith, length-append written ranges, is_row.amounts);
+      declared = ap (λ (n : ℕ). take (length table.checks - n) table.checks) is_row.amounts;
+      ranges = ap₂ (λ (n : ℕ) (checks : List Check). drop n checks) at p.checks ∙ drop-append_seam written ranges;
+      distinct = reservables_distinct table.columns (rules_on table.columns table.key p.follow).distinct;
+    }
+
+-- the bounds that are shown, from those of all checks
+pub shown_checks : (table : TableDef) (row : Row) (reservations : List (List ℤ)) (n : ℕ) → Split table row → n ≡ length table.checks - length row.amounts
+    → take n (map (check_bounds row.amounts reservations) table.checks) ≡ map (check_bounds row.amounts reservations) (declared_checks table)
+shown_checks table row reservations n s at =
+    take-map (check_bounds row.amounts reservations) n table.checks
+    ∙ ap (λ (m : ℕ). map (check_bounds row.amounts reservations) (take m table.checks)) at
+    ∙ ap (map (check_bounds row.amounts reservations)) s.declared
+
+pub shown_columns : (table : TableDef) (row : Row) (reservations : List (List ℤ)) (n : ℕ) → IsRowOf table row → Split table row → n ≡ length table.checks - length row.amounts
+    → columns_from (names_of (reservables table.columns)) row.amounts (drop n (map (check_bounds row.amounts reservations) table.checks))
+    ≡ map (column_bounds (names_of (reservables table.columns)) row.amounts reservations) (names_of (reservables table.columns))
+shown_columns table row reservations n is_row s at =
+    let names = names_of (reservables table.columns) in
+    ap (columns_from names row.amounts)
+    (drop-map (check_bounds row.amounts reservations) n table.checks
+    ∙ ap (λ (m : ℕ). map (check_bounds row.amounts reservations) (drop m table.checks)) at
+    ∙ ap (map (check_bounds row.amounts reservations)) s.ranges)
+    ∙ columns_shown names row.amounts row.amounts reservations (reservables table.columns) (have_amounts (reservables table.columns) row.amounts s.distinct is_row.amounts)
+
+-- there are as many of them as columns
+pub ranges_shown : (table : TableDef) (row : Row) (reservations : List (List ℤ)) (n : ℕ) → IsRowOf table row → Split table row → n ≡ length table.checks - length row.amounts
+    → length (drop n (map (check_bounds row.amounts reservations) table.checks)) ≡ length (reservables table.columns)
+ranges_shown table row reservations n is_row s at =
+    let many : length (map (check_bounds row.amounts reservations) table.checks) ≡ length table.checks = length-map table.checks (check_bounds row.amounts reservations) in
+    let within = s.within in
+    omega (arith, length-drop n (map (check_bounds row.amounts reservations) table.checks), is_row.amounts)
+
+pub names_shown : (columns : List Column) → length (names_of columns) ≡ length columns
+names_shown columns = length-map columns (λ (column : Column). column.name)
+
+pub columns_same : {names others : List (List ℕ)} {amounts numbers : List ℤ} {ranges bounds : List CheckBounds} → names ≡ others → amounts ≡ numbers → ranges ≡ bounds
+    → columns_from names amounts ranges ≡ columns_from others numbers bounds
+columns_same e f g = cc

@@ -1,0 +1,198 @@
+-- Going back to a savepoint: at once, and what would be granted before it.
+use Rattle.std.specs.Prelude.{◌≡◌, ℕ, ℤ, ◌<◌, ◌≤◌, ◌==◌, Bool, false, not, is_none, nat_le, nat_lt, option_map, unwrap_or, Option, Some, None, List, [], ◌∷◌, length, map, filter}
+use Rattle.std.specs.List.{AllByRecursion}
+use Rattle.std.proofs.Common.{refl, sym, ap, ap₂, ◌∙◌, subst, arith}
+use Rattle.std.proofs.lemmas.Bool.{and_right, not_from_false, false_from_ne_true, leb-true, ltb-true}
+use Rattle.escrow_num.specs.declared.refusal.Refusal.{Refusal}
+use Rattle.escrow_num.specs.declared.refusal.Refusal.TheVariants as refusal
+use Rattle.escrow_num.specs.declared.reservation.Reservation.{Reservation}
+use Rattle.escrow_num.specs.declared.reservation.Savepoint.{Savepoint}
+use Rattle.escrow_num.specs.declared.reservation.TheConstants.Reservation.{MAX_ID}
+use Rattle.escrow_num.specs.declared.row.Row.{Row}
+use Rattle.escrow_num.specs.declared.value.Value.{Value}
+use Rattle.escrow_num.specs.Refusal.{refuse_if, first_refusal}
+use Rattle.escrow_num.specs.Reservation.{counted}
+use Rattle.escrow_num.proofs.Ascending.{ascending_filter}
+use Rattle.escrow_num.proofs.Items.{Has, all_has}
+use Rattle.escrow_sql.specs.declared.statement.Statement.TheVariants as statement
+use Rattle.escrow_sql.specs.declared.statement.UpdateText.{UpdateText}
+use Rattle.escrow_checks.specs.Grant.{broken}
+use Rattle.escrow_schema.specs.declared.plan.Plan.{Plan}
+use Rattle.escrow_schema.specs.declared.plan.Plan.TheVariants as plan
+use Rattle.escrow_schema.specs.declared.table.TableDef.{TableDef}
+use Rattle.escrow_schema.specs.Catalog.{table_named}
+use Rattle.escrow_journal.specs.declared.journal.TheConstants.Journal.{MAX_RESERVATIONS}
+use Rattle.escrow_journal.specs.Reservations.{own, savepoint_before}
+use Rattle.escrow_journal.specs.Savepoints.{is_named, savepoint_of, without_savepoint, through, is_after, after, not_after}
+use Rattle.escrow_machine.specs.declared.reply.Reply.{Reply}
+use Rattle.escrow_machine.specs.declared.reply.Reply.TheVariants as reply
+use Rattle.escrow_machine.specs.Asked.{plan_of, plan_refusal_of, row_name, reservation_from, breach_of}
+use Rattle.escrow_machine.specs.Laws.{BackAtOnceChangesNothing, BackRefusesNothing}
+use Rattle.escrow_machine.specs.Accepted.{IsAccepted}
+use Rattle.escrow_machine.specs.State.{State}
+use Rattle.escrow_machine.specs.Rows.{changes_to}
+use Rattle.escrow_machine.specs.Step.{step}
+use Rattle.escrow_machine.specs.Turn.{turn_of, after_savepoint, returned_to, after_rollback_to, update_refusals, update_reply}
+use Rattle.escrow_machine.specs.Valid.{IsValid, IsReservationIn}
+use Rattle.escrow_machine.proofs.Accepted.{reserve_stands}
+use Rattle.escrow_machine.proofs.Choices.{IsChoice, choice_filter, choice_map}
+use Rattle.escrow_machine.proofs.Filters.{filter_all, filter_none}
+use Rattle.escrow_machine.proofs.Granted.{fewer_grant}
+use Rattle.escrow_machine.proofs.LawsGrants.{choice_of_image, granted_none, granted_plan}
+use Rattle.escrow_machine.proofs.LawsSteps.{step_has}
+use Rattle.escrow_machine.proofs.Lengths.{length-filter_filter}
+use Rattle.escrow_machine.proofs.Refusals.{passed}
+use Rattle.escrow_machine.proofs.SavepointNames.{none_named, found_put, through_put}
+use Rattle.escrow_machine.proofs.ValidEnds.{back_has}
+
+-- the step of a ROLLBACK TO a savepoint that there is
+pub back_step : (s : State) (session : ℕ) (name : List ℕ) (p : Savepoint) → savepoint_of session name s.savepoints ≡ Some p
+    → step s session (statement.RollbackTo name) ≡ (reply.RolledBackTo name (length (after p s.reservations)), returned_to s p)
+unfolding turn_of
+back_step s session name p found = rw found refl
+
+-- the savepoint that a SAVEPOINT makes
+abbrev pub made_in : State → ℕ → List ℕ → Savepoint
+made_in s session name = record { session = session; name = name; id = s.next_id }
+
+-- no reservation came after it yet
+none_after : (s : State) (session : ℕ) (name : List ℕ) → IsValid s → (r : Reservation) → Has s.reservations r → is_after (made_in s session name) r ≡ false
+none_after s session name valid r h =
+    let below : r.id < s.next_id = (all_has (IsReservationIn s.catalog s.next_id) s.reservations valid.orderly.reservations_in r h).below in
+    and_right (r.session == session) (nat_le s.next_id r.id)
+    (false_from_ne_true (nat_le s.next_id r.id) (λ t. let up_to = leb-true s.next_id r.id t in absurd (omega arith)))
+
+pub all_stay : (s : State) (session : ℕ) (name : List ℕ) → IsValid s → not_after (made_in s session name) s.reservations ≡ s.reservations
+all_stay s session name valid =
+    let p = made_in s session name in
+    filter_all (λ (r : Reservation). not (is_after p r)) s.reservations (λ r h. not_from_false (is_after p r) (none_after s session name valid r h))
+
+-- it is found
+pub made_found : (s : State) (session : ℕ) (name : List ℕ) → savepoint_of session name (after_savepoint s session name).savepoints ≡ Some (made_in s session name)
+made_found s session name = found_put (made_in s session name) (without_savepoint session name s.savepoints) (none_named session name s.savepoints)
+
+-- so going back to it at once drops nothing
+back_at_once : (s : State) (session : ℕ) (name : List ℕ) → IsValid s
+    → step (after_savepoint s session name) session (statement.RollbackTo name) ≡ (reply.RolledBackTo name 0, after_savepoint s session name)
+back_at_once s session name valid =
+    let p = made_in s session name in
+    let t : State = after_savepoint s session name in
+    let other : Savepoint → Bool = λ q. not (is_named session name q) in
+    let none : after p s.reservations ≡ [] = filter_none (is_after p) s.reservations (none_after s session name valid) in
+    let kept : through session name t.savepoints ≡ t.savepoints =
+    through_put p (without_savepoint session name s.savepoints) (ascending_filter savepoint_before other s.savepoints valid.orderly.savepoint_order)
+    (none_named session name s.savepoints) in
+    let same : returned_to t p ≡ t =
+    ap₂ (λ (rs : List Reservation) (ps : List Savepoint). record t { reservations = rs; savepoints = ps }) (all_stay s session name valid) kept in
+    back_step t session name p (made_found s session name)
+    ∙ ap₂ (λ (n : ℕ) (u : State). (reply.RolledBackTo name n, u)) (ap length none) same
+
+pub back_at_once_changes_nothing : BackAtOnceChangesNothing
+unfolding turn_of
+back_at_once_changes_nothing s session name valid =
+    step_has (λ (p : Reply × State). p.0 ≡ reply.Savepoint name
+    → (p.1 ≡ record s { savepoints = p.1.savepoints }) × (step p.1 session (statement.RollbackTo name) ≡ (reply.RolledBackTo name 0, p.1)))
+    s session (statement.Savepoint name) (λ _ _ e. absurd (cc)) (λ _ _. (refl, back_at_once s session name valid))
+
+-- WHAT WOULD BE GRANTED
+
+-- where none of several refusals applies, the first that applies is none
+none_applies : (refusals : List (Option Refusal)) → AllByRecursion (λ o. o ≡ None) refusals → first_refusal refusals ≡ None
+none_applies [] all = refl
+none_applies (o ∷ rest) all = ap (λ (x : Option Refusal). first_refusal (x ∷ rest)) all.0 ∙ none_applies rest all.1
+
+-- a state with some of the open reservations, and whichever savepoints
+abbrev fewer : State → (Reservation → Bool) → List Savepoint → State
+fewer s keep savepoints = record s { reservations = filter keep s.reservations; savepoints = savepoints }
+
+-- a reservation that breaks nothing beside all open ones breaks nothing beside some of them
+fewer_break : (keep : Reservation → Bool) (reservations : List Reservation) (table : TableDef) (row : Row) (changes : List ℤ)
+    → broken table.checks row.amounts changes (map (changes_to row) reservations) ≡ None
+    → broken table.checks row.amounts changes (map (changes_to row) (filter keep reservations)) ≡ None
+fewer_break keep reservations table row changes safe =
+    fewer_grant table.checks row.amounts changes (map (changes_to row) reservations) (map (changes_to row) (filter keep reservations)) safe
+    (λ chosen choice.
+    let from = choice_of_image (changes_to row) (filter keep reservations) chosen choice in
+    subst (IsChoice (map (changes_to row) reservations)) from.2
+    (choice_map (changes_to row) reservations from.0 (choice_filter keep reservations from.0 from.1)))
+
+-- so what is accepted beside all is accepted beside some
+late_beside : (s : State) (keep : Reservation → Bool) (savepoints : List Savepoint) (session : ℕ) (text : UpdateText) (key : Value) (changes : List (Option ℤ))
+    → plan_of s text ≡ Some (plan.Reserve key changes) → IsAccepted s session (statement.Update text)
+    → AllByRecursion (λ o. o ≡ None) (update_refusals (fewer s keep savepoints) session text.table (plan.Reserve key changes))
+late_beside s keep savepoints session text key changes is accepted =
+    let stands = reserve_stands s session text key changes is accepted in
+    let name = row_name text.table key in
+    let count = length (own session (filter keep s.reservations)) in
+    let room : count < MAX_RESERVATIONS = fewer_own stands.room in
+    let unbroken : breach_of (fewer s keep savepoints) (reservation_from s session name changes) ≡ None =
+    rw (stands.named, stands.found) (fewer_break keep s.reservations stands.table stands.row (counted changes) stands.safe) in (
+      rw stands.found refl,
+      (
+        ap (λ (b : Bool). refuse_if b refusal.TooManyReservations) (below_limit MAX_RESERVATIONS count room),
+        (
+          ap (λ (b : Bool). refuse_if b refusal.NoMoreIds) (up_to_limit MAX_ID s.next_id stands.more_ids),
+          (ap (option_map refusal.Check) unbroken, tt),
+        ),
+      ),
+    )
+  where
+    below_limit : (limit n : ℕ) → n < limit → nat_le limit n ≡ false
+    below_limit limit n lower = false_from_ne_true (nat_le limit n) (λ t. let up_to = leb-true limit n t in absurd (omega arith))
+
+    up_to_limit : (limit n : ℕ) → n ≤ limit → nat_lt limit n ≡ false
+    up_to_limit limit n up_to = false_from_ne_true (nat_lt limit n) (λ t. let lower = ltb-true limit n t in absurd (omega arith))
+
+    fewer_own : length (own session s.reservations) < MAX_RESERVATIONS → length (own session (filter keep s.reservations)) < MAX_RESERVATIONS
+    fewer_own room = let few = length-filter_filter (λ (r : Reservation). r.session == session) keep s.reservations in omega arith
+
+accepted_beside : (s : State) (keep : Reservation → Bool) (savepoints : List Savepoint) (session : ℕ) (text : UpdateText) (key : Value) (changes : List (Option ℤ))
+    → plan_of s text ≡ Some (plan.Reserve key changes) → IsAccepted s session (statement.Update text) → IsAccepted (fewer s keep savepoints) session (statement.Update text)
+unfolding turn_of
+accepted_beside s keep savepoints session text key changes is accepted =
+    let t : State = fewer s keep savepoints in
+    let unknown = refuse_if (is_none (table_named s.catalog text.table)) refusal.NoSuchTable in
+    let before = unwrap_or (option_map (update_refusals s session text.table) (plan_of s text)) [] in
+    let beside = unwrap_or (option_map (update_refusals t session text.table) (plan_of s text)) [] in
+    let known = passed unknown (plan_refusal_of s text ∷ before) accepted in
+    let planned = passed (plan_refusal_of s text) before known.others in
+    let late : AllByRecursion (λ o. o ≡ None) beside =
+    subst (λ (o : Option Plan). AllByRecursion (λ r. r ≡ None) (unwrap_or (option_map (update_refusals t session text.table) o) [])) (sym is)
+    (late_beside s keep savepoints session text key changes is accepted) in
+    none_applies (unknown ∷ plan_refusal_of s text ∷ beside) (known.first, (planned.first, late))
+
+-- the reply to a reservation that is accepted
+reserved_reply : (s : State) (session : ℕ) (text : UpdateText) (key : Value) (changes : List (Option ℤ)) → plan_of s text ≡ Some (plan.Reserve key changes)
+    → (turn_of s session (statement.Update text)).reply ≡ reply.Reserved s.next_id
+unfolding turn_of
+reserved_reply s session text key changes is = ap (λ (o : Option Plan). unwrap_or (option_map (update_reply s) o) reply.Updated) is
+
+accepted_reply : (s : State) (session : ℕ) (text : UpdateText) → IsAccepted s session (statement.Update text)
+    → (step s session (statement.Update text)).0 ≡ (turn_of s session (statement.Update text)).reply
+accepted_reply s session text accepted =
+    let turn = turn_of s session (statement.Update text) in
+    ap (λ (o : Option Refusal). let answered : Reply × State = unwrap_or (option_map (λ (r : Refusal). (reply.Refused r, s)) o) (turn.reply, turn.next) in answered.0) accepted
+
+granted_beside : (s : State) (keep : Reservation → Bool) (savepoints : List Savepoint) (session : ℕ) (text : UpdateText) (id : ℕ)
+    → (step s session (statement.Update text)).0 ≡ reply.Reserved id → (step (fewer s keep savepoints) session (statement.Update text)).0 ≡ reply.Reserved id
+granted_beside s keep savepoints session text id granted =
+    let t : State = fewer s keep savepoints in
+    let none = granted_none s session text id granted in
+    let is = granted_plan s session text id none.1 in
+    accepted_reply t session text (accepted_beside s keep savepoints session text is.0 is.1 is.2 none.0)
+    ∙ reserved_reply t session text is.0 is.1 is.2
+    ∙ sym (reserved_reply s session text is.0 is.1 is.2)
+    ∙ none.1
+
+-- the state after a ROLLBACK TO that is accepted
+back_next : (s : State) (session : ℕ) (name : List ℕ) → (turn_of s session (statement.RollbackTo name)).next ≡ after_rollback_to s session name
+unfolding turn_of
+back_next s session name = refl
+
+pub back_refuses_nothing : BackRefusesNothing
+back_refuses_nothing s session other name text id granted =
+    let Granted : State → Type 0 = λ t. (step t other (statement.Update text)).0 ≡ reply.Reserved id in
+    step_has (λ (p : Reply × State). Granted p.1) s session (statement.RollbackTo name) (λ _ _. granted)
+    (λ _. subst Granted (sym (back_next s session name))
+    (back_has Granted s session name granted
+    (λ p. granted_beside s (λ r. not (is_after p r)) (through p.session p.name s.savepoints) other text id granted)))

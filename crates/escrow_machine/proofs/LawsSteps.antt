@@ -1,0 +1,168 @@
+-- What one step of the machine keeps and answers, for all statements at once.
+use Rattle.std.specs.Prelude.{◌≡◌, ℕ, ◌+◌, ◌≤◌, true, false, is_none, option_map, unwrap_or, MatchOption, IsTrue, Option, Some, None, List, [], ◌∷◌, length}
+use Rattle.std.specs.List.{AllByRecursion}
+use Rattle.std.proofs.Common.{inl, inr, refl, sym, ap, subst, le_refl, ◌∙◌}
+use Rattle.std.proofs.lemmas.Bool.{and_parts}
+use Rattle.escrow_num.specs.declared.refusal.Refusal.{Refusal}
+use Rattle.escrow_num.specs.Refusal.{first_refusal}
+use Rattle.escrow_num.specs.Session.{IsSession}
+use Rattle.escrow_sql.specs.declared.statement.Statement.{Statement}
+use Rattle.escrow_sql.specs.declared.statement.Statement.TheVariants as statement
+use Rattle.escrow_machine.specs.declared.event.Event.{Event}
+use Rattle.escrow_machine.specs.declared.event.Event.TheVariants as event
+use Rattle.escrow_machine.specs.declared.reply.Reply.{Reply}
+use Rattle.escrow_machine.specs.declared.reply.Reply.TheVariants as reply
+use Rattle.escrow_num.specs.declared.failure.Failure.{Failure}
+use Rattle.escrow_num.specs.declared.failure.Failure.TheVariants as failure
+use Rattle.escrow_machine.specs.Event.{HasSession}
+use Rattle.escrow_machine.specs.Promised.{asks_store, needs_nothing}
+use Rattle.escrow_machine.specs.Reply.{failure_of}
+use Rattle.escrow_machine.specs.Laws.{IsSeen}
+use Rattle.escrow_journal.specs.Reservations.{own}
+use Rattle.escrow_machine.specs.State.{State}
+use Rattle.escrow_machine.specs.Step.{refusals, step, may_fail, IsStep, StepOrRefusal, IsServed, IsRun}
+use Rattle.escrow_machine.specs.Turn.{turn_of}
+use Rattle.escrow_machine.specs.Valid.{IsValid}
+use Rattle.escrow_machine.proofs.Refusals.{first_among, first_in_front}
+use Rattle.escrow_machine.proofs.TurnWords.{IsJudged}
+use Rattle.escrow_machine.proofs.Turns.{is_turn}
+use Rattle.escrow_machine.proofs.ValidEmpty.{opened_valid}
+
+-- what holds of a refusal with an equal state, and of the reply with the new state where nothing is
+-- refused, holds of reply and state
+unless_at : (P : Reply × State → Type 0) (s : State) (o : Option Refusal) (done : Reply) (new : State)
+    → ((r : Refusal) → o ≡ Some r → P (reply.Refused r, s)) → (o ≡ None → P (done, new))
+    → P (unwrap_or (option_map (λ (r : Refusal). (reply.Refused r, s)) o) (done, new))
+unless_at P s None done new refused accepted = accepted refl
+unless_at P s (Some r) done new refused accepted = refused r refl
+
+pub step_has : (P : Reply × State → Type 0) (s : State) (session : ℕ) (asked : Statement)
+    → ((r : Refusal) → first_refusal (refusals (turn_of s session asked)) ≡ Some r → P (reply.Refused r, s))
+    → (first_refusal (refusals (turn_of s session asked)) ≡ None → P ((turn_of s session asked).reply, (turn_of s session asked).next))
+    → P (step s session asked)
+step_has P s session asked refused accepted =
+    let turn = turn_of s session asked in
+    unless_at P s (first_refusal (refusals turn)) turn.reply turn.next refused accepted
+
+-- a step keeps a valid state valid
+pub step_keeps_valid : (s : State) (session : ℕ) (asked : Statement) → IsValid s → IsSession session → IsValid (step s session asked).1
+step_keeps_valid s session asked valid of_session =
+    step_has (λ (p : Reply × State). IsValid p.1) s session asked (λ _ _. valid) (λ accepted. (is_turn s session asked).valid accepted valid of_session)
+
+-- and so does a step or a failure
+pub event_keeps_valid : (s : State) (session : ℕ) (asked : Statement) (answer : Reply) (new : State) (o : Option Failure) → IsValid s → IsSession session
+    → MatchOption o (IsStep s session asked answer new) (λ f. IsTrue (may_fail s session asked f) × (new ≡ s)) → IsValid new
+event_keeps_valid s session asked answer new None valid of_session h =
+    subst IsValid (sym (ap (λ (p : Reply × State). p.1) h.is_step)) (step_keeps_valid s session asked valid of_session)
+event_keeps_valid s session asked answer new (Some f) valid of_session h = subst IsValid (sym h.1) valid
+
+-- and so does a restart, or its failure
+pub restart_keeps_valid : (s : State) (answer : Reply) (new : State) → IsValid s → IsServed s event.Restart answer new → IsValid new
+restart_keeps_valid s answer new valid (inl done) = subst IsValid (sym done.1) (opened_valid s valid)
+restart_keeps_valid s answer new valid (inr refused) = subst IsValid (sym refused.1) valid
+
+-- and a run of events
+pub run_keeps_valid : (s : State) (events : List Event) (answers : List Reply) (new : State)
+    → IsValid s → AllByRecursion HasSession events → IsRun s events answers new → IsValid new
+run_keeps_valid s [] [] new valid of_sessions run = subst IsValid (sym run) valid
+run_keeps_valid s [] (answer ∷ answers) new valid of_sessions run = absurd run
+run_keeps_valid s (happened ∷ events) [] new valid of_sessions run = absurd run
+run_keeps_valid s (event.Statement session asked ∷ events) (answer ∷ answers) new valid of_sessions run =
+    run_keeps_valid run.0 events answers new
+    (event_keeps_valid s session asked answer run.0 (failure_of answer) valid of_sessions.0 run.1)
+    of_sessions.1 run.2
+run_keeps_valid s (event.Restart ∷ events) (answer ∷ answers) new valid of_sessions run =
+    run_keeps_valid run.0 events answers new (restart_keeps_valid s answer run.0 valid run.1) of_sessions.1 run.2
+
+-- a refusal leaves the state equal
+pub refused_changes_nothing : (s : State) (session : ℕ) (asked : Statement) (r : Refusal)
+    → (step s session asked).0 ≡ reply.Refused r → (step s session asked).1 ≡ s
+refused_changes_nothing s session asked r =
+    step_has (λ (p : Reply × State). p.0 ≡ reply.Refused r → p.1 ≡ s) s session asked (λ _ _ _. refl)
+    (λ _ e. absurd ((is_turn s session asked).answers r e))
+
+-- the machine never fails
+pub machine_never_fails : (s : State) (session : ℕ) (asked : Statement) → failure_of (step s session asked).0 ≡ None
+machine_never_fails s session asked =
+    let turn = is_turn s session asked in
+    step_has (λ (p : Reply × State). failure_of p.0 ≡ None) s session asked
+    (first_among IsJudged (refusals (turn_of s session asked)) turn.judged) (λ _. turn.succeeds)
+
+-- what fails
+failed_with : (s : State) (session : ℕ) (asked : Statement) (answer : Reply) (new : State) (f : Failure)
+    → StepOrRefusal s session asked answer new → failure_of answer ≡ Some f → IsTrue (may_fail s session asked f) × (new ≡ s)
+failed_with s session asked answer new f event failed =
+    subst (λ (o : Option Failure). MatchOption o (IsStep s session asked answer new) (λ g. IsTrue (may_fail s session asked g) × (new ≡ s))) failed event
+
+fails : (s : State) (session : ℕ) (asked : Statement) (f : Failure) → may_fail s session asked f ≡ true → (turn_of s session asked).fails_for f ≡ true
+fails s session asked f e =
+    let turn = turn_of s session asked in
+    (and_parts (is_none (first_refusal turn.early)) (turn.fails_for f) e).1
+
+pub fails_for_what_is_asked : (s : State) (session : ℕ) (asked : Statement) (answer : Reply) (new : State) (f : Failure)
+    → StepOrRefusal s session asked answer new → failure_of answer ≡ Some f
+    → (needs_nothing s session asked ≡ false) × (f ≡ failure.Store → asks_store s session asked ≡ true)
+fails_for_what_is_asked s session asked answer new f event failed =
+    (is_turn s session asked).fails f (fails s session asked f (failed_with s session asked answer new f event failed).0)
+
+-- where an early refusal applies nothing fails, and it is the answer
+early_at : (s : State) (session : ℕ) (asked : Statement) (answer : Reply) (new : State) (r : Refusal) (o : Option Failure)
+    → MatchOption o (IsStep s session asked answer new) (λ f. IsTrue (may_fail s session asked f) × (new ≡ s))
+    → first_refusal (turn_of s session asked).early ≡ Some r → (answer ≡ reply.Refused r) × (new ≡ s)
+early_at s session asked answer new r None event first =
+    let turn = turn_of s session asked in
+    let refused : first_refusal (refusals turn) ≡ Some r = first_in_front turn.early turn.late r first in
+    let is : (answer, new) ≡ (reply.Refused r, s) =
+    event.is_step ∙ ap (λ (o : Option Refusal). unwrap_or (option_map (λ (q : Refusal). (reply.Refused q, s)) o) (turn.reply, turn.next)) refused in
+    (ap (λ (p : Reply × State). p.0) is, ap (λ (p : Reply × State). p.1) is)
+early_at s session asked answer new r (Some f) event first =
+    let turn = turn_of s session asked in
+    let may : is_none (first_refusal turn.early) ≡ true = (and_parts (is_none (first_refusal turn.early)) (turn.fails_for f) event.0).0 in
+    absurd (cc)
+
+pub early_refusals_stand : (s : State) (session : ℕ) (asked : Statement) (answer : Reply) (new : State) (r : Refusal)
+    → StepOrRefusal s session asked answer new → first_refusal (turn_of s session asked).early ≡ Some r
+    → (answer ≡ reply.Refused r) × (new ≡ s)
+early_refusals_stand s session asked answer new r event first = early_at s session asked answer new r (failure_of answer) event first
+
+-- what COMMIT and ROLLBACK are answered
+pub commit_answers : (s : State) (session : ℕ) → (step s session statement.Commit).0 ≡ reply.Committed (length (own session s.reservations))
+unfolding turn_of
+commit_answers s session = refl
+
+pub rollback_answers : (s : State) (session : ℕ) → (step s session statement.Rollback).0 ≡ reply.RolledBack (length (own session s.reservations))
+unfolding turn_of
+rollback_answers s session = refl
+
+-- what a statement does to the committed rows: a refusal leaves them
+none_for_commit : (s : State) (session : ℕ) (r : Refusal) → ¬ (first_refusal (refusals (turn_of s session statement.Commit)) ≡ Some r)
+unfolding turn_of
+none_for_commit s session r = λ e. absurd (cc)
+
+refused_unseen : (s : State) (session : ℕ) (asked : Statement) (r : Refusal) → first_refusal (refusals (turn_of s session asked)) ≡ Some r
+    → IsSeen s session asked (reply.Refused r) s.rows
+refused_unseen s session asked r first = record {
+  dropped = λ name answered. absurd (cc);
+  inserted = λ text is answered. absurd (cc);
+  updated = λ text is answered. absurd (cc);
+  deleted = λ text is answered. absurd (cc);
+  committed = λ is. absurd (none_for_commit s session r (subst (λ (a : Statement). first_refusal (refusals (turn_of s session a)) ≡ Some r) is first));
+  otherwise = λ _. refl;
+}
+
+pub queries_see_commits_alone : (s : State) (session : ℕ) (asked : Statement) → IsSeen s session asked (step s session asked).0 (step s session asked).1.rows
+queries_see_commits_alone s session asked =
+    step_has (λ (p : Reply × State). IsSeen s session asked p.0 p.1.rows) s session asked
+    (refused_unseen s session asked) (is_turn s session asked).seen
+
+-- the id of a reservation
+pub reserved_takes_the_next_id : (s : State) (session : ℕ) (asked : Statement) (id : ℕ)
+    → (step s session asked).0 ≡ reply.Reserved id → (id ≡ s.next_id) × ((step s session asked).1.next_id ≡ s.next_id + 1)
+reserved_takes_the_next_id s session asked id =
+    step_has (λ (p : Reply × State). p.0 ≡ reply.Reserved id → (id ≡ s.next_id) × (p.1.next_id ≡ s.next_id + 1)) s session asked
+    (λ _ _ e. absurd (cc)) (λ accepted e. (is_turn s session asked).next accepted id e)
+
+-- no step lowers the next id
+pub ids_never_fall : (s : State) (session : ℕ) (asked : Statement) → s.next_id ≤ (step s session asked).1.next_id
+ids_never_fall s session asked =
+    step_has (λ (p : Reply × State). s.next_id ≤ p.1.next_id) s session asked (λ _ _. le_refl _) (is_turn s session asked).ids

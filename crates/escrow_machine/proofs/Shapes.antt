@@ -1,0 +1,106 @@
+-- What a valid state bounds, and the shapes that its tables, rows and reservations have.
+use Rattle.std.specs.Prelude.{◌≡◌, ◌≤◌, ℕ, List, Option, Some, None, length, bytes_eq, IsSomeAnd}
+use Rattle.std.specs.List.{AllByRecursion}
+use Rattle.std.proofs.Common.{subst, refl, arith}
+use Rattle.escrow_num.specs.declared.row.Row.{Row}
+use Rattle.escrow_num.specs.declared.value.RowName.{RowName}
+use Rattle.escrow_sql.specs.declared.statement.InsertText.{InsertText}
+use Rattle.escrow_num.specs.declared.reservation.Reservation.{Reservation}
+use Rattle.escrow_num.specs.Order.{same_row}
+use Rattle.escrow_checks.specs.declared.check.Check.{Check}
+use Rattle.escrow_checks.specs.Form.{IsCovered}
+use Rattle.escrow_schema.specs.declared.table.TableDef.{TableDef}
+use Rattle.escrow_schema.specs.Catalog.{table_named}
+use Rattle.escrow_schema.specs.Column.{reservables}
+use Rattle.escrow_schema.specs.Definition.{IsTable}
+use Rattle.escrow_schema.specs.Fit.{IsRowOf, inserted_row}
+use Rattle.escrow_schema.proofs.LawLemmas.{checks_of_whole_row, rows_of_table, few_reservable}
+use Rattle.escrow_num.specs.declared.session.TheConstants.Session.{MAX}
+use Rattle.escrow_checks.specs.declared.spread.TheConstants.Spread.{MAX_OPEN}
+use Rattle.escrow_journal.specs.declared.journal.TheConstants.Journal.{MAX_RESERVATIONS}
+use Rattle.escrow_machine.specs.Walked.{IsShort}
+use Rattle.escrow_machine.specs.State.{State}
+use Rattle.escrow_machine.specs.Rows.{row_named, HasTable}
+use Rattle.escrow_machine.specs.Valid.{IsOrderly, IsValid, IsReservationIn}
+use Rattle.escrow_num.proofs.Items.{all_has, has_all, find_has}
+use Rattle.escrow_machine.proofs.Lengths.{length-by_number}
+use Rattle.escrow_num.proofs.Orders.{row_same}
+use Rattle.escrow_machine.proofs.Safe.{some_at}
+
+-- what holds of a state whatever its rows are
+abbrev pub HasOrder : State → Type 0
+HasOrder s = IsOrderly s.catalog s.reservations s.savepoints s.next_id
+
+-- TABLES AND RESERVATIONS
+
+-- the table that is found is one
+pub is_table_found : (s : State) → HasOrder s → (name : List ℕ) (table : TableDef) → table_named s.catalog name ≡ Some table → IsTable table
+is_table_found s orderly name table found =
+    all_has IsTable s.catalog orderly.tables.tables table (find_has (λ (t : TableDef). bytes_eq t.name name) s.catalog table found).0
+
+-- a database has at most 16384 open reservations: 256 of each of 64 sessions
+pub few_reservations : (s : State) → HasOrder s → length s.reservations ≤ MAX_OPEN
+few_reservations s orderly =
+    length-by_number (λ (r : Reservation). r.session) MAX_RESERVATIONS MAX s.reservations
+    (λ r h. (all_has (IsReservationIn s.catalog s.next_id) s.reservations orderly.reservations_in r h).session) orderly.few_reservations
+
+-- each of them has a change for at most ten columns
+short_if : (s : State) → HasOrder s → (r : Reservation) (o : Option TableDef) → table_named s.catalog r.row.table ≡ o
+    → IsSomeAnd o (λ table. length r.changes ≡ length (reservables table.columns)) → IsShort r
+short_if s orderly r None found whole = absurd whole
+short_if s orderly r (Some table) found whole =
+    let few = (few_reservable table (is_table_found s orderly r.row.table table found)).1 in
+    omega arith
+
+pub short_reservation : (s : State) → HasOrder s → (r : Reservation)
+    → IsSomeAnd (table_named s.catalog r.row.table) (λ table. length r.changes ≡ length (reservables table.columns)) → IsShort r
+short_reservation s orderly r whole = short_if s orderly r (table_named s.catalog r.row.table) refl whole
+
+pub short_reservations : (s : State) → HasOrder s → AllByRecursion IsShort s.reservations
+short_reservations s orderly =
+    has_all IsShort s.reservations
+    (λ r h. short_reservation s orderly r (all_has (IsReservationIn s.catalog s.next_id) s.reservations orderly.reservations_in r h).changes)
+
+-- ROWS
+
+-- a row of a table in the catalog is one of the table of its name
+pub row_of_table : (catalog : List TableDef) (name : RowName) (table : TableDef) (row : Row) → table_named catalog name.table ≡ Some table
+    → HasTable catalog row → row.name ≡ name → IsRowOf table row
+row_of_table catalog name table row named has same =
+    let at_name = subst (λ (n : RowName). IsSomeAnd (table_named catalog n.table) (λ t. IsRowOf t row)) same has in
+    some_at (λ t. IsRowOf t row) (table_named catalog name.table) table named at_name
+
+-- and so is a row that stands in a valid state
+pub row_found : (s : State) → IsValid s → (name : RowName) (table : TableDef) (row : Row)
+    → table_named s.catalog name.table ≡ Some table → row_named s.rows name ≡ Some row → IsRowOf table row
+row_found s valid name table row named found =
+    let of_row = find_has (λ (r : Row). same_row r.name name) s.rows row found in
+    row_of_table s.catalog name table row named (all_has (HasTable s.catalog) s.rows valid.safe_rows.tables row of_row.0) (row_same row.name name of_row.1)
+
+-- COVERED CHECKS
+
+-- a row of a table has an amount for each coefficient of each check
+pub covered : (table : TableDef) (row : Row) → IsTable table → length row.amounts ≡ length (reservables table.columns)
+    → AllByRecursion (λ check. IsCovered check.coeffs row.amounts) table.checks
+covered table row is_table long =
+    has_all (λ (check : Check). IsCovered check.coeffs row.amounts) table.checks (λ check h.
+    let whole = all_has (λ (c : Check). length c.coeffs ≡ length (reservables table.columns)) table.checks (checks_of_whole_row table is_table) check h in
+    omega arith)
+
+-- so has a row that was read, whatever the store is like
+pub covered_read : (s : State) → HasOrder s → (name : RowName) (table : TableDef) (row : Row)
+    → table_named s.catalog name.table ≡ Some table → HasTable s.catalog row → row.name ≡ name → AllByRecursion (λ check. IsCovered check.coeffs row.amounts) table.checks
+covered_read s orderly name table row named has same =
+    covered table row (is_table_found s orderly name.table table named) (row_of_table s.catalog name table row named has same).amounts
+
+-- and one that stands in a valid state
+pub covered_found : (s : State) → IsValid s → (name : RowName) (table : TableDef) (row : Row)
+    → table_named s.catalog name.table ≡ Some table → row_named s.rows name ≡ Some row → AllByRecursion (λ check. IsCovered check.coeffs row.amounts) table.checks
+covered_found s valid name table row named found =
+    covered table row (is_table_found s valid.orderly name.table table named) (row_found s valid name table row named found).amounts
+
+-- and one that an INSERT makes
+pub covered_made : (s : State) → HasOrder s → (name : List ℕ) (table : TableDef) (text : InsertText) (row : Row)
+    → table_named s.catalog name ≡ Some table → inserted_row table text ≡ Some row → AllByRecursion (λ check. IsCovered check.coeffs row.amounts) table.checks
+covered_made s orderly name table text row named made =
+    covered table row (is_table_found s orderly name table named) (rows_of_table table text row made).amounts

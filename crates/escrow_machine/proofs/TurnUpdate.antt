@@ -1,0 +1,138 @@
+-- The turn of an UPDATE, by its plan.
+use Rattle.std.specs.Prelude.{◌≡◌, ℕ, ℤ, ◌+◌, ◌≤◌, is_none, unwrap_or, option_map, Option, Some, None, List, [], ◌∷◌}
+use Rattle.std.proofs.Common.{refl, sym, subst, arith, le_refl, ◌∙◌}
+use Rattle.escrow_num.specs.declared.refusal.Refusal.{Refusal}
+use Rattle.escrow_num.specs.declared.refusal.Refusal.TheVariants as refusal
+use Rattle.escrow_num.specs.declared.value.Value.{Value}
+use Rattle.escrow_num.specs.Refusal.{first_refusal, refuse_if}
+use Rattle.escrow_num.specs.Session.{IsSession}
+use Rattle.escrow_sql.specs.declared.statement.Statement.TheVariants as statement
+use Rattle.escrow_sql.specs.declared.statement.UpdateText.{UpdateText}
+use Rattle.escrow_schema.specs.declared.plan.Plan.{Plan}
+use Rattle.escrow_schema.specs.declared.plan.Plan.TheVariants as plan
+use Rattle.escrow_schema.specs.Catalog.{table_named}
+use Rattle.escrow_machine.specs.declared.reply.Reply.TheVariants as reply
+use Rattle.escrow_machine.specs.Asked.{plan_of, plan_refusal_of, row_name, reservation_from, breach_of}
+use Rattle.escrow_machine.specs.Accepted.{IsAccepted}
+use Rattle.escrow_machine.specs.State.{State}
+use Rattle.escrow_machine.specs.Rows.{with_plain}
+use Rattle.escrow_machine.specs.Step.{refusals}
+use Rattle.escrow_machine.specs.Turn.{Turn, turn_of, for_any, granted, update_refusals, update_reply, after_update}
+use Rattle.escrow_machine.specs.Valid.{IsValid}
+use Rattle.escrow_machine.proofs.Accepted.{plan_there, reserve_stands, plain_stands}
+use Rattle.escrow_machine.proofs.Plans.{plan_among}
+use Rattle.escrow_machine.proofs.Refusals.{if_among, check_among}
+use Rattle.escrow_schema.proofs.PlanLemmas.{plans_of_whole_row, plain_plans_fit}
+use Rattle.escrow_machine.proofs.ValidPlain.{plain_valid}
+use Rattle.escrow_machine.proofs.ValidUpdate.{update_valid}
+use Rattle.escrow_machine.proofs.TurnWords.{IsJudged, NeedsMore, IsTurn, fails_any, unseen}
+
+-- the turn of an UPDATE, by its plan
+abbrev update_by : State → ℕ → UpdateText → Option Plan → Turn
+update_by s session text o = record {
+  early = refuse_if (is_none (table_named s.catalog text.table)) refusal.NoSuchTable ∷ plan_refusal_of s text ∷ [];
+  late = unwrap_or (option_map (update_refusals s session text.table) o) [];
+  reply = unwrap_or (option_map (update_reply s) o) reply.Updated;
+  next = unwrap_or (option_map (after_update s session text.table) o) s;
+  fails_for = for_any;
+}
+
+-- a reservation that is granted leaves the state valid
+pub reserved_valid : (s : State) (session : ℕ) (text : UpdateText) (key : Value) (changes : List (Option ℤ)) → IsValid s → IsSession session
+    → plan_of s text ≡ Some (plan.Reserve key changes) → IsAccepted s session (statement.Update text)
+    → IsValid (granted s (reservation_from s session (row_name text.table key) changes))
+reserved_valid s session text key changes valid of_session is accepted =
+    let stands = reserve_stands s session text key changes is accepted in
+    update_valid s stands.table stands.row (reservation_from s session (row_name text.table key) changes) valid stands.named stands.found of_session refl stands.more_ids
+    (plans_of_whole_row stands.table text key changes stands.planned) stands.room stands.safe
+
+-- and so do plain values that are replaced
+pub replaced_valid : (s : State) (session : ℕ) (text : UpdateText) (key : Value) (values : List (Option Value)) → IsValid s
+    → plan_of s text ≡ Some (plan.Plain key values) → IsAccepted s session (statement.Update text)
+    → IsValid (record s { rows = with_plain (row_name text.table key) values s.rows })
+replaced_valid s session text key values valid is accepted =
+    let stands = plain_stands s session text key values is accepted in
+    plain_valid s stands.table (row_name text.table key) values valid stands.named (plain_plans_fit stands.table text key values stands.planned)
+
+more : (n : ℕ) → n ≤ n + 1
+more n = omega arith
+
+-- an UPDATE without a plan is refused
+no_plan : (s : State) (text : UpdateText) (late : List (Option Refusal)) → plan_of s text ≡ None
+    → ¬ (first_refusal (refuse_if (is_none (table_named s.catalog text.table)) refusal.NoSuchTable ∷ plan_refusal_of s text ∷ late) ≡ None)
+no_plan s text late none = λ accepted. let p = plan_there s text late accepted in let is : Some p.plan ≡ None = sym p.is ∙ none in absurd (cc)
+
+update_turn_by : (s : State) (session : ℕ) (text : UpdateText) (o : Option Plan) → plan_of s text ≡ o
+    → (first_refusal (refusals (update_by s session text o)) ≡ None → IsAccepted s session (statement.Update text))
+    → IsTurn s session (statement.Update text) (update_by s session text o)
+update_turn_by s session text None is accepts = record {
+  answers = λ r e. absurd (cc);
+  succeeds = refl;
+  judged = (if_among IsJudged _ _ refl, (plan_among IsJudged s text refl refl refl, tt));
+  late = tt;
+  fails = fails_any s session (statement.Update text) refl refl;
+  seen = λ accepted. absurd (no_plan s text [] is accepted);
+  ids = λ _. le_refl _;
+  next = λ _ id e. absurd (cc);
+  valid = λ _ valid _. valid;
+}
+update_turn_by s session text (Some (plan.Reserve key changes)) is accepts = record {
+  answers = λ r e. absurd (cc);
+  succeeds = refl;
+  judged = (
+    if_among IsJudged _ _ refl,
+    (
+      plan_among IsJudged s text refl refl refl,
+      (
+        if_among IsJudged _ _ refl,
+        (
+          if_among IsJudged _ _ refl,
+          (if_among IsJudged _ _ refl, (check_among IsJudged (breach_of s (reservation_from s session (row_name text.table key) changes)) (λ _. refl), tt)),
+        ),
+      ),
+    ),
+  );
+  late = (
+    if_among (NeedsMore (statement.Update text)) _ _ refl,
+    (
+      if_among (NeedsMore (statement.Update text)) _ _ refl,
+      (
+        if_among (NeedsMore (statement.Update text)) _ _ refl,
+        (check_among (NeedsMore (statement.Update text)) (breach_of s (reservation_from s session (row_name text.table key) changes)) (λ _. refl), tt),
+      ),
+    ),
+  );
+  fails = fails_any s session (statement.Update text) refl refl;
+  seen = λ _. unseen s session (statement.Update text) (reply.Reserved s.next_id) refl (λ e. absurd (cc));
+  ids = λ _. more s.next_id;
+  next = λ _ id answered. let same : id ≡ s.next_id = cc in (same, refl);
+  valid = λ accepted valid of_session. reserved_valid s session text key changes valid of_session is (accepts accepted);
+}
+update_turn_by s session text (Some (plan.Plain key values)) is accepts = record {
+  answers = λ r e. absurd (cc);
+  succeeds = refl;
+  judged = (
+    if_among IsJudged _ _ refl,
+    (plan_among IsJudged s text refl refl refl, (if_among IsJudged _ _ refl, (if_among IsJudged _ _ refl, tt))),
+  );
+  late = (if_among (NeedsMore (statement.Update text)) _ _ refl, (if_among (NeedsMore (statement.Update text)) _ _ refl, tt));
+  fails = fails_any s session (statement.Update text) refl refl;
+  seen = λ _. record {
+    dropped = λ name answered. absurd (cc);
+    inserted = λ other asked _. absurd (cc);
+    updated = λ other asked _.
+        let same : text ≡ other = cc in
+        subst (λ (t : UpdateText). (k : Value) × (vs : List (Option Value)) × (plan_of s t ≡ Some (plan.Plain k vs)) × (with_plain (row_name text.table key) values s.rows ≡ with_plain (row_name t.table k) vs s.rows))
+        same (key, values, is, refl);
+    deleted = λ other asked _. absurd (cc);
+    committed = λ asked. absurd (cc);
+    otherwise = λ quiet. absurd (cc);
+  };
+  ids = λ _. le_refl _;
+  next = λ _ id e. absurd (cc);
+  valid = λ accepted valid _. replaced_valid s session text key values valid is (accepts accepted);
+}
+
+pub update_turn : (s : State) (session : ℕ) (text : UpdateText) → IsTurn s session (statement.Update text) (turn_of s session (statement.Update text))
+unfolding turn_of
+update_turn s session text = update_turn_by s session text (plan_of s text) refl (λ accepted. accepted)

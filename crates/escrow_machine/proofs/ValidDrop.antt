@@ -1,0 +1,61 @@
+-- DROP TABLE: no open reservation is of a row of the table that is taken out.
+use Rattle.std.specs.Prelude.{◌≡◌, ℕ, false, not, Option, List, length, bytes_eq, IsSomeAnd}
+use Rattle.std.proofs.Common.{sym, ap, ◌∙◌, subst}
+use Rattle.std.proofs.lemmas.Bool.{not-true}
+use Rattle.escrow_num.specs.declared.reservation.Reservation.{Reservation}
+use Rattle.escrow_num.specs.declared.value.RowName.{RowName}
+use Rattle.escrow_num.proofs.Items.{Has, all_has, has_all}
+use Rattle.escrow_num.proofs.Orders.{row_same, name_same}
+use Rattle.escrow_schema.specs.declared.table.TableDef.{TableDef}
+use Rattle.escrow_schema.specs.Catalog.{table_named, without_table}
+use Rattle.escrow_schema.specs.Column.{reservables}
+use Rattle.escrow_machine.specs.State.{State, is_table_reserved}
+use Rattle.escrow_machine.specs.Turn.{after_drop}
+use Rattle.escrow_machine.specs.Valid.{IsValid, IsOrderly, IsReservationIn}
+use Rattle.escrow_machine.proofs.Kept.{any_none, find_filter, kept_safe}
+use Rattle.escrow_schema.proofs.CatalogLemmas.{without_one}
+
+-- a table of another name is found as before
+pub other_table : (catalog : List TableDef) (name other : List ℕ) → bytes_eq other name ≡ false → table_named (without_table name catalog) other ≡ table_named catalog other
+other_table catalog name other differs =
+    find_filter (λ (t : TableDef). bytes_eq t.name other) (λ (t : TableDef). not (bytes_eq t.name name)) catalog
+    (λ t same. ap not (ap (λ (n : List ℕ). bytes_eq n name) (name_same t.name other same) ∙ differs))
+
+-- no reservation is of a row of a table that isn't reserved
+other_tables : (s : State) (name : List ℕ) → is_table_reserved s name ≡ false → (r : Reservation) → Has s.reservations r → bytes_eq r.row.table name ≡ false
+other_tables s name free = any_none (λ (r : Reservation). bytes_eq r.row.table name) s.reservations free
+
+-- DROP TABLE keeps what is in order in order
+pub drop_orderly : (s : State) (name : List ℕ) → IsOrderly s.catalog s.reservations s.savepoints s.next_id → is_table_reserved s name ≡ false
+    → IsOrderly (without_table name s.catalog) s.reservations s.savepoints s.next_id
+drop_orderly s name orderly free =
+    let catalog : List TableDef = without_table name s.catalog in
+    let still_in : (r : Reservation) → Has s.reservations r → IsReservationIn catalog s.next_id r = λ r h.
+    let was = all_has (IsReservationIn s.catalog s.next_id) s.reservations orderly.reservations_in r h in
+    record {
+      session = was.session;
+      first = was.first;
+      below = was.below;
+      changes = subst (λ (o : Option TableDef). IsSomeAnd o (λ t. length r.changes ≡ length (reservables t.columns)))
+          (sym (other_table s.catalog name r.row.table (other_tables s name free r h))) was.changes;
+    } in
+    record {
+      tables = without_one s.catalog name orderly.tables;
+      reservations_in = has_all (IsReservationIn catalog s.next_id) s.reservations still_in;
+      reservation_order = orderly.reservation_order;
+      few_reservations = orderly.few_reservations;
+      savepoints_in = orderly.savepoints_in;
+      savepoint_order = orderly.savepoint_order;
+      few_savepoints = orderly.few_savepoints;
+      first_id = orderly.first_id;
+      last_id = orderly.last_id;
+    }
+
+-- and a valid state valid
+pub drop_valid : (s : State) (name : List ℕ) → IsValid s → is_table_reserved s name ≡ false → IsValid (after_drop s name)
+drop_valid s name valid free = record {
+  orderly = drop_orderly s name valid.orderly free;
+  safe_rows = kept_safe s (λ row. not (bytes_eq row.name.table name)) (without_table name s.catalog) valid
+      (λ row kept. other_table s.catalog name row.name.table (not-true (bytes_eq row.name.table name) kept))
+      (λ r h row same. ap not (ap (λ (n : RowName). bytes_eq n.table name) (row_same row.name r.row same) ∙ other_tables s name free r h));
+}

@@ -1,0 +1,103 @@
+-- Believed: what statements ask of a state.
+use Rattle.std.specs.Prelude.{ℕ, ℤ, Option, Some, None, option_map, option_and_then, unwrap_or, Bool, List, [], map, filter, bytes_eq}
+use Rattle.std.specs.Result.{result_ok, result_err}
+use Rattle.escrow_num.specs.declared.refusal.Refusal.{Refusal}
+use Rattle.escrow_num.specs.declared.refusal.Breach.{Breach}
+use Rattle.escrow_num.specs.declared.row.Row.{Row}
+use Rattle.escrow_num.specs.declared.reservation.Reservation.{Reservation}
+use Rattle.escrow_num.specs.declared.value.RowName.{RowName}
+use Rattle.escrow_num.specs.declared.value.Value.{Value}
+use Rattle.escrow_num.specs.Order.{same_row}
+use Rattle.escrow_num.specs.Reservation.{counted}
+use Rattle.escrow_sql.specs.declared.statement.InsertText.{InsertText}
+use Rattle.escrow_sql.specs.declared.statement.UpdateText.{UpdateText}
+use Rattle.escrow_sql.specs.declared.statement.SelectText.{SelectText}
+use Rattle.escrow_sql.specs.declared.statement.WhereText.{WhereText}
+use Rattle.escrow_checks.specs.Grant.{broken}
+use Rattle.escrow_schema.specs.declared.plan.Plan.{Plan}
+use Rattle.escrow_schema.specs.declared.plan.Plan.TheVariants as plan
+use Rattle.escrow_schema.specs.Catalog.{table_named}
+use Rattle.escrow_schema.specs.Column.{names_of, value_of}
+use Rattle.escrow_schema.specs.Fit.{inserted_row, values_of}
+use Rattle.escrow_schema.specs.Plan.{key_named, planned}
+use Rattle.escrow_schema.specs.Print.{canonical}
+use Rattle.escrow_machine.specs.declared.reply.Reply.{Reply}
+use Rattle.escrow_machine.specs.declared.reply.Reply.TheVariants as reply
+use Rattle.escrow_machine.specs.State.{State}
+use Rattle.escrow_machine.specs.Rows.{row_named, changes_to}
+
+-- INSERT
+
+-- the row that an INSERT makes in the table of its name, where its literals fit
+abbrev pub row_of : State → InsertText → Option Row
+row_of s text = option_and_then (λ table. inserted_row table text) (table_named s.catalog text.table)
+
+-- what a new row breaks of its table's checks, judged with no open reservation and no change
+abbrev pub insert_breach : State → InsertText → Option Breach
+insert_breach s text =
+    option_and_then (λ table. option_and_then (λ row. broken table.checks row.amounts [] []) (row_of s text)) (table_named s.catalog text.table)
+
+-- UPDATE
+
+-- the plan of an UPDATE, where it has one
+abbrev pub plan_of : State → UpdateText → Option Plan
+plan_of s text = option_and_then (λ table. result_ok (planned table text)) (table_named s.catalog text.table)
+
+-- why an UPDATE has no plan
+abbrev pub plan_refusal_of : State → UpdateText → Option Refusal
+plan_refusal_of s text = option_and_then (λ table. result_err (planned table text)) (table_named s.catalog text.table)
+
+-- the reservation of these changes of a row, with the next id
+abbrev pub reservation_from : State → ℕ → RowName → List (Option ℤ) → Reservation
+reservation_from s session row changes = record { id = s.next_id; session = session; row = row; changes = changes }
+
+-- the name of the row of a key, in a table
+abbrev pub row_name : List ℕ → Value → RowName
+row_name table key = record { table = table; key = key }
+
+-- the reservation that a plan makes of a row of a table: one of plain values makes none
+abbrev pub reserved_by : State → ℕ → List ℕ → Plan → Option Reservation
+reserved_by s session table (plan.Reserve key changes) = Some (reservation_from s session (row_name table key) changes)
+reserved_by s session table (plan.Plain key values) = None
+
+-- the reservation that an UPDATE asks, if it asks one
+abbrev pub reservation_of : State → ℕ → UpdateText → Option Reservation
+reservation_of s session text = option_and_then (reserved_by s session text.table) (plan_of s text)
+
+-- what a reservation breaks of its table's checks, over every choice of the open ones that holds it
+abbrev pub breach_of : State → Reservation → Option Breach
+breach_of s r =
+    option_and_then (λ table. option_and_then (λ row. broken table.checks row.amounts (counted r.changes) (map (changes_to row) s.reservations))
+    (row_named s.rows r.row)) (table_named s.catalog r.row.table)
+
+-- WHERE
+
+-- the name of the row that a WHERE names, in a table
+abbrev pub named_by : List ℕ → WhereText → RowName
+named_by table row = row_name table (value_of row.literal)
+
+-- why a WHERE names no row: another column than the key, or a literal that the key's type doesn't hold
+abbrev pub key_refusal_of : State → List ℕ → WhereText → Option Refusal
+key_refusal_of s name row = option_and_then (λ table. result_err (key_named table row)) (table_named s.catalog name)
+
+-- SELECT AND SHOW TABLE
+
+-- why a SELECT's WHERE names no row, if it has one
+abbrev pub select_refusal_of : State → SelectText → Option Refusal
+select_refusal_of s text = option_and_then (key_refusal_of s text.table) text.row
+
+-- a SELECT of a table shows a row: one of the table, and that of the key alone where it has a WHERE
+abbrev pub is_shown : List ℕ → Option WhereText → Row → Bool
+is_shown table None row = bytes_eq row.name.table table
+is_shown table (Some where_text) row = same_row row.name (named_by table where_text)
+
+-- what a SELECT shows: the columns' names, and the values of each committed row that it shows, in column
+-- order; the rows are in order of key
+abbrev pub select_reply : State → SelectText → Reply
+select_reply s text =
+    unwrap_or (option_map (λ table. reply.Rows (names_of table.columns) (map (values_of table) (filter (is_shown text.table text.row) s.rows))) (table_named s.catalog text.table))
+    (reply.Rows [] [])
+
+-- what a SHOW TABLE shows: the text that defines the table
+abbrev pub show_reply : State → List ℕ → Reply
+show_reply s name = unwrap_or (option_map (λ table. reply.Table (canonical table)) (table_named s.catalog name)) (reply.Table [])

@@ -1,0 +1,53 @@
+-- Believed: what SHOW BOUNDS shows.
+use Rattle.std.specs.Prelude.{ℕ, ℤ, option_map, option_and_then, unwrap_or, List, [], map}
+use Rattle.escrow_num.specs.declared.reservation.Reservation.{Reservation}
+use Rattle.escrow_num.specs.declared.row.Row.{Row}
+use Rattle.escrow_sql.specs.declared.statement.RowText.{RowText}
+use Rattle.escrow_checks.specs.declared.check.Check.{Check}
+use Rattle.escrow_checks.specs.Checks.{unit_of}
+use Rattle.escrow_checks.specs.Condition.{amount_of}
+use Rattle.escrow_checks.specs.Extremes.{least, greatest}
+use Rattle.escrow_schema.specs.Catalog.{table_named}
+use Rattle.escrow_schema.specs.Column.{names_of, reservables}
+use Rattle.escrow_schema.specs.declared.table.TableDef.{TableDef}
+use Rattle.escrow_schema.specs.Print.{declared_checks}
+use Rattle.escrow_machine.specs.declared.reply.CheckBounds.{CheckBounds}
+use Rattle.escrow_machine.specs.declared.reply.ColumnBounds.{ColumnBounds}
+use Rattle.escrow_machine.specs.declared.reply.Reply.{Reply}
+use Rattle.escrow_machine.specs.declared.reply.Reply.TheVariants as reply
+use Rattle.escrow_machine.specs.Asked.{named_by}
+use Rattle.escrow_machine.specs.State.{State}
+use Rattle.escrow_machine.specs.Rows.{row_named, changes_to}
+
+-- what SHOW BOUNDS shows of a RESERVABLE column: its committed amount, and the least and the greatest
+-- that it can come to, whichever of the open reservations are applied
+abbrev pub column_bounds : List (List ℕ) → List ℤ → List (List ℤ) → List ℕ → ColumnBounds
+column_bounds names amounts reservations name = record {
+  column = name;
+  value = amount_of names amounts name;
+  inf = least (unit_of names name) amounts reservations;
+  sup = greatest (unit_of names name) amounts reservations;
+}
+
+-- and of a check: the least and the greatest value of its form, and its limits
+abbrev pub check_bounds : List ℤ → List (List ℤ) → Check → CheckBounds
+check_bounds amounts reservations check = record {
+  check = check.name;
+  least = least check.coeffs amounts reservations;
+  greatest = greatest check.coeffs amounts reservations;
+  limits = check.span;
+}
+
+-- what SHOW BOUNDS shows of a row: each RESERVABLE column, and each declared check, over every choice
+-- of the open reservations of all sessions
+abbrev pub bounds_in : List Reservation → TableDef → Row → Reply
+bounds_in open_ones table row =
+    let names = names_of (reservables table.columns) in
+    let reservations = map (changes_to row) open_ones in
+    reply.Bounds (map (column_bounds names row.amounts reservations) names) (map (check_bounds row.amounts reservations) (declared_checks table))
+
+-- what a SHOW BOUNDS shows
+abbrev pub bounds_reply : State → RowText → Reply
+bounds_reply s text =
+    unwrap_or (option_and_then (λ table. option_map (bounds_in s.reservations table) (row_named s.rows (named_by text.table text.row))) (table_named s.catalog text.table))
+    (reply.Bounds [] [])

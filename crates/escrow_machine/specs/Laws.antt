@@ -1,0 +1,405 @@
+-- Believed: the statements of the laws in src/laws.rt.
+use Rattle.std.specs.Prelude.{◌≡◌, ◌↔◌, ℕ, nat_lt, ℤ, ◌+◌, ◌≤◌, ◌+ℤ◌, ◌≤ℤ◌, Bool, true, false, Option, Some, None, IsSome, IsSomeAnd, List, [], ◌∷◌, ◌++◌, length, map, take, Contains}
+use Rattle.std.specs.List.{AllByRecursion, AllZip}
+use Rattle.escrow_num.specs.declared.refusal.Breach.{Breach}
+use Rattle.escrow_num.specs.declared.refusal.Refusal.{Refusal}
+use Rattle.escrow_num.specs.declared.refusal.Refusal.TheVariants as refusal
+use Rattle.escrow_num.specs.declared.reservation.Reservation.{Reservation}
+use Rattle.escrow_num.specs.declared.reservation.Savepoint.{Savepoint}
+use Rattle.escrow_num.specs.declared.row.Row.{Row}
+use Rattle.escrow_num.specs.declared.value.RowName.{RowName}
+use Rattle.escrow_num.specs.declared.value.Value.{Value}
+use Rattle.escrow_num.specs.declared.session.End.{End}
+use Rattle.escrow_num.specs.Ascending.{IsAscending}
+use Rattle.escrow_num.specs.Refusal.{first_refusal}
+use Rattle.escrow_num.specs.Reservation.{counted}
+use Rattle.escrow_num.specs.Session.{IsSession}
+use Rattle.escrow_num.specs.Span.{Holds}
+use Rattle.escrow_sql.specs.declared.statement.Statement.{Statement}
+use Rattle.escrow_sql.specs.declared.statement.Statement.TheVariants as statement
+use Rattle.escrow_sql.specs.declared.statement.UpdateText.{UpdateText}
+use Rattle.escrow_sql.specs.declared.statement.InsertText.{InsertText}
+use Rattle.escrow_sql.specs.declared.statement.RowText.{RowText}
+use Rattle.escrow_sql.specs.declared.statement.SelectText.{SelectText}
+use Rattle.escrow_sql.specs.declared.statement.WhereText.{WhereText}
+use Rattle.escrow_checks.specs.declared.check.Check.{Check}
+use Rattle.escrow_checks.specs.Condition.{amount_of}
+use Rattle.escrow_checks.specs.Extremes.{least, greatest}
+use Rattle.escrow_checks.specs.Form.{form}
+use Rattle.escrow_checks.specs.Grant.{Meets}
+use Rattle.escrow_checks.specs.Laws.{IsBeyond}
+use Rattle.escrow_checks.specs.Sublists.{sublists}
+use Rattle.escrow_schema.specs.declared.table.TableDef.{TableDef}
+use Rattle.escrow_schema.specs.declared.plan.Plan.TheVariants as plan
+use Rattle.escrow_schema.specs.Catalog.{table_named}
+use Rattle.escrow_schema.specs.Column.{names_of, reservables, value_of}
+use Rattle.escrow_schema.specs.Fit.{FitColumns, values_of}
+use Rattle.escrow_schema.specs.Print.{canonical, declared_checks}
+use Rattle.escrow_machine.specs.declared.event.Event.{Event}
+use Rattle.escrow_machine.specs.declared.event.Event.TheVariants as event
+use Rattle.escrow_machine.specs.declared.reply.JournalEntry.{JournalEntry}
+use Rattle.escrow_machine.specs.declared.reply.CheckBounds.{CheckBounds}
+use Rattle.escrow_machine.specs.declared.reply.ColumnBounds.{ColumnBounds}
+use Rattle.escrow_num.specs.declared.failure.Failure.{Failure}
+use Rattle.escrow_num.specs.declared.failure.Failure.TheVariants as failure
+use Rattle.escrow_machine.specs.declared.reply.Reply.{Reply}
+use Rattle.escrow_machine.specs.declared.reply.Reply.TheVariants as reply
+use Rattle.escrow_machine.specs.Event.{HasSession}
+use Rattle.escrow_machine.specs.Promised.{needs_nothing, asks_store}
+use Rattle.escrow_machine.specs.Reply.{failure_of}
+use Rattle.escrow_journal.specs.Reservations.{own, others}
+use Rattle.escrow_journal.specs.Savepoints.{savepoint_of}
+use Rattle.escrow_machine.specs.Journal.{entry_of}
+use Rattle.escrow_machine.specs.Asked.{row_of, plan_of, row_name, named_by, reservation_of}
+use Rattle.escrow_machine.specs.Settle.{end_of, settled, after_end, after_ends}
+use Rattle.escrow_machine.specs.State.{State, empty}
+use Rattle.escrow_machine.specs.Rows.{row_named, rows_of, changes_to, row_after, applied, with_row, without_row, without_rows_of, with_plain, MeetsChecks, row_before}
+use Rattle.escrow_machine.specs.Step.{step, StepOrRefusal, IsRun}
+use Rattle.escrow_machine.specs.Turn.{turn_of}
+use Rattle.escrow_machine.specs.Valid.{IsValid}
+
+-- VALIDITY
+
+-- whatever a session asks, the machine takes a valid state to a valid one
+abbrev pub StepKeepsValid : Type 0
+StepKeepsValid = (s : State) (session : ℕ) (asked : Statement) → IsValid s → IsSession session → IsValid (step s session asked).1
+
+-- from a valid state any events of sessions, some of which fail, lead to a valid state
+abbrev pub RunKeepsValid : Type 0
+RunKeepsValid = (s : State) (events : List Event) (answers : List Reply) (new : State)
+    → IsValid s → AllByRecursion HasSession events → IsRun s events answers new → IsValid new
+
+-- each committed row of a valid state meets each check of its table
+abbrev pub CommittedRowsMeetChecks : Type 0
+CommittedRowsMeetChecks = (s : State) → IsValid s → AllByRecursion (MeetsChecks s.catalog) s.rows
+
+-- each value of a row fits the type of its column
+abbrev pub HasFittingValues : List TableDef → Row → Type 0
+HasFittingValues catalog row = IsSomeAnd (table_named catalog row.name.table) (λ table. FitColumns table.columns (values_of table row))
+
+-- each value of each committed row of a valid state fits the type of its column
+abbrev pub CommittedValuesFit : Type 0
+CommittedValuesFit = (s : State) → IsValid s → AllByRecursion (HasFittingValues s.catalog) s.rows
+
+-- after any events of sessions, from the beginning, each committed row meets each check of its table
+abbrev pub EveryRunIsSafe : Type 0
+EveryRunIsSafe = (events : List Event) (answers : List Reply) (new : State)
+    → AllByRecursion HasSession events → IsRun empty events answers new → AllByRecursion (MeetsChecks new.catalog) new.rows
+
+-- REFUSALS AND FAILURES
+
+-- a refused statement leaves the state equal, so it takes no id either
+abbrev pub RefusedChangesNothing : Type 0
+RefusedChangesNothing = (s : State) (session : ℕ) (asked : Statement) (r : Refusal)
+    → (step s session asked).0 ≡ reply.Refused r → (step s session asked).1 ≡ s
+
+-- the machine is never out of memory, nor refused by a store
+abbrev pub MachineNeverFails : Type 0
+MachineNeverFails = (s : State) (session : ℕ) (asked : Statement) → failure_of (step s session asked).0 ≡ None
+
+-- what fails needs memory or the store, and what the store refuses asked it
+abbrev pub FailsForWhatIsAsked : Type 0
+FailsForWhatIsAsked = (s : State) (session : ℕ) (asked : Statement) (answer : Reply) (new : State) (f : Failure)
+    → StepOrRefusal s session asked answer new → failure_of answer ≡ Some f
+    → (needs_nothing s session asked ≡ false) × (f ≡ failure.Store → asks_store s session asked ≡ true)
+
+-- where an early refusal applies, the first of them is the answer, whatever memory there is
+abbrev pub EarlyRefusalsStand : Type 0
+EarlyRefusalsStand = (s : State) (session : ℕ) (asked : Statement) (answer : Reply) (new : State) (r : Refusal)
+    → StepOrRefusal s session asked answer new → first_refusal (turn_of s session asked).early ≡ Some r
+    → (answer ≡ reply.Refused r) × (new ≡ s)
+
+-- COMMIT is answered with the number of the session's reservations, in every state
+abbrev pub CommitIsNeverRefused : Type 0
+CommitIsNeverRefused = (s : State) (session : ℕ) → (step s session statement.Commit).0 ≡ reply.Committed (length (own session s.reservations))
+
+-- and so is ROLLBACK
+abbrev pub RollbackIsNeverRefused : Type 0
+RollbackIsNeverRefused = (s : State) (session : ℕ) → (step s session statement.Rollback).0 ≡ reply.RolledBack (length (own session s.reservations))
+
+-- WHAT A STATEMENT CHANGES
+
+-- a reply that tells that committed rows change
+abbrev pub tells_of_rows : Reply → Bool
+tells_of_rows (reply.Dropped name) = true
+tells_of_rows reply.Inserted = true
+tells_of_rows reply.Deleted = true
+tells_of_rows reply.Updated = true
+tells_of_rows (reply.Committed count) = true
+tells_of_rows _ = false
+
+-- the committed rows after a statement and its answer: with the row of an accepted INSERT put among
+-- them, without that of a DELETE or those of a DROP TABLE, with the plain values of an UPDATE, with the
+-- changes of the session added at COMMIT, and as they were after anything else
+pub record IsSeen (s : State) (session : ℕ) (asked : Statement) (answer : Reply) (rows : List Row) : Type 0 where
+  pub dropped : (name : List ℕ) → answer ≡ reply.Dropped name → rows ≡ without_rows_of name s.rows
+  pub inserted : (text : InsertText) → asked ≡ statement.Insert text → answer ≡ reply.Inserted
+      → (row : Row) × (row_of s text ≡ Some row) × (rows ≡ with_row row s.rows)
+  pub updated : (text : UpdateText) → asked ≡ statement.Update text → answer ≡ reply.Updated
+      → (key : Value) × (values : List (Option Value)) × (plan_of s text ≡ Some (plan.Plain key values)) × (rows ≡ with_plain (row_name text.table key) values s.rows)
+  pub deleted : (text : RowText) → asked ≡ statement.Delete text → answer ≡ reply.Deleted → rows ≡ without_row (named_by text.table text.row) s.rows
+  pub committed : asked ≡ statement.Commit → rows ≡ applied s.rows (own session s.reservations)
+  pub otherwise : tells_of_rows answer ≡ false → rows ≡ s.rows
+
+-- the rows that a query shows are what commits and accepted writes made them, whatever is open
+abbrev pub QueriesSeeCommitsAlone : Type 0
+QueriesSeeCommitsAlone = (s : State) (session : ℕ) (asked : Statement) → IsSeen s session asked (step s session asked).0 (step s session asked).1.rows
+
+-- a reservation takes the next id, and the next id is then one more
+abbrev pub ReservedTakesTheNextId : Type 0
+ReservedTakesTheNextId = (s : State) (session : ℕ) (asked : Statement) (id : ℕ)
+    → (step s session asked).0 ≡ reply.Reserved id → (id ≡ s.next_id) × ((step s session asked).1.next_id ≡ s.next_id + 1)
+
+-- no step lowers the next id
+abbrev pub IdsNeverFall : Type 0
+IdsNeverFall = (s : State) (session : ℕ) (asked : Statement) → s.next_id ≤ (step s session asked).1.next_id
+
+-- an accepted DROP TABLE takes out just the table and its rows; what else there is stays
+abbrev pub DropsOneTable : Type 0
+DropsOneTable = (s : State) (session : ℕ) (name : List ℕ) → let after = step s session (statement.Drop name) in after.0 ≡ reply.Dropped name
+    → (after.1 ≡ record s { catalog = after.1.catalog; rows = after.1.rows })
+    × (table_named after.1.catalog name ≡ None) × (rows_of after.1.rows name ≡ [])
+    × ((other : List ℕ) → ¬ (other ≡ name)
+    → (table_named after.1.catalog other ≡ table_named s.catalog other) × (rows_of after.1.rows other ≡ rows_of s.rows other))
+
+-- an accepted DELETE takes out just the row that it names
+abbrev pub DeletesOneRow : Type 0
+DeletesOneRow = (s : State) (session : ℕ) (text : RowText) → let after = step s session (statement.Delete text) in after.0 ≡ reply.Deleted
+    → (after.1 ≡ record s { rows = after.1.rows })
+    × IsSome (row_named s.rows (named_by text.table text.row)) × (row_named after.1.rows (named_by text.table text.row) ≡ None)
+    × ((other : RowName) → ¬ (other ≡ named_by text.table text.row) → row_named after.1.rows other ≡ row_named s.rows other)
+
+-- the names and the amounts of rows, in order
+abbrev pub names_and_amounts : List Row → List (RowName × List ℤ)
+names_and_amounts rows = map (λ row. (row.name, row.amounts)) rows
+
+-- an accepted UPDATE of plain values changes nothing but plain values of the row that it names: no key
+-- and no amount, and no reservation
+abbrev pub PlainUpdatesKeepAmounts : Type 0
+PlainUpdatesKeepAmounts = (s : State) (session : ℕ) (text : UpdateText) → let after = step s session (statement.Update text) in after.0 ≡ reply.Updated
+    → (after.1 ≡ record s { rows = after.1.rows })
+    × (names_and_amounts after.1.rows ≡ names_and_amounts s.rows)
+    × ((other : RowName) → ¬ (other ≡ named_by text.table text.row) → row_named after.1.rows other ≡ row_named s.rows other)
+
+-- after a step from a valid state the row of each open reservation stands, and so does its table
+abbrev pub ReservationsKeepRows : Type 0
+ReservationsKeepRows = (s : State) (session : ℕ) (asked : Statement) → IsValid s → IsSession session
+    → let new = (step s session asked).1 in AllByRecursion (λ r. IsSome (row_named new.rows r.row) × IsSome (table_named new.catalog r.row.table)) new.reservations
+
+-- WHAT A QUERY SHOWS
+
+-- a row is one that a WHERE, if there is one, names by its key
+abbrev pub IsKeyed : Option WhereText → Row → Type 0
+IsKeyed None row = Unit {0}
+IsKeyed (Some where_text) row = row.name.key ≡ value_of where_text.literal
+
+-- a SELECT shows the column names of its table and, in order of key, the values of just these
+-- committed rows: those of its table, and with a WHERE that of its key
+pub record IsSelected (s : State) (text : SelectText) (names : List (List ℕ)) (values : List (List Value)) : Type 0 where
+  pub table : TableDef
+  pub named : table_named s.catalog text.table ≡ Some table
+  pub columns : names ≡ names_of table.columns
+  pub rows : List Row
+  pub shown : values ≡ map (values_of table) rows
+  pub each : (row : Row) → Contains rows row ↔ (Contains s.rows row × (row.name.table ≡ text.table) × IsKeyed text.row row)
+  pub order : IsAscending row_before s.rows → IsAscending row_before rows
+
+-- what a SELECT shows, from which nothing changes
+abbrev pub SelectsShowRows : Type 0
+SelectsShowRows = (s : State) (session : ℕ) (text : SelectText) (names : List (List ℕ)) (values : List (List Value))
+    → let after = step s session (statement.Select text) in after.0 ≡ reply.Rows names values → IsSelected s text names values × (after.1 ≡ s)
+
+-- what a SHOW TABLE shows is its table's text, and nothing changes
+abbrev pub ShowsTheTable : Type 0
+ShowsTheTable = (s : State) (session : ℕ) (name shown : List ℕ)
+    → let after = step s session (statement.ShowTable name) in after.0 ≡ reply.Table shown
+    → ((table : TableDef) × (table_named s.catalog name ≡ Some table) × (shown ≡ canonical table)) × (after.1 ≡ s)
+
+-- a query is answered alike whichever reservations and savepoints are open, and whoever asks
+abbrev pub IsQuery : Statement → Type 0
+IsQuery (statement.Select text) = Unit {0}
+IsQuery (statement.ShowTable name) = Unit {0}
+IsQuery _ = ⊥
+
+abbrev pub QueriesIgnoreWhatIsOpen : Type 0
+QueriesIgnoreWhatIsOpen = (s : State) (session other : ℕ) (asked : Statement) (reservations : List Reservation) (savepoints : List Savepoint) → IsQuery asked
+    → (step (record s { reservations = reservations; savepoints = savepoints }) other asked).0 ≡ (step s session asked).0
+
+-- a statement that shows something
+abbrev pub Shows : Statement → Type 0
+Shows (statement.Select text) = Unit {0}
+Shows (statement.ShowTable name) = Unit {0}
+Shows (statement.ShowJournal table) = Unit {0}
+Shows (statement.ShowBounds text) = Unit {0}
+Shows _ = ⊥
+
+-- it changes nothing, and whoever asks is answered alike
+abbrev pub QueriesIgnoreWhoAsks : Type 0
+QueriesIgnoreWhoAsks = (s : State) (session other : ℕ) (asked : Statement) → Shows asked
+    → ((step s session asked).1 ≡ s) × ((step s other asked).0 ≡ (step s session asked).0)
+
+-- a reservation is of a row of a table, if one is named
+abbrev pub IsOfTable : Option (List ℕ) → Reservation → Type 0
+IsOfTable None r = Unit {0}
+IsOfTable (Some table) r = r.row.table ≡ table
+
+-- entries are in order of id, no two of one id
+abbrev pub entry_before : JournalEntry → JournalEntry → Bool
+entry_before a b = nat_lt a.id b.id
+
+-- a SHOW JOURNAL shows just the open reservations of all sessions, or those of the rows of its table,
+-- and they are in order of id
+pub record IsJournal (s : State) (table : Option (List ℕ)) (entries : List JournalEntry) : Type 0 where
+  pub reservations : List Reservation
+  pub shown : entries ≡ map (entry_of s.catalog) reservations
+  pub each : (r : Reservation) → Contains reservations r ↔ (Contains s.reservations r × IsOfTable table r)
+  pub order : IsValid s → IsAscending entry_before entries
+
+-- what a SHOW JOURNAL shows, from which nothing changes
+abbrev pub ShowsTheJournal : Type 0
+ShowsTheJournal = (s : State) (session : ℕ) (table : Option (List ℕ)) (entries : List JournalEntry)
+    → let after = step s session (statement.ShowJournal table) in after.0 ≡ reply.Journal entries → IsJournal s table entries × (after.1 ≡ s)
+
+-- SAVEPOINTS
+
+-- going back to a savepoint at once, when it was made, drops nothing: the state stays as making it left
+-- it, which changed savepoints alone
+abbrev pub BackAtOnceChangesNothing : Type 0
+BackAtOnceChangesNothing = (s : State) (session : ℕ) (name : List ℕ) → IsValid s
+    → let made = step s session (statement.Savepoint name) in made.0 ≡ reply.Savepoint name
+    → (made.1 ≡ record s { savepoints = made.1.savepoints })
+    × (step made.1 session (statement.RollbackTo name) ≡ (reply.RolledBackTo name 0, made.1))
+
+-- an event makes no savepoint of a session and a name
+abbrev pub MakesNone : ℕ → List ℕ → Event → Type 0
+MakesNone session name (event.Statement other asked) = other ≡ session → ¬ (asked ≡ statement.Savepoint name)
+MakesNone session name event.Restart = Unit {0}
+
+-- A session makes a savepoint. Then anything happens, of any sessions: it may reserve, make other
+-- savepoints, and go back to them. Where the savepoint still stands, not made anew, going back to it
+-- leaves the session's reservations as they were when it was made, and those of the others, and all
+-- else but savepoints, as they stand.
+abbrev pub BackLeavesWhatWas : Type 0
+BackLeavesWhatWas = (s : State) (session : ℕ) (name : List ℕ) (events : List Event) (answers : List Reply) (later : State)
+    → IsValid s → IsSession session → AllByRecursion HasSession events → AllByRecursion (MakesNone session name) events
+    → let made = step s session (statement.Savepoint name) in made.0 ≡ reply.Savepoint name
+    → IsRun made.1 events answers later → IsSome (savepoint_of session name later.savepoints)
+    → let back = (step later session (statement.RollbackTo name)).1 in (own session back.reservations ≡ own session s.reservations)
+    × (others session back.reservations ≡ others session later.reservations)
+    × (back ≡ record later { reservations = back.reservations; savepoints = back.savepoints })
+
+-- what would be granted would also be granted, with the same id, after a ROLLBACK TO of any session
+abbrev pub BackRefusesNothing : Type 0
+BackRefusesNothing = (s : State) (session other : ℕ) (name : List ℕ) (text : UpdateText) (id : ℕ)
+    → (step s other (statement.Update text)).0 ≡ reply.Reserved id
+    → (step (step s session (statement.RollbackTo name)).1 other (statement.Update text)).0 ≡ reply.Reserved id
+
+-- two numbers bound what a row comes to: whichever of the open reservations are applied, it is from the
+-- one to the other, and some choice brings it to each of the two
+pub record AreBounds (reservations : List Reservation) (row : Row) (value : List ℤ → ℤ) (low high : ℤ) : Type 0 where
+  pub each : AllByRecursion (λ chosen. (low ≤ℤ value (row_after chosen row).amounts) × (value (row_after chosen row).amounts ≤ℤ high)) (sublists reservations)
+  pub reaches_low : (chosen : List Reservation) × Contains (sublists reservations) chosen × (value (row_after chosen row).amounts ≡ low)
+  pub reaches_high : (chosen : List Reservation) × Contains (sublists reservations) chosen × (value (row_after chosen row).amounts ≡ high)
+
+-- a column's line: its committed amount, and the bounds of its amount
+abbrev pub IsColumnLine : List Reservation → Row → List (List ℕ) → ColumnBounds → Type 0
+IsColumnLine reservations row names shown =
+    (shown.value ≡ amount_of names row.amounts shown.column) × AreBounds reservations row (λ amounts. amount_of names amounts shown.column) shown.inf shown.sup
+
+-- a check's line: the bounds of its form, which are within its limits
+abbrev pub IsCheckLine : List Reservation → Row → Check → CheckBounds → Type 0
+IsCheckLine reservations row check shown =
+    (shown.check ≡ check.name) × (shown.limits ≡ check.span) × AreBounds reservations row (form check.coeffs) shown.least shown.greatest
+    × Holds check.span shown.least × Holds check.span shown.greatest
+
+-- SHOW BOUNDS shows the row that it names: a line for each RESERVABLE column and for each declared check
+pub record IsShownBounds (s : State) (text : RowText) (columns : List ColumnBounds) (checks : List CheckBounds) : Type 0 where
+  pub table : TableDef
+  pub named : table_named s.catalog text.table ≡ Some table
+  pub row : Row
+  pub found : row_named s.rows (named_by text.table text.row) ≡ Some row
+  pub names : map (λ shown. shown.column) columns ≡ names_of (reservables table.columns)
+  pub column_lines : AllByRecursion (IsColumnLine s.reservations row (names_of (reservables table.columns))) columns
+  pub check_lines : AllZip (IsCheckLine s.reservations row) (declared_checks table) checks
+
+-- so it does in a valid state
+abbrev pub BoundsAreReached : Type 0
+BoundsAreReached = (s : State) (session : ℕ) (text : RowText) (columns : List ColumnBounds) (checks : List CheckBounds) → IsValid s
+    → (step s session (statement.ShowBounds text)).0 ≡ reply.Bounds columns checks → IsShownBounds s text columns checks
+
+-- ENDS OF TRANSACTIONS
+
+-- the ends of two sessions' transactions, commits or rollbacks, lead to one state in either order
+abbrev pub TransactionsCommute : Type 0
+TransactionsCommute = (s : State) (a b : ℕ) (x y : End) → ¬ (a ≡ b) → after_end (after_end s a x) b y ≡ after_end (after_end s b y) a x
+
+-- whatever is committed or rolled back, in any order, the state is valid after each of the ends
+abbrev pub AnyOrderOfEnds : Type 0
+AnyOrderOfEnds = (s : State) (ends : List (ℕ × End)) (n : ℕ) → IsValid s → IsValid (after_ends s (take n ends))
+
+-- a plan leaves the state that the machine's steps leave, COMMIT or ROLLBACK, one for each of its entries
+abbrev pub SettledIsTheRun : Type 0
+SettledIsTheRun = (s : State) (plan : List (ℕ × End)) → settled plan s ≡ after_ends s plan
+
+-- after every front of a plan the state is valid
+abbrev pub SettledStaysValid : Type 0
+SettledStaysValid = (s : State) (plan : List (ℕ × End)) (n : ℕ) → IsValid s → IsValid (settled (take n plan) s)
+
+-- two plans that end the same sessions' transactions alike leave equal states, whatever their order
+abbrev pub SettledInAnyOrder : Type 0
+SettledInAnyOrder = (s : State) (plan other : List (ℕ × End)) → ((session : ℕ) → end_of plan session ≡ end_of other session) → settled plan s ≡ settled other s
+
+-- THE GRANT RULE
+
+-- the table, the row and the reservation that an UPDATE asks
+abbrev pub IsAsked : State → ℕ → UpdateText → TableDef → Row → Reservation → Type 0
+IsAsked s session text table row r =
+    (table_named s.catalog text.table ≡ Some table) × (reservation_of s session text ≡ Some r) × (row_named s.rows r.row ≡ Some row)
+
+-- a row with the chosen reservations and a new one applied meets each check of its table
+abbrev pub MeetsWith : TableDef → Row → Reservation → List Reservation → Type 0
+MeetsWith table row new chosen = AllByRecursion (λ check. Meets check (row_after (chosen ++ new ∷ []) row).amounts) table.checks
+
+-- what is granted: whichever of the open reservations are applied with it, its row meets each check
+abbrev pub GrantedInEveryChoice : Type 0
+GrantedInEveryChoice = (s : State) (session : ℕ) (text : UpdateText) (id : ℕ)
+    → (step s session (statement.Update text)).0 ≡ reply.Reserved id
+    → (table : TableDef) × (row : Row) × (new : Reservation) × IsAsked s session text table row new
+    × AllByRecursion (MeetsWith table row new) (sublists s.reservations)
+
+-- it does so without any earlier reservation of its own session too: an increment that isn't
+-- committed can't be spent, not even by the session that made it
+abbrev pub OwnIncrementNotSpent : Type 0
+OwnIncrementNotSpent = (s : State) (session : ℕ) (text : UpdateText) (id : ℕ)
+    → (step s session (statement.Update text)).0 ≡ reply.Reserved id
+    → (table : TableDef) × (row : Row) × (new : Reservation) × IsAsked s session text table row new
+    × AllByRecursion (MeetsWith table row new) (sublists (others session s.reservations))
+
+-- a breach that happens: with the new reservation some choice of the open ones brings the form of the
+-- named check to the named worst value, which lies beyond the named limit
+abbrev pub IsReachedBreach : TableDef → Row → List Reservation → Reservation → Breach → Type 0
+IsReachedBreach table row reservations new breach = (check : Check) × Contains table.checks check × (breach.check ≡ check.name)
+    × IsBeyond check.span breach.side breach.worst breach.limit
+    × ((chosen : List Reservation) × Contains (sublists reservations) chosen × (form check.coeffs (row_after (chosen ++ new ∷ []) row).amounts ≡ breach.worst))
+
+-- what is refused by a check: some choice of the open reservations with the new one breaks that check
+abbrev pub RefusedByAChoice : Type 0
+RefusedByAChoice = (s : State) (session : ℕ) (text : UpdateText) (breach : Breach)
+    → (step s session (statement.Update text)).0 ≡ reply.Refused (refusal.Check breach)
+    → (table : TableDef) × (row : Row) × (new : Reservation) × IsAsked s session text table row new
+    × IsReachedBreach table row s.reservations new breach
+
+-- moved by what changes add to a check's form, both of its bounds are within its limits
+abbrev pub StaysWithin : Row → List Reservation → List ℤ → Check → Type 0
+StaysWithin row reservations changes check =
+    let open_ones = map (changes_to row) reservations in
+    Holds check.span (least check.coeffs row.amounts open_ones +ℤ form check.coeffs changes)
+    × Holds check.span (greatest check.coeffs row.amounts open_ones +ℤ form check.coeffs changes)
+
+-- the bounds decide: what is granted keeps those of every check of its table within the limits, and what
+-- a check refuses doesn't
+abbrev pub BoundsDecideGrants : Type 0
+BoundsDecideGrants = (s : State) (session : ℕ) (text : UpdateText) (table : TableDef) (row : Row) (new : Reservation) → IsValid s → IsAsked s session text table row new
+    → ((id : ℕ) → (step s session (statement.Update text)).0 ≡ reply.Reserved id → AllByRecursion (StaysWithin row s.reservations (counted new.changes)) table.checks)
+    × ((breach : Breach) → (step s session (statement.Update text)).0 ≡ reply.Refused (refusal.Check breach)
+    → ¬ (AllByRecursion (StaysWithin row s.reservations (counted new.changes)) table.checks))

@@ -1,0 +1,15 @@
+pub mod Accepted
+pub mod Asked
+pub mod Bounds
+pub mod Event
+pub mod Journal
+pub mod Laws
+pub mod Promised
+pub mod Reply
+pub mod Rows
+pub mod Settle
+pub mod State
+pub mod Step
+pub mod Turn
+pub mod Valid
+pub mod Walked

@@ -1,0 +1,55 @@
+-- Believed: the step, what may come in its place, and runs.
+use Rattle.std.specs.Prelude.{◌≡◌, ◌⊎◌, ℕ, Bool, ◌&&◌, Option, is_none, option_map, unwrap_or, MatchOption, IsTrue, List, [], ◌∷◌, ◌++◌}
+use Rattle.escrow_num.specs.declared.refusal.Refusal.{Refusal}
+use Rattle.escrow_num.specs.declared.refusal.Refusal.TheVariants as refusal
+use Rattle.escrow_num.specs.Refusal.{first_refusal}
+use Rattle.escrow_sql.specs.declared.statement.Statement.{Statement}
+use Rattle.escrow_machine.specs.declared.event.Event.{Event}
+use Rattle.escrow_machine.specs.declared.event.Event.TheVariants as event
+use Rattle.escrow_machine.specs.declared.reply.Reply.{Reply}
+use Rattle.escrow_machine.specs.declared.reply.Reply.TheVariants as reply
+use Rattle.escrow_num.specs.declared.failure.Failure.{Failure}
+use Rattle.escrow_machine.specs.Reply.{failure_of}
+use Rattle.escrow_machine.specs.State.{State, opened}
+use Rattle.escrow_machine.specs.Turn.{Turn, turn_of}
+
+-- all refusals of a turn, in their order
+abbrev pub refusals : Turn → List (Option Refusal)
+refusals turn = turn.early ++ turn.late
+
+-- the first refusal that applies is the reply, and the state stays; otherwise the reply and the new state
+abbrev pub unless_refused : State → List (Option Refusal) → Reply → State → Reply × State
+unless_refused s refusals done new = unwrap_or (option_map (λ r. (reply.Refused r, s)) (first_refusal refusals)) (done, new)
+
+-- THE STEP: the reply to a statement of a session, and the state after it
+abbrev pub step : State → ℕ → Statement → Reply × State
+step s session asked = let turn = turn_of s session asked in unless_refused s (refusals turn) turn.reply turn.next
+
+-- the reply and the new state are those of the step
+pub record IsStep (s : State) (session : ℕ) (asked : Statement) (answer : Reply) (new : State) : Type 0 where
+  pub is_step : (answer, new) ≡ step s session asked
+
+-- a statement may fail, out of memory or refused by the store, where no early refusal applies, and
+-- only for what it takes
+abbrev pub may_fail : State → ℕ → Statement → Failure → Bool
+may_fail s session asked failure = let turn = turn_of s session asked in is_none (first_refusal turn.early) && turn.fails_for failure
+
+-- the step, or a failure that the statement may meet, which leaves the state equal
+abbrev pub StepOrRefusal : State → ℕ → Statement → Reply → State → Type 0
+StepOrRefusal s session asked answer new =
+    MatchOption (failure_of answer) (IsStep s session asked answer new) (λ failure. IsTrue (may_fail s session asked failure) × (new ≡ s))
+
+-- the reply to an event, and the state after it. A restart keeps the catalog and the rows: nothing is open
+-- after it, and the next id is 1; or it is refused, for memory or by the store, and the state is equal
+abbrev pub IsServed : State → Event → Reply → State → Type 0
+IsServed s (event.Statement session asked) answer new = StepOrRefusal s session asked answer new
+IsServed s event.Restart answer new =
+    ((answer ≡ reply.Restarted) × (new ≡ opened s.catalog s.rows))
+    ⊎ (((answer ≡ reply.Refused refusal.Memory) ⊎ (answer ≡ reply.Refused refusal.Store)) × (new ≡ s))
+
+-- the replies to a list of events, one after another, and the state after them
+abbrev pub IsRun : State → List Event → List Reply → State → Type 0
+IsRun s [] [] new = new ≡ s
+IsRun s [] (answer ∷ answers) new = ⊥
+IsRun s (happened ∷ events) [] new = ⊥
+IsRun s (happened ∷ events) (answer ∷ answers) new = (mid : State) × IsServed s happened answer mid × IsRun mid events answers new

@@ -1,0 +1,252 @@
+-- Believed: the table of statements.
+use Rattle.std.specs.Prelude.{ℕ, ◌+◌, Bool, true, false, if◌then◌else◌, nat_lt, nat_le, Option, is_some, is_none, option_map, option_and_then, unwrap_or, List, [], ◌∷◌, ◌++◌, length}
+use Rattle.escrow_num.specs.declared.refusal.Refusal.{Refusal}
+use Rattle.escrow_num.specs.declared.refusal.Refusal.TheVariants as refusal
+use Rattle.escrow_num.specs.declared.reservation.Reservation.{Reservation}
+use Rattle.escrow_num.specs.declared.reservation.Savepoint.{Savepoint}
+use Rattle.escrow_num.specs.declared.reservation.TheConstants.Reservation.{MAX_ID}
+use Rattle.escrow_num.specs.Refusal.{refuse_if}
+use Rattle.escrow_sql.specs.declared.statement.Statement.{Statement}
+use Rattle.escrow_sql.specs.declared.statement.Statement.TheVariants as statement
+use Rattle.escrow_sql.specs.declared.statement.CreateText.{CreateText}
+use Rattle.escrow_sql.specs.declared.statement.InsertText.{InsertText}
+use Rattle.escrow_sql.specs.declared.statement.RowText.{RowText}
+use Rattle.escrow_journal.specs.Reservations.{own, others, own_savepoints, other_savepoints}
+use Rattle.escrow_journal.specs.Savepoints.{savepoint_of, without_savepoint, put_savepoint, through, after, not_after}
+use Rattle.escrow_schema.specs.declared.catalog.TheConstants.Catalog.{MAX_TABLES}
+use Rattle.escrow_schema.specs.declared.plan.Plan.{Plan}
+use Rattle.escrow_schema.specs.declared.plan.Plan.TheVariants as plan
+use Rattle.escrow_schema.specs.Catalog.{table_named, with_table, without_table}
+use Rattle.escrow_schema.specs.Definition.{definition_of}
+use Rattle.escrow_schema.specs.declared.table.TheConstants.TableDef.{MAX_ROWS}
+use Rattle.escrow_journal.specs.declared.journal.TheConstants.Journal.{MAX_RESERVATIONS, MAX_SAVEPOINTS}
+use Rattle.escrow_machine.specs.declared.reply.Reply.{Reply}
+use Rattle.escrow_machine.specs.declared.reply.Reply.TheVariants as reply
+use Rattle.escrow_num.specs.declared.failure.Failure.{Failure}
+use Rattle.escrow_num.specs.declared.failure.Failure.TheVariants as failure
+use Rattle.escrow_machine.specs.Asked.{row_of, insert_breach, plan_of, plan_refusal_of, row_name, reservation_from, breach_of, named_by, key_refusal_of, select_refusal_of, select_reply, show_reply}
+use Rattle.escrow_machine.specs.Bounds.{bounds_reply}
+use Rattle.escrow_machine.specs.Journal.{journal_reply}
+use Rattle.escrow_machine.specs.State.{State, is_open, is_reserved, is_table_reserved}
+use Rattle.escrow_machine.specs.Rows.{row_named, rows_of, applied, with_row, without_row, without_rows_of, with_plain}
+
+-- How the machine takes a statement of a session: its refusals in their order, first those that are
+-- answered whatever memory there is; the reply and the next state where none of them applies; and what
+-- it may fail for where no early refusal applies.
+pub record Turn : Type 0 where
+  pub early : List (Option Refusal)
+  pub late : List (Option Refusal)
+  pub reply : Reply
+  pub next : State
+  pub fails_for : Failure → Bool
+
+-- what takes memory may fail for it
+abbrev pub for_memory : Failure → Bool
+for_memory failure.Memory = true
+for_memory failure.Store = false
+
+-- what asks the store may fail for memory, or be refused by the store
+abbrev pub for_any : Failure → Bool
+for_any f = true
+
+-- what takes nothing fails for nothing
+abbrev pub for_nothing : Failure → Bool
+for_nothing f = false
+
+-- the state with the table that a text defines in its catalog
+abbrev pub after_create : State → CreateText → State
+after_create s text = record s { catalog = unwrap_or (option_map (λ table. with_table table s.catalog) (definition_of text)) s.catalog }
+
+-- the state without a table and its rows
+abbrev pub after_drop : State → List ℕ → State
+after_drop s name = record s { catalog = without_table name s.catalog; rows = without_rows_of name s.rows }
+
+-- the state with the row that an INSERT makes among its rows
+abbrev pub after_insert : State → InsertText → State
+after_insert s text = record s { rows = unwrap_or (option_map (λ row. with_row row s.rows) (row_of s text)) s.rows }
+
+-- the state without the row that a DELETE names
+abbrev pub after_delete : State → RowText → State
+after_delete s text = record s { rows = without_row (named_by text.table text.row) s.rows }
+
+-- the state with one more reservation, which is the last of the open ones and takes the next id
+abbrev pub granted : State → Reservation → State
+granted s r = record s { reservations = s.reservations ++ r ∷ []; next_id = s.next_id + 1 }
+
+-- the late refusals of an UPDATE, by its plan: to reserve changes, or to replace plain values
+abbrev pub update_refusals : State → ℕ → List ℕ → Plan → List (Option Refusal)
+update_refusals s session table (plan.Reserve key changes) =
+    refuse_if (is_none (row_named s.rows (row_name table key))) refusal.NoSuchRow
+    ∷ refuse_if (nat_le MAX_RESERVATIONS (length (own session s.reservations))) refusal.TooManyReservations
+    ∷ refuse_if (nat_lt MAX_ID s.next_id) refusal.NoMoreIds
+    ∷ option_map refusal.Check (breach_of s (reservation_from s session (row_name table key) changes))
+    ∷ []
+update_refusals s session table (plan.Plain key values) =
+    refuse_if (is_open session s) refusal.TransactionOpen
+    ∷ refuse_if (is_none (row_named s.rows (row_name table key))) refusal.NoSuchRow
+    ∷ []
+
+-- the reply to an UPDATE, by its plan
+abbrev pub update_reply : State → Plan → Reply
+update_reply s (plan.Reserve key changes) = reply.Reserved s.next_id
+update_reply s (plan.Plain key values) = reply.Updated
+
+-- the state after an UPDATE, by its plan: with a reservation more, or with other plain values in the row
+abbrev pub after_update : State → ℕ → List ℕ → Plan → State
+after_update s session table (plan.Reserve key changes) = granted s (reservation_from s session (row_name table key) changes)
+after_update s session table (plan.Plain key values) = record s { rows = with_plain (row_name table key) values s.rows }
+
+-- the session's reservations are applied to the committed rows, and its transaction is over
+abbrev pub after_commit : State → ℕ → State
+after_commit s session = record s {
+  rows = applied s.rows (own session s.reservations);
+  reservations = others session s.reservations;
+  savepoints = other_savepoints session s.savepoints;
+}
+
+-- the session's reservations are dropped, and its transaction is over
+abbrev pub after_rollback : State → ℕ → State
+after_rollback s session = record s { reservations = others session s.reservations; savepoints = other_savepoints session s.savepoints }
+
+-- the state with a savepoint of a session, the last of its own, in the place of an earlier one of that
+-- name; it has the id that the next reservation takes
+abbrev pub after_savepoint : State → ℕ → List ℕ → State
+after_savepoint s session name = record s {
+  savepoints = put_savepoint (record { session = session; name = name; id = s.next_id }) (without_savepoint session name s.savepoints);
+}
+
+-- the reservations after a savepoint are dropped, and so are the savepoints that its session made after it
+abbrev pub returned_to : State → Savepoint → State
+returned_to s p = record s { reservations = not_after p s.reservations; savepoints = through p.session p.name s.savepoints }
+
+-- the session has gone back to its savepoint of a name
+abbrev pub after_rollback_to : State → ℕ → List ℕ → State
+after_rollback_to s session name = unwrap_or (option_map (returned_to s) (savepoint_of session name s.savepoints)) s
+
+-- how many reservations came after the session's savepoint of a name, if there is one
+abbrev pub released : State → ℕ → List ℕ → Option ℕ
+released s session name = option_map (λ p. length (after p s.reservations)) (savepoint_of session name s.savepoints)
+
+-- THE TABLE OF STATEMENTS: the turn of each
+unfoldable pub turn_of : State → ℕ → Statement → Turn
+turn_of s session (statement.Create text) = record {
+  early = refuse_if (is_open session s) refusal.TransactionOpen
+      ∷ refuse_if (is_some (table_named s.catalog text.table)) refusal.TableExists
+      ∷ [];
+  late = refuse_if (is_none (definition_of text)) refusal.BadDefinition
+      ∷ refuse_if (nat_le MAX_TABLES (length s.catalog)) refusal.TooManyTables
+      ∷ [];
+  reply = reply.Created text.table;
+  next = after_create s text;
+  fails_for = for_any;
+}
+turn_of s session (statement.Drop name) = record {
+  early = refuse_if (is_open session s) refusal.TransactionOpen
+      ∷ refuse_if (is_none (table_named s.catalog name)) refusal.NoSuchTable
+      ∷ refuse_if (is_table_reserved s name) refusal.TableReserved
+      ∷ [];
+  late = [];
+  reply = reply.Dropped name;
+  next = after_drop s name;
+  fails_for = for_any;
+}
+turn_of s session (statement.Insert text) = record {
+  early = refuse_if (is_open session s) refusal.TransactionOpen
+      ∷ refuse_if (is_none (table_named s.catalog text.table)) refusal.NoSuchTable
+      ∷ refuse_if (is_none (row_of s text)) refusal.BadValue
+      ∷ [];
+  late = refuse_if (is_some (option_and_then (λ row. row_named s.rows row.name) (row_of s text))) refusal.RowExists
+      ∷ refuse_if (nat_le MAX_ROWS (length (rows_of s.rows text.table))) refusal.TableFull
+      ∷ option_map refusal.Check (insert_breach s text)
+      ∷ [];
+  reply = reply.Inserted;
+  next = after_insert s text;
+  fails_for = for_any;
+}
+-- an UPDATE without a plan is refused early
+turn_of s session (statement.Update text) = record {
+  early = refuse_if (is_none (table_named s.catalog text.table)) refusal.NoSuchTable
+      ∷ plan_refusal_of s text
+      ∷ [];
+  late = unwrap_or (option_map (update_refusals s session text.table) (plan_of s text)) [];
+  reply = unwrap_or (option_map (update_reply s) (plan_of s text)) reply.Updated;
+  next = unwrap_or (option_map (after_update s session text.table) (plan_of s text)) s;
+  fails_for = for_any;
+}
+turn_of s session (statement.Delete text) = record {
+  early = refuse_if (is_open session s) refusal.TransactionOpen
+      ∷ refuse_if (is_none (table_named s.catalog text.table)) refusal.NoSuchTable
+      ∷ key_refusal_of s text.table text.row
+      ∷ [];
+  late = refuse_if (is_none (row_named s.rows (named_by text.table text.row))) refusal.NoSuchRow
+      ∷ refuse_if (is_reserved s (named_by text.table text.row)) refusal.RowReserved
+      ∷ [];
+  reply = reply.Deleted;
+  next = after_delete s text;
+  fails_for = for_any;
+}
+turn_of s session (statement.Select text) = record {
+  early = refuse_if (is_none (table_named s.catalog text.table)) refusal.NoSuchTable
+      ∷ select_refusal_of s text
+      ∷ [];
+  late = [];
+  reply = select_reply s text;
+  next = s;
+  fails_for = for_any;
+}
+turn_of s session (statement.ShowTable name) = record {
+  early = refuse_if (is_none (table_named s.catalog name)) refusal.NoSuchTable
+      ∷ [];
+  late = [];
+  reply = show_reply s name;
+  next = s;
+  fails_for = for_memory;
+}
+turn_of s session (statement.ShowBounds text) = record {
+  early = refuse_if (is_none (table_named s.catalog text.table)) refusal.NoSuchTable
+      ∷ key_refusal_of s text.table text.row
+      ∷ [];
+  late = refuse_if (is_none (row_named s.rows (named_by text.table text.row))) refusal.NoSuchRow
+      ∷ [];
+  reply = bounds_reply s text;
+  next = s;
+  fails_for = for_any;
+}
+turn_of s session (statement.ShowJournal table) = record {
+  early = option_and_then (λ name. refuse_if (is_none (table_named s.catalog name)) refusal.NoSuchTable) table
+      ∷ [];
+  late = [];
+  reply = journal_reply s table;
+  next = s;
+  fails_for = for_memory;
+}
+turn_of s session (statement.Savepoint name) = record {
+  early = refuse_if (nat_le MAX_SAVEPOINTS (length (own_savepoints session (without_savepoint session name s.savepoints)))) refusal.TooManySavepoints
+      ∷ [];
+  late = [];
+  reply = reply.Savepoint name;
+  next = after_savepoint s session name;
+  fails_for = for_memory;
+}
+turn_of s session statement.Commit = record {
+  early = [];
+  late = [];
+  reply = reply.Committed (length (own session s.reservations));
+  next = after_commit s session;
+  fails_for = if nat_lt 0 (length (own session s.reservations)) then for_any else for_nothing;
+}
+turn_of s session statement.Rollback = record {
+  early = [];
+  late = [];
+  reply = reply.RolledBack (length (own session s.reservations));
+  next = after_rollback s session;
+  fails_for = for_nothing;
+}
+turn_of s session (statement.RollbackTo name) = record {
+  early = refuse_if (is_none (savepoint_of session name s.savepoints)) refusal.NoSuchSavepoint
+      ∷ [];
+  late = [];
+  reply = reply.RolledBackTo name (unwrap_or (released s session name) 0);
+  next = after_rollback_to s session name;
+  fails_for = for_nothing;
+}
