@@ -96,7 +96,7 @@ pub fn other_rows_add_nothing()
 {}
 
 /// A table declares 32 conditions at most; a coefficient as it is written is at most 1,000,000, as it is kept
-/// at most 10^12, and a form has 10 at most; and at most 16,384 reservations are open, 256 of each session.
+/// at most 10^12, and a form has 10 at most; and at most 16,384 reservations are open.
 pub fn limits()
     ensures { Limits }
 {}

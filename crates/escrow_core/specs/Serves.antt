@@ -30,9 +30,9 @@ AreAfterEnds plan s trees = (n : ℕ) × (let after = settled (take n plan) s in
 
 -- A statement of a session was served. Where the store can be used after it, the reply and the state are
 -- the step's, or it failed as it may; what is refused early, and what asks nothing of the store, leaves
--- the store and is answered so whatever the store is like; so does a refusal leave all but the rows. A
--- crash leaves what it might have left before, or what the step makes; after a reply that tells of a write, it leaves the tables and rows that there
--- then are.
+-- the store and is answered so whatever the store is like; and whatever it is like, a refusal leaves all
+-- but the rows. A crash leaves what it might have left before, or what the step makes; after a reply that
+-- tells of a write, it leaves the tables and rows that there then are.
 pub record Serves {S : Type 0} (g : Ghosts S) (session : ℕ) (asked : Statement) (old : Seen S) (answer : Reply) (new : Seen S) : Type 0 where
   pub event : IsUsable (state g new.store) → StepOrRefusal old.state session asked answer new.state
   pub usable : IsUsable (state g new.store) → IsUsable (state g old.store)
