@@ -2,6 +2,7 @@
 use Rattle.std.specs.Prelude.{◌≡◌, ℕ, Bool, true, false, is_none, IsSome, None, [], ◌∷◌}
 use Rattle.std.proofs.Common.{refl, sym, ap, subst, ◌∙◌}
 use Rattle.sqlite.specs.Held.{state}
+use Rattle.sqlite.specs.State.{HasCleanDisk}
 use Rattle.sqlite_trees.specs.declared.store.Store.{Ghosts}
 use Rattle.escrow_num.specs.declared.refusal.Refusal.TheVariants as refusal
 use Rattle.escrow_num.specs.declared.value.RowName.{RowName}
@@ -10,7 +11,6 @@ use Rattle.escrow_sql.specs.declared.statement.RowText.{RowText}
 use Rattle.escrow_sql.specs.declared.statement.Statement.TheVariants as statement
 use Rattle.escrow_num.specs.declared.failure.Failure.{Failure}
 use Rattle.escrow_schema.specs.Catalog.{table_named}
-use Rattle.escrow_rows.specs.Answers.{IsUsable}
 use Rattle.escrow_tables.specs.Calls.{Writes}
 use Rattle.escrow_tables.specs.Committed.{Committed}
 use Rattle.escrow_txn.specs.Open.{Open}
@@ -69,28 +69,28 @@ delete_step s session text early stands free =
     (none_applies s session (statement.Delete text) early (rw (standing (row_named s.rows (named_by text.table text.row)) stands, free) refl))
 
 module _ {S : Type 0} (g : Ghosts S) (session : ℕ) (text : RowText) (name : RowName) (is : name ≡ named_by text.table text.row) where
-  pub reserved_refused : (d : Seen S) → PassesEarly d.state session (statement.Delete text) → (IsUsable (state g d.store) → IsSome (row_named d.state.rows name))
+  pub reserved_refused : (d : Seen S) → PassesEarly d.state session (statement.Delete text) → (HasCleanDisk (state g d.store) → IsSome (row_named d.state.rows name))
       → is_reserved d.state name ≡ true → Serves g session (statement.Delete text) d (reply.Refused refusal.RowReserved) d
   reserved_refused d early stands reserved =
       late_refused g session (statement.Delete text) d refusal.RowReserved refl early (λ u.
       delete_reserved d.state session text early (subst (λ (n : RowName). IsSome (row_named d.state.rows n)) is (stands u)) (subst (λ (n : RowName). is_reserved d.state n ≡ true) is reserved))
 
-  steps_by_name : (d : Seen S) → PassesEarly d.state session (statement.Delete text) → (IsUsable (state g d.store) → IsSome (row_named d.state.rows name))
-      → is_reserved d.state name ≡ false → IsUsable (state g d.store)
+  steps_by_name : (d : Seen S) → PassesEarly d.state session (statement.Delete text) → (HasCleanDisk (state g d.store) → IsSome (row_named d.state.rows name))
+      → is_reserved d.state name ≡ false → HasCleanDisk (state g d.store)
       → step d.state session (statement.Delete text) ≡ (reply.Deleted, record d.state { rows = without_row name d.state.rows })
   steps_by_name d early stands free u =
       delete_step d.state session text early (subst (λ (n : RowName). IsSome (row_named d.state.rows n)) is (stands u)) (subst (λ (n : RowName). is_reserved d.state n ≡ false) is free)
       ∙ ap (λ (n : RowName). (reply.Deleted, record d.state { rows = without_row n d.state.rows })) (sym is)
 
   pub row_deleted : (t new : Committed S) (o : Open) → PassesEarly (seen_of t o).state session (statement.Delete text)
-      → (IsUsable (state g t.store) → IsSome (row_named t.rows name)) → is_reserved (seen_of t o).state name ≡ false
+      → (HasCleanDisk (state g t.store) → IsSome (row_named t.rows name)) → is_reserved (seen_of t o).state name ≡ false
       → Writes g t new true t.catalog (without_row name t.rows) → Serves g session (statement.Delete text) (seen_of t o) reply.Deleted (seen_of new o)
   row_deleted t new o early stands free writes =
       wrote g session (statement.Delete text) t new o o reply.Deleted (record (seen_of t o).state { rows = without_row name t.rows }) refl early refl refl writes
       (steps_by_name (seen_of t o) early stands free) refl
 
   pub delete_failed : (t new : Committed S) (o : Open) (f : Failure) → PassesEarly (seen_of t o).state session (statement.Delete text)
-      → (IsUsable (state g t.store) → IsSome (row_named t.rows name)) → is_reserved (seen_of t o).state name ≡ false
+      → (HasCleanDisk (state g t.store) → IsSome (row_named t.rows name)) → is_reserved (seen_of t o).state name ≡ false
       → Writes g t new false t.catalog (without_row name t.rows) → Serves g session (statement.Delete text) (seen_of t o) (reply.Refused (told f)) (seen_of new o)
   unfolding turn_of
   delete_failed t new o f early stands free writes =

@@ -1,20 +1,20 @@
 -- What a crash leaves within a plan of ends.
 use Rattle.std.specs.Prelude.{◌≡◌, ℕ, ◌+◌, ◌<◌, IsTrue, List, length, take}
-use Rattle.std.proofs.Common.{refl, sym, subst, arith, get_or, ◌∙◌}
+use Rattle.std.proofs.Common.{refl, sym, subst, get_or, ◌∙◌}
 use Rattle.sqlite.specs.State.{State as Store, HasCleanDisk, Survives}
 use Rattle.sqlite.proofs.StateLemmas.{survives_then}
 use Rattle.escrow_num.specs.declared.session.End.{End}
-use Rattle.escrow_rows.specs.Answers.{IsUsable}
 use Rattle.escrow_tables.specs.Committed.{AreHeld}
 use Rattle.escrow_machine.specs.Settle.{settled, after_end, after_ends}
 use Rattle.escrow_machine.specs.State.{State}
 use Rattle.escrow_machine.proofs.Settling.{ends_next, settled_is_the_run}
 use Rattle.escrow_core.specs.Serves.{AreAfterEnds}
 use Rattle.escrow_core.specs.Serving.{AreAfterEnd}
+use Rattle.escrow_core.proofs.Serving.{still_clean}
 
 -- the end of one transaction more leaves what it might have left before, or what one entry more makes
 pub ends_survive : (a b c : Store) (plan : List (ℕ × End)) (i : ℕ) (entry : ℕ × End) (s mid : State) → i < length plan → entry ≡ get_or plan i entry
-    → (IsUsable b → mid ≡ after_ends s (take i plan)) → (HasCleanDisk b → IsTrue a.is_open → IsTrue b.is_open)
+    → (HasCleanDisk b → mid ≡ after_ends s (take i plan)) → (HasCleanDisk b → IsTrue a.is_open → IsTrue b.is_open)
     → Survives a b (λ trees. IsTrue a.is_open → AreAfterEnds plan s trees)
     → Survives b c (λ trees. IsTrue b.is_open → AreAfterEnd mid entry.0 entry.1 trees)
     → Survives a c (λ trees. IsTrue a.is_open → AreAfterEnds plan s trees)
@@ -22,9 +22,9 @@ ends_survive a b c plan i entry s mid below is_entry before stays one two =
     survives_then a b c (λ trees. IsTrue a.is_open → AreAfterEnds plan s trees) (λ trees. IsTrue b.is_open → AreAfterEnd mid entry.0 entry.1 trees) (λ trees. IsTrue a.is_open → AreAfterEnds plan s trees)
     (λ clean trees h. h)
     (λ clean trees k. λ was_open.
-    let mid_clean : HasCleanDisk b = omega (arith, two.clean, clean) in
+    let mid_clean = still_clean b c _ two clean in
     let mid_open : IsTrue b.is_open = stays mid_clean was_open in
     let after : after_end mid entry.0 entry.1 ≡ settled (take (i + 1) plan) s =
-    ends_next plan i entry s mid (after_end mid entry.0 entry.1) below is_entry (before (mid_clean, mid_open)) refl ∙ sym (settled_is_the_run s (take (i + 1) plan)) in
+    ends_next plan i entry s mid (after_end mid entry.0 entry.1) below is_entry (before mid_clean) refl ∙ sym (settled_is_the_run s (take (i + 1) plan)) in
     (i + 1, subst (λ (t : State). AreHeld t.catalog t.rows trees) after (k mid_open)))
     one two

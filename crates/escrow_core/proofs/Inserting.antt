@@ -3,6 +3,7 @@ use Rattle.std.specs.Prelude.{◌≡◌, ◌<◌, ℕ, true, false, nat_le, is_s
 use Rattle.std.proofs.Common.{refl, sym, ap, subst, ◌∙◌}
 use Rattle.std.proofs.lemmas.Option.{option_and_then_some}
 use Rattle.sqlite.specs.Held.{state}
+use Rattle.sqlite.specs.State.{HasCleanDisk}
 use Rattle.sqlite_trees.specs.declared.store.Store.{Ghosts}
 use Rattle.escrow_num.specs.declared.refusal.Refusal.{Refusal}
 use Rattle.escrow_num.specs.declared.refusal.Refusal.TheVariants as refusal
@@ -17,7 +18,6 @@ use Rattle.escrow_schema.specs.Catalog.{table_named}
 use Rattle.escrow_schema.specs.Fit.{IsRowOf, inserted_row}
 use Rattle.escrow_schema.proofs.LawLemmas.{rows_of_table}
 use Rattle.escrow_num.specs.declared.failure.Failure.{Failure}
-use Rattle.escrow_rows.specs.Answers.{IsUsable}
 use Rattle.escrow_schema.specs.declared.table.TheConstants.TableDef.{MAX_ROWS}
 use Rattle.escrow_tables.specs.Calls.{Writes}
 use Rattle.escrow_tables.specs.Committed.{Committed}
@@ -127,14 +127,14 @@ insert_step s session text row made accepted =
 pub record IsNew {S : Type 0} (g : Ghosts S) (d : Seen S) (session : ℕ) (text : InsertText) (row : Row) : Type 0 where
   pub made : row_of d.state text ≡ Some row
   pub early : PassesEarly d.state session (statement.Insert text)
-  pub none : IsUsable (state g d.store) → row_named d.state.rows row.name ≡ None
-  pub left : IsUsable (state g d.store) → first_refusal (new_refusals d.state text) ≡ None
+  pub none : HasCleanDisk (state g d.store) → row_named d.state.rows row.name ≡ None
+  pub left : HasCleanDisk (state g d.store) → first_refusal (new_refusals d.state text) ≡ None
 
 module _ {S : Type 0} (g : Ghosts S) (session : ℕ) (text : InsertText) (row : Row) (t new : Committed S) (o : Open) (is_new : IsNew g (seen_of t o) session text row) where
-  accepted : IsUsable (state g t.store) → IsAccepted (seen_of t o).state session (statement.Insert text)
+  accepted : HasCleanDisk (state g t.store) → IsAccepted (seen_of t o).state session (statement.Insert text)
   accepted u = new_accepted (seen_of t o).state session text row is_new.made is_new.early (is_new.none u) (is_new.left u)
 
-  steps : IsUsable (state g t.store) → step (seen_of t o).state session (statement.Insert text) ≡ (reply.Inserted, record (seen_of t o).state { rows = with_row row t.rows })
+  steps : HasCleanDisk (state g t.store) → step (seen_of t o).state session (statement.Insert text) ≡ (reply.Inserted, record (seen_of t o).state { rows = with_row row t.rows })
   steps u = insert_step (seen_of t o).state session text row is_new.made (accepted u)
 
   -- it was put

@@ -8,13 +8,14 @@ use Rattle.escrow_core.specs.Seen.{IsKept}
 use Rattle.escrow_machine.specs.State.{State}
 use Rattle.escrow_machine.specs.Valid.{IsValid}
 use Rattle.escrow_machine.proofs.ValidEmpty.{opened_orderly, opened_valid}
+use Rattle.escrow_core.proofs.Serving.{still_clean}
 
 pub restarted_keeps : {S : Type 0} (g : Ghosts S) (t new : Committed S) (o : Open) → IsKept g (seen_of t o) → Reads g t new → IsKept g (seen_of new nothing_open)
 restarted_keeps g t new o kept reads =
     let s : State = (seen_of t o).state in
     record {
       orderly = rw reads.catalog (opened_orderly t.catalog kept.orderly.tables);
-      safe_rows = λ usable.
-          let valid : IsValid s = record { orderly = kept.orderly; safe_rows = kept.safe_rows (reads.usable usable) } in
-          rw (reads.catalog, reads.rows usable) (opened_valid s valid).safe_rows;
+      safe_rows = λ clean.
+          let valid : IsValid s = record { orderly = kept.orderly; safe_rows = kept.safe_rows (still_clean _ _ _ reads.survives clean) } in
+          rw (reads.catalog, reads.rows) (opened_valid s valid).safe_rows;
     }

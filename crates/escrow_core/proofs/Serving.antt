@@ -13,7 +13,6 @@ use Rattle.escrow_num.specs.Refusal.{first_refusal, told}
 use Rattle.escrow_sql.specs.declared.statement.Statement.{Statement}
 use Rattle.escrow_sql.specs.declared.statement.Statement.TheVariants as statement
 use Rattle.escrow_num.specs.declared.failure.Failure.{Failure}
-use Rattle.escrow_rows.specs.Answers.{IsUsable}
 use Rattle.escrow_tables.specs.Calls.{Writes}
 use Rattle.escrow_tables.specs.Committed.{Committed, AreHeld}
 use Rattle.escrow_txn.specs.Open.{Open}
@@ -58,27 +57,9 @@ none_applies s session asked early none =
     let turn = turn_of s session asked in
     first_behind turn.early turn.late early ∙ none
 
--- what is refused early doesn't hang on the rows
-early_apart : (s : State) (rows : List Row) (session : ℕ) (asked : Statement)
-    → (turn_of (record s { rows = rows }) session asked).early ≡ (turn_of s session asked).early
-unfolding turn_of
-early_apart s rows session (statement.Create text) = refl
-early_apart s rows session (statement.Drop name) = refl
-early_apart s rows session (statement.Insert text) = refl
-early_apart s rows session (statement.Update text) = refl
-early_apart s rows session (statement.Delete text) = refl
-early_apart s rows session (statement.Select text) = refl
-early_apart s rows session (statement.ShowTable name) = refl
-early_apart s rows session (statement.ShowBounds text) = refl
-early_apart s rows session (statement.ShowJournal table) = refl
-early_apart s rows session (statement.Savepoint name) = refl
-early_apart s rows session statement.Commit = refl
-early_apart s rows session statement.Rollback = refl
-early_apart s rows session (statement.RollbackTo name) = refl
-
-pub still_passes : (old new : State) (session : ℕ) (asked : Statement) → new ≡ record old { rows = new.rows } → PassesEarly old session asked → PassesEarly new session asked
-still_passes old new session asked rest early =
-    subst (λ (s : State). PassesEarly s session asked) (sym rest) (ap first_refusal (early_apart old new.rows session asked) ∙ early)
+-- no early refusal applies to an equal state
+pub still_passes : (old new : State) (session : ℕ) (asked : Statement) → new ≡ old → PassesEarly old session asked → PassesEarly new session asked
+still_passes old new session asked same early = subst (λ (s : State). PassesEarly s session asked) (sym same) early
 
 -- an early refusal is the one that is answered
 early_answered : (s : State) (session : ℕ) (asked : Statement) (r other : Refusal) → IsRefusal s session asked r → first_refusal (turn_of s session asked).early ≡ Some other → r ≡ other
@@ -99,6 +80,10 @@ no_write r e = false≢true e
 pub survives_itself : (s : Store) (P : Trees → Type 0) → Survives s s P
 survives_itself s P = record { clean = le_refl _; shield = λ h. h; counts = le_refl _; limit = refl; closes = λ _ h. inl h; crash = λ _ db h. inl h }
 
+-- a disk that has returned what was written had done so before
+pub still_clean : (a b : Store) (P : Trees → Type 0) → Survives a b P → HasCleanDisk b → HasCleanDisk a
+still_clean a b P survives clean = omega (arith, survives.clean, clean)
+
 -- what a database keeps where the store is left
 pub apart_keeps : {S : Type 0} (g : Ghosts S) (d : Seen S) (next : State) → IsKept g d → IsOrderly next.catalog next.reservations next.savepoints next.next_id
     → (IsValid d.state → IsValid next) → IsKept g (record { store = d.store; state = next })
@@ -112,7 +97,6 @@ module _ {S : Type 0} (g : Ghosts S) (session : ℕ) (asked : Statement) where
   pub refused : (d : Seen S) (r : Refusal) → IsRefusal d.state session asked r → Serves g session asked d (reply.Refused r) d
   refused d r is = record {
     event = λ _. refused_serves d.state session asked r is;
-    usable = λ u. u;
     early = λ other first. (ap reply.Refused (early_answered d.state session asked r other is first), refl);
     apart = λ _. (refl, refused_serves d.state session asked r is);
     refused = λ _. refl;
@@ -128,15 +112,13 @@ module _ {S : Type 0} (g : Ghosts S) (session : ℕ) (asked : Statement) where
 
   -- a statement that asks the store, and is refused nothing early, is served by what else there is to say
   pub served : (old new : Seen S) (answer : Reply) → asks_store old.state session asked ≡ true → PassesEarly old.state session asked
-      → (IsUsable (state g new.store) → StepOrRefusal old.state session asked answer new.state)
-      → (IsUsable (state g new.store) → IsUsable (state g old.store))
-      → (IsTrue (is_refused answer) → new.state ≡ record old.state { rows = new.state.rows })
+      → (HasCleanDisk (state g new.store) → StepOrRefusal old.state session asked answer new.state)
+      → (IsTrue (is_refused answer) → new.state ≡ old.state)
       → Survives (state g old.store) (state g new.store) (λ trees. IsTrue (state g old.store).is_open → AreAfter old.state session asked trees)
       → (IsTrue (tells_write answer) → HasCleanDisk (state g new.store) → (trees : Trees) → (state g new.store).may_leave trees → AreHeld new.state.catalog new.state.rows trees)
       → Serves g session asked old answer new
-  served old new answer asks early event usable refused survives durable = record {
+  served old new answer asks early event refused survives durable = record {
     event = event;
-    usable = usable;
     early = λ r first. let both : None ≡ Some r = sym early ∙ first in absurd (cc);
     apart = λ not_asked. absurd (false≢true (sym not_asked ∙ asks));
     refused = refused;
@@ -146,32 +128,28 @@ module _ {S : Type 0} (g : Ghosts S) (session : ℕ) (asked : Statement) where
 
   -- answered without a write, from what was looked at before
   pub answered : (d : Seen S) (answer : Reply) → asks_store d.state session asked ≡ true → PassesEarly d.state session asked → tells_write answer ≡ false
-      → (IsUsable (state g d.store) → StepOrRefusal d.state session asked answer d.state) → Serves g session asked d answer d
+      → (HasCleanDisk (state g d.store) → StepOrRefusal d.state session asked answer d.state) → Serves g session asked d answer d
   answered d answer asks early quiet event =
-      served d d answer asks early event (λ u. u) (λ _. refl) (survives_itself (state g d.store) _) (λ e. absurd (false≢true (sym quiet ∙ e)))
+      served d d answer asks early event (λ _. refl) (survives_itself (state g d.store) _) (λ e. absurd (false≢true (sym quiet ∙ e)))
 
   -- refused for what was looked at
   pub late_refused : (d : Seen S) (r : Refusal) → asks_store d.state session asked ≡ true → PassesEarly d.state session asked
-      → (IsUsable (state g d.store) → IsRefusal d.state session asked r) → Serves g session asked d (reply.Refused r) d
+      → (HasCleanDisk (state g d.store) → IsRefusal d.state session asked r) → Serves g session asked d (reply.Refused r) d
   late_refused d r asks early is = answered d (reply.Refused r) asks early refl (λ u. refused_serves d.state session asked r (is u))
 
   -- what is served after a look at the store is served from before it
   pub after_look : (old mid new : Seen S) (answer : Reply) → Looks g old mid → (HasCleanDisk (state g mid.store) → IsTrue (state g mid.store).is_open)
       → asks_store old.state session asked ≡ true → PassesEarly old.state session asked → Serves g session asked mid answer new → Serves g session asked old answer new
   after_look old mid new answer looks opened asks early serves =
-      let same_after : IsUsable (state g mid.store) → (trees : Trees) → AreAfter mid.state session asked trees → AreAfter old.state session asked trees =
-      λ u trees k. subst (λ (s : State). AreAfter s session asked trees) (looks.same u) k in
       let crashes = survives_then (state g old.store) (state g mid.store) (state g new.store) (λ _. ⊥) _
       (λ trees. IsTrue (state g old.store).is_open → AreAfter old.state session asked trees)
       (λ clean trees none. absurd none)
       (λ clean trees k. λ _.
-      let mid_clean : HasCleanDisk (state g mid.store) = omega (arith, serves.survives.clean, clean) in
-      same_after (mid_clean, opened mid_clean) trees (k (opened mid_clean)))
+      subst (λ (s : State). AreAfter s session asked trees) looks.same (k (opened (still_clean _ _ _ serves.survives clean))))
       looks.survives serves.survives in
       served old new answer asks early
-      (λ u. subst (λ (s : State). StepOrRefusal s session asked answer new.state) (looks.same (serves.usable u)) (serves.event u))
-      (λ u. looks.usable (serves.usable u))
-      (λ is. serves.refused is ∙ ap (λ (s : State). record s { rows = new.state.rows }) looks.rest) crashes serves.durable
+      (λ clean. subst (λ (s : State). StepOrRefusal s session asked answer new.state) looks.same (serves.event clean))
+      (λ is. serves.refused is ∙ looks.same) crashes serves.durable
 
   -- a statement is served that leaves the store, and tells of no write
   pub served_apart : (old new : Seen S) (answer : Reply) → tells_write answer ≡ false → new.store ≡ old.store → StepOrRefusal old.state session asked answer new.state
@@ -181,36 +159,33 @@ module _ {S : Type 0} (g : Ghosts S) (session : ℕ) (asked : Statement) where
       survives_itself (state g old.store) _ in
       record {
         event = λ _. event;
-        usable = λ u. subst (λ (h : Held S). IsUsable (state g h)) same u;
         early = λ r first.
             let stands = early_refusals_stand old.state session asked answer new.state r event first in
             (stands.0, ap₂ (λ (h : Held S) (s : State). record { store = h; state = s }) same stands.1);
         apart = λ _. (same, event);
-        refused = λ is. let stays = refused_stays old.state session asked answer new.state event is in subst (λ (s : State). s ≡ record old.state { rows = s.rows }) (sym stays) refl;
+        refused = refused_stays old.state session asked answer new.state event;
         survives = subst (λ (h : Held S). Survives (state g old.store) (state g h) (λ trees. IsTrue (state g old.store).is_open → AreAfter old.state session asked trees)) (sym same) unwritten;
         durable = λ e. absurd (false≢true (sym quiet ∙ e));
       }
 
   -- a look that failed, or after which the statement is refused
   pub look_refused : (old new : Seen S) (r : Refusal) → Looks g old new → asks_store old.state session asked ≡ true → PassesEarly old.state session asked
-      → (IsUsable (state g new.store) → IsRefusal old.state session asked r) → Serves g session asked old (reply.Refused r) new
+      → (HasCleanDisk (state g new.store) → IsRefusal old.state session asked r) → Serves g session asked old (reply.Refused r) new
   look_refused old new r looks asks early is =
       served old new (reply.Refused r) asks early
-      (λ u. subst (λ (s : State). StepOrRefusal old.state session asked (reply.Refused r) s) (sym (looks.same u)) (refused_serves old.state session asked r (is u)))
-      looks.usable
-      (λ _. looks.rest)
+      (λ clean. subst (λ (s : State). StepOrRefusal old.state session asked (reply.Refused r) s) (sym looks.same) (refused_serves old.state session asked r (is clean)))
+      (λ _. looks.same)
       (survives_weaker (state g old.store) (state g new.store) (λ _. ⊥) _ (λ _ trees none. absurd none) looks.survives)
       (λ e. absurd (no_write r e))
 
   -- a crash leaves what the step makes, where a write leaves it
   crashed : (t new : Committed S) (o : Open) (answer : Reply) (next : State) (is_done : Bool) → Writes g t new is_done next.catalog next.rows
-      → (IsUsable (state g t.store) → step (seen_of t o).state session asked ≡ (answer, next))
+      → (HasCleanDisk (state g t.store) → step (seen_of t o).state session asked ≡ (answer, next))
       → Survives (state g t.store) (state g new.store) (λ trees. IsTrue (state g t.store).is_open → AreAfter (seen_of t o).state session asked trees)
   crashed t new o answer next is_done writes steps =
       survives_weaker (state g t.store) (state g new.store) _ _
       (λ clean trees k opened.
-      let was_clean : HasCleanDisk (state g t.store) = omega (arith, writes.survives.clean, clean) in
-      let after = steps (was_clean, opened) in
+      let after = steps (still_clean _ _ _ writes.survives clean) in
       subst (λ (p : Reply × State). AreHeld p.1.catalog p.1.rows trees) (sym after) (k opened))
       writes.survives
 
@@ -218,48 +193,49 @@ module _ {S : Type 0} (g : Ghosts S) (session : ℕ) (asked : Statement) where
   pub wrote : (t new : Committed S) (o after : Open) (answer : Reply) (next : State)
       → asks_store (seen_of t o).state session asked ≡ true → PassesEarly (seen_of t o).state session asked → failure_of answer ≡ None → is_refused answer ≡ false
       → Writes g t new true next.catalog next.rows
-      → (IsUsable (state g t.store) → step (seen_of t o).state session asked ≡ (answer, next))
+      → (HasCleanDisk (state g t.store) → step (seen_of t o).state session asked ≡ (answer, next))
       → next ≡ record (seen_of new after).state { catalog = next.catalog; rows = next.rows }
       → Serves g session asked (seen_of t o) answer (seen_of new after)
   wrote t new o after answer next asks early succeeds accepted writes steps is =
-      let same : IsUsable (state g new.store) → (seen_of new after).state ≡ next =
-      λ u. ap (λ (c : _ × _). record (seen_of new after).state { catalog = c.0; rows = c.1 }) (ap₂ (λ a b. (a, b)) (writes.done_catalog refl) (writes.done_rows refl u)) ∙ sym is in
+      let same : HasCleanDisk (state g new.store) → (seen_of new after).state ≡ next =
+      λ clean. ap (λ (c : _ × _). record (seen_of new after).state { catalog = c.0; rows = c.1 }) (ap₂ (λ a b. (a, b)) (writes.done_catalog refl) (writes.done_rows refl clean)) ∙ sym is in
       served (seen_of t o) (seen_of new after) answer asks early
-      (λ u. stepped (seen_of t o).state session asked answer (seen_of new after).state succeeds (ap (λ (s : State). (answer, s)) (same u) ∙ sym (steps (writes.usable u))))
-      writes.usable (λ is_refusal. absurd (false≢true (sym accepted ∙ is_refusal))) (crashed t new o answer next true writes steps)
+      (λ clean. stepped (seen_of t o).state session asked answer (seen_of new after).state succeeds
+      (ap (λ (s : State). (answer, s)) (same clean) ∙ sym (steps (still_clean _ _ _ writes.survives clean))))
+      (λ is_refusal. absurd (false≢true (sym accepted ∙ is_refusal))) (crashed t new o answer next true writes steps)
       (λ _ clean trees may.
       subst (λ c. AreHeld c new.rows trees) (sym (writes.done_catalog refl))
-      (subst (λ rs. AreHeld next.catalog rs trees) (sym (writes.done_rows refl (clean, writes.opened refl clean))) (writes.durable refl clean trees may)))
+      (subst (λ rs. AreHeld next.catalog rs trees) (sym (writes.done_rows refl clean)) (writes.durable refl clean trees may)))
 
   -- a write failed
   pub write_failed : (t new : Committed S) (o : Open) (f : Failure) (answer : Reply) (next : State)
       → asks_store (seen_of t o).state session asked ≡ true → PassesEarly (seen_of t o).state session asked → (turn_of (seen_of t o).state session asked).fails_for f ≡ true
       → Writes g t new false next.catalog next.rows
-      → (IsUsable (state g t.store) → step (seen_of t o).state session asked ≡ (answer, next))
+      → (HasCleanDisk (state g t.store) → step (seen_of t o).state session asked ≡ (answer, next))
       → Serves g session asked (seen_of t o) (reply.Refused (told f)) (seen_of new o)
   write_failed t new o f answer next asks early takes writes steps =
       let s : State = (seen_of t o).state in
-      let same : IsUsable (state g new.store) → (seen_of new o).state ≡ s =
-      λ u. ap (λ (c : _ × _). record s { catalog = c.0; rows = c.1 }) (ap₂ (λ a b. (a, b)) (writes.kept_catalog refl) (writes.kept_rows refl u)) in
+      let same : (seen_of new o).state ≡ s =
+      ap (λ (c : _ × _). record s { catalog = c.0; rows = c.1 }) (ap₂ (λ a b. (a, b)) (writes.kept_catalog refl) (writes.kept_rows refl)) in
       served (seen_of t o) (seen_of new o) (reply.Refused (told f)) asks early
-      (λ u. subst (λ (after : State). StepOrRefusal s session asked (reply.Refused (told f)) after) (sym (same u)) (refused_serves s session asked (told f) (fails s session asked f early takes)))
-      writes.usable (λ _. ap (λ c. record s { catalog = c; rows = new.rows }) (writes.kept_catalog refl)) (crashed t new o answer next false writes steps) (λ e. absurd (no_write (told f) e))
+      (λ _. subst (λ (after : State). StepOrRefusal s session asked (reply.Refused (told f)) after) (sym same) (refused_serves s session asked (told f) (fails s session asked f early takes)))
+      (λ _. same) (crashed t new o answer next false writes steps) (λ e. absurd (no_write (told f) e))
 
   -- what a database keeps after a write that was done, and after one that failed
   pub wrote_keeps : (t new : Committed S) (o after : Open) (next : State) → IsKept g (seen_of t o)
       → Writes g t new true next.catalog next.rows
       → next ≡ record (seen_of new after).state { catalog = next.catalog; rows = next.rows }
       → IsOrderly next.catalog next.reservations next.savepoints next.next_id
-      → (IsValid (seen_of t o).state → IsUsable (state g t.store) → IsValid next) → IsKept g (seen_of new after)
+      → (IsValid (seen_of t o).state → HasCleanDisk (state g t.store) → IsValid next) → IsKept g (seen_of new after)
   wrote_keeps t new o after next kept writes is orderly valid =
       let catalog = writes.done_catalog refl in
       let parts = ap (λ (s : State). IsOrderly new.catalog s.reservations s.savepoints s.next_id) is in
       record {
         orderly = subst (λ (T : Type 0). T) parts (subst (λ c. IsOrderly c next.reservations next.savepoints next.next_id) (sym catalog) orderly);
-        safe_rows = λ u.
-            let was = writes.usable u in
+        safe_rows = λ clean.
+            let was = still_clean _ _ _ writes.survives clean in
             let safe = (valid (record { orderly = kept.orderly; safe_rows = kept.safe_rows was }) was).safe_rows in
-            let rows = writes.done_rows refl u in
+            let rows = writes.done_rows refl clean in
             let at_new = subst (λ c. AreSafeRows c new.rows next.reservations) (sym catalog) (subst (λ rs. AreSafeRows next.catalog rs next.reservations) (sym rows) safe) in
             subst (λ (T : Type 0). T) (ap (λ (s : State). AreSafeRows new.catalog new.rows s.reservations) is) at_new;
       }
@@ -267,9 +243,9 @@ module _ {S : Type 0} (g : Ghosts S) (session : ℕ) (asked : Statement) where
   pub failed_keeps : (t new : Committed S) (o : Open) (catalog : _) (rows : _) → IsKept g (seen_of t o) → Writes g t new false catalog rows → IsKept g (seen_of new o)
   failed_keeps t new o catalog rows kept writes = record {
     orderly = subst (λ c. IsOrderly c o.reservations o.savepoints o.next_id) (sym (writes.kept_catalog refl)) kept.orderly;
-    safe_rows = λ u.
+    safe_rows = λ clean.
         subst (λ c. AreSafeRows c new.rows o.reservations) (sym (writes.kept_catalog refl))
-        (subst (λ rs. AreSafeRows t.catalog rs o.reservations) (sym (writes.kept_rows refl u)) (kept.safe_rows (writes.usable u)));
+        (subst (λ rs. AreSafeRows t.catalog rs o.reservations) (sym (writes.kept_rows refl)) (kept.safe_rows (still_clean _ _ _ writes.survives clean)));
   }
 
   -- and after one that was done or not, where nothing that is open changes
@@ -277,6 +253,6 @@ module _ {S : Type 0} (g : Ghosts S) (session : ℕ) (asked : Statement) where
       → Writes g t new is_done next.catalog next.rows
       → next ≡ record (seen_of new o).state { catalog = next.catalog; rows = next.rows }
       → IsOrderly next.catalog next.reservations next.savepoints next.next_id
-      → (IsValid (seen_of t o).state → IsUsable (state g t.store) → IsValid next) → IsKept g (seen_of new o)
+      → (IsValid (seen_of t o).state → HasCleanDisk (state g t.store) → IsValid next) → IsKept g (seen_of new o)
   write_keeps t new o next true kept writes is orderly valid = wrote_keeps t new o o next kept writes is orderly valid
   write_keeps t new o next false kept writes is orderly valid = failed_keeps t new o next.catalog next.rows kept writes

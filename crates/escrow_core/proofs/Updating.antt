@@ -4,6 +4,7 @@ use Rattle.std.specs.List.{AllByRecursion}
 use Rattle.std.proofs.Common.{inl, inr, refl, sym, ap, subst, ◌∙◌}
 use Rattle.std.proofs.lemmas.Bool.{false≢true}
 use Rattle.sqlite.specs.Held.{state}
+use Rattle.sqlite.specs.State.{HasCleanDisk}
 use Rattle.sqlite_trees.specs.declared.store.Store.{Ghosts}
 use Rattle.escrow_num.specs.declared.refusal.Refusal.{Refusal}
 use Rattle.escrow_num.specs.declared.refusal.Refusal.TheVariants as refusal
@@ -24,7 +25,6 @@ use Rattle.escrow_txn.specs.Open.{Open, grant_refusal}
 use Rattle.escrow_txn.specs.Open as txn
 use Rattle.escrow_num.specs.declared.failure.Failure.{Failure}
 use Rattle.escrow_num.specs.declared.failure.Failure.TheVariants as failure
-use Rattle.escrow_rows.specs.Answers.{IsUsable}
 use Rattle.escrow_tables.specs.Calls.{Writes}
 use Rattle.escrow_tables.specs.Committed.{Committed}
 use Rattle.escrow_machine.specs.Rows.{HasTable, row_named, with_plain}
@@ -94,21 +94,21 @@ pub record MayReplace {S : Type 0} (g : Ghosts S) (d : Seen S) (session : ℕ) (
   pub planned : plan_of d.state text ≡ Some (plan.Plain name.key values)
   pub table : name.table ≡ text.table
   pub closed : is_open session d.state ≡ false
-  pub stands : IsUsable (state g d.store) → IsSome (row_named d.state.rows name)
+  pub stands : HasCleanDisk (state g d.store) → IsSome (row_named d.state.rows name)
 
 module _ {S : Type 0} (g : Ghosts S) (session : ℕ) (text : UpdateText) (name : RowName) (values : List (Option Value)) (t : Committed S) (o : Open)
     (may : MayReplace g (seen_of t o) session text name values) where
-  replace_accepted : IsUsable (state g t.store) → IsAccepted (seen_of t o).state session (statement.Update text)
+  replace_accepted : HasCleanDisk (state g t.store) → IsAccepted (seen_of t o).state session (statement.Update text)
   replace_accepted u =
       plain_accepted (seen_of t o).state session text name.key values may.planned may.closed
       (subst (λ (n : RowName). IsSome (row_named t.rows n)) (sym (named_so text.table name may.table)) (may.stands u))
 
-  replace_valid : IsUsable (state g t.store) → IsValid (seen_of t o).state → IsValid (record (seen_of t o).state { rows = with_plain name values t.rows })
+  replace_valid : HasCleanDisk (state g t.store) → IsValid (seen_of t o).state → IsValid (record (seen_of t o).state { rows = with_plain name values t.rows })
   replace_valid u valid =
       subst (λ (n : RowName). IsValid (record (seen_of t o).state { rows = with_plain n values t.rows })) (named_so text.table name may.table)
       (replaced_valid (seen_of t o).state session text name.key values valid may.planned (replace_accepted u))
 
-  replace_step : IsUsable (state g t.store)
+  replace_step : HasCleanDisk (state g t.store)
       → step (seen_of t o).state session (statement.Update text) ≡ (reply.Updated, record (seen_of t o).state { rows = with_plain name values t.rows })
   replace_step u =
       let s : State = (seen_of t o).state in
@@ -116,7 +116,7 @@ module _ {S : Type 0} (g : Ghosts S) (session : ℕ) (text : UpdateText) (name :
       ∙ ap (λ (n : RowName). (reply.Updated, record s { rows = with_plain n values t.rows })) (named_so text.table name may.table)
 
   -- the rows then are of their tables
-  pub replaced_fit : IsKept g (seen_of t o) → IsUsable (state g t.store) → AllByRecursion (HasTable t.catalog) (with_plain name values t.rows)
+  pub replaced_fit : IsKept g (seen_of t o) → HasCleanDisk (state g t.store) → AllByRecursion (HasTable t.catalog) (with_plain name values t.rows)
   replaced_fit kept u = (replace_valid u (record { orderly = kept.orderly; safe_rows = kept.safe_rows u })).safe_rows.tables
 
   module _ (new : Committed S) where
@@ -146,7 +146,7 @@ pub record MayReserve {S : Type 0} (g : Ghosts S) (d : Seen S) (text : UpdateTex
   pub planned : plan_of d.state text ≡ Some (plan.Reserve name.key changes)
   pub table : name.table ≡ text.table
   pub named : row.name ≡ name
-  pub stands : IsUsable (state g d.store) → row_named d.state.rows name ≡ Some row
+  pub stands : HasCleanDisk (state g d.store) → row_named d.state.rows name ≡ Some row
 
 -- where a session has room for it and an id is left, what is in order stays so
 reserved_orderly : (s : State) (session : ℕ) (text : UpdateText) (key : Value) (changes : List (Option ℤ)) → HasOrder s → IsSession session
@@ -176,13 +176,13 @@ is_free session o none =
 -- and that no refusal stands against
 pub record IsUnrefused {S : Type 0} (g : Ghosts S) (d : Seen S) (session : ℕ) (text : UpdateText) (row : Row) (name : RowName) (changes : List (Option ℤ)) : Type 0 where
   pub may : MayReserve g d text row name changes
-  pub left : IsUsable (state g d.store) → first_refusal (update_refusals d.state session text.table (plan.Reserve name.key changes)) ≡ None
+  pub left : HasCleanDisk (state g d.store) → first_refusal (update_refusals d.state session text.table (plan.Reserve name.key changes)) ≡ None
 
 module _ {S : Type 0} (g : Ghosts S) (session : ℕ) (text : UpdateText) (row : Row) (name : RowName) (changes : List (Option ℤ)) where
   -- what was answered of the row's own name is answered of the name that was looked for
   reserve_refusals : (d : Seen S) (r : Option Refusal) → MayReserve g d text row name changes
       → (row_named d.state.rows row.name ≡ Some row → r ≡ first_refusal (update_refusals d.state session row.name.table (plan.Reserve row.name.key changes)))
-      → IsUsable (state g d.store) → first_refusal (update_refusals d.state session text.table (plan.Reserve name.key changes)) ≡ r
+      → HasCleanDisk (state g d.store) → first_refusal (update_refusals d.state session text.table (plan.Reserve name.key changes)) ≡ r
   reserve_refusals d r may first u =
       let of_name : row_named d.state.rows name ≡ Some row → r ≡ first_refusal (update_refusals d.state session name.table (plan.Reserve name.key changes)) =
       subst (λ (n : RowName). row_named d.state.rows n ≡ Some row → r ≡ first_refusal (update_refusals d.state session n.table (plan.Reserve n.key changes))) may.named first in
@@ -207,7 +207,7 @@ module _ {S : Type 0} (g : Ghosts S) (session : ℕ) (text : UpdateText) (row : 
         let s : State = (seen_of t o).state in
         ap (λ (n : RowName). granted s (reservation_from s session n changes)) (named_so text.table name is.may.table)
 
-    reserve_accepted : IsUsable (state g t.store) → IsAccepted (seen_of t o).state session (statement.Update text)
+    reserve_accepted : HasCleanDisk (state g t.store) → IsAccepted (seen_of t o).state session (statement.Update text)
     reserve_accepted u = plan_accepted (seen_of t o).state session text (plan.Reserve name.key changes) is.may.planned (is.left u)
 
     -- it is granted: the store stays
@@ -218,7 +218,7 @@ module _ {S : Type 0} (g : Ghosts S) (session : ℕ) (text : UpdateText) (row : 
         served g session (statement.Update text) (seen_of t o) (seen_of t (txn.granted session name changes o)) (reply.Reserved o.next_id) refl (planned_early s session text asked is.may.planned)
         (λ u. subst (λ (after : State). StepOrRefusal s session (statement.Update text) (reply.Reserved o.next_id) after) after_grant
         (update_serves s session text asked (reserve_accepted u) is.may.planned))
-        (λ u. u) (λ is_refusal. absurd (false≢true is_refusal)) (survives_itself (state g t.store) _) (λ writes. absurd (false≢true writes))
+        (λ is_refusal. absurd (false≢true is_refusal)) (survives_itself (state g t.store) _) (λ writes. absurd (false≢true writes))
 
     pub grant_keeps : IsKept g (seen_of t o) → IsSession session → grant_refusal session o ≡ None → IsKept g (seen_of t (txn.granted session name changes o))
     grant_keeps kept of_session none =

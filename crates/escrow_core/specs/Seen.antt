@@ -2,6 +2,7 @@
 use Rattle.std.specs.Prelude.{ℕ, refl, List}
 use Rattle.std.specs.Coded.{Coded, code_by, coded×, coded_list, coded_ℕ}
 use Rattle.sqlite.specs.Held.{Held, held_code, state}
+use Rattle.sqlite.specs.State.{HasCleanDisk}
 use Rattle.sqlite_trees.specs.declared.store.Store.{Ghosts}
 use Rattle.escrow_num.specs.contracts.reservation.Reservation as reservation
 use Rattle.escrow_num.specs.contracts.reservation.Savepoint as savepoint
@@ -11,7 +12,6 @@ use Rattle.escrow_num.specs.declared.reservation.Savepoint.{Savepoint}
 use Rattle.escrow_num.specs.declared.row.Row.{Row}
 use Rattle.escrow_schema.specs.contracts.table.TableDef as table
 use Rattle.escrow_schema.specs.declared.table.TableDef.{TableDef}
-use Rattle.escrow_rows.specs.Answers.{IsUsable}
 use Rattle.escrow_machine.specs.State.{State}
 use Rattle.escrow_machine.specs.Valid.{IsOrderly, AreSafeRows}
 
@@ -31,8 +31,8 @@ state_code =
 abbrev pub seen_code : {S : Type 0} → Coded S → Coded (Seen S)
 seen_code {S} store = code_by (Held S × State) (coded× (held_code store) state_code) (λ d. (d.store, d.state)) (λ p. record { store = p.0; state = p.1 }) (λ _. refl)
 
--- what a database keeps: its state is valid where its store can be used, and else as far as it doesn't
--- speak of rows
+-- what a database keeps: its state is valid while the disk has returned what was written, and else as far
+-- as it doesn't speak of rows
 pub record IsKept {S : Type 0} (g : Ghosts S) (d : Seen S) : Type 0 where
   pub orderly : IsOrderly d.state.catalog d.state.reservations d.state.savepoints d.state.next_id
-  pub safe_rows : IsUsable (state g d.store) → AreSafeRows d.state.catalog d.state.rows d.state.reservations
+  pub safe_rows : HasCleanDisk (state g d.store) → AreSafeRows d.state.catalog d.state.rows d.state.reservations

@@ -8,7 +8,6 @@ use Rattle.escrow_num.specs.declared.refusal.Refusal.{Refusal}
 use Rattle.escrow_num.specs.declared.session.End.{End}
 use Rattle.escrow_num.specs.Refusal.{first_refusal}
 use Rattle.escrow_sql.specs.declared.statement.Statement.{Statement}
-use Rattle.escrow_rows.specs.Answers.{IsUsable}
 use Rattle.escrow_tables.specs.Committed.{AreHeld}
 use Rattle.escrow_machine.specs.declared.reply.Reply.{Reply}
 use Rattle.escrow_machine.specs.declared.reply.Reply.TheVariants as reply
@@ -28,16 +27,15 @@ AreAfter s session asked trees = let after = (step s session asked).1 in AreHeld
 abbrev pub AreAfterEnds : List (ℕ × End) → State → Trees → Type 0
 AreAfterEnds plan s trees = (n : ℕ) × (let after = settled (take n plan) s in AreHeld after.catalog after.rows trees)
 
--- A statement of a session was served. Where the store can be used after it, the reply and the state are
--- the step's, or it failed as it may; what is refused early, and what asks nothing of the store, leaves
--- the store and is answered so whatever the store is like; and whatever it is like, a refusal leaves all
--- but the rows. A crash leaves what it might have left before, or what the step makes; after a reply that
+-- A statement of a session was served. While the disk has returned what was written, the reply and the
+-- state are the step's, or it failed as it may; what is refused early, and what asks nothing of the store,
+-- leaves the store and is answered so whatever the disk did; and whatever it did, a refusal changes
+-- nothing. A crash leaves what it might have left before, or what the step makes; after a reply that
 -- tells of a write, it leaves the tables and rows that there then are.
 pub record Serves {S : Type 0} (g : Ghosts S) (session : ℕ) (asked : Statement) (old : Seen S) (answer : Reply) (new : Seen S) : Type 0 where
-  pub event : IsUsable (state g new.store) → StepOrRefusal old.state session asked answer new.state
-  pub usable : IsUsable (state g new.store) → IsUsable (state g old.store)
+  pub event : HasCleanDisk (state g new.store) → StepOrRefusal old.state session asked answer new.state
   pub early : (r : Refusal) → first_refusal (turn_of old.state session asked).early ≡ Some r → (answer ≡ reply.Refused r) × (new ≡ old)
   pub apart : asks_store old.state session asked ≡ false → (new.store ≡ old.store) × StepOrRefusal old.state session asked answer new.state
-  pub refused : IsTrue (is_refused answer) → new.state ≡ record old.state { rows = new.state.rows }
+  pub refused : IsTrue (is_refused answer) → new.state ≡ old.state
   pub survives : Survives (state g old.store) (state g new.store) (λ trees. IsTrue (state g old.store).is_open → AreAfter old.state session asked trees)
   pub durable : IsTrue (tells_write answer) → HasCleanDisk (state g new.store) → (trees : Trees) → (state g new.store).may_leave trees → AreHeld new.state.catalog new.state.rows trees

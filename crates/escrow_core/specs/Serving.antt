@@ -2,9 +2,8 @@
 use Rattle.std.specs.Prelude.{◌≡◌, ℕ, Bool, true, Option, Some, None, is_some, List}
 use Rattle.escrow_schema.specs.Catalog.{table_named}
 use Rattle.sqlite.specs.Held.{state}
-use Rattle.sqlite.specs.State.{Survives}
+use Rattle.sqlite.specs.State.{HasCleanDisk, Survives}
 use Rattle.sqlite_trees.specs.declared.store.Store.{Ghosts}
-use Rattle.escrow_rows.specs.Answers.{IsUsable}
 use Rattle.escrow_core.specs.Seen.{Seen}
 use Rattle.sqlite_trees.specs.Tree.{Trees}
 use Rattle.escrow_num.specs.declared.session.End.{End}
@@ -12,11 +11,9 @@ use Rattle.escrow_tables.specs.Committed.{AreHeld}
 use Rattle.escrow_machine.specs.Settle.{after_end}
 use Rattle.escrow_machine.specs.State.{State}
 
--- A call looked at the store: all but the rows stays, and so do they where the store can be used after it.
+-- A call looked at the store: the state stays.
 pub record Looks {S : Type 0} (g : Ghosts S) (old new : Seen S) : Type 0 where
-  pub rest : new.state ≡ record old.state { rows = new.state.rows }
-  pub same : IsUsable (state g new.store) → new.state ≡ old.state
-  pub usable : IsUsable (state g new.store) → IsUsable (state g old.store)
+  pub same : new.state ≡ old.state
   pub survives : Survives (state g old.store) (state g new.store) (λ _. ⊥)
 
 -- the table that a SHOW JOURNAL names is there, if it names one

@@ -24,7 +24,8 @@ use std::alloc::Global;
 use std::marker::Model;
 
 /// A database: its tables and their committed rows, in a store that SQLite writes to; the open
-/// reservations and savepoints of all sessions, and the id that the next reservation takes.
+/// reservations and savepoints of all sessions, and the id that the next reservation takes. A fault that
+/// shuts the store takes nothing from these: what asks the store is then refused.
 #[derive(Drop)]
 pub struct Database<S: Alter> {
     tables: Tables<S>,
@@ -66,7 +67,7 @@ impl<S: Alter> Database<S> {
     /// Each row has to meet the checks of its table. Out of memory is the only error, and hands the
     /// tables back.
     pub fn open(alloc: Global, tables: Tables<S>) -> Result<Self, (Tables<S>, Refusal)>
-        requires { IsUsable (state S.Store tables.store) → AllByRecursion (MeetsChecks tables.catalog) tables.rows }
+        requires { HasCleanDisk (state S.Store tables.store) → AllByRecursion (MeetsChecks tables.catalog) tables.rows }
         ensures store { IfOk result (λ d. d.store ≡ tables.store) }
         ensures state { IfOk result (λ d. d.state ≡ opened tables.catalog tables.rows) }
         ensures refused { IfErr result (λ f. (f.0 ≡ tables) × (f.1 ≡ Refusal.Memory)) }
@@ -79,13 +80,14 @@ impl<S: Alter> Database<S> {
         }
     }
 
-    /// The id that the next reservation takes, or `None` where there are no more ids. Where the store
-    /// can be used the state is valid at any time: whichever of the open reservations are applied, each
-    /// row meets each check of its table; and a crash leaves just its tables and rows.
+    /// The id that the next reservation takes, or `None` where there are no more ids. While the disk has
+    /// returned what was written the state is valid at any time: whichever of the open reservations are
+    /// applied, each row meets each check of its table. Where the store can be used, a crash leaves just
+    /// its tables and rows.
     pub fn next_id(&self) -> Option<u64>
         ensures value { result ≡ id_left self.now.state.next_id }
         ensures kept { IsKept S.Store self.now }
-        ensures valid { IsUsable (state S.Store self.now.store) → IsValid self.now.state }
+        ensures valid { HasCleanDisk (state S.Store self.now.store) → IsValid self.now.state }
         ensures left { IsUsable (state S.Store self.now.store) → (trees : Trees) → (state S.Store self.now.store).may_leave trees → AreHeld self.now.state.catalog self.now.state.rows trees }
     {
         // What a crash leaves is told where the tables are counted.
@@ -109,18 +111,18 @@ impl<S: Alter> Database<S> {
         self.tables.set_step_limit(limit);
     }
 
-    /// Serves one statement of a session, whole: where the store can be used after it, the reply and the
-    /// new state are those of the machine, which tries every choice of the open reservations; or the
-    /// statement fails for what it may fail for, and the state is equal. What needs neither memory nor
-    /// the store never fails, and what asks nothing of the store leaves it.
+    /// Serves one statement of a session, whole: while the disk has returned what was written, the reply
+    /// and the new state are those of the machine, which tries every choice of the open reservations; or
+    /// the statement fails for what it may fail for, and the state is equal. So it is also where a fault
+    /// shuts the store, or has shut it before. What needs neither memory nor the store never fails, and
+    /// what asks nothing of the store leaves it.
     pub fn step(&mut self, alloc: Global, session: Session, statement: &Statement) -> Reply
-        ensures event { IsUsable (state S.Store self.new.store) → StepOrRefusal self.old.state session statement.now result self.new.state }
-        ensures usable { IsUsable (state S.Store self.new.store) → IsUsable (state S.Store self.old.store) }
+        ensures event { HasCleanDisk (state S.Store self.new.store) → StepOrRefusal self.old.state session statement.now result self.new.state }
         ensures succeeds { IsTrue (is_promised self.old.state session statement.now) → (self.new.store ≡ self.old.store) × IsStep self.old.state session statement.now result self.new.state }
         ensures apart { asks_store self.old.state session statement.now ≡ false → (self.new.store ≡ self.old.store) × StepOrRefusal self.old.state session statement.now result self.new.state }
 
-        // What is refused leaves all but the rows, whatever the store is like.
-        ensures refused { IsTrue (is_refused result) → self.new.state ≡ record self.old.state { rows = self.new.state.rows } }
+        // What is refused changes nothing, whatever the store is like.
+        ensures refused { IsTrue (is_refused result) → self.new.state ≡ self.old.state }
 
         // A crash leaves what it might have left before, or what the step makes; once a write was
         // answered, the tables and rows that there then are.

@@ -11,10 +11,10 @@ use Rattle.sqlite_schema.specs.declared.schema.View.{View}
 use Rattle.sqlite_trees.specs.declared.store.Store.{Ghosts}
 use Rattle.escrow_cells.specs.Store.{HasTables}
 use Rattle.escrow_cells.specs.Tables.{no_schema}
-use Rattle.escrow_rows.specs.Answers.{IsUsable}
+use Rattle.sqlite.specs.State.{HasCleanDisk}
 use Rattle.escrow_core.specs.Seen.{Seen}
 use Rattle.escrow_machine.specs.State.{State, empty}
-use Rattle.escrow_server.specs.Output.{AreUsable, states_of}
+use Rattle.escrow_server.specs.Output.{HaveCleanDisks, states_of}
 use Rattle.escrow_server.specs.Program.{empty_states, AreFound, IsFound, StartsAs}
 
 -- a schema has no object, or it has
@@ -48,9 +48,9 @@ states_more : {S : Type 0} (databases : List (Seen S)) (d : Seen S) → states_o
 states_more [] d = refl
 states_more (first ∷ databases) d = ap (λ (rest : List State). first.state ∷ rest) (states_more databases d)
 
-usable_more : {S : Type 0} (g : Ghosts S) (databases : List (Seen S)) (d : Seen S) → AreUsable g (databases ++ d ∷ []) → AreUsable g databases × IsUsable (state g d.store)
-usable_more g [] d used = (tt, used.0)
-usable_more g (first ∷ databases) d used = let rest = usable_more g databases d used.1 in ((used.0, rest.0), rest.1)
+clean_more : {S : Type 0} (g : Ghosts S) (databases : List (Seen S)) (d : Seen S) → HaveCleanDisks g (databases ++ d ∷ []) → HaveCleanDisks g databases × HasCleanDisk (state g d.store)
+clean_more g [] d used = (tt, used.0)
+clean_more g (first ∷ databases) d used = let rest = clean_more g databases d used.1 in ((used.0, rest.0), rest.1)
 
 length_more : (states : List State) (s : State) → length (states ++ s ∷ []) ≡ length states + 1
 length_more [] s = refl
@@ -60,10 +60,10 @@ pub found_none : (may_hold : ℕ → Database → Type 0) → AreFound may_hold 
 found_none may_hold = record { length_is = refl; each = λ place s found. absurd (cc) }
 
 pub found_more : {S : Type 0} (g : Ghosts S) (may_hold : ℕ → Database → Type 0) (count : ℕ) (databases : List (Seen S)) (d : Seen S)
-    → (AreUsable g databases → AreFound may_hold count (states_of databases)) → (IsUsable (state g d.store) → IsFound (may_hold count) d.state)
-    → AreUsable g (databases ++ d ∷ []) → AreFound may_hold (count + 1) (states_of (databases ++ d ∷ []))
+    → (HaveCleanDisks g databases → AreFound may_hold count (states_of databases)) → (HasCleanDisk (state g d.store) → IsFound (may_hold count) d.state)
+    → HaveCleanDisks g (databases ++ d ∷ []) → AreFound may_hold (count + 1) (states_of (databases ++ d ∷ []))
 found_more g may_hold count databases d are is used =
-    let parts = usable_more g databases d used in
+    let parts = clean_more g databases d used in
     let found = are parts.0 in
     subst (AreFound may_hold (count + 1)) (sym (states_more databases d))
     (record {

@@ -6,4 +6,4 @@ pub mod ProgramLemmas
 pub mod ReadingLemmas
 pub mod ScriptLemmas
 pub mod ServeLemmas
-pub mod Usable
+pub mod CleanDisks

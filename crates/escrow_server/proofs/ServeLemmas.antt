@@ -15,7 +15,7 @@ use Rattle.escrow_machine.specs.Step as machine
 use Rattle.escrow_machine.specs.declared.event.Event.TheVariants as event
 use Rattle.escrow_server.specs.Line.{Reading, restart, statement, no_line, database_name, Reads, lines_of}
 use Rattle.escrow_reply.specs.Text.{rendered, rendered_whole}
-use Rattle.escrow_server.specs.Output.{state_in, states_of, Answers, AreUsable, ServesLine, ServesBytes, ServesLines, ServesWhole, Leaves, StopsWithin}
+use Rattle.escrow_server.specs.Output.{state_in, states_of, Answers, HaveCleanDisks, ServesLine, ServesBytes, ServesLines, ServesWhole, Leaves, StopsWithin}
 use Rattle.escrow_server.specs.declared.limits.TheConstants.{MAX_LINE, MAX_SCRIPT}
 use Rattle.escrow_server.specs.Script.{TakesLine, Spends, left}
 
@@ -137,29 +137,29 @@ pub record Turn {S : Type 0} (g : Ghosts S) (mid new : Databases S) (rest new_re
   pub kept : List ℕ
   pub short : length kept ≤ MAX_LINE + 1
   pub taken : TakesLine true rest new_rest kept
-  pub step : AreUsable g new → ServesBytes (states_of mid) kept first (states_of new)
-  pub usable : AreUsable g new → AreUsable g mid
+  pub step : HaveCleanDisks g new → ServesBytes (states_of mid) kept first (states_of new)
+  pub clean : HaveCleanDisks g new → HaveCleanDisks g mid
 
 pub turn_of : {S : Type 0} (g : Ghosts S) (found : Bool) (kept line first : List ℕ) (mid new : Databases S) (rest new_rest : Option (List ℕ)) → found ≡ true → line ≡ kept
-    → length line ≤ MAX_LINE + 1 → TakesLine found rest new_rest kept → (AreUsable g new → ServesBytes (states_of mid) line first (states_of new)) → (AreUsable g new → AreUsable g mid)
+    → length line ≤ MAX_LINE + 1 → TakesLine found rest new_rest kept → (HaveCleanDisks g new → ServesBytes (states_of mid) line first (states_of new)) → (HaveCleanDisks g new → HaveCleanDisks g mid)
     → Turn g mid new rest new_rest first
-turn_of g found kept line first mid new rest new_rest is_true is_line short taken step usable = record {
+turn_of g found kept line first mid new rest new_rest is_true is_line short taken step clean = record {
   kept = kept;
   short = subst (λ (k : List ℕ). length k ≤ MAX_LINE + 1) is_line short;
   taken = subst (λ (f : Bool). TakesLine f rest new_rest kept) is_true taken;
   step = λ used. subst (λ (k : List ℕ). ServesBytes (states_of mid) k first (states_of new)) is_line (step used);
-  usable = usable;
+  clean = clean;
 }
 
 -- How a script stands in databases: as their states tell, where their stores can be used.
 pub record Stands {S : Type 0} (g : Ghosts S) (old new : Databases S) (script rest old_bytes new_bytes : Option (List ℕ)) (gathered : List ℕ) : Type 0 where
-  pub stood : AreUsable g new → Stood (states_of old) (states_of new) script rest old_bytes new_bytes gathered
-  pub usable : AreUsable g new → AreUsable g old
+  pub stood : HaveCleanDisks g new → Stood (states_of old) (states_of new) script rest old_bytes new_bytes gathered
+  pub clean : HaveCleanDisks g new → HaveCleanDisks g old
 
 pub stands_begun : {S : Type 0} (g : Ghosts S) (databases : Databases S) (script bytes : Option (List ℕ)) (unread gathered : List ℕ) → unread ≡ [] → gathered ≡ []
     → Stands g databases databases script (left unread script) bytes bytes gathered
 stands_begun g databases script bytes unread gathered none_unread none_gathered =
-    record { stood = λ _. stood_begun (states_of databases) script bytes unread gathered none_unread none_gathered; usable = λ used. used }
+    record { stood = λ _. stood_begun (states_of databases) script bytes unread gathered none_unread none_gathered; clean = λ used. used }
 
 -- one line more is served, and what it writes is gathered
 turn_stood : (states mid new : List State) (script rest new_rest old_bytes new_bytes : Option (List ℕ)) (kept gathered first : List ℕ) → length kept ≤ MAX_LINE + 1
@@ -184,8 +184,8 @@ turn_served g old mid new script rest new_rest old_bytes new_bytes gathered firs
     subst (λ (a : List ℕ). Stands g old new script new_rest old_bytes new_bytes a) (sym is_all)
     (record {
       stood = λ used. turn_stood (states_of old) (states_of mid) (states_of new) script rest new_rest old_bytes new_bytes turn.kept gathered first turn.short turn.taken
-          (turn.step used) (stands.stood (turn.usable used));
-      usable = λ used. stands.usable (turn.usable used);
+          (turn.step used) (stands.stood (turn.clean used));
+      clean = λ used. stands.clean (turn.clean used);
     })
 
 -- what was gathered is written
@@ -207,7 +207,7 @@ pub stands_written : {S : Type 0} (g : Ghosts S) (old new : Databases S) (script
     → Stands g old new script rest old_bytes new_bytes left_over
 stands_written g old new script rest old_bytes mid_bytes new_bytes gathered left_over stands wrote none = record {
   stood = λ used. stood_written (states_of old) (states_of new) script rest old_bytes mid_bytes new_bytes gathered left_over (stands.stood used) wrote none;
-  usable = stands.usable;
+  clean = stands.clean;
 }
 
 -- a fault, at which what was gathered isn't written

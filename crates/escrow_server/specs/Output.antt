@@ -11,7 +11,7 @@ use Rattle.escrow_sql.specs.declared.fault.ParseFault.TheVariants as fault
 use Rattle.escrow_sql.specs.declared.statement.Statement.{Statement}
 use Rattle.escrow_sql.specs.declared.statement.Request.TheVariants as request
 use Rattle.escrow_sql.specs.Parser.{Asks, IsFaultIn}
-use Rattle.escrow_rows.specs.Answers.{IsUsable}
+use Rattle.sqlite.specs.State.{HasCleanDisk}
 use Rattle.escrow_machine.specs.declared.reply.Reply.{Reply}
 use Rattle.escrow_machine.specs.declared.reply.Reply.TheVariants as reply
 use Rattle.escrow_core.specs.Seen.{Seen}
@@ -33,9 +33,9 @@ state_in database = database.state
 abbrev pub states_of : {S : Type 0} → List (Seen S) → List State
 states_of databases = map state_in databases
 
--- the store of each database can be used
-abbrev pub AreUsable : {S : Type 0} → Ghosts S → List (Seen S) → Type 0
-AreUsable g databases = AllByRecursion (λ database. IsUsable (state g database.store)) databases
+-- the disk of each database's store has returned what was written
+abbrev pub HaveCleanDisks : {S : Type 0} → Ghosts S → List (Seen S) → Type 0
+HaveCleanDisks g databases = AllByRecursion (λ database. HasCleanDisk (state g database.store)) databases
 
 -- the refusal of a text that isn't served: 11 with the column of its first fault, or 51
 abbrev pub refusal_of : ParseFault → Refusal

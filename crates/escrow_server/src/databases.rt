@@ -1,8 +1,9 @@
 //! The databases of the program.
 ghost use Rattle.std.specs.Prelude.{◌≡◌, ◌≤◌, ◌<◌, [], vec_len, IfOk, IfErr, OnOk};
 ghost use Rattle.sqlite.specs.Held.{state};
+ghost use Rattle.sqlite.specs.State.{HasCleanDisk};
 ghost use Rattle.escrow_rows.specs.Answers.{IsUsable};
-ghost use Rattle.escrow_server.specs.Output.{states_of, AreUsable};
+ghost use Rattle.escrow_server.specs.Output.{states_of, HaveCleanDisks};
 ghost use Rattle.escrow_server.specs.Program.{run_status, AreFound, IsFound, StartsAs};
 
 use crate::fault::RunFault;
@@ -24,7 +25,7 @@ pub(crate) fn open_databases<S: Alter + Drop, O: OpenStore<S>>(
 ) -> Result<(), RunFault>
     requires few { count ≤ MAX_DATABASES }
     requires none { databases.old.items ≡ [] }
-    ensures found { AreUsable S.Store databases.new.items → OnOk result (AreFound (O.may_hold stores.now) count (states_of databases.new.items)) }
+    ensures found { HaveCleanDisks S.Store databases.new.items → OnOk result (AreFound (O.may_hold stores.now) count (states_of databases.new.items)) }
     ensures len { OnOk result (vec_len databases.new ≡ count) }
     ensures kind { IfErr result (λ fault. run_status fault ≡ 3) }
 {
@@ -59,7 +60,7 @@ fn open_database<S: Alter + Drop, O: OpenStore<S>>(
     stores: &O,
     place: u8,
 ) -> Result<Database<S>, OpenFault>
-    ensures { IfOk result (λ d. IsUsable (state S.Store d.store) → IsFound (O.may_hold stores.now place) d.state) }
+    ensures { IfOk result (λ d. HasCleanDisk (state S.Store d.store) → IsFound (O.may_hold stores.now place) d.state) }
 {
     let connection = stores.open(alloc, place)?;
     over(alloc, connection)
@@ -68,8 +69,8 @@ fn open_database<S: Alter + Drop, O: OpenStore<S>>(
 /// The database of what a store holds: its tables and rows, or none where it has no objects. Nothing is
 /// open in it.
 fn over<S: Alter + Drop>(alloc: Global, connection: Connection<S>) -> Result<Database<S>, OpenFault>
-    ensures found { IfOk result (λ d. IsUsable (state S.Store d.store) → StartsAs (state S.Store connection).now d.state) }
-    ensures usable { IfOk result (λ d. IsUsable (state S.Store d.store) → IsUsable (state S.Store connection)) }
+    ensures found { IfOk result (λ d. HasCleanDisk (state S.Store d.store) → StartsAs (state S.Store connection).now d.state) }
+    ensures usable { IfOk result (λ d. HasCleanDisk (state S.Store d.store) → IsUsable (state S.Store connection)) }
 {
     match open_store(alloc, connection) {
         Ok(tables) => match Database::open(alloc, tables) {

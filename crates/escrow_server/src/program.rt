@@ -4,7 +4,7 @@ ghost use Rattle.std.specs.Process.{exit_status};
 ghost use Rattle.escrow_machine.specs.State.{State};
 ghost use Rattle.escrow_server.specs.declared.args.Args.{Args};
 ghost use Rattle.escrow_server.specs.Args.{asked_by, fault_status, refused_status};
-ghost use Rattle.escrow_server.specs.Output.{states_of, AreUsable, ServesWhole};
+ghost use Rattle.escrow_server.specs.Output.{states_of, HaveCleanDisks, ServesWhole};
 ghost use Rattle.escrow_server.specs.Program.{help_of, run_status, unread_status, AreFound, EndsOverFiles, EndsScript, SaysWhy, Stops, WritesFront, WritesNothing};
 
 use crate::args::{ArgFault, Args, read_args};
@@ -157,10 +157,11 @@ fn serve_stores<S: Alter + Drop, O: OpenStore<S>, R: Read, W: Write>(
     requires least { 1 ≤ count }
     requires most { count ≤ MAX_DATABASES }
     requires none { databases.old.items ≡ [] }
-    // Where each store can be used in the end, the script was served from the states that the stores held.
-    ensures served { AreUsable S.Store databases.new.items → OnOk result (IfSome (R.remaining input.old) (λ script. (old : List State)
+    // Where each disk has returned what was written, the script was served from the states that the stores
+    // held.
+    ensures served { HaveCleanDisks S.Store databases.new.items → OnOk result (IfSome (R.remaining input.old) (λ script. (old : List State)
         × AreFound (O.may_hold stores.now) count old × ServesWhole script old (states_of databases.new.items) (W.contents output.old) (W.contents output.new))) }
-    ensures stopped { AreUsable S.Store databases.new.items → IfErr result (λ fault. IfSome (R.remaining input.old) (λ script.
+    ensures stopped { HaveCleanDisks S.Store databases.new.items → IfErr result (λ fault. IfSome (R.remaining input.old) (λ script.
         Stops fault (AreFound (O.may_hold stores.now) count) (states_of databases.new.items) script (R.remaining input.new) (W.contents output.old) (W.contents output.new))) }
 
     // Whatever the stores do, all of the script was read, or nothing was where a store isn't opened.

@@ -2,9 +2,9 @@ ghost use Rattle.std.specs.Prelude.{◌≡◌, ◌≤◌, ◌<◌, ◌++◌, [],
 ghost use Rattle.std.specs.Io.KnownBytes.{Appends, IsAtEnd};
 ghost use Rattle.sqlite.specs.Held.{state};
 ghost use Rattle.escrow_sql.specs.declared.statement.Statement.{Statement};
-ghost use Rattle.escrow_rows.specs.Answers.{IsUsable};
+ghost use Rattle.sqlite.specs.State.{HasCleanDisk};
 ghost use Rattle.escrow_machine.specs.Step.{IsServed, StepOrRefusal};
-ghost use Rattle.escrow_server.specs.Output.{refusal_of, states_of, Answers, AreUsable, ServesBytes, ServesWhole, StopsWithin};
+ghost use Rattle.escrow_server.specs.Output.{refusal_of, states_of, Answers, HaveCleanDisks, ServesBytes, ServesWhole, StopsWithin};
 
 use crate::fault::ServeFault;
 use crate::limits::MAX_DATABASES;
@@ -37,18 +37,18 @@ pub fn serve_script<S: Alter, R: Read, W: Write>(
     requires some { 1 ≤ vec_len databases.old }
     requires few { vec_len databases.old ≤ MAX_DATABASES }
 
-    // Where each store can be used in the end, what was written and the states after it are those of the
-    // script, all of which was read.
-    ensures output { AreUsable S.Store databases.new.items → OnOk result (IfSome (R.remaining reader.old) (λ script.
+    // Where each disk has returned what was written, the output and the states after it are those of the
+    // script, all of which was read, also where a fault has shut a store.
+    ensures output { HaveCleanDisks S.Store databases.new.items → OnOk result (IfSome (R.remaining reader.old) (λ script.
         ServesWhole script (states_of databases.old.items) (states_of databases.new.items) (W.contents writer.old) (W.contents writer.new))) }
     ensures end { OnOk result (IfSome (R.remaining reader.old) (λ script. IsAtEnd (R.remaining reader.new))) }
 
     // After a fault some lines were served, and a front of their output was written.
-    ensures fault { AreUsable S.Store databases.new.items → IfErr result (λ fault. IfSome (R.remaining reader.old) (λ script.
+    ensures fault { HaveCleanDisks S.Store databases.new.items → IfErr result (λ fault. IfSome (R.remaining reader.old) (λ script.
         StopsWithin fault script (states_of databases.old.items) (states_of databases.new.items) (W.contents writer.old) (W.contents writer.new))) }
 
-    // Stores that can be used in the end could be used before.
-    ensures usable { AreUsable S.Store databases.new.items → AreUsable S.Store databases.old.items }
+    // A disk that has returned what was written had done so before.
+    ensures clean { HaveCleanDisks S.Store databases.new.items → HaveCleanDisks S.Store databases.old.items }
 {
     let mut script = Script::new(alloc)?;
     let mut replies = Vec::new(alloc);
@@ -93,10 +93,10 @@ fn serve_line<S: Alter>(
     line: &[u8],
 ) -> Result<Vec<u8>, AllocError>
     requires { vec_len databases.old ≤ MAX_DATABASES }
-    ensures ok { AreUsable S.Store databases.new.items → IfOk result (λ out. ServesBytes (states_of databases.old.items) line.now out.items (states_of databases.new.items)) }
-    ensures err { AreUsable S.Store databases.new.items → OnErr result ((out : List ℕ) × ServesBytes (states_of databases.old.items) line.now out (states_of databases.new.items)) }
+    ensures ok { HaveCleanDisks S.Store databases.new.items → IfOk result (λ out. ServesBytes (states_of databases.old.items) line.now out.items (states_of databases.new.items)) }
+    ensures err { HaveCleanDisks S.Store databases.new.items → OnErr result ((out : List ℕ) × ServesBytes (states_of databases.old.items) line.now out (states_of databases.new.items)) }
     ensures len { vec_len databases.new ≡ vec_len databases.old }
-    ensures usable { AreUsable S.Store databases.new.items → AreUsable S.Store databases.old.items }
+    ensures clean { HaveCleanDisks S.Store databases.new.items → HaveCleanDisks S.Store databases.old.items }
 {
     match classify(databases.len(), line) {
         Line::Nothing | Line::Join => Ok(Vec::new(alloc)),
@@ -118,8 +118,8 @@ fn serve_line<S: Alter>(
 
 /// Restarts a database, and answers its reply.
 fn restart<S: Alter>(alloc: Global, database: &mut Database<S>) -> Reply
-    ensures served { IsUsable (state S.Store database.new.store) → IsServed database.old.state Event.Restart result database.new.state }
-    ensures usable { IsUsable (state S.Store database.new.store) → IsUsable (state S.Store database.old.store) }
+    ensures served { HasCleanDisk (state S.Store database.new.store) → IsServed database.old.state Event.Restart result database.new.state }
+    ensures clean { HasCleanDisk (state S.Store database.new.store) → HasCleanDisk (state S.Store database.old.store) }
 {
     Reply::to_restart(database.restart(alloc))
 }
@@ -131,8 +131,8 @@ fn answer<S: Alter>(
     session: Session,
     text: &str,
 ) -> Reply
-    ensures served { IsUsable (state S.Store database.new.store) → Answers database.old.state session text.now result database.new.state }
-    ensures usable { IsUsable (state S.Store database.new.store) → IsUsable (state S.Store database.old.store) }
+    ensures served { HasCleanDisk (state S.Store database.new.store) → Answers database.old.state session text.now result database.new.state }
+    ensures clean { HasCleanDisk (state S.Store database.new.store) → HasCleanDisk (state S.Store database.old.store) }
 {
     match parse(alloc, text) {
         Ok(request) => serve_request(alloc, database, session, request),
@@ -147,8 +147,8 @@ fn serve_request<S: Alter>(
     session: Session,
     request: Request,
 ) -> Reply
-    ensures served { IsUsable (state S.Store database.new.store) → (asked : Statement) × (request ≡ Request.Statement asked) × StepOrRefusal database.old.state session asked result database.new.state }
-    ensures usable { IsUsable (state S.Store database.new.store) → IsUsable (state S.Store database.old.store) }
+    ensures served { HasCleanDisk (state S.Store database.new.store) → (asked : Statement) × (request ≡ Request.Statement asked) × StepOrRefusal database.old.state session asked result database.new.state }
+    ensures clean { HasCleanDisk (state S.Store database.new.store) → HasCleanDisk (state S.Store database.old.store) }
 {
     let Request::Statement(statement) = request;
     database.step(alloc, session, &statement)

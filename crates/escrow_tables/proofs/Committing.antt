@@ -36,26 +36,29 @@ module _ {S : Type 0} (g : Ghosts S) (old mid new : Held S) (looks : Looks (stat
         (made.0, λ was_open. makes (was_clean, stays_open was_clean was_open) made.0 made.1, made.2)) looks.survives it.crash;
   }
 
-  module _ (tables : List Counted) (reservations : List Reservation) (news : List NewAmounts) (is_done : Bool) (keeps : Keeps (state g old) tables)
+  module _ (tables : List Counted) (reservations : List Reservation) (news : List NewAmounts) (is_done : Bool) (was later : Held S) (keeps : Keeps (state g old) (state g was) tables)
       (puts : ArePuts (stored_of tables) reservations (map put_by news))
       (told : IsUsable (state g mid) → AllByRecursion (TellsPut (stored_of tables) reservations (state g old).now) (map put_by news))
-      (it : Changes g mid new (PutsAmounts news) is_done) where
+      (it : Changes g mid new (PutsAmounts news) is_done) (if_done : is_done ≡ true → later ≡ new) (if_not : is_done ≡ false → later ≡ was) where
     abbrev rows : List Row
-    rows = applied (rows_in (stored_of tables) (state g old).now) reservations
+    rows = applied (rows_in (stored_of tables) (state g was).now) reservations
 
     makes : IsUsable (state g mid) → (db : Database) → PutsAmounts news (state g mid).now db → IsHeld tables rows db
     makes usable db turns =
-        held_after reservations tables _ news (state g old).now db keeps.are_tables (keeps.held (looks.usable usable)) puts (told usable)
-        (subst (λ (was : Database). PutsAmounts news was db) (looks.same usable) turns)
+        let was_usable = looks.usable usable in
+        let same : (state g mid).now ≡ (state g was).now = looks.same usable ∙ keeps.same was_usable in
+        held_after reservations tables _ news (state g was).now db keeps.are_tables (keeps.held was_usable.0) puts
+        (subst (λ (first : Database). AllByRecursion (TellsPut (stored_of tables) reservations first) (map put_by news)) (keeps.same was_usable) (told usable))
+        (subst (λ (first : Database). PutsAmounts news first db) same turns)
 
     -- the reservations are applied where the call is done
-    pub commits : Writes g (seen g old tables) (seen g new tables) is_done (catalog_of tables) rows
+    pub commits : Writes g (seen g old was tables) (seen g new later tables) is_done (catalog_of tables) rows
     commits =
-        writes g old new _ is_done (changes_after (PutsAmounts news) (IsHeld tables rows) is_done makes it) tables tables tables rows keeps keeps.are_tables
-        (λ usable db made. made usable.1) (λ _. refl) (λ _. refl)
+        writes g old new _ is_done (changes_after (PutsAmounts news) (IsHeld tables rows) is_done makes it) was later tables tables tables rows keeps keeps.are_tables
+        (λ usable db made. made usable.1) (λ e. (refl, if_done e)) (λ e. (refl, if_not e))
 
     -- and the fields keep what they hold
-    pub keeps_committed : Keeps (state g new) tables
+    pub keeps_committed : Keeps (state g new) (state g later) tables
     keeps_committed =
-        keeps_on g old new _ is_done (changes_after (PutsAmounts news) (IsHeld tables rows) is_done makes it) tables tables tables rows keeps keeps.are_tables
-        (λ usable db made. made usable.1) (λ _. refl) (λ _. refl) keeps.is_catalog
+        keeps_on g old new _ is_done (changes_after (PutsAmounts news) (IsHeld tables rows) is_done makes it) was later tables tables tables rows keeps keeps.are_tables
+        (λ usable db made. made usable.1) (λ e. (refl, if_done e)) (λ e. (refl, if_not e)) keeps.is_catalog

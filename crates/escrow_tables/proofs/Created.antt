@@ -183,18 +183,18 @@ module _ (tables : List Counted) (c : Counted) (none : c.rows ≡ 0) (are : AreT
         counts = all-permutation (HasCount rows) (c ∷ tables) (with_counted c tables) whole (counted, held.counts);
       }
 
-  module _ {S : Type 0} (g : Ghosts S) (old later : Held S) (is_done : Bool) (it : Changes g old later (Creates c.stored) is_done) (fields : List Counted)
-      (keeps : Keeps (state g old) tables) (if_done : is_done ≡ true → fields ≡ with_counted c tables) (if_not : is_done ≡ false → fields ≡ tables) where
-    pub create_writes : Writes g (seen g old tables) (seen g later fields) is_done (with_table c.stored.table (catalog_of tables)) (rows_in (stored_of tables) (state g old).now)
+  module _ {S : Type 0} (g : Ghosts S) (old after was later : Held S) (is_done : Bool) (it : Changes g old after (Creates c.stored) is_done) (fields : List Counted)
+      (keeps : Keeps (state g old) (state g was) tables) (if_done : is_done ≡ true → (fields ≡ with_counted c tables) × (later ≡ after)) (if_not : is_done ≡ false → (fields ≡ tables) × (later ≡ was)) where
+    pub create_writes : Writes g (seen g old was tables) (seen g after later fields) is_done (with_table c.stored.table (catalog_of tables)) (rows_in (stored_of tables) (state g was).now)
     create_writes =
-        let rows = rows_in (stored_of tables) (state g old).now in
-        subst (λ (catalog : List TableDef). Writes g (seen g old tables) (seen g later fields) is_done catalog rows) (placed tables c)
-        (writes g old later (Creates c.stored) is_done it tables (with_counted c tables) fields rows keeps with_counted_are
-        (λ usable db makes. held_more rows (state g old).now db (keeps.held usable) makes) if_done if_not)
+        let rows = rows_in (stored_of tables) (state g was).now in
+        subst (λ (catalog : List TableDef). Writes g (seen g old was tables) (seen g after later fields) is_done catalog rows) (placed tables c)
+        (writes g old after (Creates c.stored) is_done it was later tables (with_counted c tables) fields rows keeps with_counted_are
+        (λ usable db makes. held_more rows (state g was).now db (keeps.held usable.0) makes) if_done if_not)
 
-    pub create_keeps : Keeps (state g later) fields
+    pub create_keeps : Keeps (state g after) (state g later) fields
     create_keeps =
-        let rows = rows_in (stored_of tables) (state g old).now in
-        keeps_on g old later (Creates c.stored) is_done it tables (with_counted c tables) fields rows keeps with_counted_are
-        (λ usable db makes. held_more rows (state g old).now db (keeps.held usable) makes) if_done if_not
+        let rows = rows_in (stored_of tables) (state g was).now in
+        keeps_on g old after (Creates c.stored) is_done it was later tables (with_counted c tables) fields rows keeps with_counted_are
+        (λ usable db makes. held_more rows (state g was).now db (keeps.held usable.0) makes) if_done if_not
         (subst IsCatalog (sym (placed tables c)) (with_new (catalog_of tables) c.stored.table keeps.is_catalog new.is_table new.unheard new.room))

@@ -112,18 +112,18 @@ module _ (tables : List Counted) (name : List ℕ) (c : Counted) (named : IsName
         counts = has_all (HasCount (without_rows_of name rows)) (without_counted name tables) count;
       }
 
-  module _ {S : Type 0} (g : Ghosts S) (old new : Held S) (is_done : Bool) (it : Changes g old new (Drops c.stored) is_done) (fields : List Counted)
-      (keeps : Keeps (state g old) tables) (if_done : is_done ≡ true → fields ≡ without_counted name tables) (if_not : is_done ≡ false → fields ≡ tables) where
-    pub drop_writes : Writes g (seen g old tables) (seen g new fields) is_done (without_table name (catalog_of tables)) (without_rows_of name (rows_in (stored_of tables) (state g old).now))
+  module _ {S : Type 0} (g : Ghosts S) (old new was later : Held S) (is_done : Bool) (it : Changes g old new (Drops c.stored) is_done) (fields : List Counted)
+      (keeps : Keeps (state g old) (state g was) tables) (if_done : is_done ≡ true → (fields ≡ without_counted name tables) × (later ≡ new)) (if_not : is_done ≡ false → (fields ≡ tables) × (later ≡ was)) where
+    pub drop_writes : Writes g (seen g old was tables) (seen g new later fields) is_done (without_table name (catalog_of tables)) (without_rows_of name (rows_in (stored_of tables) (state g was).now))
     drop_writes =
-        let rows = rows_in (stored_of tables) (state g old).now in
-        subst (λ (catalog : List TableDef). Writes g (seen g old tables) (seen g new fields) is_done catalog (without_rows_of name rows)) (catalog_without name tables)
-        (writes g old new (Drops c.stored) is_done it tables (without_counted name tables) fields (without_rows_of name rows) keeps without_are
-        (λ usable db makes. held_less rows (state g old).now db (keeps.held usable) makes) if_done if_not)
+        let rows = rows_in (stored_of tables) (state g was).now in
+        subst (λ (catalog : List TableDef). Writes g (seen g old was tables) (seen g new later fields) is_done catalog (without_rows_of name rows)) (catalog_without name tables)
+        (writes g old new (Drops c.stored) is_done it was later tables (without_counted name tables) fields (without_rows_of name rows) keeps without_are
+        (λ usable db makes. held_less rows (state g was).now db (keeps.held usable.0) makes) if_done if_not)
 
-    pub drop_keeps : Keeps (state g new) fields
+    pub drop_keeps : Keeps (state g new) (state g later) fields
     drop_keeps =
-        let rows = rows_in (stored_of tables) (state g old).now in
-        keeps_on g old new (Drops c.stored) is_done it tables (without_counted name tables) fields (without_rows_of name rows) keeps without_are
-        (λ usable db makes. held_less rows (state g old).now db (keeps.held usable) makes) if_done if_not
+        let rows = rows_in (stored_of tables) (state g was).now in
+        keeps_on g old new (Drops c.stored) is_done it was later tables (without_counted name tables) fields (without_rows_of name rows) keeps without_are
+        (λ usable db makes. held_less rows (state g was).now db (keeps.held usable.0) makes) if_done if_not
         (subst IsCatalog (sym (catalog_without name tables)) (without_one (catalog_of tables) name keeps.is_catalog))

@@ -1,9 +1,8 @@
 -- The rows of a store are those that its database is the image of.
-use Rattle.std.proofs.Common.{◌≡◌, List, [], subst, sym, arith}
+use Rattle.std.proofs.Common.{◌≡◌, List, [], refl, subst, sym, arith}
 use Rattle.sqlite.specs.Effect.{Database}
-use Rattle.sqlite.specs.State.{State}
+use Rattle.sqlite.specs.State.{State, HasCleanDisk}
 use Rattle.escrow_num.specs.declared.row.Row.{Row}
-use Rattle.escrow_rows.specs.Answers.{IsUsable}
 use Rattle.escrow_rows.specs.Image.{IsImage, AreTables, AreRows}
 use Rattle.escrow_rows.specs.View.{rows_in}
 use Rattle.escrow_rows.proofs.ViewLemmas.{rows_are}
@@ -24,12 +23,13 @@ no_tables = record { defined = tt; from_one = tt; ids_apart = tt; names_apart = 
 no_rows : AreRows [] []
 no_rows = record { of_tables = tt; row_order = tt; few_rows = λ table. omega arith }
 
-pub empty_rows : (s : State) → (IsUsable s → IsImage [] [] s.now) → IsUsable s → rows_in [] s.now ≡ []
-empty_rows s image usable = rows_are [] [] s.now no_tables no_rows (image usable).cells_are
+pub empty_rows : (s : State) → (HasCleanDisk s → IsImage [] [] s.now) → HasCleanDisk s → rows_in [] s.now ≡ []
+empty_rows s image clean = rows_are [] [] s.now no_tables no_rows (image clean).cells_are
 
-pub empty_keeps : (s : State) → (IsUsable s → IsImage [] [] s.now) → Keeps s []
+pub empty_keeps : (s : State) → (HasCleanDisk s → IsImage [] [] s.now) → Keeps s s []
 empty_keeps s image = record {
   are_tables = no_tables;
   is_catalog = record { tables = tt; order = tt; few = omega arith };
-  held = λ usable. held_itself [] [] s.now no_tables (record { are_rows = no_rows; image = image usable; counts = tt });
+  held = λ clean. held_itself [] [] s.now no_tables (record { are_rows = no_rows; image = image clean; counts = tt });
+  same = λ _. refl;
 }

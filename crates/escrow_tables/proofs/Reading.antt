@@ -1,9 +1,10 @@
 -- What the store answers of its image, said of the rows that are read.
-use Rattle.std.proofs.Common.{◌≡◌, ℕ, List, Option, Some, None, Result, ap, ◌∙◌}
-use Rattle.std.specs.Prelude.{IfOk, IfSome}
+use Rattle.std.proofs.Common.{◌≡◌, ℕ, List, Option, Some, None, Result, ap, arith, subst, ◌∙◌}
+use Rattle.std.specs.Prelude.{IfOk, IfSome, IsTrue}
 use Rattle.std.specs.List.{AllByRecursion}
 use Rattle.std.proofs.lemmas.Result.{IfOk-weaker}
-use Rattle.sqlite.specs.State.{State}
+use Rattle.sqlite.specs.Effect.{Database}
+use Rattle.sqlite.specs.State.{State, HasCleanDisk, Survives}
 use Rattle.sqlite_trees.proofs.ListLemmas.{all_weaker}
 use Rattle.escrow_num.specs.declared.row.Row.{Row}
 use Rattle.escrow_num.specs.declared.value.RowName.{RowName}
@@ -17,14 +18,27 @@ use Rattle.escrow_machine.specs.Rows.{HasTable}
 use Rattle.escrow_tables.specs.Inside.{Keeps, stored_of, catalog_of}
 use Rattle.escrow_tables.proofs.Named.{IsNamed, named_has}
 
+-- what the fields keep, they keep over a call that reads
+pub keeps_reading : (old new last : State) (tables : List Counted) → Keeps old last tables → (HasCleanDisk new → IsTrue new.is_open → new.now ≡ old.now)
+    → (IsUsable new → IsUsable old) → Survives old new (λ _. ⊥) → Keeps new last tables
+keeps_reading old new last tables keeps same before survives = record {
+  are_tables = keeps.are_tables;
+  is_catalog = keeps.is_catalog;
+  held = λ clean. keeps.held (omega (arith, survives.clean, clean));
+  same = λ usable. same usable.0 usable.1 ∙ keeps.same (before usable);
+}
+
 module _ (tables : List Counted) (name : List ℕ) (c : Counted) (named : IsNamed tables name c) where
-  -- an answer of the image is one of the rows
-  pub told_of : {X E A : Type 0} (P : Type 0) (s : State) (r : Result X E) (items : X → A) (of : List Row → A) → Keeps s tables → IsUsable s
-      → IfOk r (λ found. P × Tells c.stored of s.now (items found)) → IfOk r (λ found. items found ≡ of (rows_in (stored_of tables) s.now))
-  told_of P s r items of keeps usable =
-      let held = keeps.held usable in
-      IfOk-weaker r (λ found. P × Tells c.stored of s.now (items found)) (λ found. items found ≡ of (rows_in (stored_of tables) s.now))
-      (λ found told. told.1 (stored_of tables) (rows_in (stored_of tables) s.now) keeps.are_tables held.are_rows named.stands held.image)
+  -- an answer of the image is one of the rows: the store was open, so it held what was last written
+  pub told_of : {X E A : Type 0} (old new last : State) (r : Result X E) (items : X → A) (of : List Row → A) → Keeps old last tables → (IsUsable new → IsUsable old) → HasCleanDisk new
+      → IfOk r (λ found. IsTrue new.is_open × Tells c.stored of old.now (items found)) → IfOk r (λ found. items found ≡ of (rows_in (stored_of tables) last.now))
+  told_of old new last r items of keeps before clean =
+      IfOk-weaker r (λ found. IsTrue new.is_open × Tells c.stored of old.now (items found)) (λ found. items found ≡ of (rows_in (stored_of tables) last.now))
+      (λ found told.
+      let usable = before (clean, told.0) in
+      let held = keeps.held usable.0 in
+      subst (λ (db : Database). Tells c.stored of db (items found)) (keeps.same usable) told.1
+      (stored_of tables) (rows_in (stored_of tables) last.now) keeps.are_tables held.are_rows named.stands held.image)
 
   -- the name of a row of the table
   pub name_of : (key : Value) → name_in c.stored key ≡ record { table = name; key = key }

@@ -6,6 +6,7 @@ use Rattle.sqlite_trees.proofs.ListLemmas.{all_weaker}
 use Rattle.sqlite_trees.specs.declared.store.Store.{Ghosts}
 use Rattle.sqlite.specs.Effect.{Database}
 use Rattle.sqlite.specs.Held.{Held, state}
+use Rattle.sqlite.specs.State.{HasCleanDisk}
 use Rattle.escrow_num.proofs.Items.{all_has}
 use Rattle.escrow_num.specs.declared.row.Row.{Row}
 use Rattle.escrow_num.specs.declared.value.RowName.{RowName}
@@ -34,42 +35,44 @@ pub record Turned (tables : List Counted) (place : ℕ) (c : Counted) (n : ℕ) 
 
 -- The rows of the table at a place change, and it has then n; the field that counts them has this number where
 -- the call is done, and otherwise the one that it had.
-module _ {S : Type 0} (g : Ghosts S) (old new : Held S) (tables : List Counted) (name : List ℕ) (place : ℕ) (c : Counted) (placed : IsPlaced tables name place c) (after : List Row → List Row) (n : ℕ)
-    (keeps : Keeps (state g old) tables) (turned : IsUsable (state g old) → Turned tables place c n (after (rows_in (stored_of tables) (state g old).now)))
-    (is_done : Bool) (it : Changes g old new (TurnsRows c.stored after) is_done) (count : ℕ) (if_done : is_done ≡ true → count ≡ n) (if_not : is_done ≡ false → count ≡ c.rows) where
+module _ {S : Type 0} (g : Ghosts S) (old new was later : Held S) (tables : List Counted) (name : List ℕ) (place : ℕ) (c : Counted) (placed : IsPlaced tables name place c)
+    (after : List Row → List Row) (n : ℕ) (keeps : Keeps (state g old) (state g was) tables)
+    (turned : HasCleanDisk (state g old) → Turned tables place c n (after (rows_in (stored_of tables) (state g was).now)))
+    (is_done : Bool) (it : Changes g old new (TurnsRows c.stored after) is_done) (count : ℕ)
+    (if_done : is_done ≡ true → (count ≡ n) × (later ≡ new)) (if_not : is_done ≡ false → (count ≡ c.rows) × (later ≡ was)) where
   are_after : AreTables (stored_of (recounted tables place c n))
   are_after = subst AreTables (sym (stored_recounted tables name place c placed n)) keeps.are_tables
 
-  fields_done : is_done ≡ true → recounted tables place c count ≡ recounted tables place c n
-  fields_done e = ap (recounted tables place c) (if_done e)
+  fields_done : is_done ≡ true → (recounted tables place c count ≡ recounted tables place c n) × (later ≡ new)
+  fields_done e = (ap (recounted tables place c) (if_done e).0, (if_done e).1)
 
-  fields_not : is_done ≡ false → recounted tables place c count ≡ tables
-  fields_not e = ap (recounted tables place c) (if_not e) ∙ recounted_itself tables name place c placed
+  fields_not : is_done ≡ false → (recounted tables place c count ≡ tables) × (later ≡ was)
+  fields_not e = (ap (recounted tables place c) (if_not e).0 ∙ recounted_itself tables name place c placed, (if_not e).1)
 
   -- the call turns what is held into what is held after it
-  turns : IsUsable (state g old) → (db : Database) → TurnsRows c.stored after (state g old).now db
-      → IsHeld (recounted tables place c n) (after (rows_in (stored_of tables) (state g old).now)) db
+  turns : IsUsable (state g old) → (db : Database) → TurnsRows c.stored after (state g was).now db
+      → IsHeld (recounted tables place c n) (after (rows_in (stored_of tables) (state g was).now)) db
   turns usable db change =
-      let rows = rows_in (stored_of tables) (state g old).now in
+      let rows = rows_in (stored_of tables) (state g was).now in
       let stays = sym (stored_recounted tables name place c placed n) in
-      let held = keeps.held usable in
-      let made = turned usable in
+      let held = keeps.held usable.0 in
+      let made = turned usable.0 in
       record {
         are_rows = subst (λ (ts : List StoredTable). AreRows ts (after rows)) stays made.are_rows;
         image = subst (λ (ts : List StoredTable). IsImage ts (after rows) db) stays (change (stored_of tables) rows keeps.are_tables held.are_rows placed.named.stands held.image);
         counts = made.counts;
       }
 
-  pub row_writes : Writes g (seen g old tables) (seen g new (recounted tables place c count)) is_done (catalog_of tables) (after (rows_in (stored_of tables) (state g old).now))
+  pub row_writes : Writes g (seen g old was tables) (seen g new later (recounted tables place c count)) is_done (catalog_of tables) (after (rows_in (stored_of tables) (state g was).now))
   row_writes =
-      let rows = after (rows_in (stored_of tables) (state g old).now) in
+      let rows = after (rows_in (stored_of tables) (state g was).now) in
       let fields = recounted tables place c count in
-      subst (λ (catalog : List TableDef). Writes g (seen g old tables) (seen g new fields) is_done catalog rows) (catalog_recounted tables name place c placed n)
-      (writes g old new (TurnsRows c.stored after) is_done it tables (recounted tables place c n) fields rows keeps are_after turns fields_done fields_not)
+      subst (λ (catalog : List TableDef). Writes g (seen g old was tables) (seen g new later fields) is_done catalog rows) (catalog_recounted tables name place c placed n)
+      (writes g old new (TurnsRows c.stored after) is_done it was later tables (recounted tables place c n) fields rows keeps are_after turns fields_done fields_not)
 
-  pub row_keeps : Keeps (state g new) (recounted tables place c count)
+  pub row_keeps : Keeps (state g new) (state g later) (recounted tables place c count)
   row_keeps =
-      keeps_on g old new (TurnsRows c.stored after) is_done it tables (recounted tables place c n) (recounted tables place c count) (after (rows_in (stored_of tables) (state g old).now)) keeps
+      keeps_on g old new (TurnsRows c.stored after) is_done it was later tables (recounted tables place c n) (recounted tables place c count) (after (rows_in (stored_of tables) (state g was).now)) keeps
       are_after turns fields_done fields_not (subst IsCatalog (sym (catalog_recounted tables name place c placed n)) keeps.is_catalog)
 
 module _ (tables : List Counted) (name : List ℕ) (place : ℕ) (c : Counted) (placed : IsPlaced tables name place c) (are : AreTables (stored_of tables))

@@ -117,15 +117,16 @@ pub record IsVerified (old new : State) (found : List Counted) : Type 0 where
   pub looks : Looks old new
 
 -- the tables of a store, and its rows, are kept from then on
-pub keeps_found : (old new : State) (found : List Counted) → IsVerified old new found → Keeps new found
+pub keeps_found : (old new : State) (found : List Counted) → IsVerified old new found → Keeps new new found
 keeps_found old new found is = record {
   are_tables = is.are_tables;
   is_catalog = is.is_catalog;
-  held = λ usable.
-      let told = is.store usable.0 in
+  held = λ clean.
+      let told = is.store clean in
       let store = told.2 in
       let held = held_itself found told.1 old.now is.are_tables (record { are_rows = store.are_rows; image = store.image; counts = told.3 }) in
-      subst (λ (db : Database). IsHeld found (rows_in (stored_of found) db) db) (sym (is.looks.same usable)) held;
+      subst (λ (db : Database). IsHeld found (rows_in (stored_of found) db) db) (sym (is.looks.same (clean, told.0))) held;
+  same = λ _. refl;
 }
 
 -- and the store holds them, each row of which meets its checks
@@ -136,18 +137,18 @@ found_holds old new found is clean =
     let usable : IsUsable new = (clean, told.0) in
     let met = meet_read found told.1 old.now told.2 in (
       told.0,
-      holds found _ new.now is.are_tables ((keeps_found old new found is).held usable),
+      holds found _ new.now is.are_tables ((keeps_found old new found is).held clean),
       subst (λ (db : Database). AllByRecursion (MeetsChecks (catalog_of found)) (rows_in (stored_of found) db)) (sym (is.looks.same usable)) met,
     )
 
 -- where it was known which tables a store has, they are found again, and their rows meet their checks
-pub meet_again : (old new : State) (tables found : List Counted) → Keeps old tables → IsVerified old new found → IsUsable new
-    → AllByRecursion (MeetsChecks (catalog_of tables)) (rows_in (stored_of tables) new.now)
-meet_again old new tables found keeps is usable =
-    let told = is.store usable.0 in
-    let store = told.2 in
-    let held = keeps.held (is.looks.usable usable) in
+pub meet_again : (old new last : State) (tables found : List Counted) → Keeps old last tables → IsVerified old new found → HasCleanDisk new
+    → AllByRecursion (MeetsChecks (catalog_of tables)) (rows_in (stored_of tables) last.now)
+meet_again old new last tables found keeps is clean =
+    let told = is.store clean in
+    let usable = is.looks.usable (clean, told.0) in
+    let store = subst (λ (db : Database). IsStoreOf (stored_of found) told.1 db) (keeps.same usable) told.2 in
+    let held = keeps.held usable.0 in
     let same = tables_once tables found _ keeps.are_tables keeps.is_catalog held.image.tabs_are is.are_tables is.is_catalog store.image.tabs_are in
     let catalog : catalog_of tables ≡ catalog_of found = sym (definitions tables) ∙ ap (map (λ (s : StoredTable). s.table)) same ∙ definitions found in
-    let met = subst₂ (λ (cs : List TableDef) (ts : List StoredTable). AllByRecursion (MeetsChecks cs) (rows_in ts old.now)) (sym catalog) (sym same) (meet_read found told.1 old.now store) in
-    subst (λ (db : Database). AllByRecursion (MeetsChecks (catalog_of tables)) (rows_in (stored_of tables) db)) (sym (is.looks.same usable)) met
+    subst₂ (λ (cs : List TableDef) (ts : List StoredTable). AllByRecursion (MeetsChecks cs) (rows_in ts last.now)) (sym catalog) (sym same) (meet_read found told.1 last.now store)

@@ -1,5 +1,5 @@
 -- What a call of the store that writes makes of the tables and rows of a database.
-use Rattle.std.proofs.Common.{◌≡◌, ◌∙◌, ◌∷◌, [], Bool, true, false, List, Result, Ok, Err, ap, arith, inl, map, refl, subst, sym}
+use Rattle.std.proofs.Common.{◌≡◌, ◌∙◌, ◌∷◌, [], Bool, true, false, List, Result, Ok, Err, ap, ap₂, arith, inl, map, refl, subst, subst₂, sym}
 use Rattle.std.specs.Prelude.{IsTrue, OnErr, OnOk, is_ok}
 use Rattle.std.proofs.lemmas.Bool.{false≢true}
 use Rattle.sqlite_trees.specs.Tree.{Trees}
@@ -21,9 +21,9 @@ use Rattle.escrow_tables.specs.Inside.{IsHeld, Keeps, catalog_of, stored_of}
 use Rattle.escrow_verify.specs.declared.counted.Counted.{Counted}
 use Rattle.escrow_tables.proofs.Held.{held_itself, rows_held}
 
--- what contracts see of a connection and tables
-abbrev pub seen : {S : Type 0} → Ghosts S → Held S → List Counted → Committed S
-seen g store tables = record { store = store; catalog = catalog_of tables; rows = rows_in (stored_of tables) (state g store).now }
+-- what contracts see of a connection, of how it was when it was last written, and of tables
+abbrev pub seen : {S : Type 0} → Ghosts S → Held S → Held S → List Counted → Committed S
+seen g store last tables = record { store = store; catalog = catalog_of tables; rows = rows_in (stored_of tables) (state g last).now }
 
 -- the definitions of tables, taken in two steps
 pub definitions : (tables : List Counted) → map (λ (s : StoredTable). s.table) (stored_of tables) ≡ catalog_of tables
@@ -48,8 +48,7 @@ untouched g it catalog rows = record {
   opened = λ e. absurd (false≢true e);
   durable = λ e. absurd (false≢true e);
   kept_catalog = λ _. refl;
-  kept_rows = λ _ _. refl;
-  usable = λ usable. usable;
+  kept_rows = λ _. refl;
   survives = record {
     clean = omega arith;
     shield = λ h. h;
@@ -92,47 +91,57 @@ module _ {S : Type 0} (g : Ghosts S) (old new : Held S) (D : Database → Databa
     crash = crash;
   }
 
-  -- The tables that stand are kept, the change makes others of them, with other rows, and the fields have these
-  -- where the call is done.
-  module _ (is_done : Bool) (it : Changes is_done) (tables after fields : List Counted) (rows : List Row) (keeps : Keeps (state g old) tables)
-      (are_after : AreTables (stored_of after)) (turns : IsUsable (state g old) → (db : Database) → D (state g old).now db → IsHeld after rows db)
-      (if_done : is_done ≡ true → fields ≡ after) (if_not : is_done ≡ false → fields ≡ tables) where
-    -- what is held after a call that is done, and after one that isn't
-    held_done : is_done ≡ true → IsUsable (state g new) → IsHeld after rows (state g new).now
-    held_done e usable = turns (it.usable usable) (state g new).now ((it.done e usable.0).1)
+  -- The tables that stand are kept, and how the store was when it was last written; the change makes others of
+  -- them, with other rows. The fields have these, and the store as it is then, where the call is done.
+  module _ (is_done : Bool) (it : Changes is_done) (was later : Held S) (tables after fields : List Counted) (rows : List Row) (keeps : Keeps (state g old) (state g was) tables)
+      (are_after : AreTables (stored_of after)) (turns : IsUsable (state g old) → (db : Database) → D (state g was).now db → IsHeld after rows db)
+      (if_done : is_done ≡ true → (fields ≡ after) × (later ≡ new)) (if_not : is_done ≡ false → (fields ≡ tables) × (later ≡ was)) where
+    -- a clean disk was clean before
+    was_clean : HasCleanDisk (state g new) → HasCleanDisk (state g old)
+    was_clean clean = omega (arith, it.crash.clean, clean)
 
-    held_not : is_done ≡ false → IsUsable (state g new) → IsHeld tables (rows_in (stored_of tables) (state g new).now) (state g new).now
-    held_not e usable = subst (λ (db : Database). IsHeld tables (rows_in (stored_of tables) db) db) (sym (it.refused e usable.0 usable.1)) (keeps.held (it.usable usable))
+    -- what was changed was the database as it was last written
+    turned : IsUsable (state g old) → (db : Database) → D (state g old).now db → IsHeld after rows db
+    turned usable db change = turns usable db (subst (λ (first : Database). D first db) (keeps.same usable) change)
+
+    -- what is held after a call that is done
+    held_done : is_done ≡ true → HasCleanDisk (state g new) → IsHeld after rows (state g new).now
+    held_done e clean = let made = it.done e clean in turned (it.usable (clean, made.0)) (state g new).now made.1
+
+    -- the rows of the fields
+    rows_at : (ts : List Counted) (h : Held S) → (fields ≡ ts) × (later ≡ h) → rows_in (stored_of fields) (state g later).now ≡ rows_in (stored_of ts) (state g h).now
+    rows_at ts h at = ap₂ (λ (us : List Counted) (k : Held S). rows_in (stored_of us) (state g k).now) at.0 at.1
 
     -- the call writes these tables and rows
-    pub writes : Writes g (seen g old tables) (seen g new fields) is_done (catalog_of after) rows
+    pub writes : Writes g (seen g old was tables) (seen g new later fields) is_done (catalog_of after) rows
     writes = record {
-      done_catalog = λ e. ap catalog_of (if_done e);
-      done_rows = λ e usable. ap (λ (ts : List Counted). rows_in (stored_of ts) (state g new).now) (if_done e) ∙ rows_held after rows (state g new).now are_after (held_done e usable);
+      done_catalog = λ e. ap catalog_of (if_done e).0;
+      done_rows = λ e clean. rows_at after new (if_done e) ∙ rows_held after rows (state g new).now are_after (held_done e clean);
       opened = λ e clean. (it.done e clean).0;
-      durable = λ e clean trees may. ((state g new).now, holds after rows (state g new).now are_after (held_done e (clean, (it.done e clean).0)), it.durable e clean trees may);
-      kept_catalog = λ e. ap catalog_of (if_not e);
-      kept_rows = λ e usable.
-          ap (λ (ts : List Counted). rows_in (stored_of ts) (state g new).now) (if_not e) ∙ ap (rows_in (stored_of tables)) (it.refused e usable.0 usable.1);
-      usable = it.usable;
+      durable = λ e clean trees may. ((state g new).now, holds after rows (state g new).now are_after (held_done e clean), it.durable e clean trees may);
+      kept_catalog = λ e. ap catalog_of (if_not e).0;
+      kept_rows = λ e. rows_at tables was (if_not e);
       survives = survives_weaker (state g old) (state g new) _ _
-          (λ clean trees made is_open.
-          let was_clean : HasCleanDisk (state g old) = omega (arith, it.crash.clean) in
-          (made.0, holds after rows made.0 are_after (turns (was_clean, is_open) made.0 made.1), made.2)) it.crash;
+          (λ clean trees made is_open. (made.0, holds after rows made.0 are_after (turned (was_clean clean, is_open) made.0 made.1), made.2)) it.crash;
     }
 
     -- and the fields keep what they hold
-    pub keeps_on : IsCatalog (catalog_of after) → Keeps (state g new) fields
+    pub keeps_on : IsCatalog (catalog_of after) → Keeps (state g new) (state g later) fields
     keeps_on catalog = by is_done refl
       where
-        by : (b : Bool) → is_done ≡ b → Keeps (state g new) fields
-        by true e = subst (λ (ts : List Counted). Keeps (state g new) ts) (sym (if_done e)) (record {
+        at : (ts : List Counted) (h : Held S) → (fields ≡ ts) × (later ≡ h) → Keeps (state g new) (state g h) ts → Keeps (state g new) (state g later) fields
+        at ts h is kept = subst₂ (λ (us : List Counted) (k : Held S). Keeps (state g new) (state g k) us) (sym is.0) (sym is.1) kept
+
+        by : (b : Bool) → is_done ≡ b → Keeps (state g new) (state g later) fields
+        by true e = at after new (if_done e) (record {
           are_tables = are_after;
           is_catalog = catalog;
-          held = λ usable. held_itself after rows (state g new).now are_after (held_done e usable);
+          held = λ clean. held_itself after rows (state g new).now are_after (held_done e clean);
+          same = λ _. refl;
         })
-        by false e = subst (λ (ts : List Counted). Keeps (state g new) ts) (sym (if_not e)) (record {
+        by false e = at tables was (if_not e) (record {
           are_tables = keeps.are_tables;
           is_catalog = keeps.is_catalog;
-          held = held_not e;
+          held = λ clean. keeps.held (was_clean clean);
+          same = λ usable. it.refused e usable.0 usable.1 ∙ keeps.same (it.usable usable);
         })

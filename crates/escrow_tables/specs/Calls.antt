@@ -6,26 +6,22 @@ use Rattle.sqlite_trees.specs.declared.store.Store.{Ghosts}
 use Rattle.sqlite_trees.specs.Tree.{Trees}
 use Rattle.escrow_num.specs.declared.row.Row.{Row}
 use Rattle.escrow_schema.specs.declared.table.TableDef.{TableDef}
-use Rattle.escrow_rows.specs.Answers.{IsUsable}
 use Rattle.escrow_tables.specs.Committed.{Committed, AreHeld}
 
--- A call reads: the tables stay, and so do the rows where the store can be used after it. A crash leaves
--- what it might have left before.
+-- a call reads: tables and rows stay, and a crash leaves what it might have left before
 pub record Reads {S : Type 0} (g : Ghosts S) (old new : Committed S) : Type 0 where
   pub catalog : new.catalog ≡ old.catalog
-  pub rows : IsUsable (state g new.store) → new.rows ≡ old.rows
-  pub usable : IsUsable (state g new.store) → IsUsable (state g old.store)
+  pub rows : new.rows ≡ old.rows
   pub survives : Survives (state g old.store) (state g new.store) (λ _. ⊥)
 
--- A call writes, in one transaction: where it is done there are then these tables and, where the store can
--- be used after it, these rows, and a crash leaves both; else both stay. Whatever comes of it, a crash
--- leaves what it might have left before, or these tables and rows.
+-- A call writes, in one transaction: where it is done there are then these tables and, where the disk has
+-- returned what was written, these rows; the store is open, and a crash leaves both. Else both stay.
+-- Whatever comes of it, a crash leaves what it might have left before, or these tables and rows.
 pub record Writes {S : Type 0} (g : Ghosts S) (old new : Committed S) (is_done : Bool) (catalog : List TableDef) (rows : List Row) : Type 0 where
   pub done_catalog : is_done ≡ true → new.catalog ≡ catalog
-  pub done_rows : is_done ≡ true → IsUsable (state g new.store) → new.rows ≡ rows
+  pub done_rows : is_done ≡ true → HasCleanDisk (state g new.store) → new.rows ≡ rows
   pub opened : is_done ≡ true → HasCleanDisk (state g new.store) → IsTrue (state g new.store).is_open
   pub durable : is_done ≡ true → HasCleanDisk (state g new.store) → (trees : Trees) → (state g new.store).may_leave trees → AreHeld catalog rows trees
   pub kept_catalog : is_done ≡ false → new.catalog ≡ old.catalog
-  pub kept_rows : is_done ≡ false → IsUsable (state g new.store) → new.rows ≡ old.rows
-  pub usable : IsUsable (state g new.store) → IsUsable (state g old.store)
+  pub kept_rows : is_done ≡ false → new.rows ≡ old.rows
   pub survives : Survives (state g old.store) (state g new.store) (λ trees. IsTrue (state g old.store).is_open → AreHeld catalog rows trees)

@@ -11,8 +11,9 @@ use Rattle.escrow_schema.specs.declared.table.TableDef.{TableDef}
 use Rattle.escrow_rows.specs.declared.stored.StoredTable.{StoredTable}
 use Rattle.escrow_rows.specs.Image.{IsImage, AreTables, AreRows}
 
--- what contracts see: the connection to the store, the tables in order of name, and their rows in order
--- of table and key
+-- What contracts see: the connection to the store, the tables in order of name, and their rows in order of
+-- table and key. These are the committed rows whatever has become of the store: a fault that shuts it takes
+-- nothing from them.
 pub record Committed (S : Type 0) : Type 0 where
   pub store : Held S
   pub catalog : List TableDef

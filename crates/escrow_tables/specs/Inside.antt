@@ -1,8 +1,8 @@
 -- Helps: what the fields of the tables of a database hold.
-use Rattle.std.specs.Prelude.{List}
+use Rattle.std.specs.Prelude.{◌≡◌, List}
 use Rattle.std.specs.List.{AllByRecursion}
 use Rattle.sqlite.specs.Effect.{Database}
-use Rattle.sqlite.specs.State.{State}
+use Rattle.sqlite.specs.State.{State, HasCleanDisk}
 use Rattle.escrow_num.specs.declared.row.Row.{Row}
 use Rattle.escrow_schema.specs.Catalog.{IsCatalog}
 use Rattle.escrow_rows.specs.Answers.{IsUsable}
@@ -17,8 +17,11 @@ pub record IsHeld (tables : List Counted) (rows : List Row) (db : Database) : Ty
   pub image : IsImage (stored_of tables) rows db
   pub counts : AllByRecursion (HasCount rows) tables
 
--- what the fields keep: the tables whatever the store is like, and the rows where it can be used
-pub record Keeps (s : State) (tables : List Counted) : Type 0 where
+-- What the fields keep of a store, and of how it was when it was last written: the tables whatever it is
+-- like; their rows, as they then were, while its disk has returned what was written; and where it can be
+-- used, it still holds what it then held.
+pub record Keeps (s last : State) (tables : List Counted) : Type 0 where
   pub are_tables : AreTables (stored_of tables)
   pub is_catalog : IsCatalog (catalog_of tables)
-  pub held : IsUsable s → IsHeld tables (rows_in (stored_of tables) s.now) s.now
+  pub held : HasCleanDisk s → IsHeld tables (rows_in (stored_of tables) last.now) last.now
+  pub same : IsUsable s → s.now ≡ last.now

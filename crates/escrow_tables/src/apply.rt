@@ -18,6 +18,7 @@ use escrow_rows::{NewAmounts, RowStore, StoredTable};
 use escrow_verify::Counted;
 use sqlite::Alter;
 use std::alloc::{AllocError, Global};
+use std::snapshot::Snapshot;
 
 /// What reservations make of the row of a key: for each RESERVABLE column its new amount, or none where it
 /// stays.
@@ -40,7 +41,9 @@ impl<S: Alter> Tables<S> {
     {
         let changes = changes_by(&mut self.store, alloc, &self.tables, reservations)?;
         let news = news_of(alloc, changes.as_slice())?;
-        self.store.put_amounts(alloc, news.as_slice())
+        self.store.put_amounts(alloc, news.as_slice())?;
+        self.last = Snapshot::of(&self.store);
+        Ok(())
     }
 }
 

@@ -12,6 +12,7 @@ use escrow_schema::TableDef;
 use escrow_verify::Counted;
 use sqlite::Alter;
 use std::alloc::Global;
+use std::snapshot::Snapshot;
 
 impl<S: Alter> Tables<S> {
     ghost use Rattle.std.specs.Prelude.{◌≡◌, ◌<◌, None, IsSome, length, is_ok};
@@ -36,6 +37,7 @@ impl<S: Alter> Tables<S> {
         let stored = StoredTable { id, table };
         self.store.create_table(alloc, &stored)?;
         put(&mut self.tables, place, Counted { stored, rows: 0 });
+        self.last = Snapshot::of(&self.store);
         Ok(())
     }
 
@@ -49,6 +51,7 @@ impl<S: Alter> Tables<S> {
         };
         self.store.drop_table(&self.tables[place].stored)?;
         self.tables.remove(place);
+        self.last = Snapshot::of(&self.store);
         Ok(())
     }
 }

@@ -41,7 +41,7 @@ pub fn open_store<S: Alter>(
     // Tables and rows that the store holds, each row of which meets its checks: what stood there, or none.
     ensures store { IfOk result (λ t. HasCleanDisk (state S.Store t.store) → IsTrue (state S.Store t.store).is_open × Holds t.catalog t.rows (state S.Store t.store).now × AllByRecursion (MeetsChecks t.catalog) t.rows) }
     ensures found { IfOk result (λ t. IsUsable (state S.Store t.store) → (state S.Store connection).now.schema ≢ no_schema → (state S.Store t.store).now ≡ (state S.Store connection).now) }
-    ensures made { IfOk result (λ t. (state S.Store connection).now.schema ≡ no_schema → (t.catalog ≡ []) × (IsUsable (state S.Store t.store) → t.rows ≡ [])) }
+    ensures made { IfOk result (λ t. (state S.Store connection).now.schema ≡ no_schema → (t.catalog ≡ []) × (HasCleanDisk (state S.Store t.store) → t.rows ≡ [])) }
 
     // Why a store isn't opened, just where that is so.
     ensures cause { IfErr result (λ f. IsCause f.cause) }
@@ -81,7 +81,7 @@ fn make_tables<S: Alter>(
     requires outside { connection.in_transaction ≡ false }
     requires bare { (state S.Store connection).now.schema ≡ no_schema }
     ensures store { IfOk result (λ t. HasCleanDisk (state S.Store t.store) → IsTrue (state S.Store t.store).is_open × Holds t.catalog t.rows (state S.Store t.store).now × AllByRecursion (MeetsChecks t.catalog) t.rows) }
-    ensures made { IfOk result (λ t. (t.catalog ≡ []) × (IsUsable (state S.Store t.store) → t.rows ≡ [])) }
+    ensures made { IfOk result (λ t. (t.catalog ≡ []) × (HasCleanDisk (state S.Store t.store) → t.rows ≡ [])) }
     ensures cause { IfErr result (λ f. (f.cause ≡ refusal.Memory) ⊎ (f.cause ≡ refusal.Store)) }
     ensures kept { IfErr result (λ f. IsUsable (state S.Store f.connection) → (state S.Store f.connection).now ≡ (state S.Store connection).now) }
     ensures outside { IfErr result (λ f. f.connection.in_transaction ≡ false) }

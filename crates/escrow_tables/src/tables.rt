@@ -8,12 +8,16 @@ use escrow_verify::Counted;
 use sqlite::Alter;
 use std::alloc::Global;
 use std::marker::Model;
+use std::snapshot::Snapshot;
 
 /// The tables of a database and their committed rows, in a store that SQLite writes to. How many rows a
-/// table has is kept beside the store.
+/// table has is kept beside the store. The rows are those that the store held when it was last written,
+/// also where a fault has shut it since.
 #[derive(Drop)]
 pub struct Tables<S: Alter> {
     pub(crate) store: RowStore<S>,
+    // The store as it was when it was last written, for clauses alone: it has no bytes.
+    pub(crate) last: Snapshot<RowStore<S>>,
     // In order of name.
     pub(crate) tables: Vec<Counted>,
 }
@@ -28,14 +32,15 @@ impl<S: Alter> Model for Tables<S> {
 
     ghost coded = { committed_code S.code };
 
-    ghost view = { λ t. record { store = t.store; catalog = catalog_of t.tables.items; rows = rows_in (stored_of t.tables.items) (state S.Store t.store).now } };
+    ghost view = { λ t. record { store = t.store; catalog = catalog_of t.tables.items; rows = rows_in (stored_of t.tables.items) (state S.Store t.last.value).now } };
 
-    ghost invariant = { λ t. Keeps (state S.Store t.store) t.tables.items };
+    ghost invariant = { λ t. Keeps (state S.Store t.store) (state S.Store t.last.value) t.tables.items };
 }
 
 impl<S: Alter> Tables<S> {
     ghost use Rattle.std.specs.Prelude.{◌≡◌, ◌↔◌, [], length, IfSome, IsSome, IsTrue, option_copied};
     ghost use Rattle.sqlite.specs.Held.{state};
+    ghost use Rattle.sqlite.specs.State.{HasCleanDisk};
     ghost use Rattle.sqlite_trees.specs.Tree.{Trees};
     ghost use Rattle.escrow_schema.specs.Catalog.{table_named, IsCatalog};
     ghost use Rattle.escrow_schema.specs.Definition.{IsTable};
@@ -46,23 +51,25 @@ impl<S: Alter> Tables<S> {
 
     /// The tables of an empty store: none. Makes no store call, and takes no memory.
     pub fn empty(alloc: Global, store: RowStore<S>) -> Self
-        requires { IsUsable (state S.Store store) → IsImage [] [] (state S.Store store).now }
+        requires { HasCleanDisk (state S.Store store) → IsImage [] [] (state S.Store store).now }
         ensures store { result.store ≡ store }
         ensures catalog { result.catalog ≡ [] }
-        ensures rows { IsUsable (state S.Store store) → result.rows ≡ [] }
+        ensures rows { HasCleanDisk (state S.Store store) → result.rows ≡ [] }
     {
         Tables {
+            last: Snapshot::of(&store),
             store,
             tables: Vec::new(alloc),
         }
     }
 
     /// How many tables there are. Makes no store call. The catalog is one at any time, and the rows are
-    /// its rows where the store can be used; a crash then leaves just these.
+    /// its rows while the disk has returned what was written; where the store can be used a crash leaves
+    /// just these.
     pub fn len(&self) -> usize
         ensures len { result ≡ length self.now.catalog }
         ensures catalog { IsCatalog self.now.catalog }
-        ensures rows { IsUsable (state S.Store self.now.store) → AreRowsOf self.now.catalog self.now.rows }
+        ensures rows { HasCleanDisk (state S.Store self.now.store) → AreRowsOf self.now.catalog self.now.rows }
         ensures left { IsUsable (state S.Store self.now.store) → (trees : Trees) → (state S.Store self.now.store).may_leave trees → AreHeld self.now.catalog self.now.rows trees }
     {
         self.store.rests();
@@ -88,7 +95,7 @@ impl<S: Alter> Tables<S> {
     /// How many rows a table has. Makes no store call.
     pub fn count(&self, name: Name) -> usize
         requires { IsSome (table_named self.now.catalog name) }
-        ensures { IsUsable (state S.Store self.now.store) → result ≡ length (rows_of self.now.rows name) }
+        ensures { HasCleanDisk (state S.Store self.now.store) → result ≡ length (rows_of self.now.rows name) }
     {
         match find_counted(&self.tables, name) {
             Some(counted) => counted.rows,

@@ -4,6 +4,7 @@ use escrow_rows::RowStore;
 use escrow_verify::verify;
 use sqlite::Alter;
 use std::alloc::Global;
+use std::snapshot::Snapshot;
 
 impl<S: Alter> Tables<S> {
     ghost use Rattle.std.specs.Prelude.{◌≡◌, IsTrue, IfOk, IfErr, OnOk};
@@ -34,7 +35,11 @@ impl<S: Alter> Tables<S> {
         ensures looks_refused { IfErr result (λ f. Looks (state S.Store store) (state S.Store f.0)) }
     {
         match verify(alloc, &mut store) {
-            Ok(tables) => Ok(Tables { store, tables }),
+            Ok(tables) => Ok(Tables {
+                last: Snapshot::of(&store),
+                store,
+                tables,
+            }),
             Err(cause) => Err((store, cause)),
         }
     }
@@ -47,7 +52,7 @@ impl<S: Alter> Tables<S> {
     /// [`Failure::Memory`] for want of memory; [`Failure::Store`] where the store refuses a call or holds
     /// anything else.
     pub fn verify(&mut self, alloc: Global) -> Result<(), Failure>
-        ensures meet { IsUsable (state S.Store self.new.store) → OnOk result (AllByRecursion (MeetsChecks self.new.catalog) self.new.rows) }
+        ensures meet { HasCleanDisk (state S.Store self.new.store) → OnOk result (AllByRecursion (MeetsChecks self.new.catalog) self.new.rows) }
         ensures reads { Reads S.Store self.old self.new }
         ensures open { HasCleanDisk (state S.Store self.new.store) → OnOk result (IsTrue (state S.Store self.new.store).is_open) }
     {

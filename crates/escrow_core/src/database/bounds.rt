@@ -11,8 +11,8 @@ impl<S: Alter> Database<S> {
     ghost use Rattle.std.specs.Prelude.{◌≡◌, Some};
     ghost use Rattle.std.specs.Result.{result_err};
     ghost use Rattle.sqlite.specs.Held.{state};
+    ghost use Rattle.sqlite.specs.State.{HasCleanDisk};
     ghost use Rattle.escrow_num.specs.Refusal.{first_refusal};
-    ghost use Rattle.escrow_rows.specs.Answers.{IsUsable};
     ghost use Rattle.escrow_machine.specs.Asked.{named_by};
     ghost use Rattle.escrow_core.specs.Serves.{Serves};
     ghost use Rattle.escrow_machine.specs.Accepted.{PassesEarly};
@@ -74,7 +74,7 @@ impl<S: Alter> Database<S> {
         requires named { row.now.name ≡ named_by text.now.table text.now.row }
         requires fits { HasTable self.old.state.catalog row.now }
         requires early { PassesEarly self.old.state session (Statement.ShowBounds text.now) }
-        requires stands { IsUsable (state S.Store self.old.store) → row_named self.old.state.rows row.now.name ≡ Some row.now }
+        requires stands { HasCleanDisk (state S.Store self.old.store) → row_named self.old.state.rows row.now.name ≡ Some row.now }
         ensures { Serves S.Store session (Statement.ShowBounds text.now) self.old result self.new }
     {
         let Some(table) = self.tables.find(text.table) else {

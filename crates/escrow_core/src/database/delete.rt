@@ -11,8 +11,8 @@ impl<S: Alter> Database<S> {
     ghost use Rattle.std.specs.Prelude.{◌≡◌, IsSome};
     ghost use Rattle.std.specs.Result.{result_err};
     ghost use Rattle.sqlite.specs.Held.{state};
+    ghost use Rattle.sqlite.specs.State.{HasCleanDisk};
     ghost use Rattle.escrow_num.specs.Refusal.{first_refusal};
-    ghost use Rattle.escrow_rows.specs.Answers.{IsUsable};
     ghost use Rattle.escrow_machine.specs.Asked.{named_by};
     ghost use Rattle.escrow_core.specs.Serves.{Serves};
     ghost use Rattle.escrow_machine.specs.Accepted.{PassesEarly};
@@ -69,7 +69,7 @@ impl<S: Alter> Database<S> {
     fn take_standing_row(&mut self, session: Session, text: &RowText, name: &RowName) -> Reply
         requires name { name.now ≡ named_by text.now.table text.now.row }
         requires early { PassesEarly self.old.state session (Statement.Delete text.now) }
-        requires stands { IsUsable (state S.Store self.old.store) → IsSome (row_named self.old.state.rows name.now) }
+        requires stands { HasCleanDisk (state S.Store self.old.store) → IsSome (row_named self.old.state.rows name.now) }
         ensures { Serves S.Store session (Statement.Delete text.now) self.old result self.new }
     {
         if is_reserved(&self.open, name) {

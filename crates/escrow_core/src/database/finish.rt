@@ -16,7 +16,6 @@ impl<S: Alter> Database<S> {
     ghost use Rattle.sqlite.specs.Held.{state};
     ghost use Rattle.sqlite.specs.State.{HasCleanDisk, Survives};
     ghost use Rattle.escrow_journal.specs.Reservations.{others};
-    ghost use Rattle.escrow_rows.specs.Answers.{IsUsable};
     ghost use Rattle.escrow_num.specs.Refusal.{told};
     ghost use Rattle.escrow_core.specs.Serves.{Serves};
     ghost use Rattle.escrow_core.specs.Serving.{AreAfterEnd};
@@ -40,9 +39,8 @@ impl<S: Alter> Database<S> {
         session: Session,
         end: End,
     ) -> Result<u32, Failure>
-        ensures done { IsUsable (state S.Store self.new.store) → OnOk result (self.new.state ≡ after_end self.old.state session end) }
-        ensures failed { IsUsable (state S.Store self.new.store) → OnErr result (self.new.state ≡ self.old.state) }
-        ensures usable { IsUsable (state S.Store self.new.store) → IsUsable (state S.Store self.old.store) }
+        ensures done { HasCleanDisk (state S.Store self.new.store) → OnOk result (self.new.state ≡ after_end self.old.state session end) }
+        ensures failed { OnErr result (self.new.state ≡ self.old.state) }
         ensures count { IfOk result (λ count. count ≡ length (own session self.old.state.reservations)) }
         ensures left { OnOk result (self.new.state.reservations ≡ others session self.old.state.reservations) }
         ensures commit { OnErr result (end ≡ End.Commit) }

@@ -11,9 +11,9 @@ use std::alloc::Global;
 impl<S: Alter> Database<S> {
     ghost use Rattle.std.specs.Prelude.{◌≡◌, [], ◌∷◌, None, Some, IfOk, IfErr, nat_le, length, option_map};
     ghost use Rattle.sqlite.specs.Held.{state};
+    ghost use Rattle.sqlite.specs.State.{HasCleanDisk};
     ghost use Rattle.escrow_num.specs.Refusal.{first_refusal, refuse_if};
     ghost use Rattle.escrow_schema.specs.declared.table.TheConstants.TableDef.{MAX_ROWS};
-    ghost use Rattle.escrow_rows.specs.Answers.{IsUsable};
     ghost use Rattle.escrow_machine.specs.Asked.{insert_breach, row_of};
     ghost use Rattle.escrow_core.specs.Serves.{Serves};
     ghost use Rattle.escrow_machine.specs.Accepted.{IsRefusal, PassesEarly};
@@ -74,7 +74,7 @@ impl<S: Alter> Database<S> {
     ) -> Reply
         requires row { row_of self.old.state text.now ≡ Some row.now }
         requires early { PassesEarly self.old.state session (Statement.Insert text.now) }
-        requires new { IsUsable (state S.Store self.old.store) → row_named self.old.state.rows row.now.name ≡ None }
+        requires new { HasCleanDisk (state S.Store self.old.store) → row_named self.old.state.rows row.now.name ≡ None }
         ensures { Serves S.Store session (Statement.Insert text.now) self.old result self.new }
     {
         if let Some(refusal) = self.row_refusal(text, row) {
@@ -90,7 +90,7 @@ impl<S: Alter> Database<S> {
     /// reservation.
     fn row_refusal(&self, text: &InsertText, row: &Row) -> Option<Refusal>
         requires { row_of self.now.state text.now ≡ Some row.now }
-        ensures { IsUsable (state S.Store self.now.store) → result ≡ first_refusal (
+        ensures { HasCleanDisk (state S.Store self.now.store) → result ≡ first_refusal (
             refuse_if (nat_le MAX_ROWS (length (rows_of self.now.state.rows text.now.table))) Refusal.TableFull
             ∷ option_map Refusal.Check (insert_breach self.now.state text.now)
             ∷ []) }

@@ -9,16 +9,15 @@ impl<S: Alter> Database<S> {
     ghost use Rattle.sqlite.specs.State.{HasCleanDisk};
     ghost use Rattle.escrow_num.specs.Ascending.{IsAscending};
     ghost use Rattle.escrow_schema.specs.Catalog.{table_named};
-    ghost use Rattle.escrow_rows.specs.Answers.{IsUsable};
     ghost use Rattle.escrow_core.specs.Serving.{Looks};
     ghost use Rattle.escrow_machine.specs.Rows.{row_named, rows_of, HasTable, row_before};
 
     /// The committed row of a name, if there is one; all rows are in order.
     pub(crate) fn row(&mut self, alloc: Global, name: &RowName) -> Result<Option<Row>, Failure>
         requires { IsSome (table_named self.old.state.catalog name.now.table) }
-        ensures told { IsUsable (state S.Store self.new.store) → IfOk result (λ found. found ≡ row_named self.old.state.rows name.now) }
+        ensures told { HasCleanDisk (state S.Store self.new.store) → IfOk result (λ found. found ≡ row_named self.old.state.rows name.now) }
         ensures fits { IfOk result (λ found. IfSome found (λ row. HasTable self.old.state.catalog row × (row.name ≡ name.now))) }
-        ensures order { IsUsable (state S.Store self.new.store) → IsAscending row_before self.old.state.rows }
+        ensures order { HasCleanDisk (state S.Store self.new.store) → IsAscending row_before self.old.state.rows }
         ensures looks { Looks S.Store self.old self.new }
         ensures open { HasCleanDisk (state S.Store self.new.store) → OnOk result (IsTrue (state S.Store self.new.store).is_open) }
     {
@@ -28,7 +27,7 @@ impl<S: Alter> Database<S> {
     /// The committed rows of a table, in order of key.
     pub(crate) fn rows(&mut self, alloc: Global, table: Name) -> Result<Vec<Row>, Failure>
         requires { IsSome (table_named self.old.state.catalog table) }
-        ensures told { IsUsable (state S.Store self.new.store) → IfOk result (λ rows. rows.items ≡ rows_of self.old.state.rows table) }
+        ensures told { HasCleanDisk (state S.Store self.new.store) → IfOk result (λ rows. rows.items ≡ rows_of self.old.state.rows table) }
         ensures looks { Looks S.Store self.old self.new }
         ensures open { HasCleanDisk (state S.Store self.new.store) → OnOk result (IsTrue (state S.Store self.new.store).is_open) }
     {

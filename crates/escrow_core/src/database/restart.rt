@@ -7,7 +7,6 @@ impl<S: Alter> Database<S> {
     ghost use Rattle.std.specs.Prelude.{◌≡◌, ◌⊎◌, IfErr, OnOk, OnErr, IsTrue};
     ghost use Rattle.sqlite.specs.Held.{state};
     ghost use Rattle.sqlite.specs.State.{HasCleanDisk, Survives};
-    ghost use Rattle.escrow_rows.specs.Answers.{IsUsable};
     ghost use Rattle.escrow_machine.specs.declared.event.Event.TheVariants as event;
     ghost use Rattle.escrow_machine.specs.Reply.{restart_reply};
     ghost use Rattle.escrow_machine.specs.State.{opened};
@@ -17,13 +16,12 @@ impl<S: Alter> Database<S> {
     /// id is 1. Catalog and rows stay. Refused for want of memory (51), or where the store refuses or
     /// doesn't hold the tables any more (60), and then nothing changes.
     pub fn restart(&mut self, alloc: Global) -> Result<(), Refusal>
-        ensures event { IsUsable (state S.Store self.new.store) → IsServed self.old.state event.Restart (restart_reply result) self.new.state }
-        ensures usable { IsUsable (state S.Store self.new.store) → IsUsable (state S.Store self.old.store) }
+        ensures event { HasCleanDisk (state S.Store self.new.store) → IsServed self.old.state event.Restart (restart_reply result) self.new.state }
         ensures open { HasCleanDisk (state S.Store self.new.store) → OnOk result (IsTrue (state S.Store self.new.store).is_open) }
 
-        // Whatever the store is like, nothing is open after it, or all that was; and the catalog stays.
-        ensures done { OnOk result (self.new.state ≡ opened self.old.state.catalog self.new.state.rows) }
-        ensures refused { OnErr result (self.new.state ≡ record self.old.state { rows = self.new.state.rows }) }
+        // Whatever the store is like, nothing is open after it, or all that was; catalog and rows stay.
+        ensures done { OnOk result (self.new.state ≡ opened self.old.state.catalog self.old.state.rows) }
+        ensures refused { OnErr result (self.new.state ≡ self.old.state) }
         ensures cause { IfErr result (λ r. (r ≡ Refusal.Memory) ⊎ (r ≡ Refusal.Store)) }
 
         // The store isn't written: a crash leaves what it might have left before.

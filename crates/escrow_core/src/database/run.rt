@@ -10,14 +10,14 @@ use std::alloc::{AllocError, Global};
 impl<S: Alter> Database<S> {
     ghost use Rattle.std.specs.Prelude.{◌≡◌, IfOk, OnErr};
     ghost use Rattle.sqlite.specs.Held.{state};
-    ghost use Rattle.escrow_rows.specs.Answers.{IsUsable};
+    ghost use Rattle.sqlite.specs.State.{HasCleanDisk};
     ghost use Rattle.escrow_machine.specs.Step.{IsServed, IsRun};
 
     /// Serves events, one after another, and answers their replies. Room for the replies is taken
     /// first: where it is refused, nothing was served.
     pub fn run(&mut self, alloc: Global, events: &[Event]) -> Result<Vec<Reply>, AllocError>
-        ensures served { IsUsable (state S.Store self.new.store) → IfOk result (λ replies. IsRun self.old.state events.now replies.items self.new.state) }
-        ensures usable { IsUsable (state S.Store self.new.store) → IsUsable (state S.Store self.old.store) }
+        ensures served { HasCleanDisk (state S.Store self.new.store) → IfOk result (λ replies. IsRun self.old.state events.now replies.items self.new.state) }
+        ensures clean { HasCleanDisk (state S.Store self.new.store) → HasCleanDisk (state S.Store self.old.store) }
         ensures refused { OnErr result (self.new ≡ self.old) }
     {
         let mut replies = Vec::with_capacity(alloc, events.len())?;
@@ -30,8 +30,8 @@ impl<S: Alter> Database<S> {
 
     /// Serves one event.
     fn serve(&mut self, alloc: Global, event: &Event) -> Reply
-        ensures served { IsUsable (state S.Store self.new.store) → IsServed self.old.state event.now result self.new.state }
-        ensures usable { IsUsable (state S.Store self.new.store) → IsUsable (state S.Store self.old.store) }
+        ensures served { HasCleanDisk (state S.Store self.new.store) → IsServed self.old.state event.now result self.new.state }
+        ensures clean { HasCleanDisk (state S.Store self.new.store) → HasCleanDisk (state S.Store self.old.store) }
     {
         match event {
             Event::Statement { session, statement } => self.step(alloc, *session, statement),

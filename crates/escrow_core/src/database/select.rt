@@ -16,7 +16,6 @@ impl<S: Alter> Database<S> {
     ghost use Rattle.sqlite.specs.State.{HasCleanDisk};
     ghost use Rattle.escrow_num.specs.Refusal.{first_refusal};
     ghost use Rattle.escrow_schema.specs.Catalog.{table_named};
-    ghost use Rattle.escrow_rows.specs.Answers.{IsUsable};
     ghost use Rattle.escrow_machine.specs.Asked.{is_shown, select_reply};
     ghost use Rattle.escrow_machine.specs.Reply.{tells_write};
     ghost use Rattle.escrow_core.specs.Serves.{Serves};
@@ -59,7 +58,7 @@ impl<S: Alter> Database<S> {
         text: &SelectText,
     ) -> Result<Vec<Row>, Failure>
         requires { PassesEarly self.old.state session (Statement.Select text.now) }
-        ensures told { IsUsable (state S.Store self.new.store) → IfOk result (λ rows. rows.items ≡ filter (is_shown text.now.table text.now.row) self.old.state.rows) }
+        ensures told { HasCleanDisk (state S.Store self.new.store) → IfOk result (λ rows. rows.items ≡ filter (is_shown text.now.table text.now.row) self.old.state.rows) }
         ensures looks { Looks S.Store self.old self.new }
         ensures open { HasCleanDisk (state S.Store self.new.store) → OnOk result (IsTrue (state S.Store self.new.store).is_open) }
     {
@@ -77,7 +76,7 @@ impl<S: Alter> Database<S> {
         row: &WhereText,
     ) -> Result<Vec<Row>, Failure>
         requires table { IsSome (table_named self.old.state.catalog text.now.table) }
-        ensures told { IsUsable (state S.Store self.new.store) → IfOk result (λ rows. rows.items ≡ filter (is_shown text.now.table (Some row.now)) self.old.state.rows) }
+        ensures told { HasCleanDisk (state S.Store self.new.store) → IfOk result (λ rows. rows.items ≡ filter (is_shown text.now.table (Some row.now)) self.old.state.rows) }
         ensures looks { Looks S.Store self.old self.new }
         ensures open { HasCleanDisk (state S.Store self.new.store) → OnOk result (IsTrue (state S.Store self.new.store).is_open) }
     {
@@ -101,7 +100,7 @@ impl<S: Alter> Database<S> {
         rows: &[Row],
     ) -> Reply
         requires early { PassesEarly self.old.state session (Statement.Select text.now) }
-        requires rows { IsUsable (state S.Store self.old.store) → rows.now ≡ filter (is_shown text.now.table text.now.row) self.old.state.rows }
+        requires rows { HasCleanDisk (state S.Store self.old.store) → rows.now ≡ filter (is_shown text.now.table text.now.row) self.old.state.rows }
         ensures { Serves S.Store session (Statement.Select text.now) self.old result self.new }
     {
         match self.shown(alloc, text, rows) {

@@ -11,8 +11,7 @@ use std::alloc::Global;
 impl<S: Alter> Database<S> {
     ghost use Rattle.std.specs.Prelude.{IfOk, IfErr, IsTrue, OnOk};
     ghost use Rattle.sqlite.specs.Held.{state};
-    ghost use Rattle.sqlite.specs.State.{Survives};
-    ghost use Rattle.escrow_rows.specs.Answers.{IsUsable};
+    ghost use Rattle.sqlite.specs.State.{HasCleanDisk, Survives};
     ghost use Rattle.escrow_machine.specs.Settle.{settled, AreCounts, IsStop};
     ghost use Rattle.escrow_core.specs.Serves.{AreAfterEnds};
 
@@ -21,10 +20,9 @@ impl<S: Alter> Database<S> {
     /// memory or refused by the store: what stands before it in the plan is done, and its session and
     /// those after it are untouched.
     pub fn settle(&mut self, alloc: Global, plan: &[(Session, End)]) -> Result<Settled, Stop>
-        ensures ok { IsUsable (state S.Store self.new.store) → OnOk result (self.new.state ≡ settled plan.now self.old.state) }
+        ensures ok { HasCleanDisk (state S.Store self.new.store) → OnOk result (self.new.state ≡ settled plan.now self.old.state) }
         ensures counts { IfOk result (λ done. AreCounts plan.now self.old.state.reservations done) }
-        ensures stop { IsUsable (state S.Store self.new.store) → IfErr result (λ stop. IsStop plan.now self.old.state stop self.new.state) }
-        ensures usable { IsUsable (state S.Store self.new.store) → IsUsable (state S.Store self.old.store) }
+        ensures stop { HasCleanDisk (state S.Store self.new.store) → IfErr result (λ stop. IsStop plan.now self.old.state stop self.new.state) }
 
         // A crash leaves what it might have left before, or what some first entries of the plan make; and the
         // limit of steps stays.

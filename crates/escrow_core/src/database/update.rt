@@ -10,10 +10,10 @@ use std::alloc::Global;
 impl<S: Alter> Database<S> {
     ghost use Rattle.std.specs.Prelude.{◌≡◌, ◌≤◌, None, Some, IfOk, IfErr, IsSome, length, false};
     ghost use Rattle.sqlite.specs.Held.{state};
+    ghost use Rattle.sqlite.specs.State.{HasCleanDisk};
     ghost use Rattle.escrow_num.specs.Refusal.{first_refusal};
     ghost use Rattle.escrow_num.specs.Session.{IsSession};
     ghost use Rattle.escrow_checks.specs.declared.coefficients.TheConstants.Coefficients.{MAX_LEN};
-    ghost use Rattle.escrow_rows.specs.Answers.{IsUsable};
     ghost use Rattle.escrow_machine.specs.Asked.{plan_of, row_name};
     ghost use Rattle.escrow_core.specs.Serves.{Serves};
     ghost use Rattle.escrow_machine.specs.Accepted.{IsRefusal};
@@ -80,7 +80,7 @@ impl<S: Alter> Database<S> {
         requires table { name.table ≡ text.now.table }
         requires named { row.now.name ≡ name }
         requires fits { HasTable self.old.state.catalog row.now }
-        requires stands { IsUsable (state S.Store self.old.store) → row_named self.old.state.rows name ≡ Some row.now }
+        requires stands { HasCleanDisk (state S.Store self.old.store) → row_named self.old.state.rows name ≡ Some row.now }
         ensures { Serves S.Store session (Statement.Update text.now) self.old result self.new }
     {
         if let Some(refusal) = self.grant_refusal(session, row, changes.as_slice()) {
@@ -154,7 +154,7 @@ impl<S: Alter> Database<S> {
         requires plan { plan_of self.old.state text.now ≡ Some (Plan.Plain name.now.key values.now) }
         requires table { name.now.table ≡ text.now.table }
         requires closed { is_open session self.old.state ≡ false }
-        requires stands { IsUsable (state S.Store self.old.store) → IsSome (row_named self.old.state.rows name.now) }
+        requires stands { HasCleanDisk (state S.Store self.old.store) → IsSome (row_named self.old.state.rows name.now) }
         ensures { Serves S.Store session (Statement.Update text.now) self.old result self.new }
     {
         match self.tables.set_plain(alloc, name, values) {

@@ -1,7 +1,7 @@
 use Rattle.std.proofs.Common.{◌≡◌, ◌+◌, ℕ, List, [], ◌∷◌, ◌++◌, false, ap, sym, subst, ◌∙◌}
 use Rattle.std.specs.Prelude.{is_err, vec_len}
 use Rattle.escrow_core.specs.Seen.{Seen}
-use Rattle.escrow_server.specs.Output.{states_of, AreUsable}
+use Rattle.escrow_server.specs.Output.{states_of, HaveCleanDisks}
 use Rattle.escrow_server.specs.Program.{AreFound}
 use Rattle.escrow_server.proofs.FoundLemmas.{found_more, if_pushed}
 use Rattle.escrow_server.proofs.databases.open_databases.Goals as goal
@@ -18,5 +18,5 @@ loop-place-preserved g c =
       len = len ∙ ap (λ (n : ℕ). n + 1) c.loop-place.invariant.len;
       found = λ used. subst (λ (ds : List (Seen g.row.S.Denot)). AreFound may_hold (c.loop-place.place + 1) (states_of ds)) (sym more)
           (found_more g.S.Store may_hold c.loop-place.place old d c.loop-place.invariant.found c.in-Ok.ensures
-          (subst (λ (ds : List (Seen g.row.S.Denot)). AreUsable g.S.Store ds) more used));
+          (subst (λ (ds : List (Seen g.row.S.Denot)). HaveCleanDisks g.S.Store ds) more used));
     }

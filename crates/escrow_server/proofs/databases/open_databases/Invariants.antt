@@ -1,5 +1,5 @@
 use Rattle.std.proofs.Common.{◌≡◌, vec_len}
-use Rattle.escrow_server.specs.Output.{states_of, AreUsable}
+use Rattle.escrow_server.specs.Output.{states_of, HaveCleanDisks}
 use Rattle.escrow_server.specs.Program.{AreFound}
 use Rattle.escrow_server.proofs.databases.open_databases.Given as goal
 
@@ -7,5 +7,5 @@ use Rattle.escrow_server.proofs.databases.open_databases.Given as goal
 abbrev pub invariant-loop-place : goal.invariant-loop-place
 invariant-loop-place g l = record {
   len : vec_len l.databases ≡ l.place;
-  found : AreUsable g.S.Store l.databases.items → AreFound (g.O.OpenStore.may_hold l.stores) l.place (states_of l.databases.items);
+  found : HaveCleanDisks g.S.Store l.databases.items → AreFound (g.O.OpenStore.may_hold l.stores) l.place (states_of l.databases.items);
 }

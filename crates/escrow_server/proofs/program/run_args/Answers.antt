@@ -4,7 +4,7 @@ use Rattle.escrow_cells.specs.Tables.{no_schema}
 use Rattle.std.proofs.Common.{◌≡◌}
 use Rattle.escrow_server.proofs.FoundLemmas.{found_empty}
 use Rattle.escrow_server.proofs.ProgramLemmas.{ends_in_memory}
-use Rattle.escrow_server.proofs.Usable.{memory_are_usable}
+use Rattle.escrow_server.proofs.CleanDisks.{memory_are_clean}
 use Rattle.escrow_server.proofs.program.run_args.Goals as goal
 
 pub returns-in-None-clause-memory : goal.returns-in-None-clause-memory
@@ -15,4 +15,4 @@ returns-in-None-clause-memory g c = λ none.
     ends_in_memory c.serve_stores-served.result c.status_of.result count (AreFound (λ _ db. db.schema ≡ no_schema) count) (states_of new)
     (g.R.Read.remaining c.args.input.now) (g.R.Read.remaining c.serve_stores-served.new.input) (g.W.Write.contents c.args.output.now) (g.W.Write.contents c.serve_stores-served.new.output)
     (found_empty count) c.status_of.ensures.ok c.status_of.ensures.err
-    (served.served (memory_are_usable new)) (served.stopped (memory_are_usable new))
+    (served.served (memory_are_clean new)) (served.stopped (memory_are_clean new))

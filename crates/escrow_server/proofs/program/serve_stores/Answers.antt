@@ -17,7 +17,7 @@ pub returns-in_err-serve_script-clause-stopped : goal.returns-in_err-serve_scrip
 returns-in_err-serve_script-clause-stopped g c = λ used.
     let why = c.in_err-serve_script.field-0.0 in
     let served = c.in_err-serve_script.ensures in
-    let found = c.in_ok-open_databases.ensures.found (served.usable used) in
+    let found = c.in_ok-open_databases.ensures.found (served.clean used) in
     at_fault c.from_residual-in_err-serve_script.result (Unserved why) _ c.from_residual-in_err-serve_script.ensures.1
     (stops_from why (AreFound (g.O.OpenStore.may_hold c.args.stores.now) c.args.count) (states_of c.open_databases.new.databases.items) (states_of c.serve_script.new.databases.items)
     (g.R.Read.remaining c.args.input.now) (g.R.Read.remaining c.serve_script.new.reader) (g.W.Write.contents c.args.output.now) (g.W.Write.contents c.serve_script.new.writer)
@@ -34,4 +34,4 @@ returns-clause-served g c = λ used.
     let served = c.in_ok-serve_script.ensures in
     serves_from (AreFound (g.O.OpenStore.may_hold c.args.stores.now) c.args.count) (states_of c.open_databases.new.databases.items) (states_of c.serve_script.new.databases.items)
     (g.R.Read.remaining c.args.input.now) (g.W.Write.contents c.args.output.now) (g.W.Write.contents c.serve_script.new.writer)
-    (c.in_ok-open_databases.ensures.found (served.usable used)) (served.output used)
+    (c.in_ok-open_databases.ensures.found (served.clean used)) (served.output used)

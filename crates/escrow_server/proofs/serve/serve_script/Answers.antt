@@ -45,7 +45,7 @@ returns-in_err-reply-clause-fault g c = λ used.
     let mid = c.loop-replies.databases.items in
     let new = c.serve_line.new.databases.items in
     let turn = turn_of g.S.Store c.in_ok-next_line.field-0 c.next_line.new.self.line.items c.line.result.now out.0 mid new _ _
-    c.if-branch.true c.line.ensures.value c.line.ensures.within next.taken (λ _. out.1) served.usable in
+    c.if-branch.true c.line.ensures.value c.line.ensures.within next.taken (λ _. out.1) served.clean in
     let stands = turn_served g.S.Store c.args.databases.now.items mid new (g.R.Read.remaining c.args.reader.now) _ _
     (g.W.Write.contents c.args.writer.now) (g.W.Write.contents c.loop-replies.writer) c.loop-replies.replies.items out.0 (c.loop-replies.replies.items ++ out.0)
     turn refl c.loop-replies.invariant.stands in
@@ -60,7 +60,7 @@ returns-in_err-gather-clause-fault g c = λ used.
     let mid = c.loop-replies.databases.items in
     let new = c.serve_line.new.databases.items in
     let turn = turn_of g.S.Store c.in_ok-next_line.field-0 c.next_line.new.self.line.items c.line.result.now c.in_ok-reply.reply.items mid new _ _
-    c.if-branch.true c.line.ensures.value c.line.ensures.within next.taken served.ok served.usable in
+    c.if-branch.true c.line.ensures.value c.line.ensures.within next.taken served.ok served.clean in
     let stands = turn_served g.S.Store c.args.databases.now.items mid new (g.R.Read.remaining c.args.reader.now) _ _
     (g.W.Write.contents c.args.writer.now) (g.W.Write.contents c.loop-replies.writer) c.loop-replies.replies.items c.in_ok-reply.reply.items (c.loop-replies.replies.items ++ c.in_ok-reply.reply.items)
     turn refl c.loop-replies.invariant.stands in
@@ -77,7 +77,7 @@ returns-in_err-write_gathered-clause-fault g c = λ used.
     let mid = c.loop-replies.databases.items in
     let new = c.serve_line.new.databases.items in
     let turn = turn_of g.S.Store c.in_ok-next_line.field-0 c.next_line.new.self.line.items c.line.result.now c.in_ok-reply.reply.items mid new _ _
-    c.if-branch.true c.line.ensures.value c.line.ensures.within next.taken served.ok served.usable in
+    c.if-branch.true c.line.ensures.value c.line.ensures.within next.taken served.ok served.clean in
     let stands = turn_served g.S.Store c.args.databases.now.items mid new (g.R.Read.remaining c.args.reader.now) _ _
     (g.W.Write.contents c.args.writer.now) (g.W.Write.contents c.loop-replies.writer) c.loop-replies.replies.items c.in_ok-reply.reply.items c.gather.new.replies.items
     turn c.in_ok-gather.ensures.ok c.loop-replies.invariant.stands in
@@ -95,7 +95,7 @@ loop-replies-preserved-in-loop-replies g c =
     let new = c.serve_line.new.databases.items in
     let turn = turn_of g.S.Store c.in_ok-next_line.field-0 c.next_line.new.self.line.items c.line.result.now c.in_ok-reply.reply.items mid new
     (left c.loop-replies.script.unread (g.R.Read.remaining c.loop-replies.reader)) (left c.next_line.new.self.unread (g.R.Read.remaining c.next_line.new.reader))
-    c.if-branch.true c.line.ensures.value c.line.ensures.within next.taken served.ok served.usable in
+    c.if-branch.true c.line.ensures.value c.line.ensures.within next.taken served.ok served.clean in
     let stands = turn_served g.S.Store c.args.databases.now.items mid new (g.R.Read.remaining c.args.reader.now)
     (left c.loop-replies.script.unread (g.R.Read.remaining c.loop-replies.reader)) (left c.next_line.new.self.unread (g.R.Read.remaining c.next_line.new.reader))
     (g.W.Write.contents c.args.writer.now) (g.W.Write.contents c.loop-replies.writer) c.loop-replies.replies.items c.in_ok-reply.reply.items c.gather.new.replies.items
@@ -117,7 +117,7 @@ loop-replies-preserved g c =
     let new = c.serve_line.new.databases.items in
     let turn = turn_of g.S.Store c.in_ok-next_line.field-0 c.next_line.new.self.line.items c.line.result.now c.in_ok-reply.reply.items mid new
     (left c.loop-replies.script.unread (g.R.Read.remaining c.loop-replies.reader)) (left c.next_line.new.self.unread (g.R.Read.remaining c.next_line.new.reader))
-    c.if-branch.true c.line.ensures.value c.line.ensures.within next.taken served.ok served.usable in
+    c.if-branch.true c.line.ensures.value c.line.ensures.within next.taken served.ok served.clean in
     let stands = turn_served g.S.Store c.args.databases.now.items mid new (g.R.Read.remaining c.args.reader.now)
     (left c.loop-replies.script.unread (g.R.Read.remaining c.loop-replies.reader)) (left c.next_line.new.self.unread (g.R.Read.remaining c.next_line.new.reader))
     (g.W.Write.contents c.args.writer.now) (g.W.Write.contents c.loop-replies.writer) c.loop-replies.replies.items c.in_ok-reply.reply.items c.gather.new.replies.items

@@ -6,5 +6,5 @@ invariant_of-result g c =
     let catalog = c.args.tables.catalog in
     rw c.in-Ok.ensures (record {
       orderly = opened_orderly catalog c.len.ensures.catalog;
-      safe_rows = λ usable. opened_safe catalog c.args.tables.rows (c.len.ensures.rows usable) (c.requires usable);
+      safe_rows = λ clean. opened_safe catalog c.args.tables.rows (c.len.ensures.rows clean) (c.requires clean);
     })

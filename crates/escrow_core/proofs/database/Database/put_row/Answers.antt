@@ -10,7 +10,7 @@ row-requires g c = (is_made c.args.self.now.state c.args.text.now c.args.row.now
 
 pub put_new_row-requires-clause-early : goal.put_new_row-requires-clause-early
 put_new_row-requires-clause-early g c =
-    still_passes c.args.self.now.state c.row.new.self.state c.args.session (statement.Insert c.args.text.now) c.row.ensures.looks.rest c.requires.early
+    still_passes c.args.self.now.state c.row.new.self.state c.args.session (statement.Insert c.args.text.now) c.row.ensures.looks.same c.requires.early
 
 pub returns-in-Ok-None : goal.returns-in-Ok-None
 returns-in-Ok-None g c =

@@ -13,9 +13,9 @@ loop-event-preserved g c =
     record {
       room = rw c.keep.ensures.capacity c.loop-event.invariant.room;
       as_many = omega (arith, c.keep.ensures.len, c.loop-event.invariant.as_many);
-      usable = λ u. c.loop-event.invariant.usable (c.serve-reply.ensures.usable u);
-      run = λ u.
-          let was = c.serve-reply.ensures.usable u in
+      clean = λ h. c.loop-event.invariant.clean (c.serve-reply.ensures.clean h);
+      run = λ h.
+          let was = c.serve-reply.ensures.clean h in
           rw (take_more events i event c.loop-event-test.true, ← c.event-item.is, c.keep.ensures.items)
-          (run_more c.args.self.now.state (take i events) c.loop-event.replies.items mid.state event c.serve-reply.result new.state (c.loop-event.invariant.run was) (c.serve-reply.ensures.served u));
+          (run_more c.args.self.now.state (take i events) c.loop-event.replies.items mid.state event c.serve-reply.result new.state (c.loop-event.invariant.run was) (c.serve-reply.ensures.served h));
     }

@@ -10,7 +10,7 @@ returns-in-Err g c = early_refused g.S.Store c.args.session (statement.Select c.
 
 pub show_rows-requires-clause-early : goal.show_rows-requires-clause-early
 show_rows-requires-clause-early g c =
-    still_passes c.args.self.now.state c.selected.new.self.state c.args.session (statement.Select c.args.text.now) c.selected.ensures.looks.rest (sym c.in_default.ensures)
+    still_passes c.args.self.now.state c.selected.new.self.state c.args.session (statement.Select c.args.text.now) c.selected.ensures.looks.same (sym c.in_default.ensures)
 
 pub returns-in-Ok : goal.returns-in-Ok
 returns-in-Ok g c =

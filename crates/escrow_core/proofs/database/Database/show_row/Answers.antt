@@ -11,7 +11,7 @@ row-requires g c = rw c.requires.name (bounds_table c.args.self.now.state c.args
 
 pub show_standing_row-requires-clause-early : goal.show_standing_row-requires-clause-early
 show_standing_row-requires-clause-early g c =
-    still_passes c.args.self.now.state c.row.new.self.state c.args.session (statement.ShowBounds c.args.text.now) c.row.ensures.looks.rest c.requires.early
+    still_passes c.args.self.now.state c.row.new.self.state c.args.session (statement.ShowBounds c.args.text.now) c.row.ensures.looks.same c.requires.early
 
 pub returns-in-Ok-Some : goal.returns-in-Ok-Some
 returns-in-Ok-Some g c =

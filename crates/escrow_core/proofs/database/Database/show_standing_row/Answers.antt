@@ -1,9 +1,9 @@
 use Rattle.std.proofs.Common.{◌≡◌, Some, refl, sym, subst}
 use Rattle.sqlite.specs.Held.{state}
+use Rattle.sqlite.specs.State.{HasCleanDisk}
 use Rattle.escrow_num.specs.declared.refusal.Refusal.TheVariants as refusal
 use Rattle.escrow_sql.specs.declared.statement.Statement.TheVariants as statement
 use Rattle.escrow_num.specs.declared.failure.Failure.TheVariants as failure
-use Rattle.escrow_rows.specs.Answers.{IsUsable}
 use Rattle.escrow_schema.specs.Catalog.{table_named}
 use Rattle.escrow_core.specs.Inside.{seen_of}
 use Rattle.escrow_core.specs.Serves.{Serves}
@@ -26,7 +26,7 @@ returns g c =
     let row = c.args.row.now in
     let asked = statement.ShowBounds text in
     let early = subst (λ v. PassesEarly v.state session asked) (sym c.self.view_is) c.requires.early in
-    let stands = subst (λ v. IsUsable (state g.S.Store v.store) → row_named v.state.rows row.name ≡ Some row) (sym c.self.view_is) c.requires.stands in
+    let stands = subst (λ v. HasCleanDisk (state g.S.Store v.store) → row_named v.state.rows row.name ≡ Some row) (sym c.self.view_is) c.requires.stands in
     let named : table_named d.state.catalog text.table ≡ Some c.in-Some.table.now = sym c.in-Some.ensures.found in
     let served : Serves g.S.Store session asked d c.match-row_bounds.result d =
     elim c.match-row_bounds.branch [

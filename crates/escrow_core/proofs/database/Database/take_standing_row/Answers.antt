@@ -1,9 +1,9 @@
 use Rattle.std.proofs.Common.{◌≡◌, false, IsSome, sym, subst, ◌∙◌}
 use Rattle.std.specs.Prelude.{is_ok}
 use Rattle.sqlite.specs.Held.{state}
+use Rattle.sqlite.specs.State.{HasCleanDisk}
 use Rattle.escrow_num.specs.declared.refusal.Refusal.TheVariants as refusal
 use Rattle.escrow_sql.specs.declared.statement.Statement.TheVariants as statement
-use Rattle.escrow_rows.specs.Answers.{IsUsable}
 use Rattle.escrow_machine.specs.declared.reply.Reply.TheVariants as reply
 use Rattle.escrow_core.specs.Inside.{seen_of}
 use Rattle.escrow_core.specs.Serves.{Serves}
@@ -24,7 +24,7 @@ returns-then-is_reserved g c =
     let name = c.args.name.now in
     let asked = statement.Delete c.args.text.now in
     let early = subst (λ v. PassesEarly v.state c.args.session asked) (sym c.self.view_is) c.requires.early in
-    let stands = subst (λ v. IsUsable (state g.S.Store v.store) → IsSome (row_named v.state.rows name)) (sym c.self.view_is) c.requires.stands in
+    let stands = subst (λ v. HasCleanDisk (state g.S.Store v.store) → IsSome (row_named v.state.rows name)) (sym c.self.view_is) c.requires.stands in
     subst (λ v. Serves g.S.Store c.args.session asked v (reply.Refused refusal.RowReserved) v) c.self.view_is
     (reserved_refused g.S.Store c.args.session c.args.text.now name c.requires.name d early stands (sym c.is_reserved.ensures ∙ c.if-is_reserved.true))
 
@@ -48,7 +48,7 @@ returns g c =
     let name = c.args.name.now in
     let asked = statement.Delete c.args.text.now in
     let early = subst (λ v. PassesEarly v.state c.args.session asked) (sym c.self.view_is) c.requires.early in
-    let stands = subst (λ v. IsUsable (state g.S.Store v.store) → IsSome (row_named v.state.rows name)) (sym c.self.view_is) c.requires.stands in
+    let stands = subst (λ v. HasCleanDisk (state g.S.Store v.store) → IsSome (row_named v.state.rows name)) (sym c.self.view_is) c.requires.stands in
     let free : is_reserved (seen_of t o).state name ≡ false = sym c.is_reserved.ensures ∙ c.if-is_reserved.false in
     let served : Serves g.S.Store c.args.session asked (seen_of t o) c.match-delete.result (seen_of new o) =
     elim c.match-delete.branch [

@@ -1,15 +1,29 @@
-use Rattle.std.proofs.Common.{◌≡◌, ◌∙◌, ap, is_ok, map, sym}
+use Rattle.std.proofs.Common.{◌≡◌, ◌∙◌, Bool, true, false, ap, is_ok, map, subst, sym}
+use Rattle.std.proofs.lemmas.Bool.{false≢true}
+use Rattle.std.proofs.lemmas.Result.{err_from_is_err_and}
+use Rattle.sqlite.specs.Held.{Held, state}
+use Rattle.escrow_machine.specs.Rows.{applied}
 use Rattle.escrow_rows.specs.Changes.{PutsAmounts}
+use Rattle.escrow_rows.specs.View.{rows_in}
+use Rattle.escrow_tables.specs.Calls.{Writes}
+use Rattle.escrow_tables.specs.Inside.{Keeps, catalog_of, stored_of}
 use Rattle.escrow_tables.specs.Puts.{put_by, put_of}
 use Rattle.escrow_tables.proofs.Committing.{commits, keeps_committed}
-use Rattle.escrow_tables.proofs.Writing.{changes}
+use Rattle.escrow_tables.proofs.Writing.{Changes, changes, seen}
+use Rattle.escrow_tables.proofs.tables.Tables.apply.Given as given
 use Rattle.escrow_tables.proofs.tables.Tables.apply.Goals as goal
+use Rattle.escrow_tables.proofs.tables.Tables.apply.Goals.{After-put_amounts}
 
 pub changes_by-requires : goal.changes_by-requires
 changes_by-requires g c = rw c.deref.ensures.value c.self.invariant.are_tables
 
-pub invariant_of-self-2 : goal.invariant_of-self-2
-invariant_of-self-2 g c =
+-- the call writes, and the fields keep what they hold
+written : (g : given.Over) (c : After-put_amounts g) (is_done : Bool) (later : Held g.row.S.Denot) → is_ok c.put_amounts.result ≡ is_done
+    → (is_done ≡ true → later ≡ c.put_amounts.new.self) → (is_done ≡ false → later ≡ c.self.inside.last.value)
+    → Writes g.S.Store (seen g.S.Store c.self.inside.store c.self.inside.last.value c.self.inside.tables.items) (seen g.S.Store c.put_amounts.new.self later c.self.inside.tables.items) is_done
+    (catalog_of c.self.inside.tables.items) (applied (rows_in (stored_of c.self.inside.tables.items) (state g.S.Store c.self.inside.last.value).now) c.args.reservations.now)
+    × Keeps (state g.S.Store c.put_amounts.new.self) (state g.S.Store later) c.self.inside.tables.items
+written g c is_done later ok if_done if_not =
     let old = c.self.inside in
     let news = c.as_slice-2.result.now in
     let mid = c.changes_by.new.store in
@@ -18,19 +32,28 @@ invariant_of-self-2 g c =
     let same : map put_of c.in_ok-changes.changes.items ≡ map put_by news =
     sym (ap (map put_by) c.as_slice-2.ensures.value ∙ c.in_ok-news.ensures ∙ ap (map put_of) c.as_slice.ensures.value) in
     let put = c.put_amounts.ensures in
-    keeps_committed g.S.Store old.store mid new read.looks read.open old.tables.items c.args.reservations.now news (is_ok c.put_amounts.result)
-    c.self.invariant (rw same at read.puts) (rw same at read.told) (changes g.S.Store mid new (PutsAmounts news) c.put_amounts.result put.done put.refused put.usable put.durable put.crash)
+    let it = subst (Changes g.S.Store mid new (PutsAmounts news)) ok
+    (changes g.S.Store mid new (PutsAmounts news) c.put_amounts.result put.done put.refused put.usable put.durable put.crash) in (
+      commits g.S.Store old.store mid new read.looks read.open old.tables.items c.args.reservations.now news is_done old.last.value later c.self.invariant
+          (rw same at read.puts) (rw same at read.told) it if_done if_not,
+      keeps_committed g.S.Store old.store mid new read.looks read.open old.tables.items c.args.reservations.now news is_done old.last.value later c.self.invariant
+          (rw same at read.puts) (rw same at read.told) it if_done if_not,
+    )
+
+pub invariant_of-self-in_err-put_amounts : goal.invariant_of-self-in_err-put_amounts
+invariant_of-self-in_err-put_amounts g c =
+    (written g (goal.at.invariant_of-self-in_err-put_amounts g c).After-put_amounts false c.self.inside.last.value (ap is_ok c.in_err-put_amounts.was) (λ e. absurd (false≢true e)) (λ _. refl)).1
+
+pub returns-in_err-put_amounts : goal.returns-in_err-put_amounts
+returns-in_err-put_amounts g c =
+    let failed = err_from_is_err_and c.from_residual.result c.from_residual.ensures.1 in
+    rw (failed.1, ← c.self.view_is)
+    ((written g (goal.at.returns-in_err-put_amounts g c).After-put_amounts false c.self.inside.last.value (ap is_ok c.in_err-put_amounts.was) (λ e. absurd (false≢true e)) (λ _. refl)).0)
+
+pub invariant_of-self-2 : goal.invariant_of-self-2
+invariant_of-self-2 g c =
+    (written g (goal.at.invariant_of-self-2 g c).After-put_amounts true c.of.result.value (ap is_ok c.in_ok-put_amounts.was) (λ _. c.of.ensures) (λ e. absurd (false≢true (sym e)))).1
 
 pub returns : goal.returns
 returns g c =
-    let old = c.self.inside in
-    let news = c.as_slice-2.result.now in
-    let mid = c.changes_by.new.store in
-    let new = c.put_amounts.new.self in
-    let read = rw c.deref.ensures.value at c.in_ok-changes.ensures in
-    let same : map put_of c.in_ok-changes.changes.items ≡ map put_by news =
-    sym (ap (map put_by) c.as_slice-2.ensures.value ∙ c.in_ok-news.ensures ∙ ap (map put_of) c.as_slice.ensures.value) in
-    let put = c.put_amounts.ensures in
-    rw (← c.self.view_is)
-    (commits g.S.Store old.store mid new read.looks read.open old.tables.items c.args.reservations.now news (is_ok c.put_amounts.result)
-    c.self.invariant (rw same at read.puts) (rw same at read.told) (changes g.S.Store mid new (PutsAmounts news) c.put_amounts.result put.done put.refused put.usable put.durable put.crash))
+    rw (← c.self.view_is) ((written g (goal.at.returns g c).After-put_amounts true c.of.result.value (ap is_ok c.in_ok-put_amounts.was) (λ _. c.of.ensures) (λ e. absurd (false≢true (sym e)))).0)

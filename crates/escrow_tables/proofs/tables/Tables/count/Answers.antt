@@ -14,8 +14,8 @@ returns-in-Some g c =
     let counted = c.in-Some.counted.now in
     let found = subst (λ (ts : List Counted). Some counted ≡ counted_named ts c.args.name) c.deref.ensures.value c.in-Some.ensures in
     let named = is_named tables c.args.name counted found in
-    let rows = rows_in (stored_of tables) (state g.S.Store c.self.inside.store).now in
-    rw (← c.self.view_is) (λ usable. all_has (HasCount rows) tables (c.self.invariant.held usable).counts counted named.has ∙ ap (λ n. length (rows_of rows n)) named.name_is)
+    let rows = rows_in (stored_of tables) (state g.S.Store c.self.inside.last.value).now in
+    rw (← c.self.view_is) (λ clean. all_has (HasCount rows) tables (c.self.invariant.held clean).counts counted named.has ∙ ap (λ n. length (rows_of rows n)) named.name_is)
 
 pub returns-in-None : goal.returns-in-None
 returns-in-None g c =

@@ -2,7 +2,7 @@ use Rattle.std.proofs.Common.{rules, ◌≡◌, ℤ, Bool, List, true, false, is
 use Rattle.std.proofs.lemmas.Bool.{false≢true}
 use Rattle.std.proofs.lemmas.Int.{to_z-of_z}
 use Rattle.std.proofs.lemmas.Result.{err_from_is_err_and}
-use Rattle.sqlite.specs.Held.{state}
+use Rattle.sqlite.specs.Held.{Held, state}
 use Rattle.escrow_schema.specs.declared.table.TableDef.{TableDef}
 use Rattle.escrow_schema.specs.Catalog.{with_table}
 use Rattle.escrow_rows.specs.Changes.{Creates}
@@ -29,12 +29,12 @@ is_new g c =
     c.reserve.ensures.items c.deref.ensures.value catalog number c.in-Some.ensures c.requires.table c.requires.new c.requires.room
 
 -- the call writes, and the fields keep what they hold
-written : (g : given.Over) (c : After-create_table g) (is_done : Bool) (fields : List Counted) → is_ok c.create_table.result ≡ is_done
-    → (is_done ≡ true → fields ≡ with_counted (empty c.in-Some.id c.args.table) c.self.inside.tables.items) → (is_done ≡ false → fields ≡ c.self.inside.tables.items)
-    → Writes g.S.Store (seen g.S.Store c.self.inside.store c.self.inside.tables.items) (seen g.S.Store c.create_table.new.self fields) is_done
-    (with_table c.args.table (catalog_of c.self.inside.tables.items)) (rows_in (stored_of c.self.inside.tables.items) (state g.S.Store c.self.inside.store).now)
-    × Keeps (state g.S.Store c.create_table.new.self) fields
-written g c is_done fields ok if_done if_not =
+written : (g : given.Over) (c : After-create_table g) (is_done : Bool) (fields : List Counted) (later : Held g.row.S.Denot) → is_ok c.create_table.result ≡ is_done
+    → (is_done ≡ true → (fields ≡ with_counted (empty c.in-Some.id c.args.table) c.self.inside.tables.items) × (later ≡ c.create_table.new.self)) → (is_done ≡ false → (fields ≡ c.self.inside.tables.items) × (later ≡ c.self.inside.last.value))
+    → Writes g.S.Store (seen g.S.Store c.self.inside.store c.self.inside.last.value c.self.inside.tables.items) (seen g.S.Store c.create_table.new.self later fields) is_done
+    (with_table c.args.table (catalog_of c.self.inside.tables.items)) (rows_in (stored_of c.self.inside.tables.items) (state g.S.Store c.self.inside.last.value).now)
+    × Keeps (state g.S.Store c.create_table.new.self) (state g.S.Store later) fields
+written g c is_done fields later ok if_done if_not =
     let tables = c.self.inside.tables.items in
     let counted = empty c.in-Some.id c.args.table in
     let old = c.self.inside.store in
@@ -42,8 +42,8 @@ written g c is_done fields ok if_done if_not =
     let told = c.create_table.ensures in
     let called = changes g.S.Store old new (Creates counted.stored) c.create_table.result told.done told.refused told.usable told.durable told.crash in
     let it = subst (Changes g.S.Store old new (Creates counted.stored)) ok called in (
-      create_writes tables counted refl c.self.invariant.are_tables (is_new g c) g.S.Store old new is_done it fields c.self.invariant if_done if_not,
-      create_keeps tables counted refl c.self.invariant.are_tables (is_new g c) g.S.Store old new is_done it fields c.self.invariant if_done if_not,
+      create_writes tables counted refl c.self.invariant.are_tables (is_new g c) g.S.Store old new c.self.inside.last.value later is_done it fields c.self.invariant if_done if_not,
+      create_keeps tables counted refl c.self.invariant.are_tables (is_new g c) g.S.Store old new c.self.inside.last.value later is_done it fields c.self.invariant if_done if_not,
     )
 
 there : (g : given.Over) (c : goal.After-put g) → c.put.new.tables.items ≡ with_counted (empty c.in-Some.id c.args.table) c.self.inside.tables.items
@@ -53,19 +53,19 @@ there g c =
 
 pub invariant_of-self-in_err-create_table : goal.invariant_of-self-in_err-create_table
 invariant_of-self-in_err-create_table g c =
-    (written g (goal.at.invariant_of-self-in_err-create_table g c).After-create_table false c.reserve.new.self.items (ap is_ok c.in_err-create_table.was)
-    (λ e. absurd (false≢true e)) (λ _. c.reserve.ensures.items)).1
+    (written g (goal.at.invariant_of-self-in_err-create_table g c).After-create_table false c.reserve.new.self.items c.self.inside.last.value (ap is_ok c.in_err-create_table.was)
+    (λ e. absurd (false≢true e)) (λ _. (c.reserve.ensures.items, refl))).1
 
 pub returns-in_err-create_table : goal.returns-in_err-create_table
 returns-in_err-create_table g c =
     let failed = err_from_is_err_and c.from_residual-in_err-create_table.result c.from_residual-in_err-create_table.ensures.1 in
-    rw (failed.1, ← c.self.view_is) ((written g (goal.at.returns-in_err-create_table g c).After-create_table false c.reserve.new.self.items (ap is_ok c.in_err-create_table.was)
-    (λ e. absurd (false≢true e)) (λ _. c.reserve.ensures.items)).0)
+    rw (failed.1, ← c.self.view_is) ((written g (goal.at.returns-in_err-create_table g c).After-create_table false c.reserve.new.self.items c.self.inside.last.value (ap is_ok c.in_err-create_table.was)
+    (λ e. absurd (false≢true e)) (λ _. (c.reserve.ensures.items, refl))).0)
 
 pub invariant_of-self-2 : goal.invariant_of-self-2
 invariant_of-self-2 g c =
-    (written g (goal.at.invariant_of-self-2 g c).After-create_table true c.put.new.tables.items (ap is_ok c.in_ok-create_table.was) (λ _. there g c) (λ e. absurd (false≢true (sym e)))).1
+    (written g (goal.at.invariant_of-self-2 g c).After-create_table true c.put.new.tables.items c.of.result.value (ap is_ok c.in_ok-create_table.was) (λ _. (there g c, c.of.ensures)) (λ e. absurd (false≢true (sym e)))).1
 
 pub returns : goal.returns
 returns g c =
-    rw (← c.self.view_is) ((written g (goal.at.returns g c).After-create_table true c.put.new.tables.items (ap is_ok c.in_ok-create_table.was) (λ _. there g c) (λ e. absurd (false≢true (sym e)))).0)
+    rw (← c.self.view_is) ((written g (goal.at.returns g c).After-create_table true c.put.new.tables.items c.of.result.value (ap is_ok c.in_ok-create_table.was) (λ _. (there g c, c.of.ensures)) (λ e. absurd (false≢true (sym e)))).0)

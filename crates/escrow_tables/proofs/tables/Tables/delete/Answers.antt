@@ -2,9 +2,9 @@ use Rattle.std.proofs.Common.{◌-◌, ◌≡◌, ℕ, Bool, true, false, ap, re
 use Rattle.std.specs.Prelude.{IsSome, is_ok}
 use Rattle.std.proofs.lemmas.Bool.{false≢true}
 use Rattle.std.proofs.lemmas.Result.{err_from_is_err_and}
-use Rattle.sqlite.specs.Held.{state}
+use Rattle.sqlite.specs.Held.{Held, state}
+use Rattle.sqlite.specs.State.{HasCleanDisk}
 use Rattle.escrow_num.specs.declared.value.RowName.{RowName}
-use Rattle.escrow_rows.specs.Answers.{IsUsable}
 use Rattle.escrow_machine.specs.Rows.{row_named, without_row}
 use Rattle.escrow_rows.specs.Changes.{Deletes, TurnsRows}
 use Rattle.escrow_rows.specs.View.{rows_in}
@@ -22,24 +22,24 @@ placed : (g : given.Over) (c : After-delete g) → IsPlaced c.self.inside.tables
 placed g c =
     is_placed c.self.inside.tables.items c.deref.result.now c.args.name.now.table c.in-Some.place c.index_mut-counted.result.now c.deref.ensures.value c.in-Some.ensures c.index_mut-counted.ensures.value
 
-turned : (g : given.Over) (c : After-delete g) → IsUsable (state g.S.Store c.self.inside.store)
+turned : (g : given.Over) (c : After-delete g) → HasCleanDisk (state g.S.Store c.self.inside.store)
     → Turned c.self.inside.tables.items c.in-Some.place c.index_mut-counted.result.now (c.index_mut-counted.result.now.rows - 1)
-    (without_row c.args.name.now (rows_in (stored_of c.self.inside.tables.items) (state g.S.Store c.self.inside.store).now))
-turned g c usable =
+    (without_row c.args.name.now (rows_in (stored_of c.self.inside.tables.items) (state g.S.Store c.self.inside.last.value).now))
+turned g c clean =
     let tables = c.self.inside.tables.items in
     let counted = c.index_mut-counted.result.now in
-    let rows = rows_in (stored_of tables) (state g.S.Store c.self.inside.store).now in
-    let held = c.self.invariant.held usable in
-    let has : IsSome (row_named rows c.args.name.now) = (rw (← c.self.view_is) at c.requires.row) usable in
+    let rows = rows_in (stored_of tables) (state g.S.Store c.self.inside.last.value).now in
+    let held = c.self.invariant.held clean in
+    let has : IsSome (row_named rows c.args.name.now) = (rw (← c.self.view_is) at c.requires.row) clean in
     delete_turns tables c.in-Some.place counted c.args.name.now (counted.rows - 1) (placed g c) c.self.invariant.are_tables rows held.are_rows held.counts has refl
 
 -- the call writes, and the fields keep what they hold
-written : (g : given.Over) (c : After-delete g) (is_done : Bool) (count : ℕ) → is_ok c.delete.result ≡ is_done → (is_done ≡ true → count ≡ c.index_mut-counted.result.now.rows - 1)
-    → (is_done ≡ false → count ≡ c.index_mut-counted.result.now.rows)
-    → Writes g.S.Store (seen g.S.Store c.self.inside.store c.self.inside.tables.items) (seen g.S.Store c.delete.new.self (recounted c.self.inside.tables.items c.in-Some.place c.index_mut-counted.result.now count)) is_done
-    (catalog_of c.self.inside.tables.items) (without_row c.args.name.now (rows_in (stored_of c.self.inside.tables.items) (state g.S.Store c.self.inside.store).now))
-    × Keeps (state g.S.Store c.delete.new.self) (recounted c.self.inside.tables.items c.in-Some.place c.index_mut-counted.result.now count)
-written g c is_done count ok if_done if_not =
+written : (g : given.Over) (c : After-delete g) (is_done : Bool) (count : ℕ) (later : Held g.row.S.Denot) → is_ok c.delete.result ≡ is_done
+    → (is_done ≡ true → (count ≡ c.index_mut-counted.result.now.rows - 1) × (later ≡ c.delete.new.self)) → (is_done ≡ false → (count ≡ c.index_mut-counted.result.now.rows) × (later ≡ c.self.inside.last.value))
+    → Writes g.S.Store (seen g.S.Store c.self.inside.store c.self.inside.last.value c.self.inside.tables.items) (seen g.S.Store c.delete.new.self later (recounted c.self.inside.tables.items c.in-Some.place c.index_mut-counted.result.now count)) is_done
+    (catalog_of c.self.inside.tables.items) (without_row c.args.name.now (rows_in (stored_of c.self.inside.tables.items) (state g.S.Store c.self.inside.last.value).now))
+    × Keeps (state g.S.Store c.delete.new.self) (state g.S.Store later) (recounted c.self.inside.tables.items c.in-Some.place c.index_mut-counted.result.now count)
+written g c is_done count later ok if_done if_not =
     let tables = c.self.inside.tables.items in
     let name = c.args.name.now in
     let counted = c.index_mut-counted.result.now in
@@ -50,25 +50,25 @@ written g c is_done count ok if_done if_not =
     let of_row = subst (λ (n : RowName). Changes g.S.Store old new (TurnsRows counted.stored (without_row n)) (is_ok c.delete.result)) (name_of tables name.table counted at.named name.key) as_called in
     let it = subst (Changes g.S.Store old new (TurnsRows counted.stored (without_row name))) ok of_row in
     let n = counted.rows - 1 in (
-      row_writes g.S.Store old new tables name.table c.in-Some.place counted at (without_row name) n c.self.invariant (turned g c) is_done it count if_done if_not,
-      row_keeps g.S.Store old new tables name.table c.in-Some.place counted at (without_row name) n c.self.invariant (turned g c) is_done it count if_done if_not,
+      row_writes g.S.Store old new c.self.inside.last.value later tables name.table c.in-Some.place counted at (without_row name) n c.self.invariant (turned g c) is_done it count if_done if_not,
+      row_keeps g.S.Store old new c.self.inside.last.value later tables name.table c.in-Some.place counted at (without_row name) n c.self.invariant (turned g c) is_done it count if_done if_not,
     )
 
 pub invariant_of-self : goal.invariant_of-self
 invariant_of-self g c =
     let counted = c.index_mut-counted.result.now in
-    (written g (goal.at.invariant_of-self g c).After-delete false counted.rows (ap is_ok c.in_err-delete.was) (λ e. absurd (false≢true e)) (λ _. refl)).1
+    (written g (goal.at.invariant_of-self g c).After-delete false counted.rows c.self.inside.last.value (ap is_ok c.in_err-delete.was) (λ e. absurd (false≢true e)) (λ _. (refl, refl))).1
 
 pub returns-in_err-delete : goal.returns-in_err-delete
 returns-in_err-delete g c =
     let counted = c.index_mut-counted.result.now in
     let failed = err_from_is_err_and c.from_residual.result c.from_residual.ensures.1 in
-    rw (failed.1, ← c.self.view_is) ((written g (goal.at.returns-in_err-delete g c).After-delete false counted.rows (ap is_ok c.in_err-delete.was) (λ e. absurd (false≢true e)) (λ _. refl)).0)
+    rw (failed.1, ← c.self.view_is) ((written g (goal.at.returns-in_err-delete g c).After-delete false counted.rows c.self.inside.last.value (ap is_ok c.in_err-delete.was) (λ e. absurd (false≢true e)) (λ _. (refl, refl))).0)
 
 pub invariant_of-self-2 : goal.invariant_of-self-2
 invariant_of-self-2 g c =
-    (written g (goal.at.invariant_of-self-2 g c).After-delete true c.saturating_sub-counted.result (ap is_ok c.in_ok-delete.was) (λ _. c.saturating_sub-counted.ensures) (λ e. absurd (false≢true (sym e)))).1
+    (written g (goal.at.invariant_of-self-2 g c).After-delete true c.saturating_sub-counted.result c.of.result.value (ap is_ok c.in_ok-delete.was) (λ _. (c.saturating_sub-counted.ensures, c.of.ensures)) (λ e. absurd (false≢true (sym e)))).1
 
 pub returns : goal.returns
 returns g c =
-    rw (← c.self.view_is) ((written g (goal.at.returns g c).After-delete true c.saturating_sub-counted.result (ap is_ok c.in_ok-delete.was) (λ _. c.saturating_sub-counted.ensures) (λ e. absurd (false≢true (sym e)))).0)
+    rw (← c.self.view_is) ((written g (goal.at.returns g c).After-delete true c.saturating_sub-counted.result c.of.result.value (ap is_ok c.in_ok-delete.was) (λ _. (c.saturating_sub-counted.ensures, c.of.ensures)) (λ e. absurd (false≢true (sym e)))).0)

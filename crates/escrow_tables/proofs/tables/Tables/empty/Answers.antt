@@ -1,14 +1,11 @@
-use Rattle.std.proofs.Common.{List, subst, sym}
 use Rattle.sqlite.specs.Held.{state}
-use Rattle.escrow_verify.specs.declared.counted.Counted.{Counted}
-use Rattle.escrow_tables.specs.Inside.{Keeps}
 use Rattle.escrow_tables.proofs.Held.{empty_keeps, empty_rows}
 use Rattle.escrow_tables.proofs.tables.Tables.empty.Goals as goal
 
 pub invariant_of-result : goal.invariant_of-result
 invariant_of-result g c =
     let now = state g.S.Store c.args.store in
-    subst (λ (tables : List Counted). Keeps now tables) (sym c.new.ensures.items) (empty_keeps now c.requires)
+    rw (c.of.ensures, c.new.ensures.items) (empty_keeps now c.requires)
 
 pub returns-clause-rows : goal.returns-clause-rows
-returns-clause-rows g c = rw c.new.ensures.items (empty_rows (state g.S.Store c.args.store) c.requires)
+returns-clause-rows g c = rw (c.of.ensures, c.new.ensures.items) (empty_rows (state g.S.Store c.args.store) c.requires)

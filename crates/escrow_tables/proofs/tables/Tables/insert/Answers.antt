@@ -1,9 +1,9 @@
 use Rattle.std.proofs.Common.{◌≡◌, None, subst, refl, true, ap, sym, ◌<◌, false, min, ◌+◌, arith, length, ℕ, Bool}
 use Rattle.std.proofs.lemmas.Bool.{false≢true}
 use Rattle.std.proofs.lemmas.Result.{err_from_is_err_and}
-use Rattle.sqlite.specs.Held.{state}
+use Rattle.sqlite.specs.Held.{Held, state}
+use Rattle.sqlite.specs.State.{HasCleanDisk}
 use Rattle.std.specs.Prelude.{is_ok}
-use Rattle.escrow_rows.specs.Answers.{IsUsable}
 use Rattle.escrow_machine.specs.Rows.{row_named, with_row, rows_of, HasTable}
 use Rattle.escrow_rows.specs.Changes.{Inserts}
 use Rattle.escrow_rows.specs.View.{rows_in}
@@ -25,27 +25,27 @@ placed : (g : given.Over) (c : After-insert g) → IsPlaced c.self.inside.tables
 placed g c =
     is_placed c.self.inside.tables.items c.deref.result.now c.args.row.now.name.table c.in-Some.place c.index_mut-counted.result.now c.deref.ensures.value c.in-Some.ensures c.index_mut-counted.ensures.value
 
-turned : (g : given.Over) (c : After-insert g) → IsUsable (state g.S.Store c.self.inside.store)
+turned : (g : given.Over) (c : After-insert g) → HasCleanDisk (state g.S.Store c.self.inside.store)
     → Turned c.self.inside.tables.items c.in-Some.place c.index_mut-counted.result.now (min (c.index_mut-counted.result.now.rows + 1) most)
-    (with_row c.args.row.now (rows_in (stored_of c.self.inside.tables.items) (state g.S.Store c.self.inside.store).now))
-turned g c usable =
+    (with_row c.args.row.now (rows_in (stored_of c.self.inside.tables.items) (state g.S.Store c.self.inside.last.value).now))
+turned g c clean =
     let tables = c.self.inside.tables.items in
     let row = c.args.row.now in
     let counted = c.index_mut-counted.result.now in
-    let rows = rows_in (stored_of tables) (state g.S.Store c.self.inside.store).now in
-    let held = c.self.invariant.held usable in
+    let rows = rows_in (stored_of tables) (state g.S.Store c.self.inside.last.value).now in
+    let held = c.self.invariant.held clean in
     let fits : HasTable (catalog_of tables) row = (rw (← c.self.view_is) at c.requires.fits) in
-    let new : row_named rows row.name ≡ None = (rw (← c.self.view_is) at c.requires.new) usable in
-    let room : length (rows_of rows row.name.table) < MAX_ROWS = (rw (← c.self.view_is) at c.requires.room) usable in
+    let new : row_named rows row.name ≡ None = (rw (← c.self.view_is) at c.requires.new) clean in
+    let room : length (rows_of rows row.name.table) < MAX_ROWS = (rw (← c.self.view_is) at c.requires.room) clean in
     insert_turns tables c.in-Some.place counted row (min (counted.rows + 1) most) most (placed g c) c.self.invariant.are_tables rows held.are_rows held.counts fits new room (omega arith) refl
 
 -- the call writes, and the fields keep what they hold
-written : (g : given.Over) (c : After-insert g) (is_done : Bool) (count : ℕ) → is_ok c.insert.result ≡ is_done → (is_done ≡ true → count ≡ min (c.index_mut-counted.result.now.rows + 1) most)
-    → (is_done ≡ false → count ≡ c.index_mut-counted.result.now.rows)
-    → Writes g.S.Store (seen g.S.Store c.self.inside.store c.self.inside.tables.items) (seen g.S.Store c.insert.new.self (recounted c.self.inside.tables.items c.in-Some.place c.index_mut-counted.result.now count)) is_done
-    (catalog_of c.self.inside.tables.items) (with_row c.args.row.now (rows_in (stored_of c.self.inside.tables.items) (state g.S.Store c.self.inside.store).now))
-    × Keeps (state g.S.Store c.insert.new.self) (recounted c.self.inside.tables.items c.in-Some.place c.index_mut-counted.result.now count)
-written g c is_done count ok if_done if_not =
+written : (g : given.Over) (c : After-insert g) (is_done : Bool) (count : ℕ) (later : Held g.row.S.Denot) → is_ok c.insert.result ≡ is_done
+    → (is_done ≡ true → (count ≡ min (c.index_mut-counted.result.now.rows + 1) most) × (later ≡ c.insert.new.self)) → (is_done ≡ false → (count ≡ c.index_mut-counted.result.now.rows) × (later ≡ c.self.inside.last.value))
+    → Writes g.S.Store (seen g.S.Store c.self.inside.store c.self.inside.last.value c.self.inside.tables.items) (seen g.S.Store c.insert.new.self later (recounted c.self.inside.tables.items c.in-Some.place c.index_mut-counted.result.now count)) is_done
+    (catalog_of c.self.inside.tables.items) (with_row c.args.row.now (rows_in (stored_of c.self.inside.tables.items) (state g.S.Store c.self.inside.last.value).now))
+    × Keeps (state g.S.Store c.insert.new.self) (state g.S.Store later) (recounted c.self.inside.tables.items c.in-Some.place c.index_mut-counted.result.now count)
+written g c is_done count later ok if_done if_not =
     let tables = c.self.inside.tables.items in
     let row = c.args.row.now in
     let counted = c.index_mut-counted.result.now in
@@ -55,8 +55,8 @@ written g c is_done count ok if_done if_not =
     (changes g.S.Store old new (Inserts counted.stored row) c.insert.result c.insert.ensures.done c.insert.ensures.refused c.insert.ensures.usable c.insert.ensures.durable c.insert.ensures.crash) in
     let name = row.name.table in
     let n = min (counted.rows + 1) most in (
-      row_writes g.S.Store old new tables name c.in-Some.place counted (placed g c) (with_row row) n c.self.invariant (turned g c) is_done it count if_done if_not,
-      row_keeps g.S.Store old new tables name c.in-Some.place counted (placed g c) (with_row row) n c.self.invariant (turned g c) is_done it count if_done if_not,
+      row_writes g.S.Store old new c.self.inside.last.value later tables name c.in-Some.place counted (placed g c) (with_row row) n c.self.invariant (turned g c) is_done it count if_done if_not,
+      row_keeps g.S.Store old new c.self.inside.last.value later tables name c.in-Some.place counted (placed g c) (with_row row) n c.self.invariant (turned g c) is_done it count if_done if_not,
     )
 
 pub insert-requires : goal.insert-requires
@@ -67,18 +67,18 @@ insert-requires g c =
 pub invariant_of-self : goal.invariant_of-self
 invariant_of-self g c =
     let counted = c.index_mut-counted.result.now in
-    (written g (goal.at.invariant_of-self g c).After-insert false counted.rows (ap is_ok c.in_err-insert.was) (λ e. absurd (false≢true e)) (λ _. refl)).1
+    (written g (goal.at.invariant_of-self g c).After-insert false counted.rows c.self.inside.last.value (ap is_ok c.in_err-insert.was) (λ e. absurd (false≢true e)) (λ _. (refl, refl))).1
 
 pub returns-in_err-insert : goal.returns-in_err-insert
 returns-in_err-insert g c =
     let counted = c.index_mut-counted.result.now in
     let failed = err_from_is_err_and c.from_residual.result c.from_residual.ensures.1 in
-    rw (failed.1, ← c.self.view_is) ((written g (goal.at.returns-in_err-insert g c).After-insert false counted.rows (ap is_ok c.in_err-insert.was) (λ e. absurd (false≢true e)) (λ _. refl)).0)
+    rw (failed.1, ← c.self.view_is) ((written g (goal.at.returns-in_err-insert g c).After-insert false counted.rows c.self.inside.last.value (ap is_ok c.in_err-insert.was) (λ e. absurd (false≢true e)) (λ _. (refl, refl))).0)
 
 pub invariant_of-self-2 : goal.invariant_of-self-2
 invariant_of-self-2 g c =
-    (written g (goal.at.invariant_of-self-2 g c).After-insert true c.saturating_add-counted.result (ap is_ok c.in_ok-insert.was) (λ _. c.saturating_add-counted.ensures) (λ e. absurd (false≢true (sym e)))).1
+    (written g (goal.at.invariant_of-self-2 g c).After-insert true c.saturating_add-counted.result c.of.result.value (ap is_ok c.in_ok-insert.was) (λ _. (c.saturating_add-counted.ensures, c.of.ensures)) (λ e. absurd (false≢true (sym e)))).1
 
 pub returns : goal.returns
 returns g c =
-    rw (← c.self.view_is) ((written g (goal.at.returns g c).After-insert true c.saturating_add-counted.result (ap is_ok c.in_ok-insert.was) (λ _. c.saturating_add-counted.ensures) (λ e. absurd (false≢true (sym e)))).0)
+    rw (← c.self.view_is) ((written g (goal.at.returns g c).After-insert true c.saturating_add-counted.result c.of.result.value (ap is_ok c.in_ok-insert.was) (λ _. (c.saturating_add-counted.ensures, c.of.ensures)) (λ e. absurd (false≢true (sym e)))).0)

@@ -4,18 +4,18 @@ use Rattle.escrow_tables.proofs.tables.Tables.read.Goals as goal
 
 pub invariant_of-result : goal.invariant_of-result
 invariant_of-result g c =
-    keeps_found (state g.S.Store c.args.store) (state g.S.Store c.verify.new.store) c.in-Ok.tables.items (record {
+    rw c.of.ensures (keeps_found (state g.S.Store c.args.store) (state g.S.Store c.verify.new.store) c.in-Ok.tables.items (record {
       are_tables = c.in-Ok.ensures.tables.0;
       is_catalog = c.in-Ok.ensures.tables.1;
       store = c.in-Ok.ensures.store;
       looks = c.in-Ok.ensures.looks;
-    })
+    }))
 
 pub returns-in-Ok-clause-store : goal.returns-in-Ok-clause-store
 returns-in-Ok-clause-store g c =
-    found_holds (state g.S.Store c.args.store) (state g.S.Store c.verify.new.store) c.in-Ok.tables.items (record {
+    rw c.of.ensures (found_holds (state g.S.Store c.args.store) (state g.S.Store c.verify.new.store) c.in-Ok.tables.items (record {
       are_tables = c.in-Ok.ensures.tables.0;
       is_catalog = c.in-Ok.ensures.tables.1;
       store = c.in-Ok.ensures.store;
       looks = c.in-Ok.ensures.looks;
-    })
+    }))

@@ -1,5 +1,5 @@
 use Rattle.std.proofs.Common.{◌≡◌, List, Option, Some, subst}
-use Rattle.std.specs.Prelude.{IfOk, IsTrue}
+use Rattle.std.specs.Prelude.{IfOk}
 use Rattle.sqlite.specs.Held.{state}
 use Rattle.escrow_num.specs.declared.row.Row.{Row}
 use Rattle.escrow_num.specs.declared.value.RowName.{RowName}
@@ -26,12 +26,14 @@ returns-clause-told g c =
     let table = c.args.name.now.table in
     let key = c.args.name.now.key in
     let counted = c.in-Some.counted.now in
-    let now = state g.S.Store c.self.inside.store in
     let found = subst (λ (ts : List Counted). Some counted ≡ counted_named ts table) c.deref.ensures.value c.in-Some.ensures in
     let named = is_named tables table counted found in
-    let rows = rows_in (stored_of tables) now.now in
-    rw (← c.self.view_is) (λ usable.
-    let told = told_of tables table counted named (IsTrue (state g.S.Store c.row.new.self).is_open) now c.row.result (λ (o : Option Row). o) (λ rows. row_named rows (name_in counted.stored key)) c.self.invariant (c.row.ensures.usable usable) (c.row.ensures.told usable.0) in
+    let old = state g.S.Store c.self.inside.store in
+    let new = state g.S.Store c.row.new.self in
+    let last = state g.S.Store c.self.inside.last.value in
+    let rows = rows_in (stored_of tables) last.now in
+    rw (← c.self.view_is) (λ clean.
+    let told = told_of tables table counted named old new last c.row.result (λ (o : Option Row). o) (λ rows. row_named rows (name_in counted.stored key)) c.self.invariant c.row.ensures.usable clean (c.row.ensures.told clean) in
     subst (λ (name : RowName). IfOk c.row.result (λ o. o ≡ row_named rows name)) (name_of tables table counted named key) told)
 
 pub returns-clause-fits : goal.returns-clause-fits

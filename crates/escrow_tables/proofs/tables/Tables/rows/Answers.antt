@@ -1,5 +1,5 @@
 use Rattle.std.proofs.Common.{◌≡◌, ℕ, List, Some, Vec, Global, subst}
-use Rattle.std.specs.Prelude.{IfOk, IsTrue}
+use Rattle.std.specs.Prelude.{IfOk}
 use Rattle.sqlite.specs.Held.{state}
 use Rattle.escrow_num.specs.declared.row.Row.{Row}
 use Rattle.escrow_machine.specs.Rows.{rows_of}
@@ -22,12 +22,14 @@ returns-clause-told g c =
     let tables = c.self.inside.tables.items in
     let table = c.args.table in
     let counted = c.in-Some.counted.now in
-    let now = state g.S.Store c.self.inside.store in
     let found = subst (λ (ts : List Counted). Some counted ≡ counted_named ts table) c.deref.ensures.value c.in-Some.ensures in
     let named = is_named tables table counted found in
-    let rows = rows_in (stored_of tables) now.now in
-    rw (← c.self.view_is) (λ usable.
-    let told = told_of tables table counted named (IsTrue (state g.S.Store c.rows.new.self).is_open) now c.rows.result (λ (v : Vec Row Global). v.items) (λ rows. rows_of rows counted.stored.table.name) c.self.invariant (c.rows.ensures.usable usable) (c.rows.ensures.told usable.0) in
+    let old = state g.S.Store c.self.inside.store in
+    let new = state g.S.Store c.rows.new.self in
+    let last = state g.S.Store c.self.inside.last.value in
+    let rows = rows_in (stored_of tables) last.now in
+    rw (← c.self.view_is) (λ clean.
+    let told = told_of tables table counted named old new last c.rows.result (λ (v : Vec Row Global). v.items) (λ rows. rows_of rows counted.stored.table.name) c.self.invariant c.rows.ensures.usable clean (c.rows.ensures.told clean) in
     subst (λ (name : List ℕ). IfOk c.rows.result (λ v. v.items ≡ rows_of rows name)) named.name_is told)
 
 pub returns-clause-fits : goal.returns-clause-fits

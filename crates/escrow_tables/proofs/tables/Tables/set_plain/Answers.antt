@@ -1,9 +1,11 @@
-use Rattle.std.proofs.Common.{List, refl, subst}
+use Rattle.std.proofs.Common.{◌≡◌, Bool, List, true, false, ap, refl, subst, sym}
+use Rattle.std.proofs.lemmas.Bool.{false≢true}
+use Rattle.std.proofs.lemmas.Result.{err_from_is_err_and}
 use Rattle.std.specs.Prelude.{is_ok}
 use Rattle.std.specs.List.{AllByRecursion}
-use Rattle.sqlite.specs.Held.{state}
+use Rattle.sqlite.specs.Held.{Held, state}
+use Rattle.sqlite.specs.State.{HasCleanDisk}
 use Rattle.escrow_num.specs.declared.value.RowName.{RowName}
-use Rattle.escrow_rows.specs.Answers.{IsUsable}
 use Rattle.escrow_rows.specs.Changes.{SetsPlain, TurnsRows}
 use Rattle.escrow_machine.specs.Rows.{with_plain, HasTable}
 use Rattle.escrow_rows.specs.View.{rows_in}
@@ -22,16 +24,16 @@ placed : (g : given.Over) (c : After-set_plain g) → IsPlaced c.self.inside.tab
 placed g c =
     is_placed c.self.inside.tables.items c.deref.result.now c.args.name.now.table c.in-Some.place c.index.result.now c.deref.ensures.value c.in-Some.ensures c.index.ensures
 
-turned : (g : given.Over) (c : After-set_plain g) → IsUsable (state g.S.Store c.self.inside.store)
+turned : (g : given.Over) (c : After-set_plain g) → HasCleanDisk (state g.S.Store c.self.inside.store)
     → Turned c.self.inside.tables.items c.in-Some.place c.index.result.now c.index.result.now.rows
-    (with_plain c.args.name.now c.args.values.now (rows_in (stored_of c.self.inside.tables.items) (state g.S.Store c.self.inside.store).now))
-turned g c usable =
+    (with_plain c.args.name.now c.args.values.now (rows_in (stored_of c.self.inside.tables.items) (state g.S.Store c.self.inside.last.value).now))
+turned g c clean =
     let tables = c.self.inside.tables.items in
     let name = c.args.name.now in
     let values = c.args.values.now in
-    let rows = rows_in (stored_of tables) (state g.S.Store c.self.inside.store).now in
-    let held = c.self.invariant.held usable in
-    let fits : AllByRecursion (HasTable (catalog_of tables)) (with_plain name values rows) = (rw (← c.self.view_is) at c.requires.fits) usable in
+    let rows = rows_in (stored_of tables) (state g.S.Store c.self.inside.last.value).now in
+    let held = c.self.invariant.held clean in
+    let fits : AllByRecursion (HasTable (catalog_of tables)) (with_plain name values rows) = (rw (← c.self.view_is) at c.requires.fits) clean in
     plain_turns tables c.in-Some.place c.index.result.now name values (placed g c) rows held.are_rows held.counts fits
 
 -- the call makes this change
@@ -49,27 +51,46 @@ change g c =
     subst (λ (n : RowName). Changes g.S.Store old new (TurnsRows counted.stored (with_plain n values)) (is_ok c.set_plain.result))
     (name_of c.self.inside.tables.items name.table counted (placed g c).named name.key) as_called
 
-pub invariant_of-self : goal.invariant_of-self
-invariant_of-self g c =
+-- the call writes, and the fields keep what they hold
+written : (g : given.Over) (c : After-set_plain g) (is_done : Bool) (later : Held g.row.S.Denot) → is_ok c.set_plain.result ≡ is_done
+    → (is_done ≡ true → later ≡ c.set_plain.new.self) → (is_done ≡ false → later ≡ c.self.inside.last.value)
+    → Writes g.S.Store (seen g.S.Store c.self.inside.store c.self.inside.last.value c.self.inside.tables.items) (seen g.S.Store c.set_plain.new.self later c.self.inside.tables.items) is_done
+    (catalog_of c.self.inside.tables.items) (with_plain c.args.name.now c.args.values.now (rows_in (stored_of c.self.inside.tables.items) (state g.S.Store c.self.inside.last.value).now))
+    × Keeps (state g.S.Store c.set_plain.new.self) (state g.S.Store later) c.self.inside.tables.items
+written g c is_done later ok if_done if_not =
     let tables = c.self.inside.tables.items in
     let name = c.args.name.now in
-    let counted = c.index.result.now in
-    let at = placed g c in
-    subst (λ (ts : List Counted). Keeps (state g.S.Store c.set_plain.new.self) ts) (recounted_itself tables name.table c.in-Some.place counted at)
-    (row_keeps g.S.Store c.self.inside.store c.set_plain.new.self tables name.table c.in-Some.place counted at (with_plain name c.args.values.now) counted.rows c.self.invariant (turned g c)
-    (is_ok c.set_plain.result) (change g c) counted.rows (λ _. refl) (λ _. refl))
-
-pub returns : goal.returns
-returns g c =
-    let tables = c.self.inside.tables.items in
-    let name = c.args.name.now in
+    let values = c.args.values.now in
     let counted = c.index.result.now in
     let old = c.self.inside.store in
     let new = c.set_plain.new.self in
+    let was = c.self.inside.last.value in
     let at = placed g c in
-    let rows = with_plain name c.args.values.now (rows_in (stored_of tables) (state g.S.Store old).now) in
-    let written =
-    subst (λ (ts : List Counted). Writes g.S.Store (seen g.S.Store old tables) (seen g.S.Store new ts) (is_ok c.set_plain.result) (catalog_of tables) rows) (recounted_itself tables name.table c.in-Some.place counted at)
-    (row_writes g.S.Store old new tables name.table c.in-Some.place counted at (with_plain name c.args.values.now) counted.rows c.self.invariant (turned g c)
-    (is_ok c.set_plain.result) (change g c) counted.rows (λ _. refl) (λ _. refl)) in
-    rw (← c.self.view_is) written
+    let rows = with_plain name values (rows_in (stored_of tables) (state g.S.Store was).now) in
+    let it = subst (Changes g.S.Store old new (TurnsRows counted.stored (with_plain name values))) ok (change g c) in
+    let stays = recounted_itself tables name.table c.in-Some.place counted at in (
+      subst (λ (ts : List Counted). Writes g.S.Store (seen g.S.Store old was tables) (seen g.S.Store new later ts) is_done (catalog_of tables) rows) stays
+          (row_writes g.S.Store old new was later tables name.table c.in-Some.place counted at (with_plain name values) counted.rows c.self.invariant (turned g c)
+          is_done it counted.rows (λ e. (refl, if_done e)) (λ e. (refl, if_not e))),
+      subst (λ (ts : List Counted). Keeps (state g.S.Store new) (state g.S.Store later) ts) stays
+          (row_keeps g.S.Store old new was later tables name.table c.in-Some.place counted at (with_plain name values) counted.rows c.self.invariant (turned g c)
+          is_done it counted.rows (λ e. (refl, if_done e)) (λ e. (refl, if_not e))),
+    )
+
+pub invariant_of-self : goal.invariant_of-self
+invariant_of-self g c =
+    (written g (goal.at.invariant_of-self g c).After-set_plain false c.self.inside.last.value (ap is_ok c.in_err-set_plain.was) (λ e. absurd (false≢true e)) (λ _. refl)).1
+
+pub returns-in_err-set_plain : goal.returns-in_err-set_plain
+returns-in_err-set_plain g c =
+    let failed = err_from_is_err_and c.from_residual.result c.from_residual.ensures.1 in
+    rw (failed.1, ← c.self.view_is)
+    ((written g (goal.at.returns-in_err-set_plain g c).After-set_plain false c.self.inside.last.value (ap is_ok c.in_err-set_plain.was) (λ e. absurd (false≢true e)) (λ _. refl)).0)
+
+pub invariant_of-self-2 : goal.invariant_of-self-2
+invariant_of-self-2 g c =
+    (written g (goal.at.invariant_of-self-2 g c).After-set_plain true c.of.result.value (ap is_ok c.in_ok-set_plain.was) (λ _. c.of.ensures) (λ e. absurd (false≢true (sym e)))).1
+
+pub returns : goal.returns
+returns g c =
+    rw (← c.self.view_is) ((written g (goal.at.returns g c).After-set_plain true c.of.result.value (ap is_ok c.in_ok-set_plain.was) (λ _. c.of.ensures) (λ e. absurd (false≢true (sym e)))).0)

@@ -1,4 +1,4 @@
--- Databases whose stores can be used.
+-- Databases whose disks have returned what was written.
 use Rattle.std.proofs.Common.{◌≡◌, ℕ, zero, suc, ◌<◌, List, [], ◌∷◌, length, Some, arith, refl, subst}
 use Rattle.std.specs.Prelude.{slice_get, slice_set}
 use Rattle.std.specs.List.{AllByRecursion}
@@ -7,8 +7,8 @@ use Rattle.sqlite.specs.Held.{Held, state}
 use Rattle.sqlite.specs.Steps.{over_memory}
 use Rattle.sqlite_trees.specs.declared.memory.MemStore.{MemStore}
 use Rattle.escrow_core.specs.Seen.{Seen}
-use Rattle.escrow_rows.specs.Answers.{IsUsable}
-use Rattle.escrow_server.specs.Output.{AreUsable}
+use Rattle.sqlite.specs.State.{HasCleanDisk}
+use Rattle.escrow_server.specs.Output.{HaveCleanDisks}
 
 -- what holds of each element after one changed holds of that one
 pub all_after : {A : Type 0} (P : A → Type 0) (xs : List A) (place : ℕ) (x : A) → place < length xs → AllByRecursion P (slice_set xs place x) → P x
@@ -22,10 +22,7 @@ all_before P [] place old x found held all = all
 all_before P (y ∷ xs) zero old x found held all = let same : old ≡ y = cc in (subst P same held, all.1)
 all_before P (y ∷ xs) (suc place) old x found held all = (all.0, all_before P xs place old x found held all.1)
 
--- a store in memory can always be used
-pub memory_is_usable : (store : Held MemStore) → IsUsable (state over_memory store)
-memory_is_usable store = (memory_is_clean store, refl)
-
-pub memory_are_usable : (databases : List (Seen MemStore)) → AreUsable over_memory databases
-memory_are_usable [] = tt
-memory_are_usable (database ∷ databases) = (memory_is_usable database.store, memory_are_usable databases)
+-- memory always returns what was written
+pub memory_are_clean : (databases : List (Seen MemStore)) → HaveCleanDisks over_memory databases
+memory_are_clean [] = tt
+memory_are_clean (database ∷ databases) = (memory_is_clean database.store, memory_are_clean databases)
