@@ -4,11 +4,10 @@ use Rattle.std.proofs.Common.{refl, sym, subst, get_or, ◌∙◌}
 use Rattle.sqlite.specs.State.{State as Store, HasCleanDisk, Survives}
 use Rattle.sqlite.proofs.StateLemmas.{survives_then}
 use Rattle.escrow_num.specs.declared.session.End.{End}
-use Rattle.escrow_tables.specs.Committed.{AreHeld}
 use Rattle.escrow_machine.specs.Settle.{settled, after_end, after_ends}
 use Rattle.escrow_machine.specs.State.{State}
 use Rattle.escrow_machine.proofs.Settling.{ends_next, settled_is_the_run}
-use Rattle.escrow_core.specs.Serves.{AreAfterEnds}
+use Rattle.escrow_core.specs.Serves.{AreAfterEnds, AreHeldOf}
 use Rattle.escrow_core.specs.Serving.{AreAfterEnd}
 use Rattle.escrow_core.proofs.Serving.{still_clean}
 
@@ -26,5 +25,5 @@ ends_survive a b c plan i entry s mid below is_entry before stays one two =
     let mid_open : IsTrue b.is_open = stays mid_clean was_open in
     let after : after_end mid entry.0 entry.1 ≡ settled (take (i + 1) plan) s =
     ends_next plan i entry s mid (after_end mid entry.0 entry.1) below is_entry (before mid_clean) refl ∙ sym (settled_is_the_run s (take (i + 1) plan)) in
-    (i + 1, subst (λ (t : State). AreHeld t.catalog t.rows trees) after (k mid_open)))
+    (i + 1, subst (λ (t : State). AreHeldOf t trees) after (k mid_open)))
     one two

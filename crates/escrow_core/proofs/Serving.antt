@@ -22,7 +22,7 @@ use Rattle.escrow_core.specs.Inside.{seen_of}
 use Rattle.escrow_machine.specs.Promised.{asks_store}
 use Rattle.escrow_machine.specs.Reply.{failure_of, is_refused, tells_write}
 use Rattle.escrow_core.specs.Seen.{Seen, IsKept}
-use Rattle.escrow_core.specs.Serves.{AreAfter, Serves}
+use Rattle.escrow_core.specs.Serves.{AreAfter, AreHeldOf, Serves}
 use Rattle.escrow_machine.specs.Accepted.{IsAccepted, IsRefusal, PassesEarly}
 use Rattle.escrow_core.specs.Serving.{Looks}
 use Rattle.escrow_machine.specs.State.{State}
@@ -115,7 +115,7 @@ module _ {S : Type 0} (g : Ghosts S) (session : ℕ) (asked : Statement) where
       → (HasCleanDisk (state g new.store) → StepOrRefusal old.state session asked answer new.state)
       → (IsTrue (is_refused answer) → new.state ≡ old.state)
       → Survives (state g old.store) (state g new.store) (λ trees. IsTrue (state g old.store).is_open → AreAfter old.state session asked trees)
-      → (IsTrue (tells_write answer) → HasCleanDisk (state g new.store) → (trees : Trees) → (state g new.store).may_leave trees → AreHeld new.state.catalog new.state.rows trees)
+      → (IsTrue (tells_write answer) → HasCleanDisk (state g new.store) → (trees : Trees) → (state g new.store).may_leave trees → AreHeldOf new.state trees)
       → Serves g session asked old answer new
   served old new answer asks early event refused survives durable = record {
     event = event;
@@ -186,7 +186,7 @@ module _ {S : Type 0} (g : Ghosts S) (session : ℕ) (asked : Statement) where
       survives_weaker (state g t.store) (state g new.store) _ _
       (λ clean trees k opened.
       let after = steps (still_clean _ _ _ writes.survives clean) in
-      subst (λ (p : Reply × State). AreHeld p.1.catalog p.1.rows trees) (sym after) (k opened))
+      subst (λ (p : Reply × State). AreHeldOf p.1 trees) (sym after) (k opened))
       writes.survives
 
   -- a write was done, and the reply is the step's

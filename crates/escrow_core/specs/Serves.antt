@@ -19,13 +19,17 @@ use Rattle.escrow_machine.specs.State.{State}
 use Rattle.escrow_machine.specs.Step.{step, StepOrRefusal}
 use Rattle.escrow_machine.specs.Turn.{turn_of}
 
--- what a disk has is a database that holds the tables and the rows after a step
-abbrev pub AreAfter : State → ℕ → Statement → Trees → Type 0
-AreAfter s session asked trees = let after = (step s session asked).1 in AreHeld after.catalog after.rows trees
+-- what a disk has is a database that holds the tables and the rows of a state
+abbrev pub AreHeldOf : State → Trees → Type 0
+AreHeldOf s trees = AreHeld s.catalog s.rows trees
 
--- what a disk has is a database that holds the tables and the rows after some first entries of a plan
+-- those after a step
+abbrev pub AreAfter : State → ℕ → Statement → Trees → Type 0
+AreAfter s session asked trees = AreHeldOf (step s session asked).1 trees
+
+-- those after some first entries of a plan
 abbrev pub AreAfterEnds : List (ℕ × End) → State → Trees → Type 0
-AreAfterEnds plan s trees = (n : ℕ) × (let after = settled (take n plan) s in AreHeld after.catalog after.rows trees)
+AreAfterEnds plan s trees = (n : ℕ) × AreHeldOf (settled (take n plan) s) trees
 
 -- A statement of a session was served. While the disk has returned what was written, the reply and the
 -- state are the step's, or it failed as it may; what is refused early, and what asks nothing of the store,
@@ -38,4 +42,4 @@ pub record Serves {S : Type 0} (g : Ghosts S) (session : ℕ) (asked : Statement
   pub apart : asks_store old.state session asked ≡ false → (new.store ≡ old.store) × StepOrRefusal old.state session asked answer new.state
   pub refused : IsTrue (is_refused answer) → new.state ≡ old.state
   pub survives : Survives (state g old.store) (state g new.store) (λ trees. IsTrue (state g old.store).is_open → AreAfter old.state session asked trees)
-  pub durable : IsTrue (tells_write answer) → HasCleanDisk (state g new.store) → (trees : Trees) → (state g new.store).may_leave trees → AreHeld new.state.catalog new.state.rows trees
+  pub durable : IsTrue (tells_write answer) → HasCleanDisk (state g new.store) → (trees : Trees) → (state g new.store).may_leave trees → AreHeldOf new.state trees

@@ -5,9 +5,9 @@ use Rattle.sqlite.specs.Held.{state}
 use Rattle.sqlite.specs.State.{HasCleanDisk, Survives}
 use Rattle.sqlite_trees.specs.declared.store.Store.{Ghosts}
 use Rattle.escrow_core.specs.Seen.{Seen}
+use Rattle.escrow_core.specs.Serves.{AreHeldOf}
 use Rattle.sqlite_trees.specs.Tree.{Trees}
 use Rattle.escrow_num.specs.declared.session.End.{End}
-use Rattle.escrow_tables.specs.Committed.{AreHeld}
 use Rattle.escrow_machine.specs.Settle.{after_end}
 use Rattle.escrow_machine.specs.State.{State}
 
@@ -23,4 +23,4 @@ is_known s (Some name) = is_some (table_named s.catalog name)
 
 -- what a disk has is a database that holds the tables and the rows after the end of a session's transaction
 abbrev pub AreAfterEnd : State → ℕ → End → Trees → Type 0
-AreAfterEnd s session end trees = let after = after_end s session end in AreHeld after.catalog after.rows trees
+AreAfterEnd s session end trees = AreHeldOf (after_end s session end) trees

@@ -53,11 +53,10 @@ impl<S: Alter> Database<S> {
     ghost use Rattle.sqlite_trees.specs.Tree.{Trees};
     ghost use Rattle.escrow_txn.specs.Open.{id_left};
     ghost use Rattle.escrow_rows.specs.Answers.{IsUsable};
-    ghost use Rattle.escrow_tables.specs.Committed.{AreHeld};
     ghost use Rattle.escrow_machine.specs.Promised.{asks_store, is_promised};
     ghost use Rattle.escrow_machine.specs.Reply.{is_refused, tells_write};
     ghost use Rattle.escrow_core.specs.Seen.{IsKept};
-    ghost use Rattle.escrow_core.specs.Serves.{AreAfter, Serves};
+    ghost use Rattle.escrow_core.specs.Serves.{AreAfter, AreHeldOf, Serves};
     ghost use Rattle.escrow_machine.specs.State.{is_open, opened};
     ghost use Rattle.escrow_machine.specs.Step.{IsStep, StepOrRefusal};
     ghost use Rattle.escrow_machine.specs.Valid.{IsValid};
@@ -88,7 +87,7 @@ impl<S: Alter> Database<S> {
         ensures value { result ≡ id_left self.now.state.next_id }
         ensures kept { IsKept S.Store self.now }
         ensures valid { HasCleanDisk (state S.Store self.now.store) → IsValid self.now.state }
-        ensures left { IsUsable (state S.Store self.now.store) → (trees : Trees) → (state S.Store self.now.store).may_leave trees → AreHeld self.now.state.catalog self.now.state.rows trees }
+        ensures left { IsUsable (state S.Store self.now.store) → (trees : Trees) → (state S.Store self.now.store).may_leave trees → AreHeldOf self.now.state trees }
     {
         // What a crash leaves is told where the tables are counted.
         let _ = self.tables.len();
@@ -127,7 +126,7 @@ impl<S: Alter> Database<S> {
         // A crash leaves what it might have left before, or what the step makes; once a write was
         // answered, the tables and rows that there then are.
         ensures crash { Survives (state S.Store self.old.store) (state S.Store self.new.store) (λ trees. IsTrue (state S.Store self.old.store).is_open → AreAfter self.old.state session statement.now trees) }
-        ensures durable { IsTrue (tells_write result) → HasCleanDisk (state S.Store self.new.store) → (trees : Trees) → (state S.Store self.new.store).may_leave trees → AreHeld self.new.state.catalog self.new.state.rows trees }
+        ensures durable { IsTrue (tells_write result) → HasCleanDisk (state S.Store self.new.store) → (trees : Trees) → (state S.Store self.new.store).may_leave trees → AreHeldOf self.new.state trees }
     {
         self.answer(alloc, session, statement)
     }

@@ -1,7 +1,11 @@
--- What a disk has holds one catalog, and one list of rows.
-use Rattle.std.proofs.Common.{◌≡◌, List, [], ◌∷◌, map, sym, ap, ap₂, ◌∙◌, subst, IsPermutation}
+-- What a disk has holds one catalog, and one list of rows, and is then a store.
+use Rattle.std.proofs.Common.{◌≡◌, ℤ, pos, List, [], ◌∷◌, map, sym, ap, ap₂, ◌∙◌, subst, IsPermutation}
 use Rattle.std.specs.List.{flat_map}
+use Rattle.std.specs.List.{AllByRecursion}
 use Rattle.sqlite_value.specs.Order.{Row as SqlRow, column}
+use Rattle.sqlite.specs.Effect.{Database}
+use Rattle.escrow_num.specs.declared.row.Row.{Row}
+use Rattle.escrow_schema.specs.declared.table.TableDef.{TableDef}
 use Rattle.sqlite_trees.specs.Tree.{Trees, rowid}
 use Rattle.escrow_schema.specs.Catalog.{IsCatalog}
 use Rattle.escrow_cells.specs.Store.{cells, tabs}
@@ -10,7 +14,10 @@ use Rattle.escrow_rows.specs.Image.{tab_row}
 use Rattle.escrow_rows.specs.View.{in_order, row_at}
 use Rattle.escrow_rows.specs.declared.stored.StoredTable.{StoredTable}
 use Rattle.escrow_rows.proofs.ViewLemmas.{rows_are}
-use Rattle.escrow_tables.specs.Laws.{OneIsHeld}
+use Rattle.escrow_machine.specs.Rows.{MeetsChecks}
+use Rattle.escrow_verify.specs.Stored.{HasHeldValues, HasOtherFormat, IsStoreOf}
+use Rattle.escrow_tables.specs.Committed.{Holds}
+use Rattle.escrow_tables.specs.Laws.{OneIsHeld, HeldIsAStore}
 use Rattle.escrow_tables.proofs.Verifying.{stored_once}
 
 pub one_is_held : OneIsHeld
@@ -28,3 +35,23 @@ one_is_held catalog others rows more trees is_catalog are_catalog one other =
           ∙ ap₂ (λ (ts : List StoredTable) (cs : List SqlRow). in_order (flat_map (row_at ts cs) cs)) tables cells_same
           ∙ rows_are again.tables more other.0 again.are_tables again.are_rows again.image.cells_are,
     )
+
+stored : (catalog : List TableDef) (rows : List Row) (db : Database) (held : Holds catalog rows db) → AllByRecursion (MeetsChecks catalog) rows → AllByRecursion (HasHeldValues catalog) rows
+    → IsStoreOf held.tables rows db
+stored catalog rows db held meet values = record {
+  are_tables = held.are_tables;
+  are_rows = held.are_rows;
+  meet = subst (λ (c : List TableDef). AllByRecursion (MeetsChecks c) rows) (sym held.catalog_is) meet;
+  held = subst (λ (c : List TableDef). AllByRecursion (HasHeldValues c) rows) (sym held.catalog_is) values;
+  image = held.image;
+}
+
+-- the format of a store is the known one
+one_format : (catalog : List TableDef) (rows : List Row) (db : Database) → Holds catalog rows db → ¬ (HasOtherFormat db)
+one_format catalog rows db held other =
+    let both = sym other.format_is ∙ held.image.format_is in
+    let same : other.number ≡ pos 1 = cc in
+    other.other same
+
+pub held_is_a_store : HeldIsAStore
+held_is_a_store catalog rows db held meet values = (λ none. none held.tables rows (stored catalog rows db held meet values), one_format catalog rows db held)
