@@ -14,7 +14,7 @@ use Rattle.escrow_rows.specs.Answers.{TellsRow}
 use Rattle.escrow_rows.specs.Changes.{Stands}
 use Rattle.escrow_machine.specs.Rows.{replaced, row_after}
 use Rattle.escrow_rows.specs.Image.{AreTables}
-use Rattle.escrow_tables.specs.Puts.{Put, ArePuts, TellsPut, row_of}
+use Rattle.escrow_tables.specs.Puts.{Put, ArePuts, TellsPut, row_put}
 use Rattle.escrow_tables.proofs.Puts.{for_more, for_itself, for_same}
 
 -- a table that stands is one that some text defines
@@ -46,7 +46,7 @@ puts_same tables reservations puts i r below at named so_far = record {
 }
 
 pub puts_more : (tables : List StoredTable) (reservations : List Reservation) (puts : List Put) (put : Put) (i : ℕ) (r : Reservation) → i < length reservations → r ≡ get_or reservations i r
-    → Stands tables put.table → row_of put ≡ r.row → ArePuts tables (take i reservations) puts → ArePuts tables (take (i + 1) reservations) (puts ++ put ∷ [])
+    → Stands tables put.table → row_put put ≡ r.row → ArePuts tables (take i reservations) puts → ArePuts tables (take (i + 1) reservations) (puts ++ put ∷ [])
 puts_more tables reservations puts put i r below at stands is so_far = record {
   stand = all-append _ _ _ so_far.stand (stands, tt);
   rows = rw (one_more reservations i r below at) (all-append _ _ _ (for_more puts put (take i reservations) so_far.rows) (for_itself puts put r is, tt));

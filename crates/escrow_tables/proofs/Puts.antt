@@ -18,29 +18,29 @@ use Rattle.escrow_rows.specs.declared.amounts.NewAmounts.{NewAmounts}
 use Rattle.escrow_machine.specs.Rows.{row_named, replaced, row_before, changes_to, row_after, applied}
 use Rattle.escrow_rows.specs.Changes.{with_new_amounts, with_amounts, put_all}
 use Rattle.escrow_rows.proofs.Found.{find_permutation, one_row}
-use Rattle.escrow_tables.specs.Puts.{Put, put_by, row_of, IsFor}
+use Rattle.escrow_tables.specs.Puts.{Put, put_by, row_put, IsFor}
 use Rattle.escrow_tables.proofs.Changed.{changed_nil, changes_other, replaced_twice}
 
 -- puts on a row, one after another
 abbrev pub all_into : List Put → Row → Row
-all_into puts row = fold (λ row put. with_new_amounts (row_of put) put.amounts row) row puts
+all_into puts row = fold (λ row put. with_new_amounts (row_put put) put.amounts row) row puts
 
 -- a put is of a row
 abbrev IsOf : Row → Put → Bool
-IsOf row put = same_row row.name (row_of put)
+IsOf row put = same_row row.name (row_put put)
 
 -- puts on rows are those on each row
-put_rows : (puts : List Put) (rows : List Row) → fold (λ rs put. with_amounts (row_of put) put.amounts rs) rows puts ≡ map (all_into puts) rows
+put_rows : (puts : List Put) (rows : List Row) → fold (λ rs put. with_amounts (row_put put) put.amounts rs) rows puts ≡ map (all_into puts) rows
 put_rows [] rows = sym (map-id rows)
-put_rows (put ∷ puts) rows = put_rows puts (with_amounts (row_of put) put.amounts rows) ∙ twice rows
+put_rows (put ∷ puts) rows = put_rows puts (with_amounts (row_put put) put.amounts rows) ∙ twice rows
   where
-    twice : (rows : List Row) → map (all_into puts) (with_amounts (row_of put) put.amounts rows) ≡ map (all_into (put ∷ puts)) rows
+    twice : (rows : List Row) → map (all_into puts) (with_amounts (row_put put) put.amounts rows) ≡ map (all_into (put ∷ puts)) rows
     twice [] = refl
     twice (row ∷ rows) = ap (λ rest. all_into (put ∷ puts) row ∷ rest) (twice rows)
 
 pub put_all_rows : (news : List NewAmounts) (rows : List Row) → put_all news rows ≡ map (all_into (map put_by news)) rows
 put_all_rows news rows =
-    sym (fold-map (λ (rs : List Row) (put : Put). with_amounts (row_of put) put.amounts rs) put_by rows news) ∙ put_rows (map put_by news) rows
+    sym (fold-map (λ (rs : List Row) (put : Put). with_amounts (row_put put) put.amounts rs) put_by rows news) ∙ put_rows (map put_by news) rows
 
 -- a put of a row gives it these amounts
 abbrev Gives : Row → List ℤ → Put → Type 0
@@ -75,7 +75,7 @@ none_given (put ∷ puts) row none = elim (cases_Bool (IsOf row put)) [
 -- a row that no put is of has no reservation
 no_reservation : (puts : List Put) (row : Row) (r : Reservation) → list_any (IsOf row) puts ≡ false → IsFor puts r → same_row row.name r.row ≡ false
 no_reservation puts row r none for = elim (cases_Bool (same_row row.name r.row)) [
-  | inl same ↦ absurd (let some = subst (λ (n : RowName). list_any (λ put. same_row n (row_of put)) puts ≡ true) (sym (row_same row.name r.row same)) for in cc)
+  | inl same ↦ absurd (let some = subst (λ (n : RowName). list_any (λ put. same_row n (row_put put)) puts ≡ true) (sym (row_same row.name r.row same)) for in cc)
   | inr other ↦ other
 ]
 
@@ -98,7 +98,7 @@ row_itself rows row order has = find_permutation (λ other. same_row other.name 
 
 -- puts that are those of the reservations, row by row, and are of each reservation's row apply them
 pub puts_apply : (puts : List Put) (rows : List Row) (reservations : List Reservation) → IsAscending row_before rows → AllByRecursion (IsFor puts) reservations
-    → AllByRecursion (λ put. (row : Row) → row_named rows (row_of put) ≡ Some row → replaced put.amounts row.amounts ≡ (row_after reservations row).amounts) puts
+    → AllByRecursion (λ put. (row : Row) → row_named rows (row_put put) ≡ Some row → replaced put.amounts row.amounts ≡ (row_after reservations row).amounts) puts
     → map (all_into puts) rows ≡ applied rows reservations
 puts_apply puts rows reservations order for tell = map_each (all_into puts) (row_after reservations) rows (has_all _ rows each)
   where
@@ -106,7 +106,7 @@ puts_apply puts rows reservations order for tell = map_each (all_into puts) (row
     each row has = elim (cases_Bool (list_any (IsOf row) puts)) [
       | inl some ↦ all_given puts row (row_after reservations row).amounts
           (all_weaker _ (Gives row (row_after reservations row).amounts)
-          (λ put told here. told row (ap (row_named rows) (sym (row_same row.name (row_of put) here)) ∙ row_itself rows row order has)) puts tell) some
+          (λ put told here. told row (ap (row_named rows) (sym (row_same row.name (row_put put) here)) ∙ row_itself rows row order has)) puts tell) some
       | inr none ↦ none_given puts row none
           ∙ sym (ap (λ (zs : List ℤ). record row { amounts = zs }) (no_changes row reservations row.amounts
           (all_weaker (IsFor puts) (λ r. same_row row.name r.row ≡ false) (λ r. no_reservation puts row r none) reservations for)))
@@ -115,13 +115,13 @@ puts_apply puts rows reservations order for tell = map_each (all_into puts) (row
 -- one more put
 pub for_more : (puts : List Put) (put : Put) (reservations : List Reservation) → AllByRecursion (IsFor puts) reservations → AllByRecursion (IsFor (puts ++ put ∷ [])) reservations
 for_more puts put reservations = all_weaker (IsFor puts) (IsFor (puts ++ put ∷ []))
-    (λ r for. list_any-append (λ p. same_row r.row (row_of p)) puts (put ∷ []) ∙ ap (λ b. b || list_any (λ p. same_row r.row (row_of p)) (put ∷ [])) for) reservations
+    (λ r for. list_any-append (λ p. same_row r.row (row_put p)) puts (put ∷ []) ∙ ap (λ b. b || list_any (λ p. same_row r.row (row_put p)) (put ∷ [])) for) reservations
 
 -- it is of the row that it names
-pub for_itself : (puts : List Put) (put : Put) (r : Reservation) → row_of put ≡ r.row → IsFor (puts ++ put ∷ []) r
+pub for_itself : (puts : List Put) (put : Put) (r : Reservation) → row_put put ≡ r.row → IsFor (puts ++ put ∷ []) r
 for_itself puts put r is =
-    let here : same_row r.row (row_of put) ≡ true = subst (λ (n : RowName). same_row r.row n ≡ true) (sym is) (same_row_itself r.row) in
-    list_any-append (λ p. same_row r.row (row_of p)) puts (put ∷ []) ∙ rw here (or_true (list_any (λ p. same_row r.row (row_of p)) puts))
+    let here : same_row r.row (row_put put) ≡ true = subst (λ (n : RowName). same_row r.row n ≡ true) (sym is) (same_row_itself r.row) in
+    list_any-append (λ p. same_row r.row (row_put p)) puts (put ∷ []) ∙ rw here (or_true (list_any (λ p. same_row r.row (row_put p)) puts))
   where
     or_true : (b : Bool) → (b || true) ≡ true
     or_true true = refl
@@ -132,6 +132,6 @@ pub for_same : (puts : List Put) (reservations : List Reservation) (r : Reservat
     → AllByRecursion (IsFor puts) reservations → IsFor puts r
 for_same puts [] r named for = absurd (cc)
 for_same puts (other ∷ reservations) r named for = elim (cases_Bool (same_row other.row r.row)) [
-  | inl same ↦ subst (λ (n : RowName). list_any (λ put. same_row n (row_of put)) puts ≡ true) (row_same other.row r.row same) for.0
+  | inl same ↦ subst (λ (n : RowName). list_any (λ put. same_row n (row_put put)) puts ≡ true) (row_same other.row r.row same) for.0
   | inr apart ↦ (let later = rw apart at named in for_same puts reservations r later for.1)
 ]

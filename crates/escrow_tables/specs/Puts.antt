@@ -27,12 +27,12 @@ abbrev pub put_of : Change → Put
 put_of c = record { table = c.table.now; key = c.key.now; amounts = c.amounts }
 
 -- the row that they are of
-abbrev pub row_of : Put → RowName
-row_of put = name_in put.table put.key
+abbrev pub row_put : Put → RowName
+row_put put = name_in put.table put.key
 
 -- new amounts are of the row of a reservation
 abbrev pub IsFor : List Put → Reservation → Type 0
-IsFor puts r = list_any (λ put. same_row r.row (row_of put)) puts ≡ true
+IsFor puts r = list_any (λ put. same_row r.row (row_put put)) puts ≡ true
 
 -- new amounts are of tables that stand, and of each reservation's row
 pub record ArePuts (tables : List StoredTable) (reservations : List Reservation) (puts : List Put) : Type 0 where
@@ -43,4 +43,4 @@ pub record ArePuts (tables : List StoredTable) (reservations : List Reservation)
 abbrev pub TellsPut : List StoredTable → List Reservation → Database → Put → Type 0
 TellsPut tables reservations db put =
     (rows : List Row) (row : Row) → AreTables tables → AreRows tables rows → IsImage tables rows db
-    → row_named rows (row_of put) ≡ Some row → replaced put.amounts row.amounts ≡ (row_after reservations row).amounts
+    → row_named rows (row_put put) ≡ Some row → replaced put.amounts row.amounts ≡ (row_after reservations row).amounts

@@ -10,7 +10,7 @@ ghost use Rattle.escrow_rows.specs.Changes.{Stands};
 ghost use Rattle.escrow_machine.specs.Rows.{replaced, row_after};
 ghost use Rattle.escrow_rows.specs.Image.{AreTables};
 ghost use Rattle.escrow_tables.specs.Inside.{stored_of};
-ghost use Rattle.escrow_tables.specs.Puts.{ArePuts, TellsPut, put_by, put_of, row_of};
+ghost use Rattle.escrow_tables.specs.Puts.{ArePuts, TellsPut, put_by, put_of, row_put};
 
 use crate::tables::{Tables, find_counted};
 use escrow_num::{Amount, Failure, Reservation, Row, RowName, Seq, Value};
@@ -83,7 +83,7 @@ fn change_of<'a, S: Alter>(
     ensures looks { Looks (state S.Store store.old) (state S.Store store.new) }
     ensures open { HasCleanDisk (state S.Store store.new) → OnOk result (IsTrue (state S.Store store.new).is_open) }
     ensures stands { IfOk result (λ change. Stands (stored_of tables.now) change.table.now) }
-    ensures row { IfOk result (λ change. row_of (put_of change) ≡ name.now) }
+    ensures row { IfOk result (λ change. row_put (put_of change) ≡ name.now) }
     ensures told { HasCleanDisk (state S.Store store.new) → IfOk result (λ change. TellsPut (stored_of tables.now) reservations.now (state S.Store store.old).now (put_of change)) }
 {
     let Some(counted) = find_counted(tables, name.table) else {

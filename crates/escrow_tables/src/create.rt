@@ -5,7 +5,7 @@ ghost use Rattle.std.specs.Ordering.{int_eq, is_lt, nat_cmp};
 ghost use Rattle.std.specs.Cmp.Lexicographic.{slice_cmp};
 ghost use Rattle.escrow_verify.specs.declared.counted.Counted.{Counted as Kept};
 
-use crate::tables::{Tables, place_of};
+use crate::tables::{Tables, place_named};
 use escrow_num::{Failure, Name};
 use escrow_rows::StoredTable;
 use escrow_schema::TableDef;
@@ -46,7 +46,7 @@ impl<S: Alter> Tables<S> {
         requires { IsSome (table_named self.old.catalog name) }
         ensures { Writes S.Store self.old self.new (is_ok result) (without_table name self.old.catalog) (without_rows_of name self.old.rows) }
     {
-        let Some(place) = place_of(&self.tables, name) else {
+        let Some(place) = place_named(&self.tables, name) else {
             return Err(Failure::Store);
         };
         self.store.drop_table(&self.tables[place].stored)?;

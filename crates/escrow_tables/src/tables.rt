@@ -124,7 +124,7 @@ pub(crate) fn find_counted(tables: &[Counted], name: Name) -> Option<&Counted>
 }
 
 /// The place of the table of a name.
-pub(crate) fn place_of(tables: &[Counted], name: Name) -> Option<usize>
+pub(crate) fn place_named(tables: &[Counted], name: Name) -> Option<usize>
     ensures { result ≡ position (λ (c : Kept). bytes_eq c.stored.table.name name) tables.now }
 {
     tables

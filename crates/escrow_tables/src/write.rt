@@ -1,4 +1,4 @@
-use crate::tables::{Tables, place_of};
+use crate::tables::{Tables, place_named};
 use escrow_num::{Failure, Row, RowName, Value};
 use sqlite::Alter;
 use std::alloc::Global;
@@ -21,7 +21,7 @@ impl<S: Alter> Tables<S> {
         requires room { HasCleanDisk (state S.Store self.old.store) → length (rows_of self.old.rows row.now.name.table) < MAX_ROWS }
         ensures { Writes S.Store self.old self.new (is_ok result) self.old.catalog (with_row row.now self.old.rows) }
     {
-        let Some(place) = place_of(&self.tables, row.name.table) else {
+        let Some(place) = place_named(&self.tables, row.name.table) else {
             return Err(Failure::Store);
         };
         let counted = &mut self.tables[place];
@@ -42,7 +42,7 @@ impl<S: Alter> Tables<S> {
         requires fits { HasCleanDisk (state S.Store self.old.store) → AllByRecursion (HasTable self.old.catalog) (with_plain name.now values.now self.old.rows) }
         ensures { Writes S.Store self.old self.new (is_ok result) self.old.catalog (with_plain name.now values.now self.old.rows) }
     {
-        let Some(place) = place_of(&self.tables, name.table) else {
+        let Some(place) = place_named(&self.tables, name.table) else {
             return Err(Failure::Store);
         };
         self.store
@@ -57,7 +57,7 @@ impl<S: Alter> Tables<S> {
         requires row { HasCleanDisk (state S.Store self.old.store) → IsSome (row_named self.old.rows name.now) }
         ensures { Writes S.Store self.old self.new (is_ok result) self.old.catalog (without_row name.now self.old.rows) }
     {
-        let Some(place) = place_of(&self.tables, name.table) else {
+        let Some(place) = place_named(&self.tables, name.table) else {
             return Err(Failure::Store);
         };
         let counted = &mut self.tables[place];
