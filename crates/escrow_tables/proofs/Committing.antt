@@ -1,5 +1,5 @@
 -- COMMIT: reads of rows, and then one call that puts their new amounts.
-use Rattle.std.proofs.Common.{◌∙◌, Bool, IsTrue, List, arith, map, refl, subst}
+use Rattle.std.proofs.Common.{◌≡◌, ◌∙◌, Bool, true, false, IsTrue, List, arith, map, refl, subst}
 use Rattle.std.specs.List.{AllByRecursion}
 use Rattle.sqlite_trees.specs.declared.store.Store.{Ghosts}
 use Rattle.sqlite.specs.Effect.{Database}

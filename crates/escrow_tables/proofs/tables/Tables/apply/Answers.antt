@@ -1,4 +1,4 @@
-use Rattle.std.proofs.Common.{◌≡◌, ◌∙◌, Bool, true, false, ap, is_ok, map, subst, sym}
+use Rattle.std.proofs.Common.{◌≡◌, ◌∙◌, Bool, true, false, ap, is_ok, map, refl, subst, sym}
 use Rattle.std.proofs.lemmas.Bool.{false≢true}
 use Rattle.std.proofs.lemmas.Result.{err_from_is_err_and}
 use Rattle.sqlite.specs.Held.{Held, state}
@@ -46,7 +46,7 @@ invariant_of-self-in_err-put_amounts g c =
 
 pub returns-in_err-put_amounts : goal.returns-in_err-put_amounts
 returns-in_err-put_amounts g c =
-    let failed = err_from_is_err_and c.from_residual.result c.from_residual.ensures.1 in
+    let failed = err_from_is_err_and c.from_residual-in_err-put_amounts.result c.from_residual-in_err-put_amounts.ensures.1 in
     rw (failed.1, ← c.self.view_is)
     ((written g (goal.at.returns-in_err-put_amounts g c).After-put_amounts false c.self.inside.last.value (ap is_ok c.in_err-put_amounts.was) (λ e. absurd (false≢true e)) (λ _. refl)).0)
 

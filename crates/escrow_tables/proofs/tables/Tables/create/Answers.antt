@@ -46,7 +46,7 @@ written g c is_done fields later ok if_done if_not =
       create_keeps tables counted refl c.self.invariant.are_tables (is_new g c) g.S.Store old new c.self.inside.last.value later is_done it fields c.self.invariant if_done if_not,
     )
 
-there : (g : given.Over) (c : goal.After-put g) → c.put.new.tables.items ≡ with_counted (empty c.in-Some.id c.args.table) c.self.inside.tables.items
+there : (g : given.Over) (c : goal.After-drop-self-inside g) → c.put.new.tables.items ≡ with_counted (empty c.in-Some.id c.args.table) c.self.inside.tables.items
 there g c =
     put_there c.self.inside.tables.items c.reserve.new.self.items c.deref-2.result.now c.put.new.tables.items c.place_before-place.result (empty c.in-Some.id c.args.table)
     c.reserve.ensures.items c.deref-2.ensures.value c.place_before-place.ensures c.put.ensures
