@@ -104,14 +104,14 @@ check_declared columns name condition check e =
 -- ---- the conditions of a CHECK, and of all
 
 -- what is found where a first one and the others are
-unpack : (o : Option Check) (rest : Option (List Check)) (checks : List Check) → option_and_then (λ check. option_map (λ more. check ∷ more) rest) o ≡ Some checks
+pub unpack : (o : Option Check) (rest : Option (List Check)) (checks : List Check) → option_and_then (λ check. option_map (λ more. check ∷ more) rest) o ≡ Some checks
     → (check : Check) × (more : List Check) × (o ≡ Some check) × (rest ≡ Some more) × (check ∷ more ≡ checks)
 unpack None rest checks e = absurd cc
 unpack (Some check) None checks e = absurd cc
 unpack (Some check) (Some more) checks e = (check, more, refl, refl, cc)
 
 -- what is found where those of a first CHECK and the others are
-unpack_all : (o rest : Option (List Check)) (checks : List Check) → option_and_then (λ first. option_map (λ more. first ++ more) rest) o ≡ Some checks
+pub unpack_all : (o rest : Option (List Check)) (checks : List Check) → option_and_then (λ first. option_map (λ more. first ++ more) rest) o ≡ Some checks
     → (first : List Check) × (more : List Check) × (o ≡ Some first) × (rest ≡ Some more) × (first ++ more ≡ checks)
 unpack_all None rest checks e = absurd cc
 unpack_all (Some first) None checks e = absurd cc
@@ -121,7 +121,7 @@ unpack_all (Some first) (Some more) checks e = (first, more, refl, refl, cc)
 abbrev OfEach : List (List ℕ) → (Check → Type 0) → Type 0
 OfEach columns P = (name : List ℕ) (condition : Condition) (check : Check) → check_of columns name condition ≡ Some check → P check
 
-each_in_text : (columns : List (List ℕ)) (P : Check → Type 0) → OfEach columns P
+pub each_in_text : (columns : List (List ℕ)) (P : Check → Type 0) → OfEach columns P
     → (name : Option (List ℕ)) (k n : ℕ) (conditions : List Condition) (checks : List Check) → checks_of_conditions columns name k n conditions ≡ Some checks
     → (length checks ≡ length conditions) × All P checks
 each_in_text columns P each name k n [] checks e =

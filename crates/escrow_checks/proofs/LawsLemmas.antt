@@ -1,4 +1,5 @@
 -- The proof of each law of src/laws.rt, for the crates above.
+pub use Rattle.escrow_checks.proofs.CheckNames.{checks_are_named}
 pub use Rattle.escrow_checks.proofs.ConditionLemmas.{mean_the_same, checks_whole, checks_declared}
 pub use Rattle.escrow_checks.proofs.EndsLemmas.{any_choice_can_commit, any_choice_can_stay, other_rows_stay_safe, new_row_is_safe}
 pub use Rattle.escrow_checks.proofs.FormLemmas.{length-all_changed}

@@ -1,3 +1,4 @@
+pub mod CheckNames
 pub mod CoefficientsLemmas
 pub mod ConditionLemmas
 pub mod EndsLemmas

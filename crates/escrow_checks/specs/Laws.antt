@@ -1,5 +1,6 @@
 -- Believed: the statements of the laws in src/laws.rt.
-use Rattle.std.specs.Prelude.{◌≡◌, ℕ, ℤ, pos, ◌≤◌, ◌+ℤ◌, ◌≤ℤ◌, ◌<ℤ◌, ◌↔◌, Bool, not, List, [], ◌∷◌, ◌++◌, length, map, filter, All, Contains, Some, None, bytes_eq}
+use Rattle.std.specs.Prelude.{◌≡◌, ℕ, ℤ, pos, ◌+◌, ◌<◌, ◌≤◌, ◌+ℤ◌, ◌≤ℤ◌, ◌<ℤ◌, ◌↔◌, Bool, not, List, [], ◌∷◌, ◌++◌, length, map, filter, take, slice_get, All, Contains, Some, None, codes, bytes_eq}
+use Rattle.std.specs.Fmt.{decimal}
 use Rattle.std.specs.List.{IsDistinct, flat_map}
 use Rattle.escrow_num.specs.Span.{Holds}
 use Rattle.escrow_num.specs.declared.span.Span.{Span}
@@ -35,6 +36,30 @@ ChecksAreWhole = (columns : List (List ℕ)) (texts : List CheckText) (checks : 
 abbrev pub ChecksAreDeclared : Type 0
 ChecksAreDeclared = (columns : List (List ℕ)) (texts : List CheckText) (checks : List Check) → checks_of columns texts ≡ Some checks
     → All (λ check. IsDeclared columns check) checks
+
+-- how many conditions stand in the CHECKs in front of the i-th, counted from 0
+abbrev pub conditions_before : List CheckText → ℕ → ℕ
+conditions_before texts i = length (flat_map (λ (text : CheckText). text.conditions) (take i texts))
+
+-- names, in order, as CHECKs give them to the checks of their conditions. Places are counted from 0, and
+-- a condition has the place behind those of all conditions in front of it
+pub record AreNamed (texts : List CheckText) (names : List (List ℕ)) : Type 0 where
+  -- there is a name for each condition
+  pub each : length names ≡ length (flat_map (λ (text : CheckText). text.conditions) texts)
+  -- the first condition of a CHECK with a name is called so
+  pub first : (i : ℕ) (text : CheckText) (name : List ℕ) → slice_get texts i ≡ Some text → text.name ≡ Some name → 0 < length text.conditions
+      → slice_get names (conditions_before texts i) ≡ Some name
+  -- the second one has _2 behind that name, the third one _3, and so on
+  pub later : (i j : ℕ) (text : CheckText) (name : List ℕ) → slice_get texts i ≡ Some text → text.name ≡ Some name → j + 1 < length text.conditions
+      → slice_get names (conditions_before texts i + (j + 1)) ≡ Some (name ++ codes "_" ++ decimal (j + 2))
+  -- a condition of a CHECK without a name is called CHECK_ and its place among all conditions, counted from 1
+  pub unnamed : (i j : ℕ) (text : CheckText) → slice_get texts i ≡ Some text → text.name ≡ None → j < length text.conditions
+      → slice_get names (conditions_before texts i + j) ≡ Some (codes "CHECK_" ++ decimal (conditions_before texts i + j + 1))
+
+-- the checks that CHECKs declare are named so
+abbrev pub ChecksAreNamed : Type 0
+ChecksAreNamed = (columns : List (List ℕ)) (texts : List CheckText) (checks : List Check) → checks_of columns texts ≡ Some checks
+    → AreNamed texts (map (λ (check : Check). check.name) checks)
 
 -- of columns with names of their own, the form of one column's coefficients is its amount
 abbrev pub UnitGivesTheAmount : Type 0

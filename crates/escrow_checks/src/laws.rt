@@ -1,7 +1,7 @@
 //! Laws of checks and of the grant rule: facts about their definitions, each the contract of a
 //! function that does nothing. What keeps a database's state valid stands on them.
 
-ghost use Rattle.escrow_checks.specs.Laws.{ChecksMeanTheirTexts, ChecksAreWhole, ChecksAreDeclared, UnitGivesTheAmount, ExtremesAreReached, GrantedWhereAlwaysMet, GrantedWhereAllAlwaysMet, BoundsDecide, GrantedStaysSafe, RefusedNamesAChoice, AnyChoiceCanCommit, AnyChoiceCanRollBack, ChangesKeepTheNumber, OtherRowsStaySafe, NewRowIsSafe, Limits};
+ghost use Rattle.escrow_checks.specs.Laws.{ChecksMeanTheirTexts, ChecksAreWhole, ChecksAreDeclared, ChecksAreNamed, UnitGivesTheAmount, ExtremesAreReached, GrantedWhereAlwaysMet, GrantedWhereAllAlwaysMet, BoundsDecide, GrantedStaysSafe, RefusedNamesAChoice, AnyChoiceCanCommit, AnyChoiceCanRollBack, ChangesKeepTheNumber, OtherRowsStaySafe, NewRowIsSafe, Limits};
 ghost use Rattle.escrow_checks.specs.Spread.{OtherRowsAddNothing};
 
 /// A row meets all the checks that CHECKs declare exactly where it meets all the CHECKs as they are
@@ -19,6 +19,12 @@ pub fn checks_are_whole()
 /// The coefficients, the limits and the name of each declared check are as the rules ask.
 pub fn checks_are_declared()
     ensures { ChecksAreDeclared }
+{}
+
+/// The first condition of a CHECK with a name has that name, the second has `_2` behind it, and so
+/// on; where the CHECK has none, the n-th condition of the table is called `CHECK_n`.
+pub fn checks_are_named()
+    ensures { ChecksAreNamed }
 {}
 
 /// The form of one column's coefficients is the column's amount.

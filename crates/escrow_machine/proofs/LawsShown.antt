@@ -1,12 +1,11 @@
 -- What SELECT, SHOW TABLE and SHOW JOURNAL show.
 use Rattle.std.specs.Prelude.{◌≡◌, ◌↔◌, ℕ, Bool, true, is_none, unwrap_or, option_map, Option, Some, None, List, [], ◌∷◌, map, filter, bytes_eq, Contains, IsTrue}
 use Rattle.std.specs.List.{AllByRecursion}
-use Rattle.std.proofs.Common.{refl, sym, ap, subst, ◌∙◌}
+use Rattle.std.proofs.Common.{refl, sym, ap, subst}
 use Rattle.std.proofs.lemmas.List.Elements.{All-from_recursion}
 use Rattle.escrow_num.specs.declared.refusal.Refusal.{Refusal}
 use Rattle.escrow_num.specs.declared.refusal.Refusal.TheVariants as refusal
 use Rattle.escrow_num.specs.declared.reservation.Reservation.{Reservation}
-use Rattle.escrow_num.specs.declared.reservation.Savepoint.{Savepoint}
 use Rattle.escrow_num.specs.declared.row.Row.{Row}
 use Rattle.escrow_num.specs.declared.value.RowName.{RowName}
 use Rattle.escrow_num.specs.declared.value.Value.{Value}
@@ -28,19 +27,19 @@ use Rattle.escrow_journal.specs.Reservations.{reservation_before}
 use Rattle.escrow_machine.specs.declared.reply.JournalEntry.{JournalEntry}
 use Rattle.escrow_machine.specs.declared.reply.Reply.{Reply}
 use Rattle.escrow_machine.specs.declared.reply.Reply.TheVariants as reply
-use Rattle.escrow_machine.specs.Asked.{is_shown, named_by, row_name, select_reply, select_refusal_of, show_reply}
+use Rattle.escrow_machine.specs.Asked.{is_shown, named_by, row_name, select_reply, select_refusal_of}
 use Rattle.escrow_machine.specs.Journal.{entry_of, of_table, journal_reply}
 use Rattle.escrow_machine.specs.Laws.{SelectsShowRows, ShowsTheTable, ShowsTheJournal, IsJournal, IsOfTable, entry_before, QueriesIgnoreWhatIsOpen, IsSelected, IsKeyed}
 use Rattle.escrow_machine.specs.State.{State}
-use Rattle.escrow_machine.specs.Step.{step}
 use Rattle.escrow_machine.specs.Turn.{turn_of}
 use Rattle.escrow_machine.specs.Rows.{row_before}
 use Rattle.escrow_machine.proofs.LawsGrants.{has_contains}
 use Rattle.escrow_machine.proofs.LawsSteps.{step_has}
+use Rattle.escrow_machine.proofs.Queries.{query_alike}
 use Rattle.escrow_machine.proofs.Refusals.{passed, failed, some_there}
 
 -- what is contained is an item
-contains_has : {A : Type 0} (xs : List A) (x : A) → Contains xs x → Has xs x
+pub contains_has : {A : Type 0} (xs : List A) (x : A) → Contains xs x → Has xs x
 contains_has xs x h = subst (Has xs) h.2 (All-from_recursion (Has xs) xs (has_all (Has xs) xs (λ y k. k)) h.0 x h.1)
 
 -- the rows that are shown
@@ -157,39 +156,5 @@ shows_the_journal s session table entries =
     step_has (λ (p : Reply × State). p.0 ≡ reply.Journal entries → IsJournal s table entries × (p.1 ≡ s)) s session (statement.ShowJournal table)
     (λ _ _ e. absurd (cc)) (λ _ e. (journal_in s table entries e, refl))
 
--- the reply alone
-reply_part : (s new : State) (o : Option Refusal) (done : Reply)
-    → (let answered : Reply × State = unwrap_or (option_map (λ (r : Refusal). (reply.Refused r, s)) o) (done, new) in answered.0) ≡ unwrap_or (option_map reply.Refused o) done
-reply_part s new None done = refl
-reply_part s new (Some r) done = refl
-
-select_alike : (s : State) (session other : ℕ) (text : SelectText) (reservations : List Reservation) (savepoints : List Savepoint)
-    → (step (record s { reservations = reservations; savepoints = savepoints }) other (statement.Select text)).0 ≡ (step s session (statement.Select text)).0
-unfolding turn_of
-select_alike s session other text reservations savepoints =
-    let t : State = record s { reservations = reservations; savepoints = savepoints } in
-    let o = first_refusal (refuse_if (is_none (table_named s.catalog text.table)) refusal.NoSuchTable ∷ select_refusal_of s text ∷ []) in
-    reply_part t t o (select_reply s text) ∙ sym (reply_part s s o (select_reply s text))
-
-show_alike : (s : State) (session other : ℕ) (name : List ℕ) (reservations : List Reservation) (savepoints : List Savepoint)
-    → (step (record s { reservations = reservations; savepoints = savepoints }) other (statement.ShowTable name)).0 ≡ (step s session (statement.ShowTable name)).0
-unfolding turn_of
-show_alike s session other name reservations savepoints =
-    let t : State = record s { reservations = reservations; savepoints = savepoints } in
-    let o = first_refusal (refuse_if (is_none (table_named s.catalog name)) refusal.NoSuchTable ∷ []) in
-    reply_part t t o (show_reply s name) ∙ sym (reply_part s s o (show_reply s name))
-
 pub queries_ignore_what_is_open : QueriesIgnoreWhatIsOpen
-queries_ignore_what_is_open s session other (statement.Create text) reservations savepoints query = absurd query
-queries_ignore_what_is_open s session other (statement.Drop name) reservations savepoints query = absurd query
-queries_ignore_what_is_open s session other (statement.Insert text) reservations savepoints query = absurd query
-queries_ignore_what_is_open s session other (statement.Update text) reservations savepoints query = absurd query
-queries_ignore_what_is_open s session other (statement.Delete text) reservations savepoints query = absurd query
-queries_ignore_what_is_open s session other (statement.Select text) reservations savepoints query = select_alike s session other text reservations savepoints
-queries_ignore_what_is_open s session other (statement.ShowTable name) reservations savepoints query = show_alike s session other name reservations savepoints
-queries_ignore_what_is_open s session other (statement.ShowJournal table) reservations savepoints query = absurd query
-queries_ignore_what_is_open s session other (statement.ShowBounds text) reservations savepoints query = absurd query
-queries_ignore_what_is_open s session other (statement.Savepoint name) reservations savepoints query = absurd query
-queries_ignore_what_is_open s session other statement.Commit reservations savepoints query = absurd query
-queries_ignore_what_is_open s session other statement.Rollback reservations savepoints query = absurd query
-queries_ignore_what_is_open s session other (statement.RollbackTo name) reservations savepoints query = absurd query
+queries_ignore_what_is_open s session other asked reservations savepoints query = query_alike s session other asked reservations savepoints s.next_id query

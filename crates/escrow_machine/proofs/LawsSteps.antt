@@ -2,7 +2,7 @@
 use Rattle.std.specs.Prelude.{◌≡◌, ℕ, ◌+◌, ◌≤◌, true, false, is_none, option_map, unwrap_or, MatchOption, IsTrue, Option, Some, None, List, [], ◌∷◌, length}
 use Rattle.std.specs.List.{AllByRecursion}
 use Rattle.std.proofs.Common.{inl, inr, refl, sym, ap, subst, le_refl, ◌∙◌}
-use Rattle.std.proofs.lemmas.Bool.{and_parts}
+use Rattle.std.proofs.lemmas.Bool.{and_parts, false≢true}
 use Rattle.escrow_num.specs.declared.refusal.Refusal.{Refusal}
 use Rattle.escrow_num.specs.Refusal.{first_refusal}
 use Rattle.escrow_num.specs.Session.{IsSession}
@@ -16,13 +16,14 @@ use Rattle.escrow_num.specs.declared.failure.Failure.{Failure}
 use Rattle.escrow_num.specs.declared.failure.Failure.TheVariants as failure
 use Rattle.escrow_machine.specs.Event.{HasSession}
 use Rattle.escrow_machine.specs.Promised.{asks_store, needs_nothing}
-use Rattle.escrow_machine.specs.Reply.{failure_of}
+use Rattle.escrow_machine.specs.Reply.{failure_of, is_refused}
 use Rattle.escrow_machine.specs.Laws.{IsSeen}
 use Rattle.escrow_journal.specs.Reservations.{own}
 use Rattle.escrow_machine.specs.State.{State}
 use Rattle.escrow_machine.specs.Step.{refusals, step, may_fail, IsStep, StepOrRefusal, IsServed, IsRun}
 use Rattle.escrow_machine.specs.Turn.{turn_of}
 use Rattle.escrow_machine.specs.Valid.{IsValid}
+use Rattle.escrow_machine.proofs.Queries.{shows_just}
 use Rattle.escrow_machine.proofs.Refusals.{first_among, first_in_front}
 use Rattle.escrow_machine.proofs.TurnWords.{IsJudged}
 use Rattle.escrow_machine.proofs.Turns.{is_turn}
@@ -81,6 +82,24 @@ refused_changes_nothing s session asked r =
     step_has (λ (p : Reply × State). p.0 ≡ reply.Refused r → p.1 ≡ s) s session asked (λ _ _ _. refl)
     (λ _ e. absurd ((is_turn s session asked).answers r e))
 
+-- what is told to be a refusal is one
+pub refused_is : (answer : Reply) → is_refused answer ≡ true → (r : Refusal) × (answer ≡ reply.Refused r)
+refused_is (reply.Refused r) is = (r, refl)
+refused_is _ is = absurd (false≢true is)
+
+-- and leaves the state equal, by whatever it was refused
+refused_by : (s : State) (session : ℕ) (asked : Statement) (r : Refusal) (new : State) (o : Option Failure)
+    → MatchOption o (IsStep s session asked (reply.Refused r) new) (λ f. IsTrue (may_fail s session asked f) × (new ≡ s)) → new ≡ s
+refused_by s session asked r new None event =
+    let is : (reply.Refused r, new) ≡ step s session asked = event.is_step in
+    ap (λ (p : Reply × State). p.1) is ∙ refused_changes_nothing s session asked r (sym (ap (λ (p : Reply × State). p.0) is))
+refused_by s session asked r new (Some f) event = event.1
+
+pub refused_stays : (s : State) (session : ℕ) (asked : Statement) (answer : Reply) (new : State) → StepOrRefusal s session asked answer new → is_refused answer ≡ true → new ≡ s
+refused_stays s session asked answer new event is =
+    let refused = refused_is answer is in
+    refused_by s session asked refused.0 new (failure_of (reply.Refused refused.0)) (subst (λ (a : Reply). StepOrRefusal s session asked a new) refused.1 event)
+
 -- the machine never fails
 pub machine_never_fails : (s : State) (session : ℕ) (asked : Statement) → failure_of (step s session asked).0 ≡ None
 machine_never_fails s session asked =
@@ -134,25 +153,32 @@ pub rollback_answers : (s : State) (session : ℕ) → (step s session statement
 unfolding turn_of
 rollback_answers s session = refl
 
--- what a statement does to the committed rows: a refusal leaves them
+-- what queries see after a statement: a refusal leaves it
 none_for_commit : (s : State) (session : ℕ) (r : Refusal) → ¬ (first_refusal (refusals (turn_of s session statement.Commit)) ≡ Some r)
 unfolding turn_of
 none_for_commit s session r = λ e. absurd (cc)
 
+none_for_rollback : (s : State) (session : ℕ) (r : Refusal) → ¬ (first_refusal (refusals (turn_of s session statement.Rollback)) ≡ Some r)
+unfolding turn_of
+none_for_rollback s session r = λ e. absurd (cc)
+
 refused_unseen : (s : State) (session : ℕ) (asked : Statement) (r : Refusal) → first_refusal (refusals (turn_of s session asked)) ≡ Some r
-    → IsSeen s session asked (reply.Refused r) s.rows
+    → IsSeen s session asked (reply.Refused r) s
 refused_unseen s session asked r first = record {
+  before = shows_just s s.catalog s.rows refl refl;
+  created = λ text is answered. absurd (cc);
   dropped = λ name answered. absurd (cc);
   inserted = λ text is answered. absurd (cc);
   updated = λ text is answered. absurd (cc);
   deleted = λ text is answered. absurd (cc);
   committed = λ is. absurd (none_for_commit s session r (subst (λ (a : Statement). first_refusal (refusals (turn_of s session a)) ≡ Some r) is first));
-  otherwise = λ _. refl;
+  rolled_back = λ is. absurd (none_for_rollback s session r (subst (λ (a : Statement). first_refusal (refusals (turn_of s session a)) ≡ Some r) is first));
+  otherwise = λ _. shows_just s s.catalog s.rows refl refl;
 }
 
-pub queries_see_commits_alone : (s : State) (session : ℕ) (asked : Statement) → IsSeen s session asked (step s session asked).0 (step s session asked).1.rows
+pub queries_see_commits_alone : (s : State) (session : ℕ) (asked : Statement) → IsSeen s session asked (step s session asked).0 (step s session asked).1
 queries_see_commits_alone s session asked =
-    step_has (λ (p : Reply × State). IsSeen s session asked p.0 p.1.rows) s session asked
+    step_has (λ (p : Reply × State). IsSeen s session asked p.0 p.1) s session asked
     (refused_unseen s session asked) (is_turn s session asked).seen
 
 -- the id of a reservation

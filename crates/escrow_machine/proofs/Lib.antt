@@ -12,6 +12,7 @@ pub mod LawsChanges
 pub mod LawsDecide
 pub mod LawsEnds
 pub mod LawsGrants
+pub mod LawsIds
 pub mod LawsRows
 pub mod LawsSavepoints
 pub mod LawsShown
@@ -19,6 +20,7 @@ pub mod LawsSteps
 pub mod Lengths
 pub mod Plans
 pub mod Put
+pub mod Queries
 pub mod Refusals
 pub mod Safe
 pub mod SavepointNames

@@ -14,6 +14,7 @@ use Rattle.escrow_schema.specs.Catalog.{table_named}
 use Rattle.escrow_machine.specs.declared.reply.Reply.TheVariants as reply
 use Rattle.escrow_machine.specs.Asked.{plan_of, plan_refusal_of, row_name, reservation_from, breach_of}
 use Rattle.escrow_machine.specs.Accepted.{IsAccepted}
+use Rattle.escrow_machine.specs.Laws.{ShowsJust}
 use Rattle.escrow_machine.specs.State.{State}
 use Rattle.escrow_machine.specs.Rows.{with_plain}
 use Rattle.escrow_machine.specs.Step.{refusals}
@@ -21,6 +22,7 @@ use Rattle.escrow_machine.specs.Turn.{Turn, turn_of, for_any, granted, update_re
 use Rattle.escrow_machine.specs.Valid.{IsValid}
 use Rattle.escrow_machine.proofs.Accepted.{plan_there, reserve_stands, plain_stands}
 use Rattle.escrow_machine.proofs.Plans.{plan_among}
+use Rattle.escrow_machine.proofs.Queries.{shows_just}
 use Rattle.escrow_machine.proofs.Refusals.{if_among, check_among}
 use Rattle.escrow_schema.proofs.PlanLemmas.{plans_of_whole_row, plain_plans_fit}
 use Rattle.escrow_machine.proofs.ValidPlain.{plain_valid}
@@ -103,7 +105,8 @@ update_turn_by s session text (Some (plan.Reserve key changes)) is accepts = rec
     ),
   );
   fails = fails_any s session (statement.Update text) refl refl;
-  seen = λ _. unseen s session (statement.Update text) (reply.Reserved s.next_id) refl (λ e. absurd (cc));
+  seen = λ _. unseen s session (statement.Update text) (reply.Reserved s.next_id) (granted s (reservation_from s session (row_name text.table key) changes)) refl refl refl
+      (λ e. absurd (cc)) (λ e. absurd (cc));
   ids = λ _. more s.next_id;
   next = λ _ id answered. let same : id ≡ s.next_id = cc in (same, refl);
   valid = λ accepted valid of_session. reserved_valid s session text key changes valid of_session is (accepts accepted);
@@ -118,14 +121,18 @@ update_turn_by s session text (Some (plan.Plain key values)) is accepts = record
   late = (if_among (NeedsMore (statement.Update text)) _ _ refl, (if_among (NeedsMore (statement.Update text)) _ _ refl, tt));
   fails = fails_any s session (statement.Update text) refl refl;
   seen = λ _. record {
+    before = shows_just s s.catalog s.rows refl refl;
+    created = λ other asked _. absurd (cc);
     dropped = λ name answered. absurd (cc);
     inserted = λ other asked _. absurd (cc);
     updated = λ other asked _.
         let same : text ≡ other = cc in
-        subst (λ (t : UpdateText). (k : Value) × (vs : List (Option Value)) × (plan_of s t ≡ Some (plan.Plain k vs)) × (with_plain (row_name text.table key) values s.rows ≡ with_plain (row_name t.table k) vs s.rows))
-        same (key, values, is, refl);
+        let next : State = record s { rows = with_plain (row_name text.table key) values s.rows } in
+        subst (λ (t : UpdateText). (k : Value) × (vs : List (Option Value)) × (plan_of s t ≡ Some (plan.Plain k vs)) × ShowsJust next s.catalog (with_plain (row_name t.table k) vs s.rows))
+        same (key, values, is, shows_just next s.catalog (with_plain (row_name text.table key) values s.rows) refl refl);
     deleted = λ other asked _. absurd (cc);
     committed = λ asked. absurd (cc);
+    rolled_back = λ asked. absurd (cc);
     otherwise = λ quiet. absurd (cc);
   };
   ids = λ _. le_refl _;

@@ -11,13 +11,15 @@ use Rattle.escrow_machine.specs.declared.reply.Reply.{Reply}
 use Rattle.escrow_machine.specs.declared.reply.Reply.TheVariants as reply
 use Rattle.escrow_num.specs.declared.failure.Failure.{Failure}
 use Rattle.escrow_num.specs.declared.failure.Failure.TheVariants as failure
-use Rattle.escrow_machine.specs.Laws.{IsSeen, tells_of_rows}
+use Rattle.escrow_machine.specs.Laws.{IsSeen, tells_of_change}
+use Rattle.escrow_journal.specs.Reservations.{others}
 use Rattle.escrow_machine.specs.Promised.{asks_store, is_plain_refusal, needs_nothing}
 use Rattle.escrow_machine.specs.Reply.{failure_of, failure_of_refusal}
 use Rattle.escrow_machine.specs.State.{State}
 use Rattle.escrow_machine.specs.Step.{refusals}
 use Rattle.escrow_machine.specs.Turn.{Turn, for_any, for_memory}
 use Rattle.escrow_machine.specs.Valid.{IsValid}
+use Rattle.escrow_machine.proofs.Queries.{shows_just}
 
 -- no refusal of a rule is one of memory or the store
 abbrev pub IsJudged : Refusal → Type 0
@@ -40,7 +42,7 @@ pub record IsTurn (s : State) (session : ℕ) (asked : Statement) (turn : Turn) 
   pub judged : AllByRecursion (λ o. IfSome o IsJudged) (refusals turn)
   pub late : AllByRecursion (λ o. IfSome o (NeedsMore asked)) turn.late
   pub fails : (f : Failure) → turn.fails_for f ≡ true → FailsFor s session asked f
-  pub seen : first_refusal (refusals turn) ≡ None → IsSeen s session asked turn.reply turn.next.rows
+  pub seen : first_refusal (refusals turn) ≡ None → IsSeen s session asked turn.reply turn.next
   pub ids : first_refusal (refusals turn) ≡ None → s.next_id ≤ turn.next.next_id
   pub next : first_refusal (refusals turn) ≡ None → (id : ℕ) → turn.reply ≡ reply.Reserved id → (id ≡ s.next_id) × (turn.next.next_id ≡ s.next_id + 1)
   pub valid : first_refusal (refusals turn) ≡ None → IsValid s → IsSession session → IsValid turn.next
@@ -55,17 +57,20 @@ pub fails_any : (s : State) (session : ℕ) (asked : Statement) → needs_nothin
     → (f : Failure) → for_any f ≡ true → FailsFor s session asked f
 fails_any s session asked needs asks f e = (needs, λ _. asks)
 
--- rows that stay are seen so after a reply that tells of no change of them
-pub unseen : (s : State) (session : ℕ) (asked : Statement) (answer : Reply) → tells_of_rows answer ≡ false → ¬ (asked ≡ statement.Commit)
-    → IsSeen s session asked answer s.rows
-unseen s session asked answer quiet other_asked = record {
+-- tables and rows that stay are seen so after a reply that tells of no change of them
+pub unseen : (s : State) (session : ℕ) (asked : Statement) (answer : Reply) (new : State) → new.catalog ≡ s.catalog → new.rows ≡ s.rows → tells_of_change answer ≡ false
+    → ¬ (asked ≡ statement.Commit) → (asked ≡ statement.Rollback → new.reservations ≡ others session s.reservations) → IsSeen s session asked answer new
+unseen s session asked answer new catalog rows quiet other_asked rolled_back = record {
+  before = shows_just s s.catalog s.rows refl refl;
+  created = λ text is answered. absurd (told (reply.Created text.table) answered refl);
   dropped = λ name answered. absurd (told (reply.Dropped name) answered refl);
   inserted = λ text is answered. absurd (told reply.Inserted answered refl);
   updated = λ text is answered. absurd (told reply.Updated answered refl);
   deleted = λ text is answered. absurd (told reply.Deleted answered refl);
   committed = λ is. absurd (other_asked is);
-  otherwise = λ _. refl;
+  rolled_back = rolled_back;
+  otherwise = λ _. shows_just new s.catalog s.rows catalog rows;
 }
   where
-    told : (other : Reply) → answer ≡ other → ¬ (tells_of_rows other ≡ true)
-    told other answered tells = let is : true ≡ false = sym tells ∙ sym (ap tells_of_rows answered) ∙ quiet in absurd (cc)
+    told : (other : Reply) → answer ≡ other → ¬ (tells_of_change other ≡ true)
+    told other answered tells = let is : true ≡ false = sym tells ∙ sym (ap tells_of_change answered) ∙ quiet in absurd (cc)

@@ -14,7 +14,8 @@ use Rattle.escrow_sql.specs.declared.statement.InsertText.{InsertText}
 use Rattle.escrow_sql.specs.declared.statement.RowText.{RowText}
 use Rattle.escrow_sql.specs.declared.statement.SelectText.{SelectText}
 use Rattle.escrow_schema.specs.declared.table.TableDef.{TableDef}
-use Rattle.escrow_schema.specs.Catalog.{table_named}
+use Rattle.escrow_schema.specs.Catalog.{table_named, with_table, without_table}
+use Rattle.escrow_schema.specs.Definition.{definition_of}
 use Rattle.escrow_schema.specs.declared.table.TheConstants.TableDef.{MAX_ROWS}
 use Rattle.escrow_num.specs.declared.failure.Failure.{Failure}
 use Rattle.escrow_machine.specs.declared.reply.Reply.{Reply}
@@ -22,16 +23,17 @@ use Rattle.escrow_machine.specs.declared.reply.Reply.TheVariants as reply
 use Rattle.escrow_machine.specs.Asked.{row_of, insert_breach, named_by, select_reply, show_reply}
 use Rattle.escrow_machine.specs.Bounds.{bounds_in, bounds_reply}
 use Rattle.escrow_machine.specs.Journal.{journal_reply}
-use Rattle.escrow_machine.specs.Laws.{tells_of_rows}
+use Rattle.escrow_machine.specs.Laws.{tells_of_change}
 use Rattle.escrow_machine.specs.Reply.{failure_of}
 use Rattle.escrow_machine.specs.Accepted.{IsAccepted}
 use Rattle.escrow_journal.specs.Reservations.{own}
 use Rattle.escrow_machine.specs.State.{State}
-use Rattle.escrow_machine.specs.Rows.{row_named, rows_of, with_row, without_row, without_rows_of}
-use Rattle.escrow_machine.specs.Turn.{turn_of, after_insert, for_any, for_nothing}
+use Rattle.escrow_machine.specs.Rows.{row_named, rows_of, applied, with_row, without_row, without_rows_of}
+use Rattle.escrow_machine.specs.Turn.{turn_of, after_create, after_drop, after_insert, after_delete, after_commit, after_rollback, for_any, for_nothing}
 use Rattle.escrow_machine.specs.Valid.{IsValid}
 use Rattle.escrow_machine.proofs.Accepted.{create_stands, insert_stands, drop_stands, delete_stands}
 use Rattle.escrow_machine.proofs.Plans.{key_among, select_among}
+use Rattle.escrow_machine.proofs.Queries.{shows_just}
 use Rattle.escrow_machine.proofs.Refusals.{if_among, check_among}
 use Rattle.escrow_machine.proofs.ValidCreate.{create_valid}
 use Rattle.escrow_machine.proofs.ValidDelete.{delete_valid}
@@ -54,7 +56,25 @@ create_turn s session text = record {
   judged = (if_among IsJudged _ _ refl, (if_among IsJudged _ _ refl, (if_among IsJudged _ _ refl, (if_among IsJudged _ _ refl, tt))));
   late = (if_among (NeedsMore (statement.Create text)) _ _ refl, (if_among (NeedsMore (statement.Create text)) _ _ refl, tt));
   fails = fails_any s session (statement.Create text) refl refl;
-  seen = λ _. unseen s session (statement.Create text) (reply.Created text.table) refl (λ e. absurd (cc));
+  seen = λ accepted.
+      let stands = create_stands s session text accepted in
+      let tables : (after_create s text).catalog ≡ with_table stands.table s.catalog = rw stands.defines refl in
+      record {
+        before = shows_just s s.catalog s.rows refl refl;
+        created = λ other is _.
+            let same : text ≡ other = cc in (
+              stands.table,
+              subst (λ (t : CreateText). definition_of t ≡ Some stands.table) same stands.defines,
+              shows_just (after_create s text) (with_table stands.table s.catalog) s.rows tables refl,
+            );
+        dropped = λ name answered. absurd (cc);
+        inserted = λ other is _. absurd (cc);
+        updated = λ other is _. absurd (cc);
+        deleted = λ other is _. absurd (cc);
+        committed = λ is. absurd (cc);
+        rolled_back = λ is. absurd (cc);
+        otherwise = λ quiet. absurd (cc);
+      };
   ids = λ _. le_refl _;
   next = λ _ id e. absurd (cc);
   valid = λ accepted valid of_session.
@@ -71,11 +91,17 @@ drop_turn s session name = record {
   late = tt;
   fails = fails_any s session (statement.Drop name) refl refl;
   seen = λ _. record {
-    dropped = λ other answered. let same : name ≡ other = cc in ap (λ (n : List ℕ). without_rows_of n s.rows) same;
+    before = shows_just s s.catalog s.rows refl refl;
+    created = λ text is _. absurd (cc);
+    dropped = λ other answered.
+        let same : name ≡ other = cc in
+        shows_just (after_drop s name) (without_table other s.catalog) (without_rows_of other s.rows)
+        (ap (λ (n : List ℕ). without_table n s.catalog) same) (ap (λ (n : List ℕ). without_rows_of n s.rows) same);
     inserted = λ text is _. absurd (cc);
     updated = λ text is _. absurd (cc);
     deleted = λ text is _. absurd (cc);
     committed = λ is. absurd (cc);
+    rolled_back = λ is. absurd (cc);
     otherwise = λ quiet. absurd (cc);
   };
   ids = λ _. le_refl _;
@@ -125,13 +151,19 @@ insert_turn s session text = record {
       let stands = insert_stands s session text accepted in
       let rows : (after_insert s text).rows ≡ with_row stands.row s.rows = rw stands.made refl in
       record {
+        before = shows_just s s.catalog s.rows refl refl;
+        created = λ other is _. absurd (cc);
         dropped = λ name answered. absurd (cc);
         inserted = λ other is _.
-            let same : text ≡ other = cc in
-            (stands.row, subst (λ (t : InsertText). row_of s t ≡ Some stands.row) same stands.made, rows);
+            let same : text ≡ other = cc in (
+              stands.row,
+              subst (λ (t : InsertText). row_of s t ≡ Some stands.row) same stands.made,
+              shows_just (after_insert s text) s.catalog (with_row stands.row s.rows) refl rows,
+            );
         updated = λ other is _. absurd (cc);
         deleted = λ other is _. absurd (cc);
         committed = λ is. absurd (cc);
+        rolled_back = λ is. absurd (cc);
         otherwise = λ quiet. absurd (cc);
       };
   ids = λ _. le_refl _;
@@ -156,11 +188,17 @@ delete_turn s session text = record {
   late = (if_among (NeedsMore (statement.Delete text)) _ _ refl, (if_among (NeedsMore (statement.Delete text)) _ _ refl, tt));
   fails = fails_any s session (statement.Delete text) refl refl;
   seen = λ _. record {
+    before = shows_just s s.catalog s.rows refl refl;
+    created = λ other asked _. absurd (cc);
     dropped = λ name answered. absurd (cc);
     inserted = λ other asked _. absurd (cc);
     updated = λ other asked _. absurd (cc);
-    deleted = λ other asked _. let same : text ≡ other = cc in ap (λ (t : RowText). without_row (named_by t.table t.row) s.rows) same;
+    deleted = λ other asked _.
+        let same : text ≡ other = cc in
+        shows_just (after_delete s text) s.catalog (without_row (named_by other.table other.row) s.rows) refl
+        (ap (λ (t : RowText). without_row (named_by t.table t.row) s.rows) same);
     committed = λ asked. absurd (cc);
+    rolled_back = λ asked. absurd (cc);
     otherwise = λ quiet. absurd (cc);
   };
   ids = λ _. le_refl _;
@@ -176,7 +214,7 @@ shown_as P f (Some table) none at_none each = each table
 
 -- a reply that shows something is no refusal, no failure and no reservation, and tells of no change
 abbrev IsShow : Reply → Type 0
-IsShow answer = ((r : Refusal) → ¬ (answer ≡ reply.Refused r)) × (failure_of answer ≡ None) × (tells_of_rows answer ≡ false) × ((id : ℕ) → ¬ (answer ≡ reply.Reserved id))
+IsShow answer = ((r : Refusal) → ¬ (answer ≡ reply.Refused r)) × (failure_of answer ≡ None) × (tells_of_change answer ≡ false) × ((id : ℕ) → ¬ (answer ≡ reply.Reserved id))
 
 select_shows : (s : State) (text : SelectText) → IsShow (select_reply s text)
 select_shows s text =
@@ -210,7 +248,7 @@ select_turn s session text =
       judged = (if_among IsJudged _ _ refl, (select_among IsJudged s text refl refl, tt));
       late = tt;
       fails = fails_any s session (statement.Select text) refl refl;
-      seen = λ _. unseen s session (statement.Select text) (select_reply s text) shows.2 (λ e. absurd (cc));
+      seen = λ _. unseen s session (statement.Select text) (select_reply s text) s refl refl shows.2 (λ e. absurd (cc)) (λ e. absurd (cc));
       ids = λ _. le_refl _;
       next = λ _ id e. absurd (shows.3 id e);
       valid = λ _ valid _. valid;
@@ -226,7 +264,7 @@ show_turn s session name =
       judged = (if_among IsJudged _ _ refl, tt);
       late = tt;
       fails = fails_memory s session (statement.ShowTable name) refl;
-      seen = λ _. unseen s session (statement.ShowTable name) (show_reply s name) shows.2 (λ e. absurd (cc));
+      seen = λ _. unseen s session (statement.ShowTable name) (show_reply s name) s refl refl shows.2 (λ e. absurd (cc)) (λ e. absurd (cc));
       ids = λ _. le_refl _;
       next = λ _ id e. absurd (shows.3 id e);
       valid = λ _ valid _. valid;
@@ -242,7 +280,7 @@ bounds_turn s session text =
       judged = (if_among IsJudged _ _ refl, (key_among IsJudged s text.table text.row refl refl, (if_among IsJudged _ _ refl, tt)));
       late = (if_among (NeedsMore (statement.ShowBounds text)) _ _ refl, tt);
       fails = fails_any s session (statement.ShowBounds text) refl refl;
-      seen = λ _. unseen s session (statement.ShowBounds text) (bounds_reply s text) shows.2 (λ e. absurd (cc));
+      seen = λ _. unseen s session (statement.ShowBounds text) (bounds_reply s text) s refl refl shows.2 (λ e. absurd (cc)) (λ e. absurd (cc));
       ids = λ _. le_refl _;
       next = λ _ id e. absurd (shows.3 id e);
       valid = λ _ valid _. valid;
@@ -261,7 +299,7 @@ journal_turn s session table = record {
   judged = (journal_among s table, tt);
   late = tt;
   fails = fails_memory s session (statement.ShowJournal table) refl;
-  seen = λ _. unseen s session (statement.ShowJournal table) (journal_reply s table) refl (λ e. absurd (cc));
+  seen = λ _. unseen s session (statement.ShowJournal table) (journal_reply s table) s refl refl refl (λ e. absurd (cc)) (λ e. absurd (cc));
   ids = λ _. le_refl _;
   next = λ _ id e. absurd (cc);
   valid = λ _ valid _. valid;
@@ -285,11 +323,14 @@ commit_turn s session = record {
   late = tt;
   fails = commit_fails s session;
   seen = λ _. record {
+    before = shows_just s s.catalog s.rows refl refl;
+    created = λ text e. absurd (cc);
     dropped = λ name e. absurd (cc);
     inserted = λ text e. absurd (cc);
     updated = λ text e. absurd (cc);
     deleted = λ text e. absurd (cc);
-    committed = λ _. refl;
+    committed = λ _. shows_just (after_commit s session) s.catalog (applied s.rows (own session s.reservations)) refl refl;
+    rolled_back = λ e. absurd (cc);
     otherwise = λ quiet. absurd (cc);
   };
   ids = λ _. le_refl _;
@@ -305,7 +346,7 @@ rollback_turn s session = record {
   judged = tt;
   late = tt;
   fails = λ f e. absurd (cc);
-  seen = λ _. unseen s session statement.Rollback (reply.RolledBack (length (own session s.reservations))) refl (λ e. absurd (cc));
+  seen = λ _. unseen s session statement.Rollback (reply.RolledBack (length (own session s.reservations))) (after_rollback s session) refl refl refl (λ e. absurd (cc)) (λ _. refl);
   ids = λ _. le_refl _;
   next = λ _ id e. absurd (cc);
   valid = λ _ valid _. rollback_valid s session valid;

@@ -1,5 +1,5 @@
 -- Believed: the statements of the laws in src/laws.rt.
-use Rattle.std.specs.Prelude.{◌≡◌, ◌↔◌, ℕ, nat_lt, ℤ, ◌+◌, ◌≤◌, ◌+ℤ◌, ◌≤ℤ◌, Bool, true, false, Option, Some, None, IsSome, IsSomeAnd, List, [], ◌∷◌, ◌++◌, length, map, take, Contains}
+use Rattle.std.specs.Prelude.{◌≡◌, ◌↔◌, ℕ, nat_lt, ℤ, ◌+◌, ◌<◌, ◌≤◌, ◌+ℤ◌, ◌≤ℤ◌, Bool, true, false, Option, Some, None, IsSome, IsSomeAnd, List, [], ◌∷◌, ◌++◌, length, map, take, slice_get, Contains}
 use Rattle.std.specs.List.{AllByRecursion, AllZip}
 use Rattle.escrow_num.specs.declared.refusal.Breach.{Breach}
 use Rattle.escrow_num.specs.declared.refusal.Refusal.{Refusal}
@@ -17,6 +17,7 @@ use Rattle.escrow_num.specs.Session.{IsSession}
 use Rattle.escrow_num.specs.Span.{Holds}
 use Rattle.escrow_sql.specs.declared.statement.Statement.{Statement}
 use Rattle.escrow_sql.specs.declared.statement.Statement.TheVariants as statement
+use Rattle.escrow_sql.specs.declared.statement.CreateText.{CreateText}
 use Rattle.escrow_sql.specs.declared.statement.UpdateText.{UpdateText}
 use Rattle.escrow_sql.specs.declared.statement.InsertText.{InsertText}
 use Rattle.escrow_sql.specs.declared.statement.RowText.{RowText}
@@ -31,8 +32,9 @@ use Rattle.escrow_checks.specs.Laws.{IsBeyond}
 use Rattle.escrow_checks.specs.Sublists.{sublists}
 use Rattle.escrow_schema.specs.declared.table.TableDef.{TableDef}
 use Rattle.escrow_schema.specs.declared.plan.Plan.TheVariants as plan
-use Rattle.escrow_schema.specs.Catalog.{table_named}
+use Rattle.escrow_schema.specs.Catalog.{table_named, with_table, without_table}
 use Rattle.escrow_schema.specs.Column.{names_of, reservables, value_of}
+use Rattle.escrow_schema.specs.Definition.{definition_of}
 use Rattle.escrow_schema.specs.Fit.{FitColumns, values_of}
 use Rattle.escrow_schema.specs.Print.{canonical, declared_checks}
 use Rattle.escrow_machine.specs.declared.event.Event.{Event}
@@ -47,12 +49,12 @@ use Rattle.escrow_machine.specs.declared.reply.Reply.TheVariants as reply
 use Rattle.escrow_machine.specs.Event.{HasSession}
 use Rattle.escrow_machine.specs.Promised.{needs_nothing, asks_store}
 use Rattle.escrow_machine.specs.Reply.{failure_of}
-use Rattle.escrow_journal.specs.Reservations.{own, others}
-use Rattle.escrow_journal.specs.Savepoints.{savepoint_of}
+use Rattle.escrow_journal.specs.Reservations.{own, others, own_savepoints}
+use Rattle.escrow_journal.specs.Savepoints.{savepoint_of, without_savepoint}
 use Rattle.escrow_machine.specs.Journal.{entry_of}
 use Rattle.escrow_machine.specs.Asked.{row_of, plan_of, row_name, named_by, reservation_of}
 use Rattle.escrow_machine.specs.Settle.{end_of, settled, after_end, after_ends}
-use Rattle.escrow_machine.specs.State.{State, empty}
+use Rattle.escrow_machine.specs.State.{State, empty, opened}
 use Rattle.escrow_machine.specs.Rows.{row_named, rows_of, changes_to, row_after, applied, with_row, without_row, without_rows_of, with_plain, MeetsChecks, row_before}
 use Rattle.escrow_machine.specs.Step.{step, StepOrRefusal, IsRun}
 use Rattle.escrow_machine.specs.Turn.{turn_of}
@@ -119,31 +121,52 @@ RollbackIsNeverRefused = (s : State) (session : ℕ) → (step s session stateme
 
 -- WHAT A STATEMENT CHANGES
 
--- a reply that tells that committed rows change
-abbrev pub tells_of_rows : Reply → Bool
-tells_of_rows (reply.Dropped name) = true
-tells_of_rows reply.Inserted = true
-tells_of_rows reply.Deleted = true
-tells_of_rows reply.Updated = true
-tells_of_rows (reply.Committed count) = true
-tells_of_rows _ = false
+-- a query of what is committed
+abbrev pub IsQuery : Statement → Type 0
+IsQuery (statement.Select text) = Unit {0}
+IsQuery (statement.ShowTable name) = Unit {0}
+IsQuery _ = ⊥
 
--- the committed rows after a statement and its answer: with the row of an accepted INSERT put among
--- them, without that of a DELETE or those of a DROP TABLE, with the plain values of an UPDATE, with the
--- changes of the session added at COMMIT, and as they were after anything else
-pub record IsSeen (s : State) (session : ℕ) (asked : Statement) (answer : Reply) (rows : List Row) : Type 0 where
-  pub dropped : (name : List ℕ) → answer ≡ reply.Dropped name → rows ≡ without_rows_of name s.rows
+-- a state shows just these tables and rows: they are the committed ones, and every query, whoever asks
+-- it, is answered as it is where there are these tables and rows and nothing is open
+pub record ShowsJust (s : State) (tables : List TableDef) (committed : List Row) : Type 0 where
+  pub catalog : s.catalog ≡ tables
+  pub rows : s.rows ≡ committed
+  pub answers : (asker : ℕ) (query : Statement) → IsQuery query → (step s asker query).0 ≡ (step (opened tables committed) asker query).0
+
+-- a reply that tells that committed tables or rows change
+abbrev pub tells_of_change : Reply → Bool
+tells_of_change (reply.Created name) = true
+tells_of_change (reply.Dropped name) = true
+tells_of_change reply.Inserted = true
+tells_of_change reply.Deleted = true
+tells_of_change reply.Updated = true
+tells_of_change (reply.Committed count) = true
+tells_of_change _ = false
+
+-- what a state shows after a statement and its answer: one table more after a CREATE TABLE, neither the
+-- table nor its rows after a DROP TABLE, the row of an accepted INSERT among the others, no longer that of
+-- a DELETE, the plain values of an UPDATE; after a COMMIT the changes of its session's reservations, added;
+-- and after anything else, as a reservation or a ROLLBACK, what it showed before. ROLLBACK leaves open the
+-- reservations of the other sessions alone, so that no COMMIT adds what it dropped
+pub record IsSeen (s : State) (session : ℕ) (asked : Statement) (answer : Reply) (new : State) : Type 0 where
+  pub before : ShowsJust s s.catalog s.rows
+  pub created : (text : CreateText) → asked ≡ statement.Create text → answer ≡ reply.Created text.table
+      → (table : TableDef) × (definition_of text ≡ Some table) × ShowsJust new (with_table table s.catalog) s.rows
+  pub dropped : (name : List ℕ) → answer ≡ reply.Dropped name → ShowsJust new (without_table name s.catalog) (without_rows_of name s.rows)
   pub inserted : (text : InsertText) → asked ≡ statement.Insert text → answer ≡ reply.Inserted
-      → (row : Row) × (row_of s text ≡ Some row) × (rows ≡ with_row row s.rows)
+      → (row : Row) × (row_of s text ≡ Some row) × ShowsJust new s.catalog (with_row row s.rows)
   pub updated : (text : UpdateText) → asked ≡ statement.Update text → answer ≡ reply.Updated
-      → (key : Value) × (values : List (Option Value)) × (plan_of s text ≡ Some (plan.Plain key values)) × (rows ≡ with_plain (row_name text.table key) values s.rows)
-  pub deleted : (text : RowText) → asked ≡ statement.Delete text → answer ≡ reply.Deleted → rows ≡ without_row (named_by text.table text.row) s.rows
-  pub committed : asked ≡ statement.Commit → rows ≡ applied s.rows (own session s.reservations)
-  pub otherwise : tells_of_rows answer ≡ false → rows ≡ s.rows
+      → (key : Value) × (values : List (Option Value)) × (plan_of s text ≡ Some (plan.Plain key values)) × ShowsJust new s.catalog (with_plain (row_name text.table key) values s.rows)
+  pub deleted : (text : RowText) → asked ≡ statement.Delete text → answer ≡ reply.Deleted
+      → ShowsJust new s.catalog (without_row (named_by text.table text.row) s.rows)
+  pub committed : asked ≡ statement.Commit → ShowsJust new s.catalog (applied s.rows (own session s.reservations))
+  pub rolled_back : asked ≡ statement.Rollback → new.reservations ≡ others session s.reservations
+  pub otherwise : tells_of_change answer ≡ false → ShowsJust new s.catalog s.rows
 
--- the rows that a query shows are what commits and accepted writes made them, whatever is open
+-- so it does after every statement of every session
 abbrev pub QueriesSeeCommitsAlone : Type 0
-QueriesSeeCommitsAlone = (s : State) (session : ℕ) (asked : Statement) → IsSeen s session asked (step s session asked).0 (step s session asked).1.rows
+QueriesSeeCommitsAlone = (s : State) (session : ℕ) (asked : Statement) → let after = step s session asked in IsSeen s session asked after.0 after.1
 
 -- a reservation takes the next id, and the next id is then one more
 abbrev pub ReservedTakesTheNextId : Type 0
@@ -153,6 +176,32 @@ ReservedTakesTheNextId = (s : State) (session : ℕ) (asked : Statement) (id : �
 -- no step lowers the next id
 abbrev pub IdsNeverFall : Type 0
 IdsNeverFall = (s : State) (session : ℕ) (asked : Statement) → s.next_id ≤ (step s session asked).1.next_id
+
+-- an event isn't a restart
+abbrev pub IsNoRestart : Event → Type 0
+IsNoRestart (event.Statement session asked) = Unit {0}
+IsNoRestart event.Restart = ⊥
+
+-- of two reservations of a run without a restart the later one has the greater id, so that no id is
+-- used twice
+abbrev pub IdsAreUsedOnce : Type 0
+IdsAreUsedOnce = (s : State) (events : List Event) (answers : List Reply) (new : State) (i k a b : ℕ)
+    → AllByRecursion IsNoRestart events → IsRun s events answers new → i < k
+    → slice_get answers i ≡ Some (reply.Reserved a) → slice_get answers k ≡ Some (reply.Reserved b) → a < b
+
+-- ids tell the order of things: those of the open reservations rise in their order, from 1 on, and are
+-- below the next id; of two savepoints of a session the one that stands in front has another name, and no
+-- greater id; and no savepoint's id is above the next one
+pub record AreIdsInOrder (s : State) : Type 0 where
+  pub rise : (i k : ℕ) (a b : Reservation) → i < k → slice_get s.reservations i ≡ Some a → slice_get s.reservations k ≡ Some b → a.id < b.id
+  pub taken : (i : ℕ) (r : Reservation) → slice_get s.reservations i ≡ Some r → (1 ≤ r.id) × (r.id < s.next_id)
+  pub never_fall : (session i k : ℕ) (p q : Savepoint) → i < k → slice_get (own_savepoints session s.savepoints) i ≡ Some p
+      → slice_get (own_savepoints session s.savepoints) k ≡ Some q → (p.id ≤ q.id) × (¬ (p.name ≡ q.name))
+  pub made : (i : ℕ) (p : Savepoint) → slice_get s.savepoints i ≡ Some p → (1 ≤ p.id) × (p.id ≤ s.next_id)
+
+-- so they do in a valid state
+abbrev pub IdsTellTheOrder : Type 0
+IdsTellTheOrder = (s : State) → IsValid s → AreIdsInOrder s
 
 -- an accepted DROP TABLE takes out just the table and its rows; what else there is stays
 abbrev pub DropsOneTable : Type 0
@@ -216,11 +265,6 @@ ShowsTheTable = (s : State) (session : ℕ) (name shown : List ℕ)
     → ((table : TableDef) × (table_named s.catalog name ≡ Some table) × (shown ≡ canonical table)) × (after.1 ≡ s)
 
 -- a query is answered alike whichever reservations and savepoints are open, and whoever asks
-abbrev pub IsQuery : Statement → Type 0
-IsQuery (statement.Select text) = Unit {0}
-IsQuery (statement.ShowTable name) = Unit {0}
-IsQuery _ = ⊥
-
 abbrev pub QueriesIgnoreWhatIsOpen : Type 0
 QueriesIgnoreWhatIsOpen = (s : State) (session other : ℕ) (asked : Statement) (reservations : List Reservation) (savepoints : List Savepoint) → IsQuery asked
     → (step (record s { reservations = reservations; savepoints = savepoints }) other asked).0 ≡ (step s session asked).0
@@ -261,6 +305,37 @@ ShowsTheJournal = (s : State) (session : ℕ) (table : Option (List ℕ)) (entri
     → let after = step s session (statement.ShowJournal table) in after.0 ≡ reply.Journal entries → IsJournal s table entries × (after.1 ≡ s)
 
 -- SAVEPOINTS
+
+-- what an accepted SAVEPOINT makes is the last of its session's savepoints, in the place of an earlier one
+-- of its name, and has the id that the next reservation takes; the savepoints of the other sessions stay,
+-- and so does all else
+abbrev pub SavepointsStandAsMade : Type 0
+SavepointsStandAsMade = (s : State) (session : ℕ) (name : List ℕ) → IsValid s
+    → let after = step s session (statement.Savepoint name) in after.0 ≡ reply.Savepoint name
+    → (after.1 ≡ record s { savepoints = after.1.savepoints })
+    × (own_savepoints session after.1.savepoints
+    ≡ without_savepoint session name (own_savepoints session s.savepoints) ++ (record { session = session; name = name; id = s.next_id }) ∷ [])
+    × ((other : ℕ) → ¬ (other ≡ session) → own_savepoints other after.1.savepoints ≡ own_savepoints other s.savepoints)
+
+-- what a ROLLBACK TO leaves: of its session's savepoints those up to the one that it names, and of the open
+-- reservations all but those of its session with that one's id or a greater one, which came after it. It
+-- tells how many these are; the savepoints of the other sessions stay, and so does all else
+pub record IsBack (s : State) (session : ℕ) (name : List ℕ) (count : ℕ) (new : State) : Type 0 where
+  pub front : List Savepoint
+  pub named : Savepoint
+  pub later : List Savepoint
+  pub is_named : named.name ≡ name
+  pub stood : own_savepoints session s.savepoints ≡ front ++ named ∷ later
+  pub stand : own_savepoints session new.savepoints ≡ front ++ named ∷ []
+  pub other_savepoints : (other : ℕ) → ¬ (other ≡ session) → own_savepoints other new.savepoints ≡ own_savepoints other s.savepoints
+  pub left : (r : Reservation) → Contains new.reservations r ↔ (Contains s.reservations r × (¬ ((r.session ≡ session) × (named.id ≤ r.id))))
+  pub told : length new.reservations + count ≡ length s.reservations
+  pub else_stays : new ≡ record s { reservations = new.reservations; savepoints = new.savepoints }
+
+-- so it does
+abbrev pub BackDropsWhatCameAfter : Type 0
+BackDropsWhatCameAfter = (s : State) (session : ℕ) (name : List ℕ) (count : ℕ)
+    → let after = step s session (statement.RollbackTo name) in after.0 ≡ reply.RolledBackTo name count → IsBack s session name count after.1
 
 -- going back to a savepoint at once, when it was made, drops nothing: the state stays as making it left
 -- it, which changed savepoints alone

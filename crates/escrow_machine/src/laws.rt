@@ -1,7 +1,7 @@
 //! Laws of the machine: facts about its definitions, each the contract of a function that does
 //! nothing. They say of its steps what O'Neil's escrow method (1986) promises of transactions.
 
-ghost use Rattle.escrow_machine.specs.Laws.{StepKeepsValid, RunKeepsValid, CommittedRowsMeetChecks, CommittedValuesFit, EveryRunIsSafe, RefusedChangesNothing, MachineNeverFails, FailsForWhatIsAsked, EarlyRefusalsStand, CommitIsNeverRefused, RollbackIsNeverRefused, QueriesSeeCommitsAlone, ReservedTakesTheNextId, IdsNeverFall, TransactionsCommute, AnyOrderOfEnds, SettledIsTheRun, SettledStaysValid, SettledInAnyOrder, DropsOneTable, DeletesOneRow, PlainUpdatesKeepAmounts, ReservationsKeepRows, SelectsShowRows, ShowsTheTable, QueriesIgnoreWhatIsOpen, QueriesIgnoreWhoAsks, ShowsTheJournal, BoundsAreReached, BackAtOnceChangesNothing, BackLeavesWhatWas, BackRefusesNothing, GrantedInEveryChoice, OwnIncrementNotSpent, RefusedByAChoice, BoundsDecideGrants};
+ghost use Rattle.escrow_machine.specs.Laws.{StepKeepsValid, RunKeepsValid, CommittedRowsMeetChecks, CommittedValuesFit, EveryRunIsSafe, RefusedChangesNothing, MachineNeverFails, FailsForWhatIsAsked, EarlyRefusalsStand, CommitIsNeverRefused, RollbackIsNeverRefused, QueriesSeeCommitsAlone, ReservedTakesTheNextId, IdsNeverFall, IdsAreUsedOnce, IdsTellTheOrder, TransactionsCommute, AnyOrderOfEnds, SettledIsTheRun, SettledStaysValid, SettledInAnyOrder, DropsOneTable, DeletesOneRow, PlainUpdatesKeepAmounts, ReservationsKeepRows, SelectsShowRows, ShowsTheTable, QueriesIgnoreWhatIsOpen, QueriesIgnoreWhoAsks, ShowsTheJournal, BoundsAreReached, SavepointsStandAsMade, BackDropsWhatCameAfter, BackAtOnceChangesNothing, BackLeavesWhatWas, BackRefusesNothing, GrantedInEveryChoice, OwnIncrementNotSpent, RefusedByAChoice, BoundsDecideGrants};
 
 /// Whatever a session asks in a valid state, the state after it is valid: whichever of the open
 /// reservations are applied, each row meets each check of its table.
@@ -52,7 +52,7 @@ pub fn rollback_is_never_refused()
 
 /// What a query shows is what was committed: a reservation shows in no row, not even to its own
 /// session, until its COMMIT adds its changes, and a ROLLBACK leaves no trace of it. INSERT, DELETE,
-/// DROP TABLE and UPDATE of plain values commit what they change at once.
+/// CREATE and DROP TABLE and UPDATE of plain values commit what they change at once.
 pub fn queries_see_commits_alone()
     ensures { QueriesSeeCommitsAlone }
 {}
@@ -65,6 +65,18 @@ pub fn reserved_takes_the_next_id()
 /// No statement lowers the next id.
 pub fn ids_never_fall()
     ensures { IdsNeverFall }
+{}
+
+/// No id is used again before a restart: of two reservations the later one has the greater id.
+pub fn ids_are_used_once()
+    ensures { IdsAreUsedOnce }
+{}
+
+/// In a valid state the ids of the open reservations rise in the order of grant, from 1 on, and are
+/// below the next id; and the ids of a session's savepoints, each of another name, never fall in the
+/// order of making, and none is above the next id.
+pub fn ids_tell_the_order()
+    ensures { IdsTellTheOrder }
 {}
 
 /// DROP TABLE takes out just the table and its rows.
@@ -122,6 +134,19 @@ pub fn bounds_are_reached()
 /// table, in order of id; nothing changes by it.
 pub fn shows_the_journal()
     ensures { ShowsTheJournal }
+{}
+
+/// A savepoint is made behind all others of its session, in the place of an earlier one of its name,
+/// and has the id that the next reservation takes; nothing else changes.
+pub fn savepoints_stand_as_made()
+    ensures { SavepointsStandAsMade }
+{}
+
+/// ROLLBACK TO drops just the reservations of its session that came after the savepoint, whose ids
+/// aren't below its own, and the savepoints that its session made after it; it tells how many
+/// reservations these are, and nothing else changes.
+pub fn back_drops_what_came_after()
+    ensures { BackDropsWhatCameAfter }
 {}
 
 /// Going back to a savepoint right after it was made drops nothing: the state stays as it is.

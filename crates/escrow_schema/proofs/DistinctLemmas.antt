@@ -1,10 +1,13 @@
 -- Names that are distinct, by the test and as a fact.
-use Rattle.std.proofs.Common.{◌≡◌, ℕ, true, false, not, bytes_eq, List, [], ◌∷◌, sym, refl}
+use Rattle.std.proofs.Common.{◌≡◌, ℕ, zero, suc, ◌<◌, true, false, true≢false, not, bytes_eq, Some, List, [], ◌∷◌, slice_get, sym, ap, subst, ◌∙◌, refl, arith, inl, inr}
 use Rattle.std.specs.List.{AllByRecursion, IsDistinct, list_any}
-use Rattle.std.proofs.lemmas.Bool.{and_from, and_parts, not-true, not_from_false, or_from, or_parts}
+use Rattle.std.proofs.lemmas.Bool.{and_cases, and_from, and_left, and_parts, and_right, cases_lt, not-false, not-true, not_from_false, not_from_true, or_from, or_parts}
 use Rattle.std.proofs.lemmas.Bool.Decides.{same_from_decides}
+use Rattle.std.proofs.lemmas.Map.Keys.{any_passes_from_place}
+use Rattle.std.proofs.lemmas.Option.{none-some, same_Some}
 use Rattle.std.proofs.lemmas.Slice.Eq.{bytes_eq-Decides}
 use Rattle.escrow_schema.specs.Definition.{are_distinct}
+use Rattle.escrow_schema.proofs.ListLemmas.{some_passes}
 
 -- a name is itself
 pub same_name : (name : List ℕ) → bytes_eq name name ≡ true
@@ -42,3 +45,40 @@ distinct_back [] h = refl
 distinct_back (name ∷ names) h =
     and_from (not (list_any (λ other. bytes_eq name other) names)) (are_distinct names)
     (not_from_false (list_any (λ other. bytes_eq name other) names) (are_apart name names h.0)) (distinct_back names h.1)
+
+-- names of which one stands at two places aren't distinct
+pub not_apart : (names : List (List ℕ)) (i k : ℕ) (name : List ℕ) → i < k → slice_get names i ≡ Some name → slice_get names k ≡ Some name → are_distinct names ≡ false
+not_apart [] i k name below at there = absurd (none-some name at)
+not_apart (n ∷ names) zero zero name below at there = absurd (omega arith)
+not_apart (n ∷ names) zero (suc k) name below at there =
+    let same : bytes_eq n name ≡ true = subst (λ (x : List ℕ). bytes_eq n x ≡ true) (same_Some n name at) (same_name n) in
+    and_left (not (list_any (λ other. bytes_eq n other) names)) (are_distinct names)
+    (not_from_true (list_any (λ other. bytes_eq n other) names) (any_passes_from_place (λ other. bytes_eq n other) names k name there same))
+not_apart (n ∷ names) (suc i) zero name below at there = absurd (omega arith)
+not_apart (n ∷ names) (suc i) (suc k) name below at there =
+    and_right (not (list_any (λ other. bytes_eq n other) names)) (are_distinct names) (not_apart names i k name (omega arith) at there)
+
+-- and where names aren't distinct, one stands at two places
+pub two_places : (names : List (List ℕ)) → are_distinct names ≡ false
+    → (i : ℕ) × (k : ℕ) × (name : List ℕ) × (i < k) × (slice_get names i ≡ Some name) × (slice_get names k ≡ Some name)
+two_places [] e = absurd (true≢false e)
+two_places (n ∷ names) e =
+    elim (and_cases (not (list_any (λ other. bytes_eq n other) names)) (are_distinct names) e) [
+      | inl again ↦ (let found = some_passes (λ other. bytes_eq n other) names (not-false (list_any (λ other. bytes_eq n other) names) again) in
+          let same : n ≡ found.0 = (bytes_eq-Decides n found.0).0 found.3 in
+          (0, suc found.1, n, (omega arith), refl, found.2 ∙ ap (λ (x : List ℕ). Some x) (sym same)))
+      | inr later ↦ (let found = two_places names later in
+          let below : found.0 < found.1 = found.3 in
+          (suc found.0, suc found.1, found.2, (omega arith), found.4, found.5))
+    ]
+
+-- of distinct names each stands at one place
+pub one_place : (names : List (List ℕ)) → are_distinct names ≡ true → (i k : ℕ) (name : List ℕ) → slice_get names i ≡ Some name → slice_get names k ≡ Some name → i ≡ k
+one_place names apart i k name at there =
+    elim (cases_lt i k) [
+      | inl below ↦ absurd (true≢false (sym apart ∙ not_apart names i k name below at there))
+      | inr up_to ↦ elim (cases_lt k i) [
+        | inl below ↦ absurd (true≢false (sym apart ∙ not_apart names k i name below there at))
+        | inr other ↦ omega arith
+      ]
+    ]

@@ -1,10 +1,10 @@
 -- The laws.
-use Rattle.std.proofs.Common.{◌≡◌, ℕ, ℤ, ◌+◌, true, Option, Some, None, List, ◌++◌, length, map, ap, sym, ◌∙◌, subst, refl, arith, length-append}
+use Rattle.std.proofs.Common.{◌≡◌, ℕ, ℤ, ◌+◌, true, Option, Some, None, List, [], ◌∷◌, ◌++◌, codes, length, map, ap, sym, ◌∙◌, subst, refl, arith, length-append}
 use Rattle.std.specs.List.{AllByRecursion}
 use Rattle.std.specs.Prelude.{IsSomeAnd, IsTrue, slice_get}
 use Rattle.std.proofs.lemmas.Bool.{and_parts}
 use Rattle.std.proofs.lemmas.Option.{option_and_then_some, same_Some}
-use Rattle.std.proofs.lemmas.List.{length-map}
+use Rattle.std.proofs.lemmas.List.{length-map, map-append}
 use Rattle.std.proofs.lemmas.List.Elements.{All-from_recursion, recursion_from_All}
 use Rattle.escrow_num.specs.declared.value.Value.{Value}
 use Rattle.escrow_num.specs.declared.value.Value.TheVariants as value
@@ -13,13 +13,14 @@ use Rattle.escrow_sql.specs.declared.statement.CreateText.{CreateText}
 use Rattle.escrow_checks.specs.declared.check.Check.{Check}
 use Rattle.escrow_checks.specs.Condition.{MeetsText}
 use Rattle.escrow_checks.specs.Grant.{Meets}
+use Rattle.escrow_checks.proofs.CheckNames.{checks_are_named}
 use Rattle.escrow_checks.proofs.ConditionLemmas.{checks_whole, mean_the_same}
 use Rattle.escrow_schema.specs.declared.column.Column.{Column}
 use Rattle.escrow_schema.specs.declared.table.TableDef.{TableDef}
 use Rattle.escrow_schema.specs.Column.{fits, reservables, names_of}
-use Rattle.escrow_schema.specs.Definition.{IsTable, are_distinct, checks_in, definition_of, range_check, range_checks}
+use Rattle.escrow_schema.specs.Definition.{IsTable, are_distinct, check_names, checks_in, definition_of, range_check, range_checks}
 use Rattle.escrow_schema.specs.Fit.{FitColumns, IsRowOf, fitted, in_column_order, literals_beside, values_of}
-use Rattle.escrow_schema.specs.Laws.{NameOfTable, FewReservable, ChecksOfWholeRow, ChecksKeepAmounts, ChecksMeanConditions, DefinitionsFollowRules, FewChecks, RowsOfTable, ValuesBesideNames, ValuesOfRow, ValuesFit}
+use Rattle.escrow_schema.specs.Laws.{NameOfTable, FewReservable, ChecksOfWholeRow, ChecksKeepAmounts, ChecksMeanConditions, DefinitionsFollowRules, FewChecks, NamesOfChecks, RowsOfTable, ValuesBesideNames, ValuesOfRow, ValuesFit}
 use Rattle.escrow_schema.specs.Asked.{is_list}
 use Rattle.escrow_schema.proofs.AskedLemmas.{beside_at, beside_is}
 use Rattle.escrow_schema.proofs.CheckLemmas.{IsWhole, whole_ranges}
@@ -29,7 +30,7 @@ use Rattle.escrow_schema.proofs.FitLemmas.{fitted_parts, as_many_values, as_many
 use Rattle.escrow_schema.proofs.ListLemmas.{first_part, second_part, both_parts, some_under}
 use Rattle.escrow_schema.proofs.RangeLemmas.{fit_in_range, fitting_amounts, range_met}
 use Rattle.escrow_schema.proofs.RowLemmas.{KeyFits, NumericColumns, fit_at, fit_values, literal_at, made_values, plain_fits, values_from_fit}
-use Rattle.escrow_schema.proofs.DistinctLemmas.{distinct_from}
+use Rattle.escrow_schema.proofs.DistinctLemmas.{distinct_from, one_place}
 use Rattle.escrow_schema.proofs.RuleLemmas.{rules_of, rules_on, column_types, follows_rules, numeric_each}
 use Rattle.escrow_schema.proofs.TableLemmas.{parts}
 
@@ -102,6 +103,24 @@ few_checks table is_table =
     let ranges : length (range_checks table.columns) ≡ length (reservables table.columns) = length-map (reservables table.columns) (range_check names) in
     let all : length table.checks ≡ length (p.written ++ range_checks table.columns) = ap length p.checks in
     omega (arith, length-append p.written (range_checks table.columns))
+
+-- the names of ranges
+range_names : (names : List (List ℕ)) (columns : List Column) → check_names (map (range_check names) columns) ≡ map (λ (column : Column). codes "RANGE_" ++ column.name) columns
+range_names names [] = refl
+range_names names (column ∷ columns) = ap (λ (rest : List (List ℕ)). (codes "RANGE_" ++ column.name) ∷ rest) (range_names names columns)
+
+pub names_of_checks : NamesOfChecks
+names_of_checks text table e =
+    let p = parts text table e in
+    let columns = names_of (reservables table.columns) in
+    record {
+      declared = check_names p.written;
+      of_text = checks_are_named columns (checks_in text.items) p.written p.from_texts;
+      names = ap check_names p.checks
+          ∙ map-append (λ (check : Check). check.name) p.written (range_checks table.columns)
+          ∙ ap (λ (rest : List (List ℕ)). check_names p.written ++ rest) (range_names columns (reservables table.columns));
+      apart = one_place (check_names table.checks) p.distinct;
+    }
 
 -- RESERVABLE columns of a table are of numbers
 pub numeric_columns : (table : TableDef) → IsTable table → NumericColumns table.columns

@@ -1,6 +1,7 @@
 pub mod AskedLemmas
 pub mod AssignedLemmas
 pub mod BackLemmas
+pub mod BadAssignmentLemmas
 pub mod CatalogLemmas
 pub mod CheckLemmas
 pub mod ColumnLemmas

@@ -1,9 +1,11 @@
 -- Facts on lists and options that several proofs need.
-use Rattle.std.proofs.Common.{◌≡◌, ℕ, suc, ◌+◌, ◌<◌, Bool, true, false, cond, Option, Some, None, option_map, List, [], ◌∷◌, ◌++◌, length, drop, get_or, sym, subst, refl}
+use Rattle.std.proofs.Common.{◌≡◌, ℕ, suc, ◌+◌, ◌<◌, Bool, true, false, cond, true≢false, Option, Some, None, option_map, List, [], ◌∷◌, ◌++◌, length, drop, get_or, slice_get, sym, ap, subst, ◌∙◌, refl, inl, inr}
 use Rattle.std.proofs.Math.Numerals.{add-one}
 use Rattle.std.proofs.Math.Seq.{drop-cons}
-use Rattle.std.specs.List.{AllByRecursion}
-use Rattle.std.proofs.lemmas.Option.{none-some, same_Some}
+use Rattle.std.specs.List.{AllByRecursion, list_any, list_all}
+use Rattle.std.proofs.lemmas.Bool.{and_cases}
+use Rattle.std.proofs.lemmas.List.Folds.{Any-from_list_any, list_all_at}
+use Rattle.std.proofs.lemmas.Option.{none-some, same_Some, get_or_from_slice_get, slice_get_read, slice_get_within}
 
 -- what holds of each item of two lists, one after the other, holds of each item of the second
 pub second_part : {A : Type 0} (P : A → Type 0) (xs ys : List A) → AllByRecursion P (xs ++ ys) → AllByRecursion P ys
@@ -42,3 +44,22 @@ after_nothing (Some xs) = refl
 -- the item at a place is the first of what is left from there
 pub drop_item : {A : Type 0} (xs : List A) (i : ℕ) (x : A) → i < length xs → x ≡ get_or xs i x → drop i xs ≡ x ∷ drop (i + 1) xs
 drop_item xs i x within at = rw add-one (subst (λ y. drop i xs ≡ y ∷ drop (suc i) xs) (sym at) (drop-cons xs i x within))
+
+-- where some item passes a test, one at a place does
+pub some_passes : {A : Type 0} (p : A → Bool) (xs : List A) → list_any p xs ≡ true → (x : A) × (k : ℕ) × (slice_get xs k ≡ Some x) × (p x ≡ true)
+some_passes p xs e =
+    let found = Any-from_list_any p xs e in
+    (found.1, found.0, slice_get_read xs (length xs) found.0 found.1 refl found.2 (sym found.3), found.4)
+
+-- where not every item does, one at a place doesn't
+pub some_fails : {A : Type 0} (p : A → Bool) (xs : List A) → list_all p xs ≡ false → (x : A) × (k : ℕ) × (slice_get xs k ≡ Some x) × (p x ≡ false)
+some_fails p [] e = absurd (true≢false e)
+some_fails p (x ∷ xs) e =
+    elim (and_cases (p x) (list_all p xs) e) [
+      | inl fails ↦ (x, 0, refl, fails)
+      | inr later ↦ (let found = some_fails p xs later in (found.0, suc found.1, found.2, found.3))
+    ]
+
+-- and where one at a place doesn't, not every item does
+pub one_fails : {A : Type 0} (p : A → Bool) (xs : List A) (k : ℕ) (x : A) → slice_get xs k ≡ Some x → p x ≡ false → list_all p xs ≡ false
+one_fails p xs k x at fails = list_all_at p xs k x (slice_get_within xs k x at) (ap p (get_or_from_slice_get xs k x x at) ∙ fails)

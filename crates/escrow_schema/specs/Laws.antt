@@ -1,5 +1,5 @@
 -- Believed: the statements of the laws in src/laws.rt.
-use Rattle.std.specs.Prelude.{◌≡◌, ◌⊎◌, ◌↔◌, ℕ, ℤ, ◌+◌, ◌≤◌, false, Option, Some, None, Ok, Err, IfSome, IsTrue, List, bytes_eq, length, map, slice_get}
+use Rattle.std.specs.Prelude.{◌≡◌, ◌⊎◌, ◌↔◌, ℕ, ℤ, ◌+◌, ◌≤◌, false, Option, Some, None, Ok, Err, IfSome, IsTrue, List, ◌++◌, bytes_eq, codes, length, map, slice_get}
 use Rattle.std.specs.List.{AllByRecursion, AllZip, list_any}
 use Rattle.escrow_num.specs.Amount.{IsAmount}
 use Rattle.escrow_num.specs.declared.refusal.Refusal.{Refusal}
@@ -18,6 +18,7 @@ use Rattle.escrow_checks.specs.declared.coefficients.TheConstants.Coefficients.{
 use Rattle.escrow_checks.specs.declared.condition.TheConstants.{MAX_CHECKS}
 use Rattle.escrow_checks.specs.Condition.{MeetsText}
 use Rattle.escrow_checks.specs.Grant.{Meets}
+use Rattle.escrow_checks.specs.Laws.{AreNamed}
 use Rattle.escrow_schema.specs.declared.catalog.TheConstants.Catalog.{MAX_TABLES}
 use Rattle.escrow_schema.specs.declared.column.TheConstants.ColumnType.{MAX_DIGITS, MAX_BYTES}
 use Rattle.escrow_schema.specs.declared.table.TheConstants.TableDef.{MIN_COLUMNS, MAX_COLUMNS, MAX_ROWS}
@@ -25,8 +26,9 @@ use Rattle.escrow_schema.specs.declared.column.Column.{Column}
 use Rattle.escrow_schema.specs.declared.plan.Plan.{Plan}
 use Rattle.escrow_schema.specs.declared.plan.Plan.TheVariants.{Reserve, Plain}
 use Rattle.escrow_schema.specs.declared.table.TableDef.{TableDef}
+use Rattle.escrow_schema.specs.BadAssignment.{IsBadlyAssigned}
 use Rattle.escrow_schema.specs.Column.{fits, reservables, names_of, value_of}
-use Rattle.escrow_schema.specs.Definition.{IsTable, checks_in, definition_of}
+use Rattle.escrow_schema.specs.Definition.{IsTable, check_names, checks_in, definition_of}
 use Rattle.escrow_schema.specs.Fit.{FitColumns, IsRowOf, fitted, inserted_row, plains, values_in, values_of}
 use Rattle.escrow_schema.specs.Plan.{key_named, key_of, planned}
 use Rattle.escrow_schema.specs.Rules.{FollowsRules}
@@ -100,6 +102,11 @@ RefusalsOfPlans =
     (table : TableDef) (text : UpdateText) (r : Refusal) → planned table text ≡ Err r
     → (r ≡ refusal.BadAssignment) ⊎ ((r ≡ refusal.NotTheKey) ⊎ (r ≡ refusal.BadValue))
 
+-- an UPDATE of a table is refused for its assignments exactly where one of six cases is the case
+abbrev pub BadAssignmentsAreOfSixKinds : Type 0
+BadAssignmentsAreOfSixKinds =
+    (table : TableDef) (text : UpdateText) → IsTable table → (planned table text ≡ Err refusal.BadAssignment) ↔ IsBadlyAssigned table text
+
 -- a WHERE that names no key is refused for its column or for its literal
 abbrev pub RefusalsOfKeys : Type 0
 RefusalsOfKeys =
@@ -126,6 +133,18 @@ abbrev pub ValuesFit : Type 0
 ValuesFit =
     (table : TableDef) (row : Row) → IsTable table → IsRowOf table row
     → AllByRecursion (λ check. Meets check row.amounts) table.checks → FitColumns table.columns (values_of table row)
+
+-- the names of a table's checks: those that its CHECKs give, in order, and behind them RANGE_ and the
+-- column's name for each RESERVABLE column, in column order; none stands twice
+pub record HasCheckNames (text : CreateText) (table : TableDef) : Type 0 where
+  pub declared : List (List ℕ)
+  pub of_text : AreNamed (checks_in text.items) declared
+  pub names : check_names table.checks ≡ declared ++ map (λ (column : Column). codes "RANGE_" ++ column.name) (reservables table.columns)
+  pub apart : (i k : ℕ) (name : List ℕ) → slice_get (check_names table.checks) i ≡ Some name → slice_get (check_names table.checks) k ≡ Some name → i ≡ k
+
+-- the checks of the table that a text defines have these names
+abbrev pub NamesOfChecks : Type 0
+NamesOfChecks = (text : CreateText) (table : TableDef) → definition_of text ≡ Some table → HasCheckNames text table
 
 -- numbers, one for each RESERVABLE column, meet every check of a table exactly where they meet every
 -- CHECK as it is written and each fits its column's type

@@ -1,5 +1,6 @@
 pub mod Asked
 pub mod Assigned
+pub mod BadAssignment
 pub mod Catalog
 pub mod Column
 pub mod Definition

@@ -1,6 +1,6 @@
 //! What holds of every table that a text defines, and of the rows and plans of it: each law is the
 //! contract of a function that does nothing.
-ghost use Rattle.escrow_schema.specs.Laws.{NameOfTable, FewReservable, ChecksOfWholeRow, ChecksKeepAmounts, FewChecks, RowsOfTable, ValuesOfRow, ValuesBesideNames, ValuesFit, ChecksMeanConditions, DefinitionsFollowRules, PlansOfWholeRow, PlainPlansFit, ChangesAsAssigned, NewValuesAsAssigned, KeysOfPlans, RefusalsOfPlans, RefusalsOfKeys, Limits};
+ghost use Rattle.escrow_schema.specs.Laws.{NameOfTable, NamesOfChecks, FewReservable, ChecksOfWholeRow, ChecksKeepAmounts, FewChecks, RowsOfTable, ValuesOfRow, ValuesBesideNames, ValuesFit, ChecksMeanConditions, DefinitionsFollowRules, PlansOfWholeRow, PlainPlansFit, ChangesAsAssigned, NewValuesAsAssigned, KeysOfPlans, RefusalsOfPlans, BadAssignmentsAreOfSixKinds, RefusalsOfKeys, Limits};
 
 /// A text defines a table exactly where the two follow the rules of definitions, one by one.
 pub fn definitions_follow_rules()
@@ -16,6 +16,12 @@ pub fn checks_mean_conditions()
 /// A table has the name that its text writes.
 pub fn name_of_table()
     ensures { NameOfTable }
+{}
+
+/// The checks of a table have the names that its CHECKs give them, in order, and behind them stands
+/// the range of each RESERVABLE column, under `RANGE_` and the column's name; no two have one name.
+pub fn names_of_checks()
+    ensures { NamesOfChecks }
 {}
 
 /// A table has 1 to 10 RESERVABLE columns.
@@ -93,6 +99,14 @@ pub fn keys_of_plans()
 /// literal.
 pub fn refusals_of_plans()
     ensures { RefusalsOfPlans }
+{}
+
+/// An UPDATE is refused for its assignments, by 24, exactly where it assigns a column that the table
+/// doesn't have, the key, or a column twice; assigns to a RESERVABLE column anything but that column
+/// plus or minus a number, or to a plain one anything but a literal; or mixes RESERVABLE and plain
+/// columns.
+pub fn bad_assignments_are_of_six_kinds()
+    ensures { BadAssignmentsAreOfSixKinds }
 {}
 
 /// A WHERE that names no key is refused for its column or for its literal.
