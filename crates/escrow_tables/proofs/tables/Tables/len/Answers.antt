@@ -17,6 +17,8 @@ pub returns-clause-left : goal.returns-clause-left
 returns-clause-left g c =
     let tables = c.self.inside.tables.items in
     let db = (state g.S.Store c.self.inside.last.value).now in
-    rw (← c.self.view_is) (λ usable trees left.
-    (db, holds tables (rows_in (stored_of tables) db) db c.self.invariant.are_tables (c.self.invariant.held usable.0),
-    c.rests.ensures usable.1 trees left ∙ ap (λ (d : Database). d.trees) (c.self.invariant.same usable)))
+    rw (← c.self.view_is) (λ usable trees left. (
+      db,
+      holds tables (rows_in (stored_of tables) db) db c.self.invariant.are_tables (c.self.invariant.held usable.0),
+      c.rests.ensures usable.1 trees left ∙ ap (λ (d : Database). d.trees) (c.self.invariant.same usable),
+    ))
