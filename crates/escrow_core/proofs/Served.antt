@@ -1,7 +1,7 @@
 -- How a call that served a statement meets the machine's step.
 use Rattle.std.specs.Prelude.{◌≡◌, ◌⊎◌, ℕ, true, is_none, nat_le, option_map, unwrap_or, MatchOption, IsTrue, IfSome, Option, Some, None, List, [], ◌∷◌, length}
 use Rattle.std.proofs.Common.{inl, inr, refl, sym, ap, ◌∙◌, subst}
-use Rattle.std.proofs.lemmas.Bool.{and_from, false≢true}
+use Rattle.std.proofs.lemmas.Bool.{and_from}
 use Rattle.escrow_num.specs.declared.refusal.Refusal.{Refusal}
 use Rattle.escrow_num.specs.declared.refusal.Refusal.TheVariants as refusal
 use Rattle.escrow_num.specs.declared.reservation.Savepoint.{Savepoint}
@@ -14,7 +14,7 @@ use Rattle.escrow_machine.specs.declared.reply.Reply.{Reply}
 use Rattle.escrow_machine.specs.declared.reply.Reply.TheVariants as reply
 use Rattle.escrow_num.specs.declared.failure.Failure.{Failure}
 use Rattle.escrow_num.specs.declared.failure.Failure.TheVariants as failure
-use Rattle.escrow_machine.specs.Reply.{failure_of, is_refused}
+use Rattle.escrow_machine.specs.Reply.{failure_of}
 use Rattle.escrow_machine.specs.Accepted.{IsAccepted, IsRefusal}
 use Rattle.escrow_journal.specs.declared.journal.TheConstants.Journal.{MAX_SAVEPOINTS}
 use Rattle.escrow_journal.specs.Reservations.{own, own_savepoints}
@@ -23,7 +23,6 @@ use Rattle.escrow_machine.specs.State.{State}
 use Rattle.escrow_machine.specs.Step.{refusals, step, may_fail, IsStep, StepOrRefusal}
 use Rattle.escrow_machine.specs.Turn.{turn_of, update_reply, after_update, after_commit, after_rollback, after_savepoint, returned_to, after_rollback_to, released}
 use Rattle.escrow_machine.specs.Asked.{plan_of}
-use Rattle.escrow_machine.proofs.LawsSteps.{refused_changes_nothing}
 use Rattle.escrow_machine.proofs.Refusals.{none_in_front, first_among}
 use Rattle.escrow_machine.proofs.TurnWords.{IsJudged}
 use Rattle.escrow_machine.proofs.Turns.{is_turn}
@@ -55,32 +54,6 @@ refused_serves s session asked r (inl by_rule) = rule_serves s session asked r b
 refused_serves s session asked r (inr failing) =
     let may = failing.2 in
     subst (λ (q : Refusal). StepOrRefusal s session asked (reply.Refused q) s) (sym failing.1) (told_serves s session asked failing.0 may)
-
--- what is refused leaves the state equal
-refused_at : (s : State) (session : ℕ) (asked : Statement) (r : Refusal) (new : State) (o : Option Failure)
-    → MatchOption o (IsStep s session asked (reply.Refused r) new) (λ f. IsTrue (may_fail s session asked f) × (new ≡ s)) → new ≡ s
-refused_at s session asked r new None event =
-    let is : (reply.Refused r, new) ≡ step s session asked = event.is_step in
-    ap (λ (p : Reply × State). p.1) is ∙ refused_changes_nothing s session asked r (sym (ap (λ (p : Reply × State). p.0) is))
-refused_at s session asked r new (Some f) event = event.1
-
-pub refused_stays : (s : State) (session : ℕ) (asked : Statement) (answer : Reply) (new : State) → StepOrRefusal s session asked answer new → is_refused answer ≡ true → new ≡ s
-refused_stays s session asked (reply.Refused r) new event is = refused_at s session asked r new (failure_of (reply.Refused r)) event
-refused_stays s session asked (reply.Created name) new event is = absurd (false≢true is)
-refused_stays s session asked (reply.Dropped name) new event is = absurd (false≢true is)
-refused_stays s session asked reply.Inserted new event is = absurd (false≢true is)
-refused_stays s session asked reply.Deleted new event is = absurd (false≢true is)
-refused_stays s session asked reply.Updated new event is = absurd (false≢true is)
-refused_stays s session asked (reply.Reserved id) new event is = absurd (false≢true is)
-refused_stays s session asked (reply.Rows columns rows) new event is = absurd (false≢true is)
-refused_stays s session asked (reply.Table text) new event is = absurd (false≢true is)
-refused_stays s session asked (reply.Bounds columns checks) new event is = absurd (false≢true is)
-refused_stays s session asked (reply.Journal entries) new event is = absurd (false≢true is)
-refused_stays s session asked (reply.Savepoint name) new event is = absurd (false≢true is)
-refused_stays s session asked (reply.Committed count) new event is = absurd (false≢true is)
-refused_stays s session asked (reply.RolledBack count) new event is = absurd (false≢true is)
-refused_stays s session asked (reply.RolledBackTo name count) new event is = absurd (false≢true is)
-refused_stays s session asked reply.Restarted new event is = absurd (false≢true is)
 
 -- the reply and the next state where no refusal applies
 pub accepted_serves : (s : State) (session : ℕ) (asked : Statement) → IsAccepted s session asked

@@ -1,5 +1,5 @@
 -- How a call that serves a statement is put together.
-use Rattle.std.specs.Prelude.{◌≡◌, ℕ, Bool, true, false, Option, Some, None, List, option_map, unwrap_or, is_none, IsTrue}
+use Rattle.std.specs.Prelude.{◌≡◌, ℕ, Bool, true, false, Option, Some, None, option_map, unwrap_or, is_none, IsTrue}
 use Rattle.std.proofs.Common.{inl, inr, refl, sym, ap, ap₂, subst, le_refl, arith, ◌∙◌}
 use Rattle.std.proofs.lemmas.Bool.{and_parts, false≢true}
 use Rattle.sqlite.specs.Held.{Held, state}
@@ -8,10 +8,8 @@ use Rattle.sqlite.proofs.StateLemmas.{survives_then, survives_weaker}
 use Rattle.sqlite_trees.specs.declared.store.Store.{Ghosts}
 use Rattle.sqlite_trees.specs.Tree.{Trees}
 use Rattle.escrow_num.specs.declared.refusal.Refusal.{Refusal}
-use Rattle.escrow_num.specs.declared.row.Row.{Row}
 use Rattle.escrow_num.specs.Refusal.{first_refusal, told}
 use Rattle.escrow_sql.specs.declared.statement.Statement.{Statement}
-use Rattle.escrow_sql.specs.declared.statement.Statement.TheVariants as statement
 use Rattle.escrow_num.specs.declared.failure.Failure.{Failure}
 use Rattle.escrow_tables.specs.Calls.{Writes}
 use Rattle.escrow_tables.specs.Committed.{Committed, AreHeld}
@@ -29,9 +27,9 @@ use Rattle.escrow_machine.specs.State.{State}
 use Rattle.escrow_machine.specs.Step.{refusals, step, StepOrRefusal}
 use Rattle.escrow_machine.specs.Turn.{turn_of}
 use Rattle.escrow_machine.specs.Valid.{IsOrderly, AreSafeRows, IsValid}
-use Rattle.escrow_machine.proofs.LawsSteps.{early_refusals_stand}
+use Rattle.escrow_machine.proofs.LawsSteps.{early_refusals_stand, refused_stays}
 use Rattle.escrow_machine.proofs.Refusals.{first_behind, first_in_front}
-use Rattle.escrow_core.proofs.Served.{refused_serves, refused_stays, stepped}
+use Rattle.escrow_core.proofs.Served.{refused_serves, stepped}
 
 -- where no refusal applies the step is the turn's
 pub accepted_step : (s : State) (session : ℕ) (asked : Statement) → IsAccepted s session asked

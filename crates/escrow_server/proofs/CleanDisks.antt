@@ -1,13 +1,11 @@
 -- Databases whose disks have returned what was written.
-use Rattle.std.proofs.Common.{◌≡◌, ℕ, zero, suc, ◌<◌, List, [], ◌∷◌, length, Some, arith, refl, subst}
+use Rattle.std.proofs.Common.{◌≡◌, ℕ, zero, suc, ◌<◌, List, [], ◌∷◌, length, Some, arith, subst}
 use Rattle.std.specs.Prelude.{slice_get, slice_set}
 use Rattle.std.specs.List.{AllByRecursion}
 use Rattle.sqlite.proofs.Callers.{memory_is_clean}
-use Rattle.sqlite.specs.Held.{Held, state}
 use Rattle.sqlite.specs.Steps.{over_memory}
 use Rattle.sqlite_trees.specs.declared.memory.MemStore.{MemStore}
 use Rattle.escrow_core.specs.Seen.{Seen}
-use Rattle.sqlite.specs.State.{HasCleanDisk}
 use Rattle.escrow_server.specs.Output.{HaveCleanDisks}
 
 -- what holds of each element after one changed holds of that one

@@ -1,5 +1,5 @@
 -- What a disk has holds one catalog, and one list of rows, and is then a store.
-use Rattle.std.proofs.Common.{◌≡◌, ℤ, pos, List, [], ◌∷◌, map, sym, ap, ap₂, ◌∙◌, subst, IsPermutation}
+use Rattle.std.proofs.Common.{◌≡◌, pos, List, [], ◌∷◌, map, sym, ap, ap₂, ◌∙◌, subst, IsPermutation}
 use Rattle.std.specs.List.{flat_map}
 use Rattle.std.specs.List.{AllByRecursion}
 use Rattle.sqlite_value.specs.Order.{Row as SqlRow, column}
