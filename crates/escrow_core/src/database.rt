@@ -25,7 +25,7 @@ use std::marker::Model;
 
 /// A database: its tables and their committed rows, in a store that SQLite writes to; the open
 /// reservations and savepoints of all sessions, and the id that the next reservation takes. A fault that
-/// shuts the store takes nothing from these: what asks the store is then refused.
+/// shuts the store takes nothing from these.
 #[derive(Drop)]
 pub struct Database<S: Alter> {
     tables: Tables<S>,
@@ -123,8 +123,8 @@ impl<S: Alter> Database<S> {
         // What is refused changes nothing, whatever the store is like.
         ensures refused { IsTrue (is_refused result) → self.new.state ≡ self.old.state }
 
-        // A crash leaves what it might have left before, or what the step makes; once a write was
-        // answered, the tables and rows that there then are.
+        // Where the store was open, a crash leaves what it might have left before, or what the step makes;
+        // once a write was answered, the tables and rows that there then are.
         ensures crash { Survives (state S.Store self.old.store) (state S.Store self.new.store) (λ trees. IsTrue (state S.Store self.old.store).is_open → AreAfter self.old.state session statement.now trees) }
         ensures durable { IsTrue (tells_write result) → HasCleanDisk (state S.Store self.new.store) → (trees : Trees) → (state S.Store self.new.store).may_leave trees → AreHeldOf self.new.state trees }
     {
