@@ -1,9 +1,11 @@
 ghost use Rattle.std.specs.Prelude.{◌≡◌, ◌↔◌, IsTrue};
 ghost use Rattle.escrow_num.specs.Refusal.{number_of};
 
+use crate::failure::Failure;
 use crate::name::Name;
 use crate::span::Side;
 use crate::wide::Wide;
+use std::alloc::AllocError;
 
 /// The limit of a check that a change could break: the check's name, the side, the worst value on
 /// that side, and the limit beyond which it lies.
@@ -128,6 +130,31 @@ impl Refusal {
             (Refusal::Syntax { .. } | Refusal::Check(_), _) => false,
             (_, Refusal::Syntax { .. } | Refusal::Check(_)) => false,
             _ => self.number() == other.number(),
+        }
+    }
+}
+
+impl From<AllocError> for Refusal {
+    ghost use Rattle.std.specs.Prelude.{◌≡◌};
+    ghost use Rattle.escrow_num.specs.declared.refusal.Refusal.TheVariants as refusal;
+
+    ghost from_gives = { λ _ r. r ≡ refusal.Memory };
+
+    fn from(_: AllocError) -> Refusal {
+        Refusal::Memory
+    }
+}
+
+impl From<Failure> for Refusal {
+    ghost use Rattle.std.specs.Prelude.{◌≡◌};
+    ghost use Rattle.escrow_num.specs.Refusal.{told};
+
+    ghost from_gives = { λ failure r. r ≡ told failure };
+
+    fn from(failure: Failure) -> Refusal {
+        match failure {
+            Failure::Memory => Refusal::Memory,
+            Failure::Store => Refusal::Store,
         }
     }
 }

@@ -1,5 +1,5 @@
 -- Believed: the tables of a database, and how they change.
-use Rattle.std.specs.Prelude.{ℕ, ◌≤◌, Bool, not, nat_le, if◌then◌else◌, Option, is_some, List, [], ◌∷◌, length, filter, find, bytes_eq}
+use Rattle.std.specs.Prelude.{ℕ, ◌≤◌, Bool, not, nat_le, if◌then◌else◌, Option, is_some, List, [], ◌∷◌, length, filter, find, position, bytes_eq}
 use Rattle.std.specs.List.{AllByRecursion}
 use Rattle.std.specs.Ordering.{nat_cmp, is_lt}
 use Rattle.std.specs.Cmp.Lexicographic.{slice_cmp}
@@ -24,6 +24,10 @@ pub record IsCatalog (catalog : List TableDef) : Type 0 where
 -- the table of a name
 abbrev pub table_named : List TableDef → List ℕ → Option TableDef
 table_named catalog name = find (λ table. bytes_eq table.name name) catalog
+
+-- where the table of a name stands in the catalog
+abbrev pub place_named : List TableDef → List ℕ → Option ℕ
+place_named catalog name = position (λ table. bytes_eq table.name name) catalog
 
 -- a table put into the catalog, in order of name
 abbrev pub with_table : TableDef → List TableDef → List TableDef
