@@ -1,7 +1,7 @@
 -- A transaction from its beginning to its end, over what connections show.
-use Rattle.std.proofs.Common.{◌≡◌, ℕ, List, [], ◌∷◌, take, length, get_or, ◌<◌, ◌≤◌, ◌+◌, true, false, IsTrue, Result, Ok, Err, OnOk, OnErr, IfErr, inl, inr, refl, sym, ap, subst, ◌∙◌, arith}
+use Rattle.std.proofs.Common.{◌≡◌, ℕ, List, [], ◌∷◌, take, length, get_or, ◌<◌, ◌≤◌, ◌+◌, true, false, IsTrue, Result, Ok, Err, OnOk, IfErr, is_ok, inl, inr, refl, sym, ap, subst, ◌∙◌, arith}
 use Rattle.std.proofs.lemmas.List.{take_more, take_all}
-use Rattle.std.proofs.lemmas.Bool.{both_ways}
+use Rattle.std.proofs.lemmas.Bool.{both_ways, false≢true}
 use Rattle.sqlite_trees.specs.declared.store.Store.{Ghosts}
 use Rattle.sqlite_trees.specs.Tree.{Trees}
 use Rattle.sqlite.specs.declared.error.Error.{Error}
@@ -12,6 +12,7 @@ use Rattle.sqlite.specs.Steps.{FailsToCommit}
 use Rattle.sqlite.proofs.StateLemmas.{survives_then}
 use Rattle.escrow_cells.specs.declared.step.Step.{Step}
 use Rattle.escrow_cells.specs.Step.{Does}
+use Rattle.escrow_cells.specs.Calls.{Writes}
 use Rattle.escrow_cells.specs.Inside.{HasDone, IsPending, GoesOn}
 use Rattle.escrow_cells.proofs.Steps.{does_none, does_more}
 
@@ -70,60 +71,59 @@ one_call g old Fact last survives keeps made = record {
   fact = λ clean. (made clean).1;
 }
 
--- a transaction that was rolled back: the database is as it was, also over a crash
-pub record IsUndone (old new : State) : Type 1 where
-  pub same : HasCleanDisk new → IsTrue new.is_open → new.now ≡ old.now
-  pub was_open : HasCleanDisk new → IsTrue new.is_open → IsTrue old.is_open
-  pub crash : (P : Trees → Type 0) → Survives old new P
-
-module _ (old last new : State) (settled : IsTrue old.is_open → old.now ≡ old.committed) where
+module _ (old last new : State) (settled : IsTrue old.is_open → old.now ≡ old.committed) (Makes : Database → Database → Type 0) where
   -- an error drops the transaction, which rolls back
-  pub undone : (mid : State) → IsPending old mid → Survives mid last (λ _. ⊥) → (HasCleanDisk last → KeepsCommit mid last) → (HasCleanDisk new → IsRolledBack last new) → Survives last new (λ _. ⊥) → IsUndone old new
+  pub undone : (mid : State) → IsPending old mid → Survives mid last (λ _. ⊥) → (HasCleanDisk last → KeepsCommit mid last) → (HasCleanDisk new → IsRolledBack last new) → Survives last new (λ _. ⊥)
+      → Writes old new false Makes
   undone mid one survives keeps back quiet =
       let pending = pending_then old mid last one (record { survives = survives; kept = keeps }) in
       let kept = λ (clean : HasCleanDisk new). pending.kept (omega (arith, quiet.clean)) in
       let was = λ (clean : HasCleanDisk new) (h : IsTrue new.is_open). (kept clean).was_open ((back clean).was_open h) in
       record {
-        same = λ clean h. ((back clean).undone h).0 ∙ (kept clean).committed ((back clean).was_open h) ∙ sym (settled (was clean h));
-        was_open = was;
-        crash = λ P. survives_then old last new _ _ P (λ _ db none. absurd none) (λ _ db none. absurd none) pending.survives quiet;
+        done = λ e. absurd (false≢true e);
+        refused = λ _ usable.
+            let it = back usable.0 in
+            (it.undone usable.1).0 ∙ (kept usable.0).committed (it.was_open usable.1) ∙ sym (settled (was usable.0 usable.1));
+        usable = λ usable. (omega (arith, pending.survives.clean, quiet.clean, usable.0), was usable.0 usable.1);
+        durable = λ e. absurd (false≢true e);
+        survives = survives_then old last new _ _ _ (λ _ db none. absurd none) (λ _ db none. absurd none) pending.survives quiet;
       }
 
   -- COMMIT, after the last statement
-  module _ (Fact : Database → Type 0) (held : Holds Fact old last) (quiet : Survives last new (λ db. db ≡ last.now.trees)) where
+  module _ (held : Holds (Makes old.now) old last) (quiet : Survives last new (λ db. db ≡ last.now.trees))
+      (leaves : (trees : Trees) → IsTrue new.is_open → new.may_leave trees → trees ≡ new.committed.trees) where
     was_clean : HasCleanDisk new → HasCleanDisk last
     was_clean clean = omega (arith, quiet.clean)
+
+    first_clean : HasCleanDisk new → HasCleanDisk old
+    first_clean clean = omega (arith, held.pending.survives.clean, quiet.clean)
 
     -- where it fails, it rolls back
     fails : (e : Error) → HasCleanDisk new → FailsToCommit last new e → IsRolledBack last new
     fails e clean (inl h) = h.3
     fails e clean (inr h) = absurd (both_ways last.in_transaction h.1 (held.inside (was_clean clean)))
 
-    abbrev Commits : Type 0
-    Commits = IsTrue last.in_transaction × Shows last new last.now last.now false × KeepsCounts last new × (new.marks ≡ [])
-
-    pub all_done : (r : Result (Unit {0}) Error) → HasCleanDisk new → OnOk r Commits → OnOk r (IsTrue new.is_open × Fact new.now)
-    all_done (Err e) clean h = tt
-    all_done (Ok x) clean h = (h.1.is_open, subst Fact (sym h.1.now_is) (held.fact (was_clean clean)))
-
-    -- after a COMMIT a crash leaves what was committed
-    pub durable : (r : Result (Unit {0}) Error) → ((trees : Trees) → IsTrue new.is_open → new.may_leave trees → trees ≡ new.committed.trees) → HasCleanDisk new
-        → OnOk r Commits → OnOk r ((trees : Trees) → new.may_leave trees → trees ≡ new.now.trees)
-    durable (Err e) leaves clean h = tt
-    durable (Ok x) leaves clean h = λ trees may. leaves trees h.1.is_open may ∙ ap (λ (db : Database). db.trees) (h.1.committed_is ∙ sym h.1.now_is)
-
-    pub none_done : (r : Result (Unit {0}) Error) → HasCleanDisk new → IsTrue new.is_open → IfErr r (FailsToCommit last new) → OnErr r (new.now ≡ old.now)
-    none_done (Ok x) clean is_open h = tt
-    none_done (Err e) clean is_open h =
-        let back = fails e clean h in
-        let kept = held.pending.kept (was_clean clean) in
-        let was = back.was_open is_open in
-        (back.undone is_open).0 ∙ kept.committed was ∙ sym (settled (kept.was_open was))
-
-    pub was_open : (r : Result (Unit {0}) Error) → HasCleanDisk new → IsTrue new.is_open → OnOk r Commits → IfErr r (FailsToCommit last new) → IsTrue old.is_open
-    was_open (Ok x) clean is_open ok err = (held.pending.kept (was_clean clean)).was_open ok.1.was_open
-    was_open (Err e) clean is_open ok err = (held.pending.kept (was_clean clean)).was_open ((fails e clean err).was_open is_open)
-
     -- a crash inside leaves what it left before, or what the transaction made
-    pub crash : Survives old new (λ trees. (db : Database) × Fact db × (trees ≡ db.trees))
+    crash : Survives old new (λ trees. (db : Database) × Makes old.now db × (trees ≡ db.trees))
     crash = survives_then old last new _ _ _ (λ _ db none. absurd none) (λ clean db is. (last.now, held.fact (was_clean clean), is)) held.pending.survives quiet
+
+    pub ends : (r : Result (Unit {0}) Error) → (HasCleanDisk new → OnOk r (IsTrue last.in_transaction × Shows last new last.now last.now false × KeepsCounts last new × (new.marks ≡ [])))
+        → (HasCleanDisk new → IfErr r (FailsToCommit last new)) → Writes old new (is_ok r) Makes
+    ends (Ok x) commits fail = record {
+      done = λ _ clean. let shows = (commits clean).1 in (shows.is_open, subst (Makes old.now) (sym shows.now_is) (held.fact (was_clean clean)));
+      refused = λ e. absurd (false≢true (sym e));
+      usable = λ usable. (first_clean usable.0, (held.pending.kept (was_clean usable.0)).was_open (commits usable.0).1.was_open);
+      durable = λ _ clean trees may. let shows = (commits clean).1 in leaves trees shows.is_open may ∙ ap (λ (db : Database). db.trees) (shows.committed_is ∙ sym shows.now_is);
+      survives = crash;
+    }
+    ends (Err e) commits fail = record {
+      done = λ no. absurd (false≢true no);
+      refused = λ _ usable.
+          let back = fails e usable.0 (fail usable.0) in
+          let kept = held.pending.kept (was_clean usable.0) in
+          let was = back.was_open usable.1 in
+          (back.undone usable.1).0 ∙ kept.committed was ∙ sym (settled (kept.was_open was));
+      usable = λ usable. (first_clean usable.0, (held.pending.kept (was_clean usable.0)).was_open ((fails e usable.0 (fail usable.0)).was_open usable.1));
+      durable = λ no. absurd (false≢true no);
+      survives = crash;
+    }

@@ -17,7 +17,7 @@ use Rattle.sqlite.specs.State.{State, HasCleanDisk, KeepsCommit, Survives, Write
 use Rattle.sqlite.specs.declared.error.Error.{Error}
 use Rattle.sqlite.proofs.Callers.{IsPlain, command_of, statement_of, runs_as}
 use Rattle.escrow_cells.specs.Tables.{no_schema, meta, tab, cell, meta_text, tab_text, cell_text}
-use Rattle.escrow_cells.specs.Store.{IsEmpty, Creates}
+use Rattle.escrow_cells.specs.Store.{IsEmpty, MakesStore}
 use Rattle.escrow_cells.specs.Making.{with_meta, with_tab, with_cell, IsBare, HasMade}
 use Rattle.escrow_cells.proofs.AllOrNone.{Holds, one_call}
 use Rattle.escrow_cells.proofs.Inside.{went, same_value}
@@ -77,7 +77,7 @@ creates_cell = creates with_tab cell_text (record cell { tree = 0 }) cell_create
 -- in a transaction that had just begun the tables and their row were made
 pub made_in : {S : Type 0} (g : Ghosts S) (old start : Held S) (last : State) → start ≡ record old { in_transaction = true } → Survives (state g start) last (λ _. ⊥)
     → (HasCleanDisk last → KeepsCommit (state g start) last) → (HasCleanDisk last → IsTrue start.in_transaction → HasMade last (IsBare no_schema (state g start).now → IsEmpty last.now))
-    → Holds (Creates (state g old).now) (state g old) last
+    → Holds (MakesStore (state g old).now) (state g old) last
 made_in g old start last begun survives keeps made =
     let done = λ (clean : HasCleanDisk last). rw begun at (made clean (rw begun refl)) in
     one_call g old _ last (rw begun at survives) (rw begun at keeps) (λ clean. ((done clean).inside, λ none. (done clean).fact (record { schema_is = none; bare = tt })))

@@ -1,3 +1,4 @@
+pub mod Calls
 pub mod Failure
 pub mod Inside
 pub mod Making

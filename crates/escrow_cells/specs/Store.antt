@@ -71,5 +71,5 @@ pub record IsEmpty (db : Database) : Type 0 where
   pub cells_are : cells db ≡ []
 
 -- a store is made of a database without objects
-abbrev pub Creates : Database → Database → Type 0
-Creates old new = old.schema ≡ no_schema → IsEmpty new
+abbrev pub MakesStore : Database → Database → Type 0
+MakesStore old new = old.schema ≡ no_schema → IsEmpty new

@@ -1,11 +1,10 @@
 //! A new store.
-ghost use Rattle.std.specs.Prelude.{◌≡◌, false, IsTrue, OnOk, OnErr};
+ghost use Rattle.std.specs.Prelude.{◌≡◌, false, is_ok, IsTrue, OnOk};
 ghost use Rattle.sqlite.specs.Held.{state};
 ghost use Rattle.sqlite.specs.State.{HasCleanDisk, KeepsCommit, Survives};
-ghost use Rattle.sqlite_trees.specs.Tree.{Trees};
-ghost use Rattle.sqlite.specs.Effect.{Database};
+ghost use Rattle.escrow_cells.specs.Calls.{Writes};
 ghost use Rattle.escrow_cells.specs.Tables.{no_schema};
-ghost use Rattle.escrow_cells.specs.Store.{IsEmpty, Creates};
+ghost use Rattle.escrow_cells.specs.Store.{IsEmpty, MakesStore};
 ghost use Rattle.escrow_cells.specs.Making.{with_meta, with_tab, with_cell, IsBare, HasMade};
 
 use crate::failure::failure_of;
@@ -74,12 +73,8 @@ fn make_tables<S: Alter>(tx: &mut Transaction<'_, S>) -> Result<usize, Error>
 /// Makes an empty store of a database without objects, in one transaction: all of it, or nothing. A
 /// connection that is inside a transaction is refused.
 pub fn create<S: Alter>(conn: &mut Connection<S>) -> Result<(), Failure>
-    ensures all { HasCleanDisk (state S.Store conn.new) → OnOk result (IsTrue (state S.Store conn.new).is_open × Creates (state S.Store conn.old).now (state S.Store conn.new).now) }
-    ensures none { HasCleanDisk (state S.Store conn.new) → IsTrue (state S.Store conn.new).is_open → OnErr result ((state S.Store conn.new).now ≡ (state S.Store conn.old).now) }
-    ensures was_open { HasCleanDisk (state S.Store conn.new) → IsTrue (state S.Store conn.new).is_open → IsTrue (state S.Store conn.old).is_open }
+    ensures writes { Writes (state S.Store conn.old) (state S.Store conn.new) (is_ok result) MakesStore }
     ensures mode { conn.old.in_transaction ≡ false → conn.new.in_transaction ≡ false }
-    ensures durable { HasCleanDisk (state S.Store conn.new) → OnOk result ((trees : Trees) → (state S.Store conn.new).may_leave trees → trees ≡ (state S.Store conn.new).now.trees) }
-    ensures crash { Survives (state S.Store conn.old) (state S.Store conn.new) (λ trees. (db : Database) × Creates (state S.Store conn.old).now db × (trees ≡ db.trees)) }
 {
     if !conn.is_autocommit() {
         return Err(Failure::Store);
@@ -91,12 +86,8 @@ pub fn create<S: Alter>(conn: &mut Connection<S>) -> Result<(), Failure>
 fn create_outside<S: Alter>(conn: &mut Connection<S>) -> Result<(), Error>
     requires outside { conn.old.in_transaction ≡ false }
     requires settled { IsTrue (state S.Store conn.old).is_open → (state S.Store conn.old).now ≡ (state S.Store conn.old).committed }
-    ensures all { HasCleanDisk (state S.Store conn.new) → OnOk result (IsTrue (state S.Store conn.new).is_open × Creates (state S.Store conn.old).now (state S.Store conn.new).now) }
-    ensures none { HasCleanDisk (state S.Store conn.new) → IsTrue (state S.Store conn.new).is_open → OnErr result ((state S.Store conn.new).now ≡ (state S.Store conn.old).now) }
-    ensures was_open { HasCleanDisk (state S.Store conn.new) → IsTrue (state S.Store conn.new).is_open → IsTrue (state S.Store conn.old).is_open }
+    ensures writes { Writes (state S.Store conn.old) (state S.Store conn.new) (is_ok result) MakesStore }
     ensures mode { conn.new.in_transaction ≡ false }
-    ensures durable { HasCleanDisk (state S.Store conn.new) → OnOk result ((trees : Trees) → (state S.Store conn.new).may_leave trees → trees ≡ (state S.Store conn.new).now.trees) }
-    ensures crash { Survives (state S.Store conn.old) (state S.Store conn.new) (λ trees. (db : Database) × Creates (state S.Store conn.old).now db × (trees ≡ db.trees)) }
 {
     let mut tx = conn.transaction();
     make_tables(&mut tx)?;

@@ -1,8 +1,7 @@
 -- Believed: what each reading call answers of an image.
-use Rattle.std.specs.Prelude.{◌≡◌, ℕ, Option, List, map, length, IsTrue, IsPermutation}
+use Rattle.std.specs.Prelude.{◌≡◌, ℕ, Option, List, map, length, IsPermutation}
 use Rattle.std.specs.Ordering.{is_lt, int_cmp}
 use Rattle.sqlite.specs.Effect.{Database}
-use Rattle.sqlite.specs.State.{State, HasCleanDisk, Survives}
 use Rattle.escrow_num.specs.Ascending.{IsAscending}
 use Rattle.escrow_num.specs.declared.row.Row.{Row}
 use Rattle.escrow_num.specs.declared.value.Value.{Value}
@@ -11,18 +10,8 @@ use Rattle.escrow_rows.specs.declared.stored.StoredTable.{StoredTable}
 use Rattle.escrow_rows.specs.declared.listed.ListedTable.{ListedTable}
 use Rattle.escrow_rows.specs.Image.{IsImage, AreTables, AreRows}
 use Rattle.escrow_machine.specs.Rows.{row_named, rows_of}
+pub use Rattle.escrow_cells.specs.Calls.{IsUsable, Looks}
 use Rattle.escrow_rows.specs.Changes.{Stands, name_in}
-
--- a store that can be used: its disk has returned what was written, and no fault has shut it
-abbrev pub IsUsable : State → Type 0
-IsUsable s = HasCleanDisk s × IsTrue s.is_open
-
--- a call only reads: where the store can be used after it, it holds what it held, and a crash leaves what
--- it might have left before
-pub record Looks (old new : State) : Type 0 where
-  pub same : IsUsable new → new.now ≡ old.now
-  pub usable : IsUsable new → IsUsable old
-  pub survives : Survives old new (λ _. ⊥)
 
 -- an answer is this one of the rows, whatever tables and rows the database is the image of, one of them
 -- a table that is named

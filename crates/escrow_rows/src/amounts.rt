@@ -1,11 +1,8 @@
-ghost use Rattle.std.specs.Prelude.{◌≡◌, IsTrue, IfOk, OnOk, OnErr, drop, fold, option_map};
+ghost use Rattle.std.specs.Prelude.{◌≡◌, IfOk, OnOk, is_ok, drop, fold, option_map};
 ghost use Rattle.sqlite.specs.Held.{state};
-ghost use Rattle.sqlite.specs.State.{HasCleanDisk, Survives};
-ghost use Rattle.sqlite.specs.Effect.{Database};
-ghost use Rattle.sqlite_trees.specs.Tree.{Trees};
 ghost use Rattle.escrow_num.specs.declared.value.Value.TheVariants.{Number};
+ghost use Rattle.escrow_cells.specs.Calls.{Writes};
 ghost use Rattle.escrow_cells.specs.Step.{Contents, done, kept};
-ghost use Rattle.escrow_rows.specs.Answers.{IsUsable};
 ghost use Rattle.escrow_rows.specs.Changes.{PutsAmounts};
 ghost use Rattle.escrow_rows.specs.Image.{stored};
 ghost use Rattle.escrow_rows.specs.Inside.{all_on, amounts_on, first_new, on_cells};
@@ -33,11 +30,7 @@ pub struct NewAmounts<'a> {
 impl<S: Alter> RowStore<S> {
     /// Puts new amounts into rows, in one transaction.
     pub fn put_amounts(&mut self, alloc: Global, news: &[NewAmounts<'_>]) -> Result<(), Failure>
-        ensures done { HasCleanDisk (state S.Store self.new) → OnOk result (IsTrue (state S.Store self.new).is_open × PutsAmounts news.now (state S.Store self.old).now (state S.Store self.new).now) }
-        ensures refused { HasCleanDisk (state S.Store self.new) → IsTrue (state S.Store self.new).is_open → OnErr result ((state S.Store self.new).now ≡ (state S.Store self.old).now) }
-        ensures usable { IsUsable (state S.Store self.new) → IsUsable (state S.Store self.old) }
-        ensures durable { HasCleanDisk (state S.Store self.new) → OnOk result ((trees : Trees) → (state S.Store self.new).may_leave trees → trees ≡ (state S.Store self.new).now.trees) }
-        ensures crash { Survives (state S.Store self.old) (state S.Store self.new) (λ trees. (db : Database) × PutsAmounts news.now (state S.Store self.old).now db × (trees ≡ db.trees)) }
+        ensures { Writes (state S.Store self.old) (state S.Store self.new) (is_ok result) (PutsAmounts news.now) }
     {
         let steps = all_steps(alloc, news)?;
         run(&mut self.conn, steps.as_slice())

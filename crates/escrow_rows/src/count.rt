@@ -5,17 +5,16 @@ use escrow_num::Failure;
 use sqlite::Alter;
 
 impl<S: Alter> RowStore<S> {
-    ghost use Rattle.std.specs.Prelude.{◌≡◌, IsTrue, IfOk};
+    ghost use Rattle.std.specs.Prelude.{IsTrue, IfOk};
     ghost use Rattle.sqlite.specs.Held.{state};
-    ghost use Rattle.sqlite.specs.State.{HasCleanDisk, Survives};
-    ghost use Rattle.escrow_rows.specs.Answers.{IsUsable, TellsCount};
+    ghost use Rattle.sqlite.specs.State.{HasCleanDisk};
+    ghost use Rattle.escrow_cells.specs.Calls.{Looks};
+    ghost use Rattle.escrow_rows.specs.Answers.{TellsCount};
 
     /// How many rows a table has: each has one cell at the first place. Takes no memory of its own.
     pub fn count(&mut self, table: &StoredTable) -> Result<usize, Failure>
         ensures told { HasCleanDisk (state S.Store self.new) → IfOk result (λ n. IsTrue (state S.Store self.new).is_open × TellsCount table.now (state S.Store self.old).now n) }
-        ensures same { HasCleanDisk (state S.Store self.new) → IsTrue (state S.Store self.new).is_open → (state S.Store self.new).now ≡ (state S.Store self.old).now }
-        ensures usable { IsUsable (state S.Store self.new) → IsUsable (state S.Store self.old) }
-        ensures crash { Survives (state S.Store self.old) (state S.Store self.new) (λ _. ⊥) }
+        ensures looks { Looks (state S.Store self.old) (state S.Store self.new) }
     {
         count_keys(&mut self.conn, table.id, 1)
     }

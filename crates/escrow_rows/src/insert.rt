@@ -12,22 +12,15 @@ use sqlite::Alter;
 use std::alloc::{AllocError, Global};
 
 impl<S: Alter> RowStore<S> {
-    ghost use Rattle.std.specs.Prelude.{◌≡◌, IsTrue, OnOk, OnErr};
+    ghost use Rattle.std.specs.Prelude.{◌≡◌, is_ok};
     ghost use Rattle.sqlite.specs.Held.{state};
-    ghost use Rattle.sqlite.specs.State.{HasCleanDisk, Survives};
-    ghost use Rattle.sqlite.specs.Effect.{Database};
-    ghost use Rattle.sqlite_trees.specs.Tree.{Trees};
-    ghost use Rattle.escrow_rows.specs.Answers.{IsUsable};
+    ghost use Rattle.escrow_cells.specs.Calls.{Writes};
     ghost use Rattle.escrow_rows.specs.Changes.{Inserts};
 
     /// Puts a row of a table among its rows.
     pub fn insert(&mut self, alloc: Global, table: &StoredTable, row: &Row) -> Result<(), Failure>
         requires { row.now.name.table ≡ table.now.table.name }
-        ensures done { HasCleanDisk (state S.Store self.new) → OnOk result (IsTrue (state S.Store self.new).is_open × Inserts table.now row.now (state S.Store self.old).now (state S.Store self.new).now) }
-        ensures refused { HasCleanDisk (state S.Store self.new) → IsTrue (state S.Store self.new).is_open → OnErr result ((state S.Store self.new).now ≡ (state S.Store self.old).now) }
-        ensures usable { IsUsable (state S.Store self.new) → IsUsable (state S.Store self.old) }
-        ensures durable { HasCleanDisk (state S.Store self.new) → OnOk result ((trees : Trees) → (state S.Store self.new).may_leave trees → trees ≡ (state S.Store self.new).now.trees) }
-        ensures crash { Survives (state S.Store self.old) (state S.Store self.new) (λ trees. (db : Database) × Inserts table.now row.now (state S.Store self.old).now db × (trees ≡ db.trees)) }
+        ensures { Writes (state S.Store self.old) (state S.Store self.new) (is_ok result) (Inserts table.now row.now) }
     {
         let values = values_of(alloc, &table.table, row)?;
         let steps = cell_steps(alloc, table.id, &row.name.key, values.as_slice())?;

@@ -13,12 +13,9 @@ use sqlite::Alter;
 use std::alloc::{AllocError, Global};
 
 impl<S: Alter> RowStore<S> {
-    ghost use Rattle.std.specs.Prelude.{◌≡◌, IsTrue, OnOk, OnErr};
+    ghost use Rattle.std.specs.Prelude.{is_ok};
     ghost use Rattle.sqlite.specs.Held.{state};
-    ghost use Rattle.sqlite.specs.State.{HasCleanDisk, Survives};
-    ghost use Rattle.sqlite.specs.Effect.{Database};
-    ghost use Rattle.sqlite_trees.specs.Tree.{Trees};
-    ghost use Rattle.escrow_rows.specs.Answers.{IsUsable};
+    ghost use Rattle.escrow_cells.specs.Calls.{Writes};
     ghost use Rattle.escrow_rows.specs.Changes.{SetsPlain};
 
     /// Replaces plain values of the row of a key: for each column that is neither RESERVABLE nor the
@@ -30,11 +27,7 @@ impl<S: Alter> RowStore<S> {
         key: &Value,
         values: &[Option<Value>],
     ) -> Result<(), Failure>
-        ensures done { HasCleanDisk (state S.Store self.new) → OnOk result (IsTrue (state S.Store self.new).is_open × SetsPlain table.now key.now values.now (state S.Store self.old).now (state S.Store self.new).now) }
-        ensures refused { HasCleanDisk (state S.Store self.new) → IsTrue (state S.Store self.new).is_open → OnErr result ((state S.Store self.new).now ≡ (state S.Store self.old).now) }
-        ensures usable { IsUsable (state S.Store self.new) → IsUsable (state S.Store self.old) }
-        ensures durable { HasCleanDisk (state S.Store self.new) → OnOk result ((trees : Trees) → (state S.Store self.new).may_leave trees → trees ≡ (state S.Store self.new).now.trees) }
-        ensures crash { Survives (state S.Store self.old) (state S.Store self.new) (λ trees. (db : Database) × SetsPlain table.now key.now values.now (state S.Store self.old).now db × (trees ≡ db.trees)) }
+        ensures { Writes (state S.Store self.old) (state S.Store self.new) (is_ok result) (SetsPlain table.now key.now values.now) }
     {
         let steps = plain_steps(alloc, table, key, values)?;
         run(&mut self.conn, steps.as_slice())

@@ -8,6 +8,7 @@ use Rattle.sqlite.specs.State.{HasCleanDisk}
 use Rattle.sqlite.proofs.StateLemmas.{survives_then}
 use Rattle.escrow_num.specs.declared.reservation.Reservation.{Reservation}
 use Rattle.escrow_num.specs.declared.row.Row.{Row}
+use Rattle.escrow_cells.specs.Calls.{Writes as StoreWrites}
 use Rattle.escrow_rows.specs.Answers.{IsUsable, Looks}
 use Rattle.escrow_rows.specs.Changes.{PutsAmounts}
 use Rattle.escrow_rows.specs.View.{rows_in}
@@ -18,28 +19,28 @@ use Rattle.escrow_tables.specs.Inside.{IsHeld, Keeps, catalog_of, stored_of}
 use Rattle.escrow_tables.specs.Puts.{ArePuts, TellsPut, put_by}
 use Rattle.escrow_verify.specs.declared.counted.Counted.{Counted}
 use Rattle.escrow_tables.proofs.Applying.{held_after}
-use Rattle.escrow_tables.proofs.Writing.{Changes, keeps_on, seen, writes}
+use Rattle.escrow_tables.proofs.Writing.{keeps_on, seen, writes}
 
 module _ {S : Type 0} (g : Ghosts S) (old mid new : Held S) (looks : Looks (state g old) (state g mid))
     (stays_open : HasCleanDisk (state g mid) → IsTrue (state g old).is_open → IsTrue (state g mid).is_open) where
   -- reads, and a call that makes a change after them, make it together
   changes_after : (D : Database → Database → Type 0) (Makes : Database → Type 0) (is_done : Bool) → (IsUsable (state g mid) → (db : Database) → D (state g mid).now db → Makes db)
-      → Changes g mid new D is_done → Changes g old new (λ _ db. IsTrue (state g old).is_open → Makes db) is_done
+      → StoreWrites (state g mid) (state g new) is_done D → StoreWrites (state g old) (state g new) is_done (λ _ db. IsTrue (state g old).is_open → Makes db)
   changes_after D Makes is_done makes it = record {
     done = λ e clean. let made = it.done e clean in (made.0, λ _. makes (it.usable (clean, made.0)) (state g new).now made.1);
-    refused = λ e clean is_open. it.refused e clean is_open ∙ looks.same (it.usable (clean, is_open));
+    refused = λ e usable. it.refused e usable ∙ looks.same (it.usable usable);
     usable = λ usable. looks.usable (it.usable usable);
     durable = it.durable;
-    crash = survives_then (state g old) (state g mid) (state g new) _ _ _ (λ _ trees none. absurd none)
+    survives = survives_then (state g old) (state g mid) (state g new) _ _ _ (λ _ trees none. absurd none)
         (λ clean trees made.
-        let was_clean : HasCleanDisk (state g mid) = omega (arith, it.crash.clean) in
-        (made.0, λ was_open. makes (was_clean, stays_open was_clean was_open) made.0 made.1, made.2)) looks.survives it.crash;
+        let was_clean : HasCleanDisk (state g mid) = omega (arith, it.survives.clean) in
+        (made.0, λ was_open. makes (was_clean, stays_open was_clean was_open) made.0 made.1, made.2)) looks.survives it.survives;
   }
 
   module _ (tables : List Counted) (reservations : List Reservation) (news : List NewAmounts) (is_done : Bool) (was later : Held S) (keeps : Keeps (state g old) (state g was) tables)
       (puts : ArePuts (stored_of tables) reservations (map put_by news))
       (told : IsUsable (state g mid) → AllByRecursion (TellsPut (stored_of tables) reservations (state g old).now) (map put_by news))
-      (it : Changes g mid new (PutsAmounts news) is_done) (if_done : is_done ≡ true → later ≡ new) (if_not : is_done ≡ false → later ≡ was) where
+      (it : StoreWrites (state g mid) (state g new) is_done (PutsAmounts news)) (if_done : is_done ≡ true → later ≡ new) (if_not : is_done ≡ false → later ≡ was) where
     abbrev rows : List Row
     rows = applied (rows_in (stored_of tables) (state g was).now) reservations
 

@@ -24,6 +24,7 @@ use Rattle.escrow_schema.specs.Catalog.{IsCatalog, table_before, table_named, wi
 use Rattle.escrow_schema.specs.Definition.{IsTable}
 use Rattle.escrow_schema.specs.Fit.{IsRowOf}
 use Rattle.escrow_schema.proofs.CatalogLemmas.{with_new, with_table_put}
+use Rattle.escrow_cells.specs.Calls.{Writes as StoreWrites}
 use Rattle.escrow_rows.specs.declared.stored.StoredTable.{StoredTable}
 use Rattle.escrow_rows.specs.Changes.{Creates}
 use Rattle.escrow_rows.specs.Image.{AreTables, AreRows, HasTable, stored_named}
@@ -36,7 +37,7 @@ use Rattle.escrow_verify.specs.declared.counted.Counted.{Counted}
 use Rattle.escrow_tables.specs.Calls.{Writes}
 use Rattle.escrow_tables.specs.Inside.{HasCount, IsHeld, Keeps, catalog_of, stored_of}
 use Rattle.escrow_tables.proofs.Named.{counted_named, named_stored, named_table}
-use Rattle.escrow_tables.proofs.Writing.{Changes, keeps_on, seen, writes}
+use Rattle.escrow_tables.proofs.Writing.{keeps_on, seen, writes}
 
 map_put : {A B : Type 0} (f : A → B) (before : B → B → Bool) (x : A) (xs : List A) → map f (put (λ a b. before (f a) (f b)) x xs) ≡ put before (f x) (map f xs)
 map_put f before x [] = refl
@@ -183,7 +184,7 @@ module _ (tables : List Counted) (c : Counted) (none : c.rows ≡ 0) (are : AreT
         counts = all-permutation (HasCount rows) (c ∷ tables) (with_counted c tables) whole (counted, held.counts);
       }
 
-  module _ {S : Type 0} (g : Ghosts S) (old after was later : Held S) (is_done : Bool) (it : Changes g old after (Creates c.stored) is_done) (fields : List Counted)
+  module _ {S : Type 0} (g : Ghosts S) (old after was later : Held S) (is_done : Bool) (it : StoreWrites (state g old) (state g after) is_done (Creates c.stored)) (fields : List Counted)
       (keeps : Keeps (state g old) (state g was) tables) (if_done : is_done ≡ true → (fields ≡ with_counted c tables) × (later ≡ after)) (if_not : is_done ≡ false → (fields ≡ tables) × (later ≡ was)) where
     pub create_writes : Writes g (seen g old was tables) (seen g after later fields) is_done (with_table c.stored.table (catalog_of tables)) (rows_in (stored_of tables) (state g was).now)
     create_writes =

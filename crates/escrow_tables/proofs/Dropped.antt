@@ -17,6 +17,7 @@ use Rattle.escrow_schema.specs.Catalog.{IsCatalog, without_table}
 use Rattle.escrow_schema.specs.Definition.{IsTable}
 use Rattle.escrow_schema.specs.Fit.{IsRowOf}
 use Rattle.escrow_schema.proofs.CatalogLemmas.{Once, once_named, taken_out, without_one}
+use Rattle.escrow_cells.specs.Calls.{Writes as StoreWrites}
 use Rattle.escrow_rows.specs.declared.stored.StoredTable.{StoredTable}
 use Rattle.escrow_rows.specs.Changes.{Drops, without_stored}
 use Rattle.escrow_machine.specs.Rows.{without_rows_of, rows_of}
@@ -27,7 +28,7 @@ use Rattle.escrow_verify.specs.declared.counted.Counted.{Counted}
 use Rattle.escrow_tables.specs.Calls.{Writes}
 use Rattle.escrow_tables.specs.Inside.{HasCount, IsHeld, Keeps, catalog_of, stored_of}
 use Rattle.escrow_tables.proofs.Named.{IsNamed}
-use Rattle.escrow_tables.proofs.Writing.{Changes, keeps_on, seen, writes}
+use Rattle.escrow_tables.proofs.Writing.{keeps_on, seen, writes}
 
 -- the tables of other names
 abbrev pub without_counted : List ℕ → List Counted → List Counted
@@ -112,7 +113,7 @@ module _ (tables : List Counted) (name : List ℕ) (c : Counted) (named : IsName
         counts = has_all (HasCount (without_rows_of name rows)) (without_counted name tables) count;
       }
 
-  module _ {S : Type 0} (g : Ghosts S) (old new was later : Held S) (is_done : Bool) (it : Changes g old new (Drops c.stored) is_done) (fields : List Counted)
+  module _ {S : Type 0} (g : Ghosts S) (old new was later : Held S) (is_done : Bool) (it : StoreWrites (state g old) (state g new) is_done (Drops c.stored)) (fields : List Counted)
       (keeps : Keeps (state g old) (state g was) tables) (if_done : is_done ≡ true → (fields ≡ without_counted name tables) × (later ≡ new)) (if_not : is_done ≡ false → (fields ≡ tables) × (later ≡ was)) where
     pub drop_writes : Writes g (seen g old was tables) (seen g new later fields) is_done (without_table name (catalog_of tables)) (without_rows_of name (rows_in (stored_of tables) (state g was).now))
     drop_writes =

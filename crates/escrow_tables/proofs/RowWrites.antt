@@ -13,6 +13,7 @@ use Rattle.escrow_num.specs.declared.value.RowName.{RowName}
 use Rattle.escrow_num.specs.declared.value.Value.{Value}
 use Rattle.escrow_schema.specs.Catalog.{IsCatalog}
 use Rattle.escrow_schema.specs.declared.table.TableDef.{TableDef}
+use Rattle.escrow_cells.specs.Calls.{Writes as StoreWrites}
 use Rattle.escrow_rows.specs.Answers.{IsUsable}
 use Rattle.escrow_machine.specs.Rows.{row_named, with_plain, with_row, without_row, rows_of, HasTable}
 use Rattle.escrow_rows.specs.Changes.{TurnsRows}
@@ -26,7 +27,7 @@ use Rattle.escrow_verify.specs.declared.counted.Counted.{Counted}
 use Rattle.escrow_tables.proofs.Named.{stored_has}
 use Rattle.escrow_tables.proofs.NewRows.{are_rows_kept, are_rows_plain, are_rows_with, count_plain, one_less, one_more, others_with, others_without}
 use Rattle.escrow_tables.proofs.Placed.{IsPlaced, catalog_recounted, counts_after, counts_same, recounted, recounted_itself, stored_recounted}
-use Rattle.escrow_tables.proofs.Writing.{Changes, keeps_on, seen, writes}
+use Rattle.escrow_tables.proofs.Writing.{keeps_on, seen, writes}
 
 -- what is held of rows after a change of those of a table
 pub record Turned (tables : List Counted) (place : ℕ) (c : Counted) (n : ℕ) (rows : List Row) : Type 0 where
@@ -38,7 +39,7 @@ pub record Turned (tables : List Counted) (place : ℕ) (c : Counted) (n : ℕ) 
 module _ {S : Type 0} (g : Ghosts S) (old new was later : Held S) (tables : List Counted) (name : List ℕ) (place : ℕ) (c : Counted) (placed : IsPlaced tables name place c)
     (after : List Row → List Row) (n : ℕ) (keeps : Keeps (state g old) (state g was) tables)
     (turned : HasCleanDisk (state g old) → Turned tables place c n (after (rows_in (stored_of tables) (state g was).now)))
-    (is_done : Bool) (it : Changes g old new (TurnsRows c.stored after) is_done) (count : ℕ)
+    (is_done : Bool) (it : StoreWrites (state g old) (state g new) is_done (TurnsRows c.stored after)) (count : ℕ)
     (if_done : is_done ≡ true → (count ≡ n) × (later ≡ new)) (if_not : is_done ≡ false → (count ≡ c.rows) × (later ≡ was)) where
   are_after : AreTables (stored_of (recounted tables place c n))
   are_after = subst AreTables (sym (stored_recounted tables name place c placed n)) keeps.are_tables

@@ -1,16 +1,15 @@
 -- What a call of the store that writes makes of the tables and rows of a database.
-use Rattle.std.proofs.Common.{◌≡◌, ◌∙◌, ◌∷◌, [], Bool, true, false, List, Result, Ok, Err, ap, ap₂, arith, inl, map, refl, subst, subst₂, sym}
-use Rattle.std.specs.Prelude.{IsTrue, OnErr, OnOk, is_ok}
+use Rattle.std.proofs.Common.{◌≡◌, ◌∙◌, ◌∷◌, [], Bool, true, false, List, ap, ap₂, arith, inl, map, refl, subst, subst₂, sym}
 use Rattle.std.proofs.lemmas.Bool.{false≢true}
-use Rattle.sqlite_trees.specs.Tree.{Trees}
 use Rattle.sqlite_trees.specs.declared.store.Store.{Ghosts}
 use Rattle.sqlite.specs.Effect.{Database}
 use Rattle.sqlite.specs.Held.{Held, state}
-use Rattle.sqlite.specs.State.{HasCleanDisk, Survives}
+use Rattle.sqlite.specs.State.{HasCleanDisk}
 use Rattle.sqlite.proofs.StateLemmas.{survives_weaker}
 use Rattle.escrow_num.specs.declared.row.Row.{Row}
 use Rattle.escrow_schema.specs.Catalog.{IsCatalog}
 use Rattle.escrow_schema.specs.declared.table.TableDef.{TableDef}
+use Rattle.escrow_cells.specs.Calls.{Writes as StoreWrites}
 use Rattle.escrow_rows.specs.Answers.{IsUsable}
 use Rattle.escrow_rows.specs.Image.{AreTables}
 use Rattle.escrow_rows.specs.View.{rows_in}
@@ -60,45 +59,14 @@ untouched g it catalog rows = record {
 }
 
 module _ {S : Type 0} (g : Ghosts S) (old new : Held S) (D : Database → Database → Type 0) where
-  -- the clauses of a call of the store that makes a change, where it is done or not
-  pub record Changes (is_done : Bool) : Type 0 where
-    pub done : is_done ≡ true → HasCleanDisk (state g new) → IsTrue (state g new).is_open × D (state g old).now (state g new).now
-    pub refused : is_done ≡ false → HasCleanDisk (state g new) → IsTrue (state g new).is_open → (state g new).now ≡ (state g old).now
-    pub usable : IsUsable (state g new) → IsUsable (state g old)
-    pub durable : is_done ≡ true → HasCleanDisk (state g new) → (trees : Trees) → (state g new).may_leave trees → trees ≡ (state g new).now.trees
-    pub crash : Survives (state g old) (state g new) (λ trees. (db : Database) × D (state g old).now db × (trees ≡ db.trees))
-
-  -- the clauses of a call, by its result
-  pub changes : {T E : Type 0} (r : Result T E)
-      → (HasCleanDisk (state g new) → OnOk r (IsTrue (state g new).is_open × D (state g old).now (state g new).now))
-      → (HasCleanDisk (state g new) → IsTrue (state g new).is_open → OnErr r ((state g new).now ≡ (state g old).now))
-      → (IsUsable (state g new) → IsUsable (state g old))
-      → (HasCleanDisk (state g new) → OnOk r ((trees : Trees) → (state g new).may_leave trees → trees ≡ (state g new).now.trees))
-      → Survives (state g old) (state g new) (λ trees. (db : Database) × D (state g old).now db × (trees ≡ db.trees))
-      → Changes (is_ok r)
-  changes (Ok x) done refused usable durable crash = record {
-    done = λ _. done;
-    refused = λ e. absurd (false≢true (sym e));
-    usable = usable;
-    durable = λ _. durable;
-    crash = crash;
-  }
-  changes (Err e) done refused usable durable crash = record {
-    done = λ e. absurd (false≢true e);
-    refused = λ _. refused;
-    usable = usable;
-    durable = λ e. absurd (false≢true e);
-    crash = crash;
-  }
-
   -- The tables that stand are kept, and how the store was when it was last written; the change makes others of
   -- them, with other rows. The fields have these, and the store as it is then, where the call is done.
-  module _ (is_done : Bool) (it : Changes is_done) (was later : Held S) (tables after fields : List Counted) (rows : List Row) (keeps : Keeps (state g old) (state g was) tables)
+  module _ (is_done : Bool) (it : StoreWrites (state g old) (state g new) is_done D) (was later : Held S) (tables after fields : List Counted) (rows : List Row) (keeps : Keeps (state g old) (state g was) tables)
       (are_after : AreTables (stored_of after)) (turns : IsUsable (state g old) → (db : Database) → D (state g was).now db → IsHeld after rows db)
       (if_done : is_done ≡ true → (fields ≡ after) × (later ≡ new)) (if_not : is_done ≡ false → (fields ≡ tables) × (later ≡ was)) where
     -- a clean disk was clean before
     was_clean : HasCleanDisk (state g new) → HasCleanDisk (state g old)
-    was_clean clean = omega (arith, it.crash.clean, clean)
+    was_clean clean = omega (arith, it.survives.clean, clean)
 
     -- what was changed was the database as it was last written
     turned : IsUsable (state g old) → (db : Database) → D (state g old).now db → IsHeld after rows db
@@ -122,7 +90,7 @@ module _ {S : Type 0} (g : Ghosts S) (old new : Held S) (D : Database → Databa
       kept_catalog = λ e. ap catalog_of (if_not e).0;
       kept_rows = λ e. rows_at tables was (if_not e);
       survives = survives_weaker (state g old) (state g new) _ _
-          (λ clean trees made is_open. (made.0, holds after rows made.0 are_after (turned (was_clean clean, is_open) made.0 made.1), made.2)) it.crash;
+          (λ clean trees made is_open. (made.0, holds after rows made.0 are_after (turned (was_clean clean, is_open) made.0 made.1), made.2)) it.survives;
     }
 
     -- and the fields keep what they hold
@@ -143,5 +111,5 @@ module _ {S : Type 0} (g : Ghosts S) (old new : Held S) (D : Database → Databa
           are_tables = keeps.are_tables;
           is_catalog = keeps.is_catalog;
           held = λ clean. keeps.held (was_clean clean);
-          same = λ usable. it.refused e usable.0 usable.1 ∙ keeps.same (it.usable usable);
+          same = λ usable. it.refused e usable ∙ keeps.same (it.usable usable);
         })

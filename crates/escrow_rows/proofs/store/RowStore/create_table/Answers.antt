@@ -1,19 +1,12 @@
 use Rattle.std.proofs.Common.{◌∙◌, rules, w64}
 use Rattle.std.proofs.lemmas.Int.{to_z-of_z}
 use Rattle.escrow_rows.proofs.ImageTables.{creates}
-use Rattle.escrow_rows.proofs.Runs.{done_as, survives_as}
+use Rattle.escrow_rows.proofs.Runs.{writes_as}
 use Rattle.escrow_rows.proofs.store.RowStore.create_table.Goals as goal
 
-pub returns-clause-done : goal.returns-clause-done
-returns-clause-done g c =
+pub returns : goal.returns
+returns g c =
     let table = c.args.table.now in
     let number = to_z-of_z w64 table.id (search rules) in
     let written = c.as_str-2.ensures.value ∙ c.in_ok-text.ensures.text in
-    done_as g.S.Store c.self.inside.conn c.args.self.now c.run.new.conn c.self.view_is _ _ (creates table _ c.as_str.result c.as_str-2.result number c.as_str.ensures written) c.run.result c.run.ensures.all
-
-pub returns-clause-crash : goal.returns-clause-crash
-returns-clause-crash g c =
-    let table = c.args.table.now in
-    let number = to_z-of_z w64 table.id (search rules) in
-    let written = c.as_str-2.ensures.value ∙ c.in_ok-text.ensures.text in
-    survives_as g.S.Store c.self.inside.conn c.args.self.now c.run.new.conn c.self.view_is _ _ (creates table _ c.as_str.result c.as_str-2.result number c.as_str.ensures written) c.run.ensures.crash
+    writes_as g.S.Store c.self.inside.conn c.args.self.now c.run.new.conn _ _ _ c.self.view_is (creates table _ c.as_str.result c.as_str-2.result number c.as_str.ensures written) c.run.ensures.writes

@@ -3,13 +3,14 @@ use Rattle.std.proofs.lemmas.Bool.{false≢true}
 use Rattle.std.proofs.lemmas.Result.{err_from_is_err_and}
 use Rattle.sqlite.specs.Held.{Held, state}
 use Rattle.escrow_machine.specs.Rows.{applied}
+use Rattle.escrow_cells.specs.Calls.{Writes as StoreWrites}
 use Rattle.escrow_rows.specs.Changes.{PutsAmounts}
 use Rattle.escrow_rows.specs.View.{rows_in}
 use Rattle.escrow_tables.specs.Calls.{Writes}
 use Rattle.escrow_tables.specs.Inside.{Keeps, catalog_of, stored_of}
 use Rattle.escrow_tables.specs.Puts.{put_by, put_of}
 use Rattle.escrow_tables.proofs.Committing.{commits, keeps_committed}
-use Rattle.escrow_tables.proofs.Writing.{Changes, changes, seen}
+use Rattle.escrow_tables.proofs.Writing.{seen}
 use Rattle.escrow_tables.proofs.tables.Tables.apply.Given as given
 use Rattle.escrow_tables.proofs.tables.Tables.apply.Goals as goal
 use Rattle.escrow_tables.proofs.tables.Tables.apply.Goals.{After-put_amounts}
@@ -31,9 +32,7 @@ written g c is_done later ok if_done if_not =
     let read = rw c.deref.ensures.value at c.in_ok-changes.ensures in
     let same : map put_of c.in_ok-changes.changes.items ≡ map put_by news =
     sym (ap (map put_by) c.as_slice-2.ensures.value ∙ c.in_ok-news.ensures ∙ ap (map put_of) c.as_slice.ensures.value) in
-    let put = c.put_amounts.ensures in
-    let it = subst (Changes g.S.Store mid new (PutsAmounts news)) ok
-    (changes g.S.Store mid new (PutsAmounts news) c.put_amounts.result put.done put.refused put.usable put.durable put.crash) in (
+    let it = subst (λ b. StoreWrites (state g.S.Store mid) (state g.S.Store new) b (PutsAmounts news)) ok c.put_amounts.ensures in (
       commits g.S.Store old.store mid new read.looks read.open old.tables.items c.args.reservations.now news is_done old.last.value later c.self.invariant
           (rw same at read.puts) (rw same at read.told) it if_done if_not,
       keeps_committed g.S.Store old.store mid new read.looks read.open old.tables.items c.args.reservations.now news is_done old.last.value later c.self.invariant

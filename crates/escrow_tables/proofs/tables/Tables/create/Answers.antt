@@ -5,6 +5,7 @@ use Rattle.std.proofs.lemmas.Result.{err_from_is_err_and}
 use Rattle.sqlite.specs.Held.{Held, state}
 use Rattle.escrow_schema.specs.declared.table.TableDef.{TableDef}
 use Rattle.escrow_schema.specs.Catalog.{with_table}
+use Rattle.escrow_cells.specs.Calls.{Writes as StoreWrites}
 use Rattle.escrow_rows.specs.Changes.{Creates}
 use Rattle.escrow_rows.specs.View.{rows_in}
 use Rattle.escrow_verify.specs.declared.counted.Counted.{Counted}
@@ -12,7 +13,7 @@ use Rattle.escrow_tables.specs.Calls.{Writes}
 use Rattle.escrow_tables.specs.Committed.{Committed}
 use Rattle.escrow_tables.specs.Inside.{Keeps, catalog_of, stored_of}
 use Rattle.escrow_tables.proofs.Created.{IsNew, create_keeps, create_writes, new_table, put_there, with_counted}
-use Rattle.escrow_tables.proofs.Writing.{Changes, changes, seen}
+use Rattle.escrow_tables.proofs.Writing.{seen}
 use Rattle.escrow_tables.proofs.tables.Tables.create.Given as given
 use Rattle.escrow_tables.proofs.tables.Tables.create.Goals as goal
 use Rattle.escrow_tables.proofs.tables.Tables.create.Goals.{After-create_table}
@@ -39,9 +40,7 @@ written g c is_done fields later ok if_done if_not =
     let counted = empty c.in-Some.id c.args.table in
     let old = c.self.inside.store in
     let new = c.create_table.new.self in
-    let told = c.create_table.ensures in
-    let called = changes g.S.Store old new (Creates counted.stored) c.create_table.result told.done told.refused told.usable told.durable told.crash in
-    let it = subst (Changes g.S.Store old new (Creates counted.stored)) ok called in (
+    let it = subst (λ b. StoreWrites (state g.S.Store old) (state g.S.Store new) b (Creates counted.stored)) ok c.create_table.ensures in (
       create_writes tables counted refl c.self.invariant.are_tables (is_new g c) g.S.Store old new c.self.inside.last.value later is_done it fields c.self.invariant if_done if_not,
       create_keeps tables counted refl c.self.invariant.are_tables (is_new g c) g.S.Store old new c.self.inside.last.value later is_done it fields c.self.invariant if_done if_not,
     )

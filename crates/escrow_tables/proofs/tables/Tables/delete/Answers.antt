@@ -1,4 +1,4 @@
-use Rattle.std.proofs.Common.{◌-◌, ◌≡◌, ℕ, Bool, true, false, ap, refl, subst, sym}
+use Rattle.std.proofs.Common.{◌-◌, ◌≡◌, ℕ, Bool, true, false, ap, refl, subst₂, sym}
 use Rattle.std.specs.Prelude.{IsSome, is_ok}
 use Rattle.std.proofs.lemmas.Bool.{false≢true}
 use Rattle.std.proofs.lemmas.Result.{err_from_is_err_and}
@@ -6,14 +6,15 @@ use Rattle.sqlite.specs.Held.{Held, state}
 use Rattle.sqlite.specs.State.{HasCleanDisk}
 use Rattle.escrow_num.specs.declared.value.RowName.{RowName}
 use Rattle.escrow_machine.specs.Rows.{row_named, without_row}
-use Rattle.escrow_rows.specs.Changes.{Deletes, TurnsRows}
+use Rattle.escrow_cells.specs.Calls.{Writes as StoreWrites}
+use Rattle.escrow_rows.specs.Changes.{TurnsRows}
 use Rattle.escrow_rows.specs.View.{rows_in}
 use Rattle.escrow_tables.specs.Calls.{Writes}
 use Rattle.escrow_tables.specs.Inside.{Keeps, catalog_of, stored_of}
 use Rattle.escrow_tables.proofs.Placed.{IsPlaced, is_placed, recounted}
 use Rattle.escrow_tables.proofs.Reading.{name_of}
 use Rattle.escrow_tables.proofs.RowWrites.{Turned, delete_turns, row_keeps, row_writes}
-use Rattle.escrow_tables.proofs.Writing.{Changes, changes, seen}
+use Rattle.escrow_tables.proofs.Writing.{seen}
 use Rattle.escrow_tables.proofs.tables.Tables.delete.Given as given
 use Rattle.escrow_tables.proofs.tables.Tables.delete.Goals as goal
 use Rattle.escrow_tables.proofs.tables.Tables.delete.Goals.{After-delete}
@@ -46,9 +47,7 @@ written g c is_done count later ok if_done if_not =
     let old = c.self.inside.store in
     let new = c.delete.new.self in
     let at = placed g c in
-    let as_called = changes g.S.Store old new (Deletes counted.stored name.key) c.delete.result c.delete.ensures.done c.delete.ensures.refused c.delete.ensures.usable c.delete.ensures.durable c.delete.ensures.crash in
-    let of_row = subst (λ (n : RowName). Changes g.S.Store old new (TurnsRows counted.stored (without_row n)) (is_ok c.delete.result)) (name_of tables name.table counted at.named name.key) as_called in
-    let it = subst (Changes g.S.Store old new (TurnsRows counted.stored (without_row name))) ok of_row in
+    let it = subst₂ (λ b (n : RowName). StoreWrites (state g.S.Store old) (state g.S.Store new) b (TurnsRows counted.stored (without_row n))) ok (name_of tables name.table counted at.named name.key) c.delete.ensures in
     let n = counted.rows - 1 in (
       row_writes g.S.Store old new c.self.inside.last.value later tables name.table c.in-Some.place counted at (without_row name) n c.self.invariant (turned g c) is_done it count if_done if_not,
       row_keeps g.S.Store old new c.self.inside.last.value later tables name.table c.in-Some.place counted at (without_row name) n c.self.invariant (turned g c) is_done it count if_done if_not,

@@ -3,6 +3,7 @@ use Rattle.std.proofs.lemmas.Bool.{false≢true}
 use Rattle.std.proofs.lemmas.Result.{err_from_is_err_and}
 use Rattle.sqlite.specs.Held.{Held, state}
 use Rattle.escrow_schema.specs.Catalog.{without_table}
+use Rattle.escrow_cells.specs.Calls.{Writes as StoreWrites}
 use Rattle.escrow_rows.specs.Changes.{Drops}
 use Rattle.escrow_machine.specs.Rows.{without_rows_of}
 use Rattle.escrow_rows.specs.View.{rows_in}
@@ -11,7 +12,7 @@ use Rattle.escrow_tables.specs.Calls.{Writes}
 use Rattle.escrow_tables.specs.Inside.{Keeps, catalog_of, stored_of}
 use Rattle.escrow_tables.proofs.Dropped.{drop_keeps, drop_writes, taken_at, without_counted}
 use Rattle.escrow_tables.proofs.Placed.{IsPlaced, is_placed}
-use Rattle.escrow_tables.proofs.Writing.{Changes, changes, seen}
+use Rattle.escrow_tables.proofs.Writing.{seen}
 use Rattle.escrow_tables.proofs.tables.Tables.drop_table.Given as given
 use Rattle.escrow_tables.proofs.tables.Tables.drop_table.Goals as goal
 use Rattle.escrow_tables.proofs.tables.Tables.drop_table.Goals.{After-drop_table, After-remove}
@@ -30,10 +31,8 @@ written g c is_done fields later ok if_done if_not =
     let counted = c.index.result.now in
     let old = c.self.inside.store in
     let new = c.drop_table.new.self in
-    let told = c.drop_table.ensures in
     let named = (placed g c).named in
-    let called = changes g.S.Store old new (Drops counted.stored) c.drop_table.result told.done told.refused told.usable told.durable told.crash in
-    let it = subst (Changes g.S.Store old new (Drops counted.stored)) ok called in (
+    let it = subst (λ b. StoreWrites (state g.S.Store old) (state g.S.Store new) b (Drops counted.stored)) ok c.drop_table.ensures in (
       drop_writes tables c.args.name counted named c.self.invariant.are_tables g.S.Store old new c.self.inside.last.value later is_done it fields c.self.invariant if_done if_not,
       drop_keeps tables c.args.name counted named c.self.invariant.are_tables g.S.Store old new c.self.inside.last.value later is_done it fields c.self.invariant if_done if_not,
     )

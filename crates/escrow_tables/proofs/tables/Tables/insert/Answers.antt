@@ -5,6 +5,7 @@ use Rattle.sqlite.specs.Held.{Held, state}
 use Rattle.sqlite.specs.State.{HasCleanDisk}
 use Rattle.std.specs.Prelude.{is_ok}
 use Rattle.escrow_machine.specs.Rows.{row_named, with_row, rows_of, HasTable}
+use Rattle.escrow_cells.specs.Calls.{Writes as StoreWrites}
 use Rattle.escrow_rows.specs.Changes.{Inserts}
 use Rattle.escrow_rows.specs.View.{rows_in}
 use Rattle.escrow_schema.specs.declared.table.TheConstants.TableDef.{MAX_ROWS}
@@ -12,7 +13,7 @@ use Rattle.escrow_tables.specs.Calls.{Writes}
 use Rattle.escrow_tables.specs.Inside.{Keeps, catalog_of, stored_of}
 use Rattle.escrow_tables.proofs.Placed.{IsPlaced, is_placed, recounted}
 use Rattle.escrow_tables.proofs.RowWrites.{Turned, insert_turns, row_writes, row_keeps}
-use Rattle.escrow_tables.proofs.Writing.{Changes, changes, seen}
+use Rattle.escrow_tables.proofs.Writing.{seen}
 use Rattle.escrow_tables.proofs.tables.Tables.insert.Given as given
 use Rattle.escrow_tables.proofs.tables.Tables.insert.Goals as goal
 use Rattle.escrow_tables.proofs.tables.Tables.insert.Goals.{After-insert}
@@ -51,8 +52,7 @@ written g c is_done count later ok if_done if_not =
     let counted = c.index_mut-counted.result.now in
     let old = c.self.inside.store in
     let new = c.insert.new.self in
-    let it = subst (Changes g.S.Store old new (Inserts counted.stored row)) ok
-    (changes g.S.Store old new (Inserts counted.stored row) c.insert.result c.insert.ensures.done c.insert.ensures.refused c.insert.ensures.usable c.insert.ensures.durable c.insert.ensures.crash) in
+    let it = subst (λ b. StoreWrites (state g.S.Store old) (state g.S.Store new) b (Inserts counted.stored row)) ok c.insert.ensures in
     let name = row.name.table in
     let n = min (counted.rows + 1) most in (
       row_writes g.S.Store old new c.self.inside.last.value later tables name c.in-Some.place counted (placed g c) (with_row row) n c.self.invariant (turned g c) is_done it count if_done if_not,

@@ -1,4 +1,4 @@
-use Rattle.std.proofs.Common.{◌≡◌, Bool, List, true, false, ap, refl, subst, sym}
+use Rattle.std.proofs.Common.{◌≡◌, Bool, List, true, false, ap, refl, subst, subst₂, sym}
 use Rattle.std.proofs.lemmas.Bool.{false≢true}
 use Rattle.std.proofs.lemmas.Result.{err_from_is_err_and}
 use Rattle.std.specs.Prelude.{is_ok}
@@ -6,7 +6,8 @@ use Rattle.std.specs.List.{AllByRecursion}
 use Rattle.sqlite.specs.Held.{Held, state}
 use Rattle.sqlite.specs.State.{HasCleanDisk}
 use Rattle.escrow_num.specs.declared.value.RowName.{RowName}
-use Rattle.escrow_rows.specs.Changes.{SetsPlain, TurnsRows}
+use Rattle.escrow_cells.specs.Calls.{Writes as StoreWrites}
+use Rattle.escrow_rows.specs.Changes.{TurnsRows}
 use Rattle.escrow_machine.specs.Rows.{with_plain, HasTable}
 use Rattle.escrow_rows.specs.View.{rows_in}
 use Rattle.escrow_verify.specs.declared.counted.Counted.{Counted}
@@ -15,7 +16,7 @@ use Rattle.escrow_tables.specs.Inside.{Keeps, catalog_of, stored_of}
 use Rattle.escrow_tables.proofs.Placed.{IsPlaced, is_placed, recounted_itself}
 use Rattle.escrow_tables.proofs.Reading.{name_of}
 use Rattle.escrow_tables.proofs.RowWrites.{Turned, plain_turns, row_keeps, row_writes}
-use Rattle.escrow_tables.proofs.Writing.{Changes, changes, seen}
+use Rattle.escrow_tables.proofs.Writing.{seen}
 use Rattle.escrow_tables.proofs.tables.Tables.set_plain.Given as given
 use Rattle.escrow_tables.proofs.tables.Tables.set_plain.Goals as goal
 use Rattle.escrow_tables.proofs.tables.Tables.set_plain.Goals.{After-set_plain}
@@ -36,21 +37,6 @@ turned g c clean =
     let fits : AllByRecursion (HasTable (catalog_of tables)) (with_plain name values rows) = (rw (← c.self.view_is) at c.requires.fits) clean in
     plain_turns tables c.in-Some.place c.index.result.now name values (placed g c) rows held.are_rows held.counts fits
 
--- the call makes this change
-change : (g : given.Over) (c : After-set_plain g)
-    → Changes g.S.Store c.self.inside.store c.set_plain.new.self (TurnsRows c.index.result.now.stored (with_plain c.args.name.now c.args.values.now)) (is_ok c.set_plain.result)
-change g c =
-    let name = c.args.name.now in
-    let values = c.args.values.now in
-    let counted = c.index.result.now in
-    let old = c.self.inside.store in
-    let new = c.set_plain.new.self in
-    let as_called =
-    changes g.S.Store old new (SetsPlain counted.stored name.key values) c.set_plain.result
-    c.set_plain.ensures.done c.set_plain.ensures.refused c.set_plain.ensures.usable c.set_plain.ensures.durable c.set_plain.ensures.crash in
-    subst (λ (n : RowName). Changes g.S.Store old new (TurnsRows counted.stored (with_plain n values)) (is_ok c.set_plain.result))
-    (name_of c.self.inside.tables.items name.table counted (placed g c).named name.key) as_called
-
 -- the call writes, and the fields keep what they hold
 written : (g : given.Over) (c : After-set_plain g) (is_done : Bool) (later : Held g.row.S.Denot) → is_ok c.set_plain.result ≡ is_done
     → (is_done ≡ true → later ≡ c.set_plain.new.self) → (is_done ≡ false → later ≡ c.self.inside.last.value)
@@ -67,7 +53,7 @@ written g c is_done later ok if_done if_not =
     let was = c.self.inside.last.value in
     let at = placed g c in
     let rows = with_plain name values (rows_in (stored_of tables) (state g.S.Store was).now) in
-    let it = subst (Changes g.S.Store old new (TurnsRows counted.stored (with_plain name values))) ok (change g c) in
+    let it = subst₂ (λ b (n : RowName). StoreWrites (state g.S.Store old) (state g.S.Store new) b (TurnsRows counted.stored (with_plain n values))) ok (name_of tables name.table counted at.named name.key) c.set_plain.ensures in
     let stays = recounted_itself tables name.table c.in-Some.place counted at in (
       subst (λ (ts : List Counted). Writes g.S.Store (seen g.S.Store old was tables) (seen g.S.Store new later ts) is_done (catalog_of tables) rows) stays
           (row_writes g.S.Store old new was later tables name.table c.in-Some.place counted at (with_plain name values) counted.rows c.self.invariant (turned g c)

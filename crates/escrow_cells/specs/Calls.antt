@@ -1,0 +1,27 @@
+-- Believed: what calls make of a store.
+use Rattle.std.specs.Prelude.{◌≡◌, Bool, true, false, IsTrue}
+use Rattle.sqlite_trees.specs.Tree.{Trees}
+use Rattle.sqlite.specs.Effect.{Database}
+use Rattle.sqlite.specs.State.{State, HasCleanDisk, Survives}
+
+-- a store that can be used: its disk has returned what was written, and no fault has shut it
+abbrev pub IsUsable : State → Type 0
+IsUsable s = HasCleanDisk s × IsTrue s.is_open
+
+-- a call only reads: where the store can be used after it, it holds what it held, and a crash leaves what
+-- it might have left before
+pub record Looks (old new : State) : Type 0 where
+  pub same : IsUsable new → new.now ≡ old.now
+  pub usable : IsUsable new → IsUsable old
+  pub survives : Survives old new (λ _. ⊥)
+
+-- A call writes, in one transaction: where it is done and the disk has returned what was written, the store
+-- is open, its database is one that the call makes of the old one, and a crash leaves this. Else the store
+-- holds what it held. Whatever comes of it, a crash leaves what it might have left before, or a database
+-- that the call makes.
+pub record Writes (old new : State) (is_done : Bool) (Makes : Database → Database → Type 0) : Type 0 where
+  pub done : is_done ≡ true → HasCleanDisk new → IsTrue new.is_open × Makes old.now new.now
+  pub refused : is_done ≡ false → IsUsable new → new.now ≡ old.now
+  pub usable : IsUsable new → IsUsable old
+  pub durable : is_done ≡ true → HasCleanDisk new → (trees : Trees) → new.may_leave trees → trees ≡ new.now.trees
+  pub survives : Survives old new (λ trees. (db : Database) × Makes old.now db × (trees ≡ db.trees))
