@@ -2,6 +2,7 @@ pub mod Cells
 pub mod Counts
 pub mod Found
 pub mod Gathering
+pub mod Grouping
 pub mod ImageDelete
 pub mod ImageInsert
 pub mod ImageSet
@@ -17,6 +18,7 @@ pub mod PlacedCells
 pub mod Places
 pub mod Pushes
 pub mod Puts
+pub mod ReadCells
 pub mod RowRead
 pub mod Runs
 pub mod Same

@@ -1,12 +1,17 @@
 -- Values, each by its place.
-use Rattle.std.proofs.Common.{◌≡◌, ℕ, ℤ, pos, ◌+◌, ◌<◌, Bool, true, false, not, List, [], ◌∷◌, ◌++◌, map, filter, length, length-append, take, get_or, refl, ap, ap₂, sym, ◌∙◌, subst, arith, IsPermutation}
+use Rattle.std.proofs.Common.{◌≡◌, ℕ, ℤ, zero, suc, pos, ◌+◌, ◌<◌, ◌≤◌, Ordering, Less, int_cmp, Bool, true, false, not, List, [], ◌∷◌, ◌++◌, map, filter, length, length-append, take, get_or, refl, ap, ap₂, sym, ◌∙◌, subst, arith, IsPermutation}
 use Rattle.std.specs.List.{AllByRecursion}
-use Rattle.std.specs.Ordering.{int_eq}
+use Rattle.std.specs.Ordering.{int_eq, on}
+use Rattle.std.specs.Cmp.{IsTotalOrder, int_cmp_is}
+use Rattle.std.proofs.lemmas.Cmp.{on_total}
+use Rattle.std.proofs.lemmas.Int.{ints}
 use Rattle.std.proofs.lemmas.List.{take_more}
 use Rattle.std.proofs.lemmas.List.Sorted.{length_permutation}
 use Rattle.std.proofs.lemmas.Bool.Decides.{Decides-int_eq}
 use Rattle.sqlite_value.specs.declared.value.Value.TheVariants as sql
-use Rattle.sqlite_value.specs.Order.{Row as SqlRow, column}
+use Rattle.sqlite_value.specs.Order.{Row as SqlRow, column, value_cmp}
+use Rattle.sqlite_value.proofs.OrderLemmas.{value_cmp-Int, value_cmp_total}
+use Rattle.sqlite_trees.specs.Tree.{IsAscending as Rises}
 use Rattle.sqlite_trees.proofs.ListLemmas.{all_weaker, all-permutation, filter_all, filter_none, IsPermutation-filter}
 use Rattle.escrow_num.specs.declared.value.Value.{Value}
 use Rattle.escrow_num.specs.declared.value.Value.TheVariants.{Number, Text}
@@ -32,6 +37,36 @@ placed-push place [] v = ap (λ (n : ℕ). (sql.Int (pos n) ∷ stored v ∷ [])
 placed-push place (w ∷ vs) v =
     ap (λ cells. (sql.Int (pos place) ∷ stored w ∷ []) ∷ cells) (placed-push (place + 1) vs v
     ∙ ap (λ (n : ℕ). placed (place + 1) vs ++ (sql.Int (pos n) ∷ stored v ∷ []) ∷ []) (omega arith))
+
+-- the order of the cells of a row: by place
+abbrev pub place_cmp : SqlRow → SqlRow → Ordering
+place_cmp = on (λ r. column r 0) value_cmp
+
+pub place_cmp_total : IsTotalOrder place_cmp
+place_cmp_total = on_total (λ (r : SqlRow). column r 0) value_cmp_total
+
+pub later_place : (m n : ℕ) → m < n → int_cmp (pos m) (pos n) ≡ Less
+later_place m n h = sym (int_cmp_is (pos m) (pos n) Less (omega (arith, ints)))
+
+-- what holds of all cells from a place on holds of those of values
+pub placed_all : (P : SqlRow → Type 0) (from place : ℕ) → ((n : ℕ) (v : Value) → from ≤ n → P (sql.Int (pos n) ∷ stored v ∷ [])) → (vs : List Value) → from ≤ place → AllByRecursion P (placed place vs)
+placed_all P from place each [] h = tt
+placed_all P from place each (v ∷ vs) h = (each place v h, placed_all P from (place + 1) each vs (omega arith))
+
+-- the cells of values rise
+pub placed_rise : (place : ℕ) (vs : List Value) → Rises (λ a b. place_cmp a b ≡ Less) (placed place vs)
+placed_rise place [] = tt
+placed_rise place (v ∷ vs) = (
+  placed_all (λ cell. place_cmp (sql.Int (pos place) ∷ stored v ∷ []) cell ≡ Less) (place + 1) (place + 1)
+      (λ n w h. value_cmp-Int (pos place) (pos n) ∙ later_place place n (omega arith)) vs (omega arith),
+  placed_rise (place + 1) vs,
+)
+
+-- the cell at a place
+pub get_placed : (place i : ℕ) (vs : List Value) (cell : SqlRow) (v : Value) → i < length vs → get_or (placed place vs) i cell ≡ sql.Int (pos (place + i)) ∷ stored (get_or vs i v) ∷ []
+get_placed place i [] cell v h = absurd (omega arith)
+get_placed place zero (w ∷ vs) cell v h = ap (λ (n : ℕ). sql.Int (pos n) ∷ stored w ∷ []) (omega arith)
+get_placed place (suc i) (w ∷ vs) cell v h = get_placed (place + 1) i vs cell v (omega arith) ∙ ap (λ (n : ℕ). sql.Int (pos n) ∷ stored (get_or vs i v) ∷ []) (omega arith)
 
 -- a cell by its place and its value
 abbrev pub in_place : SqlRow → SqlRow

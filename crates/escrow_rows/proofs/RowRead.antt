@@ -54,7 +54,7 @@ read_named tables rows s key db answer are of stands coded read =
     (IsPermutation-trans (map in_place (filter mine (flat_map (cells_of tables) rows))) (map in_place (filter mine (cells db))) answer held read.same_cells)
 
 -- the row of a name in a table that stands is one of that table, with its cells
-row_there : (tables : List StoredTable) (rows : List Row) (s : StoredTable) (key : Value) (row : Row) → AreRows tables rows → Stands tables s → row_named rows (name_in s key) ≡ Some row
+pub row_there : (tables : List StoredTable) (rows : List Row) (s : StoredTable) (key : Value) (row : Row) → AreRows tables rows → Stands tables s → row_named rows (name_in s key) ≡ Some row
     → IsRowOf s.table row × (cells_of tables row ≡ cells_in s row)
 row_there tables rows s key row of stands e =
     let found = find_has (λ (r : Row). same_row r.name (name_in s key)) rows row e in

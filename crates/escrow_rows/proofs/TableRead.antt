@@ -48,12 +48,12 @@ abbrev pub values_in : TableDef → Row → RowValues
 values_in table row = record { key = row.name.key; values = values_of table row }
 
 -- what is made of each item may be made in another way
-same_pieces : {A B : Type 0} (f g : A → List B) (xs : List A) → AllByRecursion (λ x. f x ≡ g x) xs → flat_map f xs ≡ flat_map g xs
+pub same_pieces : {A B : Type 0} (f g : A → List B) (xs : List A) → AllByRecursion (λ x. f x ≡ g x) xs → flat_map f xs ≡ flat_map g xs
 same_pieces f g [] h = refl
 same_pieces f g (x ∷ xs) h = rw (h.0, same_pieces f g xs h.1) refl
 
 -- the rows of a table that stands are of that table, with its cells
-own_rows : (tables : List StoredTable) (rows : List Row) (s : StoredTable) → AreRows tables rows → Stands tables s
+pub own_rows : (tables : List StoredTable) (rows : List Row) (s : StoredTable) → AreRows tables rows → Stands tables s
     → AllByRecursion (λ row. (row.name.table ≡ s.table.name) × IsRowOf s.table row × (map with_key (cells_of tables row) ≡ gathered_cells (values_in s.table row))) (rows_of rows s.table.name)
 own_rows tables rows s of stands =
     has_all (λ row. (row.name.table ≡ s.table.name) × IsRowOf s.table row × (map with_key (cells_of tables row) ≡ gathered_cells (values_in s.table row))) (rows_of rows s.table.name) (λ row has.
@@ -63,7 +63,7 @@ own_rows tables rows s of stands =
     (named, own.0, ap (map with_key) own.1 ∙ cells_keyed s.id row.name.key 1 (values_of s.table row)))
 
 -- among the cells of an image, those of a table are those of its rows
-own_cells : (tables : List StoredTable) (rows : List Row) (s : StoredTable) → AreTables tables → AreRows tables rows → Stands tables s
+pub own_cells : (tables : List StoredTable) (rows : List Row) (s : StoredTable) → AreTables tables → AreRows tables rows → Stands tables s
     → map with_key (filter (is_in (sql.Int s.id)) (flat_map (cells_of tables) rows)) ≡ flat_map gathered_cells (map (values_in s.table) (rows_of rows s.table.name))
 own_cells tables rows s are of stands =
     let mine = rows_of rows s.table.name in

@@ -1,10 +1,11 @@
 -- Believed: what each reading call answers of an image.
-use Rattle.std.specs.Prelude.{◌≡◌, ℕ, Option, List, map, length, IsPermutation}
+use Rattle.std.specs.Prelude.{◌≡◌, ℕ, ℤ, Option, option_map, List, map, length, IsPermutation}
 use Rattle.std.specs.Ordering.{is_lt, int_cmp}
 use Rattle.sqlite.specs.Effect.{Database}
 use Rattle.escrow_num.specs.Ascending.{IsAscending}
 use Rattle.escrow_num.specs.declared.row.Row.{Row}
 use Rattle.escrow_num.specs.declared.value.Value.{Value}
+use Rattle.escrow_schema.specs.Fit.{values_of}
 use Rattle.escrow_schema.specs.Print.{canonical}
 use Rattle.escrow_rows.specs.declared.stored.StoredTable.{StoredTable}
 use Rattle.escrow_rows.specs.declared.listed.ListedTable.{ListedTable}
@@ -25,6 +26,18 @@ TellsRow s key = Tells s (λ rows. row_named rows (name_in s key))
 -- the rows of a table, in order of key
 abbrev pub TellsRows : StoredTable → Database → List Row → Type 0
 TellsRows s = Tells s (λ rows. rows_of rows s.table.name)
+
+-- the amounts of the row of a key in a table, if it is there
+abbrev pub TellsAmounts : StoredTable → Value → Database → Option (List ℤ) → Type 0
+TellsAmounts s key = Tells s (λ rows. option_map (λ row. row.amounts) (row_named rows (name_in s key)))
+
+-- its values, in column order
+abbrev pub TellsValues : StoredTable → Value → Database → Option (List Value) → Type 0
+TellsValues s key = Tells s (λ rows. option_map (values_of s.table) (row_named rows (name_in s key)))
+
+-- the values of each row of a table, in order of key
+abbrev pub TellsAllValues : StoredTable → Database → List (List Value) → Type 0
+TellsAllValues s = Tells s (λ rows. map (values_of s.table) (rows_of rows s.table.name))
 
 -- how many rows a table has
 abbrev pub TellsCount : StoredTable → Database → ℕ → Type 0

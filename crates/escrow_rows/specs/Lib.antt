@@ -1,6 +1,7 @@
 pub mod Answers
 pub mod Changes
 pub mod Gathered
+pub mod Grouped
 pub mod Image
 pub mod Inside
 pub mod Laws

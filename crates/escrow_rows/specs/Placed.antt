@@ -1,11 +1,16 @@
 -- Helps: what private contracts say of cells that are read. Nothing that callers see rests on it.
-use Rattle.std.specs.Prelude.{◌≡◌, ℕ, pos, ◌+◌, Option, Some, None, List, [], ◌∷◌}
+use Rattle.std.specs.Prelude.{◌≡◌, ◌≢◌, ℕ, pos, ◌+◌, Option, Some, None, option_map, List, [], ◌∷◌}
 use Rattle.sqlite_value.specs.declared.value.Value.TheVariants as sql
 use Rattle.sqlite_value.specs.Order.{Row as SqlRow}
 use Rattle.escrow_num.specs.declared.row.Row.{Row}
 use Rattle.escrow_num.specs.declared.value.Value.{Value}
 use Rattle.escrow_schema.specs.declared.table.TableDef.{TableDef}
-use Rattle.escrow_schema.specs.Fit.{IsRowOf, row_with}
+use Rattle.escrow_schema.specs.Fit.{IsRowOf, row_with, values_of}
+use Rattle.sqlite.specs.Effect.{Database}
+use Rattle.escrow_machine.specs.Rows.{row_named}
+use Rattle.escrow_rows.specs.declared.stored.StoredTable.{StoredTable}
+use Rattle.escrow_rows.specs.Answers.{Tells}
+use Rattle.escrow_rows.specs.Changes.{name_in}
 use Rattle.escrow_rows.specs.Image.{stored}
 
 -- values, each by its place, of which the first stands at a place
@@ -25,3 +30,12 @@ pub record AreCellsOf (table : TableDef) (key : Value) (cells : List SqlRow) (ro
 abbrev pub IsFound : TableDef → Value → List SqlRow → Option Row → Type 0
 IsFound table key cells None = cells ≡ []
 IsFound table key cells (Some row) = AreCellsOf table key cells row
+
+-- the cells of a row, if there are any
+abbrev pub IsRowOfCells : List SqlRow → Option (List SqlRow) → Type 0
+IsRowOfCells cells None = cells ≡ []
+IsRowOfCells cells (Some some) = (some ≡ cells) × (cells ≢ [])
+
+-- the cells of the row of a key in a table, each by its place and its value, if it is there
+abbrev pub TellsCells : StoredTable → Value → Database → Option (List SqlRow) → Type 0
+TellsCells s key = Tells s (λ rows. option_map (λ row. placed 1 (values_of s.table row)) (row_named rows (name_in s key)))

@@ -5,6 +5,7 @@
 //! leaves the store as it was.
 #![tactic(auto)]
 
+mod all_values;
 mod amounts;
 mod cell;
 mod count;
@@ -15,6 +16,7 @@ mod insert;
 pub mod laws;
 mod listed;
 mod plain;
+mod read;
 mod row;
 mod rows;
 mod store;

@@ -5,10 +5,11 @@ ghost use Rattle.escrow_schema.specs.Definition.{IsTable};
 ghost use Rattle.escrow_rows.specs.Image.{stored};
 ghost use Rattle.escrow_rows.specs.Placed.{placed, IsFound};
 
-use crate::datum::{datum, held};
+use crate::datum::datum;
+use crate::read::read_values;
 use crate::store::RowStore;
 use crate::stored::StoredTable;
-use escrow_cells::{failure_of, row_cells};
+use escrow_cells::row_cells;
 use escrow_num::{Failure, Row, Value};
 use escrow_schema::{TableDef, row_of};
 use sqlite::Alter;
@@ -61,44 +62,4 @@ fn row_in(
         Some(row) if row.name.key.is_same(key) => Ok(Some(row)),
         _ => Err(Failure::Store),
     }
-}
-
-/// The values of cells, each at its place from 1 on.
-fn read_values(alloc: Global, cells: &[sqlite::Row]) -> Result<Vec<Value>, Failure>
-    ensures { IfOk result (λ values. cells.now ≡ placed 1 values.items) }
-{
-    let mut values = Vec::new(alloc);
-    for (i, cell) in cells.iter().enumerate() {
-        push_value(alloc, &mut values, cell, i + 1)?;
-    }
-    Ok(values)
-}
-
-/// Adds the value of a cell at a place.
-fn push_value(
-    alloc: Global,
-    values: &mut Vec<Value>,
-    cell: &sqlite::Row,
-    place: usize,
-) -> Result<(), Failure>
-    requires { place < 2 ^ 63 }
-    ensures { OnOk result ((v : HeldValue) × (cell.now ≡ Int (pos place) ∷ stored v ∷ []) × (values.new.items ≡ values.old.items ++ v ∷ [])) }
-{
-    let value = read_cell(alloc, cell, place)?;
-    match values.push(value) {
-        Ok(()) => Ok(()),
-        Err(_) => Err(Failure::Memory),
-    }
-}
-
-/// The value of a cell at a place.
-fn read_cell(alloc: Global, cell: &sqlite::Row, place: usize) -> Result<Value, Failure>
-    requires { place < 2 ^ 63 }
-    ensures { IfOk result (λ v. cell.now ≡ Int (pos place) ∷ stored v ∷ []) }
-{
-    let at: i64 = cell.get(0).map_err(failure_of)?;
-    if cell.column_count() != 2 || at != place as i64 {
-        return Err(Failure::Store);
-    }
-    held(alloc, cell.get_ref(1).map_err(failure_of)?)
 }

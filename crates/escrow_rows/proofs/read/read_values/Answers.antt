@@ -1,5 +1,5 @@
 use Rattle.escrow_rows.proofs.PlacedCells.{placed_more}
-use Rattle.escrow_rows.proofs.row.read_values.Goals as goal
+use Rattle.escrow_rows.proofs.read.read_values.Goals as goal
 
 pub loop-i-preserved : goal.loop-i-preserved
 loop-i-preserved c =

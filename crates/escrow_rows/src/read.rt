@@ -1,0 +1,170 @@
+//! What is read of the row of a key.
+ghost use Rattle.std.specs.Prelude.{◌≡◌, ◌++◌, ◌^◌, ◌<◌, ℤ, pos, [], ◌∷◌, length, List, IfOk, IfSome, OnOk};
+ghost use Rattle.escrow_num.specs.declared.value.Value.{Value as HeldValue};
+ghost use Rattle.sqlite_value.specs.Value.{owned};
+ghost use Rattle.sqlite_value.specs.declared.value.Value.TheVariants.{Int};
+ghost use Rattle.escrow_schema.specs.Column.{reservables};
+ghost use Rattle.escrow_schema.specs.Fit.{amounts_of};
+ghost use Rattle.escrow_rows.specs.Image.{stored};
+ghost use Rattle.escrow_rows.specs.Placed.{placed, IsRowOfCells};
+
+use crate::datum::{datum, held};
+use crate::store::RowStore;
+use crate::stored::StoredTable;
+use escrow_cells::{failure_of, row_cells};
+use escrow_num::{Amount, Failure, Seq, Value};
+use escrow_schema::Column;
+use sqlite::{Alter, Row};
+use sqlite_value::value::ValueRef;
+use std::alloc::Global;
+
+impl<S: Alter> RowStore<S> {
+    ghost use Rattle.std.specs.Prelude.{◌≡◌, length, IsTrue, IfOk, IfSome};
+    ghost use Rattle.sqlite.specs.Held.{state};
+    ghost use Rattle.sqlite.specs.State.{HasCleanDisk};
+    ghost use Rattle.escrow_schema.specs.Column.{reservables};
+    ghost use Rattle.escrow_schema.specs.Definition.{IsTable};
+    ghost use Rattle.escrow_rows.specs.Answers.{Looks, TellsAmounts, TellsValues};
+    ghost use Rattle.escrow_rows.specs.Placed.{TellsCells};
+
+    /// The amounts of the row of a key, one for each RESERVABLE column in column order, or `None` where no row
+    /// has the key. Its other values aren't copied.
+    pub fn amounts(
+        &mut self,
+        alloc: Global,
+        table: &StoredTable,
+        key: &Value,
+    ) -> Result<Option<Seq<Amount>>, Failure>
+        requires { IsTable table.now.table }
+        ensures told { HasCleanDisk (state S.Store self.new) → IfOk result (λ found. IsTrue (state S.Store self.new).is_open × TellsAmounts table.now key.now (state S.Store self.old).now found) }
+        ensures many { IfOk result (λ found. IfSome found (λ amounts. length amounts ≡ length (reservables table.now.table.columns))) }
+        ensures looks { Looks (state S.Store self.old) (state S.Store self.new) }
+    {
+        let Some(cells) = self.cells_of(table, key)? else {
+            return Ok(None);
+        };
+        let amounts = read_amounts(alloc, table.table.columns.as_slice(), cells.as_slice())?;
+        Ok(Some(amounts))
+    }
+
+    /// The values of the row of a key, in column order, or `None` where no row has the key.
+    pub fn values(
+        &mut self,
+        alloc: Global,
+        table: &StoredTable,
+        key: &Value,
+    ) -> Result<Option<Seq<Value>>, Failure>
+        requires { IsTable table.now.table }
+        ensures told { HasCleanDisk (state S.Store self.new) → IfOk result (λ found. IsTrue (state S.Store self.new).is_open × TellsValues table.now key.now (state S.Store self.old).now found) }
+        ensures looks { Looks (state S.Store self.old) (state S.Store self.new) }
+    {
+        let Some(cells) = self.cells_of(table, key)? else {
+            return Ok(None);
+        };
+        let values = read_values(alloc, cells.as_slice())?;
+        Ok(Some(Seq::from_vec(values)))
+    }
+
+    /// The cells of the row of a key, each by its place and its value, or `None` where there are none. A row
+    /// that hasn't a cell for each column is refused.
+    fn cells_of(&mut self, table: &StoredTable, key: &Value) -> Result<Option<Seq<Row>>, Failure>
+        requires { IsTable table.now.table }
+        ensures told { HasCleanDisk (state S.Store self.new) → IfOk result (λ found. IsTrue (state S.Store self.new).is_open × TellsCells table.now key.now (state S.Store self.old).now found) }
+        ensures many { IfOk result (λ found. IfSome found (λ cells. length cells ≡ length table.now.table.columns)) }
+        ensures looks { Looks (state S.Store self.old) (state S.Store self.new) }
+    {
+        let cells = row_cells(&mut self.conn, table.id, datum(key))?;
+        some_cells(table.table.columns.len(), cells)
+    }
+}
+
+/// The cells of a row, if there are any, which have to be this many.
+fn some_cells(many: usize, cells: Vec<Row>) -> Result<Option<Seq<Row>>, Failure>
+    ensures found { IfOk result (IsRowOfCells cells.items) }
+    ensures many { IfOk result (λ found. IfSome found (λ some. length some ≡ many)) }
+{
+    if cells.is_empty() {
+        return Ok(None);
+    }
+    if cells.len() != many {
+        return Err(Failure::Store);
+    }
+    Ok(Some(Seq::from_vec(cells)))
+}
+
+/// The amounts in the cells of a row, one cell for each column.
+fn read_amounts(alloc: Global, columns: &[Column], cells: &[Row]) -> Result<Seq<Amount>, Failure>
+    requires { length cells.now ≡ length columns.now }
+    ensures told { IfOk result (λ amounts. (values : List HeldValue) → cells.now ≡ placed 1 values → amounts ≡ amounts_of columns.now values) }
+    ensures many { IfOk result (λ amounts. length amounts ≡ length (reservables columns.now)) }
+{
+    let mut amounts = Seq::new(alloc);
+    for (i, column) in columns.iter().enumerate() {
+        if column.reservable {
+            push_amount(&mut amounts, &cells[i], i + 1)?;
+        }
+    }
+    Ok(amounts)
+}
+
+/// Adds the amount of a cell at a place.
+fn push_amount(amounts: &mut Seq<Amount>, cell: &Row, place: usize) -> Result<(), Failure>
+    requires { place < 2 ^ 63 }
+    ensures { OnOk result ((a : ℤ) × (cell.now ≡ Int (pos place) ∷ Int a ∷ []) × (amounts.new ≡ amounts.old ++ a ∷ [])) }
+{
+    let amount = amount_in(value_at(cell, place)?)?;
+    match amounts.push(amount) {
+        Ok(()) => Ok(()),
+        Err(_) => Err(Failure::Memory),
+    }
+}
+
+/// The amount that a value is.
+fn amount_in(value: ValueRef<'_>) -> Result<Amount, Failure>
+    ensures { IfOk result (λ a. owned value.entry ≡ Int a) }
+{
+    match value {
+        ValueRef::Int(number) => Amount::new(number).ok_or(Failure::Store),
+        _ => Err(Failure::Store),
+    }
+}
+
+/// The values of cells, each at its place from 1 on.
+pub(crate) fn read_values(alloc: Global, cells: &[Row]) -> Result<Vec<Value>, Failure>
+    ensures { IfOk result (λ values. cells.now ≡ placed 1 values.items) }
+{
+    let mut values = Vec::new(alloc);
+    for (i, cell) in cells.iter().enumerate() {
+        push_value(alloc, &mut values, cell, i + 1)?;
+    }
+    Ok(values)
+}
+
+/// Adds the value of a cell at a place.
+fn push_value(
+    alloc: Global,
+    values: &mut Vec<Value>,
+    cell: &Row,
+    place: usize,
+) -> Result<(), Failure>
+    requires { place < 2 ^ 63 }
+    ensures { OnOk result ((v : HeldValue) × (cell.now ≡ Int (pos place) ∷ stored v ∷ []) × (values.new.items ≡ values.old.items ++ v ∷ [])) }
+{
+    let value = held(alloc, value_at(cell, place)?)?;
+    match values.push(value) {
+        Ok(()) => Ok(()),
+        Err(_) => Err(Failure::Memory),
+    }
+}
+
+/// The value of a cell at a place.
+fn value_at(cell: &Row, place: usize) -> Result<ValueRef<'_>, Failure>
+    requires { place < 2 ^ 63 }
+    ensures { IfOk result (λ v. cell.now ≡ Int (pos place) ∷ owned v ∷ []) }
+{
+    let at: i64 = cell.get(0).map_err(failure_of)?;
+    if cell.column_count() != 2 || at != place as i64 {
+        return Err(Failure::Store);
+    }
+    Ok(cell.get_ref(1).map_err(failure_of)?)
+}
