@@ -1,7 +1,7 @@
 -- UPDATE: what its call makes of a database, by its plan.
-use Rattle.std.specs.Prelude.{◌≡◌, ◌⊎◌, ◌<◌, ◌≤◌, ◌+◌, ℕ, ℤ, Bool, true, false, is_none, nat_le, nat_lt, option_map, unwrap_or, Option, Some, None, IsSome, List, [], ◌∷◌, ◌++◌, length}
+use Rattle.std.specs.Prelude.{◌≡◌, ◌<◌, ◌≤◌, ◌+◌, ℕ, ℤ, Bool, true, false, is_none, nat_le, nat_lt, option_map, unwrap_or, Option, Some, None, IsSome, List, [], ◌∷◌, ◌++◌, length}
 use Rattle.std.specs.List.{AllByRecursion}
-use Rattle.std.proofs.Common.{inl, inr, refl, sym, ap, subst, ◌∙◌}
+use Rattle.std.proofs.Common.{refl, sym, ap, subst, ◌∙◌}
 use Rattle.std.proofs.lemmas.Bool.{false≢true}
 use Rattle.sqlite.specs.Held.{state}
 use Rattle.sqlite.specs.State.{HasCleanDisk}
@@ -44,7 +44,6 @@ use Rattle.escrow_core.proofs.Served.{update_serves}
 use Rattle.escrow_core.proofs.Serving.{accepted_step, fails, late_refused, served, survives_itself, wrote, wrote_keeps, write_failed}
 use Rattle.escrow_machine.proofs.Shapes.{HasOrder}
 use Rattle.escrow_machine.proofs.TurnUpdate.{reserved_valid, replaced_valid}
-use Rattle.escrow_core.proofs.Txns.{grant_accepted}
 use Rattle.escrow_machine.proofs.ValidUpdate.{granted_orderly}
 
 -- REFUSALS
@@ -232,14 +231,9 @@ module _ {S : Type 0} (g : Ghosts S) (session : ℕ) (text : UpdateText) (row : 
         }
 
     -- it isn't, for want of memory
-    pub grant_fails : (r : Refusal) → (grant_refusal session o ≡ Some r) ⊎ (r ≡ refusal.Memory)
-        → Serves g session (statement.Update text) (seen_of t o) (reply.Refused r) (seen_of t o)
-    grant_fails r only =
+    pub grant_fails : Serves g session (statement.Update text) (seen_of t o) (reply.Refused refusal.Memory) (seen_of t o)
+    grant_fails =
         let s : State = (seen_of t o).state in
         let early = planned_early s session text (plan.Reserve name.key changes) is.may.planned in
-        late_refused g session (statement.Update text) (seen_of t o) r refl early (λ u.
-        let none = grant_accepted s session text.table name.key changes (is.left u) in
-        elim only [
-          | inl e ↦ (let both : None ≡ Some r = sym none ∙ e in absurd (cc))
-          | inr e ↦ subst (IsRefusal s session (statement.Update text)) (sym e) (fails s session (statement.Update text) failure.Memory early (update_fails s session text failure.Memory))
-        ])
+        late_refused g session (statement.Update text) (seen_of t o) refusal.Memory refl early
+        (λ u. fails s session (statement.Update text) failure.Memory early (update_fails s session text failure.Memory))

@@ -1,7 +1,7 @@
 use crate::lists::{count_others, first_from, make_room, place_of};
 use escrow_num::{Name, Refusal, Reservation, Savepoint, Session};
 use smallvec::SmallVec;
-use std::alloc::Global;
+use std::alloc::{AllocError, Global};
 use std::marker::Model;
 use std::mem;
 
@@ -26,11 +26,12 @@ impl Model for Journal {
 }
 
 impl Journal {
-    ghost use Rattle.std.specs.Prelude.{◌≡◌, ◌⊎◌, IsTrue, IfErr, IsOk, IsSome, IsErrOf, OnOk, OnErr, Err, length, option_copied, option_map};
+    ghost use Rattle.std.specs.Prelude.{◌≡◌, ◌⊎◌, ◌<◌, IsTrue, IfErr, IsOk, IsSome, IsErrOf, OnOk, OnErr, Err, length, option_copied, option_map};
     ghost use Rattle.std.specs.List.{AllByRecursion};
-    ghost use Rattle.escrow_journal.specs.Log.{IsLog, empty_log, is_full, is_full_beside, pushed, marked, later, cut_log};
+    ghost use Rattle.escrow_journal.specs.Log.{IsLog, empty_log, is_full_beside, pushed, marked, later, cut_log};
     ghost use Rattle.escrow_journal.specs.Reservations.{reservation_before};
     ghost use Rattle.escrow_journal.specs.Savepoints.{savepoint_of};
+    ghost use Rattle.escrow_journal.specs.declared.journal.TheConstants.Journal.{MAX_RESERVATIONS};
 
     /// The most open reservations of a session.
     pub const MAX_RESERVATIONS: usize = 256;
@@ -71,26 +72,18 @@ impl Journal {
         self.savepoints.as_slice()
     }
 
-    /// Adds a reservation of the session, with an id above those that the journal holds. Refused
-    /// exactly where it holds [`Journal::MAX_RESERVATIONS`]; memory is only taken, and wanted, where
-    /// it doesn't. Where it is refused the journal stays.
-    pub fn push(&mut self, r: Reservation) -> Result<(), Refusal>
+    /// Adds a reservation of the session, with an id above those that the journal holds, where it
+    /// holds fewer than [`Journal::MAX_RESERVATIONS`]. Want of memory is the only error, and then the
+    /// journal stays.
+    pub fn push(&mut self, r: Reservation) -> Result<(), AllocError>
         requires own { r.session ≡ self.old.session }
         requires above { AllByRecursion (λ earlier. IsTrue (reservation_before earlier r)) self.old.reservations }
+        requires room { length self.old.reservations < MAX_RESERVATIONS }
         ensures pushed { OnOk result (self.new ≡ pushed r self.old) }
         ensures unchanged { OnErr result (self.new ≡ self.old) }
-        ensures refused { IsTrue (is_full self.old) → result ≡ Err Refusal.TooManyReservations }
-        ensures only { IfErr result (λ e. (e ≡ Refusal.TooManyReservations) ⊎ (e ≡ Refusal.Memory)) }
-        ensures room { IsErrOf result Refusal.TooManyReservations → IsTrue (is_full self.old) }
         ensures valid { IsLog self.new }
     {
-        if self.reservations.len() >= Self::MAX_RESERVATIONS {
-            return Err(Refusal::TooManyReservations);
-        }
-        if self.reservations.push(r).is_err() {
-            return Err(Refusal::Memory);
-        }
-        Ok(())
+        Ok(self.reservations.push(r)?)
     }
 
     /// Makes a savepoint of a name, with the id that the next reservation takes. An earlier one of

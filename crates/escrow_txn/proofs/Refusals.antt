@@ -1,12 +1,12 @@
 -- The refusals of the table and those of a journal.
-use Rattle.std.specs.Prelude.{◌≡◌, ◌⊎◌, ℕ, ◌≤◌, Bool, true, false, nat_le, nat_lt, List, [], ◌∷◌, length, Some, None, Result, Ok, Err, IfErr, IfSome, IsErrOf, IsTrue}
-use Rattle.std.proofs.Common.{inl, inr, refl, ap, sym, ◌∙◌, subst}
-use Rattle.std.proofs.lemmas.Bool.{ltb-false}
+use Rattle.std.specs.Prelude.{◌≡◌, ◌⊎◌, ℕ, ◌≤◌, ◌<◌, Bool, true, false, nat_le, nat_lt, List, [], ◌∷◌, length, Some, None, Result, Ok, Err, IfErr, IfSome, IsErrOf, IsTrue}
+use Rattle.std.proofs.Common.{inl, inr, refl, ap, sym, subst}
+use Rattle.std.proofs.lemmas.Bool.{leb-false, ltb-false}
 use Rattle.escrow_num.specs.declared.refusal.Refusal.{Refusal}
 use Rattle.escrow_num.specs.declared.refusal.Refusal.TheVariants as refusal
 use Rattle.escrow_num.specs.declared.reservation.TheConstants.Reservation.{MAX_ID}
 use Rattle.escrow_num.specs.Refusal.{refuse_if, first_refusal}
-use Rattle.escrow_journal.specs.Log.{Log, is_full, is_full_beside}
+use Rattle.escrow_journal.specs.Log.{Log, is_full_beside}
 use Rattle.escrow_journal.specs.declared.journal.TheConstants.Journal.{MAX_RESERVATIONS, MAX_SAVEPOINTS}
 use Rattle.escrow_journal.specs.Reservations.{own}
 use Rattle.escrow_txn.specs.Joined.{opened}
@@ -39,13 +39,14 @@ first_none true b r t none = absurd (cc)
 first_none false true r t none = absurd (cc)
 first_none false false r t none = (refl, refl)
 
--- where a session may have one more reservation its journal isn't full
-pub not_full : (session next : ℕ) (logs : List Log) (i : ℕ) (log : Log) → IsAt session logs i log
-    → grant_refusal session (opened logs next) ≡ None → is_full log ≡ false
-not_full session next logs i log at none =
+-- where a session may have one more reservation its journal has room
+pub has_room : (session next : ℕ) (logs : List Log) (i : ℕ) (log : Log) → IsAt session logs i log
+    → grant_refusal session (opened logs next) ≡ None → length log.reservations < MAX_RESERVATIONS
+has_room session next logs i log at none =
     let o : Open = opened logs next in
-    ap (λ rs. nat_le MAX_RESERVATIONS (length rs)) (sym (own_is session logs i log at))
-    ∙ (first_none (nat_le MAX_RESERVATIONS (length (own session o.reservations))) (nat_lt MAX_ID next) refusal.TooManyReservations refusal.NoMoreIds none).0
+    let own_room = leb-false MAX_RESERVATIONS (length (own session o.reservations))
+    (first_none (nat_le MAX_RESERVATIONS (length (own session o.reservations))) (nat_lt MAX_ID next) refusal.TooManyReservations refusal.NoMoreIds none).0 in
+    subst (λ rs. length rs < MAX_RESERVATIONS) (own_is session logs i log at) own_room
 
 -- and the next id is one
 pub id_left : (session : ℕ) (o : Open) → grant_refusal session o ≡ None → o.next_id ≤ MAX_ID

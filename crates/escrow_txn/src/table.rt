@@ -89,34 +89,27 @@ impl TxnTable {
         None
     }
 
-    /// Grants a session a reservation of changes of a row: it takes the next id, and is the last of
-    /// the open ones. Answers its id. Memory is only taken, and wanted, where no refusal applies.
-    /// Where it is refused nothing changes, and no id is taken.
+    /// Grants a session a reservation of changes of a row, where nothing but memory refuses it: it
+    /// takes the next id, and is the last of the open ones. Answers its id. Want of memory is the only
+    /// error: then nothing changes, and no id is taken.
     pub fn grant(
         &mut self,
         session: Session,
         row: RowName,
         changes: Changes,
-    ) -> Result<u64, Refusal>
+    ) -> Result<u64, AllocError>
+        requires { grant_refusal session self.old ≡ None }
         ensures id { IfOk result (λ id. id ≡ self.old.next_id) }
         ensures granted { OnOk result (self.new ≡ granted session row changes self.old) }
         ensures unchanged { OnErr result (self.new ≡ self.old) }
-        ensures refused { IfSome (grant_refusal session self.old) (λ e. result ≡ Err e) }
-        ensures only { IfErr result (λ e. (grant_refusal session self.old ≡ Some e) ⊎ (e ≡ Refusal.Memory)) }
     {
-        if let Some(refusal) = self.grant_refusal(session) {
-            return Err(refusal);
-        }
         let id = self.next_id;
-        let reservation = Reservation {
+        self.journals[place_of(session)].push(Reservation {
             id,
             session,
             row,
             changes,
-        };
-        if let Err(refusal) = self.journals[place_of(session)].push(reservation) {
-            return Err(refusal);
-        }
+        })?;
         self.next_id += 1;
         Ok(id)
     }

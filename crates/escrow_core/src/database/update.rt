@@ -16,6 +16,8 @@ impl<S: Alter> Database<S> {
     ghost use Rattle.escrow_checks.specs.declared.coefficients.TheConstants.Coefficients.{MAX_LEN};
     ghost use Rattle.escrow_machine.specs.Asked.{plan_of, row_name};
     ghost use Rattle.escrow_core.specs.Serves.{Serves};
+    ghost use Rattle.escrow_core.specs.Serving.{open_in};
+    ghost use Rattle.escrow_txn.specs.Open.{grant_refusal};
     ghost use Rattle.escrow_machine.specs.Accepted.{IsRefusal};
     ghost use Rattle.escrow_machine.specs.Rows.{row_named, HasTable};
     ghost use Rattle.escrow_machine.specs.State.{is_open};
@@ -88,7 +90,7 @@ impl<S: Alter> Database<S> {
         }
         match self.open.grant(session, name, changes) {
             Ok(id) => Reply::Reserved { id },
-            Err(refusal) => Reply::Refused(refusal),
+            Err(_) => Reply::Refused(Refusal::Memory),
         }
     }
 
@@ -105,6 +107,7 @@ impl<S: Alter> Database<S> {
         ensures first { row_named self.now.state.rows row.now.name ≡ Some row.now
             → result ≡ first_refusal (update_refusals self.now.state session row.now.name.table (Plan.Reserve row.now.name.key changes.now)) }
         ensures session { result ≡ None → IsSession session }
+        ensures free { result ≡ None → grant_refusal session (open_in self.now.state) ≡ None }
     {
         if let Some(refusal) = self.open.grant_refusal(session) {
             return Some(refusal);

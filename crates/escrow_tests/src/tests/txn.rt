@@ -58,8 +58,9 @@ fn grant(rt: &impl Abort, table: &mut TxnTable, number: u8, id: u64, alloc: Glob
     };
     let mut changes = Changes::new(alloc);
     changes.push(Amount::new(-1)).expect(rt, "memory");
-    assert_eq!(rt; number_of(table.grant_refusal(session(rt, number))), 0);
-    let granted = table.grant(session(rt, number), row, changes);
+    let session = session(rt, number);
+    assert!(rt; table.grant_refusal(session).is_none());
+    let granted = table.grant(session, row, changes);
     assert_eq!(rt; granted.ok(), Some(id));
 }
 

@@ -1,4 +1,4 @@
-use Rattle.std.proofs.Common.{◌≡◌, Some, Ok, refl, sym, subst}
+use Rattle.std.proofs.Common.{◌≡◌, None, Some, refl, sym, subst}
 use Rattle.escrow_schema.specs.declared.plan.Plan.TheVariants as plan
 use Rattle.escrow_txn.specs.Open.{grant_refusal}
 use Rattle.escrow_machine.specs.Asked.{plan_of}
@@ -6,7 +6,7 @@ use Rattle.escrow_core.specs.Inside.{seen_of}
 use Rattle.escrow_core.specs.Seen.{Seen}
 use Rattle.escrow_machine.specs.State.{State}
 use Rattle.escrow_core.proofs.Planned.{short_plan}
-use Rattle.escrow_machine.proofs.Refusals.{no_reason}
+use Rattle.escrow_core.specs.Serving.{open_in}
 use Rattle.escrow_core.proofs.Updating.{MayReserve, IsUnrefused, reserve_refused, unrefused, grant_serves, grant_keeps, grant_fails}
 use Rattle.escrow_core.proofs.database.Database.grant.Goals as goal
 use Rattle.escrow_core.proofs.database.Database.grant.Goals.{in-Ok, in-Err}
@@ -18,6 +18,9 @@ grant_refusal-requires-clause-short g c =
     let is : plan_of s text ≡ Some (plan.Reserve c.args.name.key c.args.changes) =
     subst (λ (d : Seen _). plan_of d.state text ≡ Some (plan.Reserve c.args.name.key c.args.changes)) (sym c.self.view_is) c.requires.plan in
     rw c.as_slice.ensures (short_plan s text c.args.name.key c.args.changes c.self.invariant.orderly is)
+
+pub grant-requires : goal.grant-requires
+grant-requires g c = subst (λ (d : Seen _). grant_refusal c.args.session (open_in d.state) ≡ None) (sym c.self.view_is) (c.in_default.ensures.free refl)
 
 pub returns-in-Some : goal.returns-in-Some
 returns-in-Some g c =
@@ -42,7 +45,7 @@ invariant_of-self g c =
     (unrefused g.S.Store session text row name changes c.args.self.now may (rw c.as_slice.ensures at c.in_default.ensures.first)) in
     elim c.match-grant.branch [
       | in-Ok w ↦ rw w.in-Ok.ensures.granted (grant_keeps g.S.Store session text row name changes t o is c.self.invariant (c.in_default.ensures.session refl)
-          (no_reason (grant_refusal session o) (Ok w.in-Ok.id) w.in-Ok.id refl w.in-Ok.ensures.refused))
+          (subst (λ (d : Seen _). grant_refusal session (open_in d.state) ≡ None) (sym c.self.view_is) (c.in_default.ensures.free refl)))
       | in-Err w ↦ rw w.in-Err.ensures.unchanged c.self.invariant
     ]
 
@@ -62,5 +65,5 @@ returns g c =
     (unrefused g.S.Store session text row name changes c.args.self.now may (rw c.as_slice.ensures at c.in_default.ensures.first)) in
     elim c.match-grant.branch [
       | in-Ok w ↦ rw (← c.self.view_is, w.result-is, w.in-Ok.ensures.id, w.in-Ok.ensures.granted) (grant_serves g.S.Store session text row name changes t o is)
-      | in-Err w ↦ rw (← c.self.view_is, w.result-is, w.in-Err.ensures.unchanged) (grant_fails g.S.Store session text row name changes t o is w.in-Err.refusal w.in-Err.ensures.only)
+      | in-Err w ↦ rw (← c.self.view_is, w.result-is, w.in-Err.ensures.unchanged) (grant_fails g.S.Store session text row name changes t o is)
     ]

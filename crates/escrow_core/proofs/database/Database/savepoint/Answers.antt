@@ -9,7 +9,8 @@ use Rattle.escrow_machine.proofs.Accepted.{savepoint_room}
 use Rattle.escrow_machine.proofs.Refusals.{no_reason}
 use Rattle.escrow_core.proofs.Served.{savepoint_serves, savepoint_refuses}
 use Rattle.escrow_core.proofs.Serving.{apart_keeps, served_apart}
-use Rattle.escrow_core.proofs.Txns.{savepoint_accepted, same_reason, open_in}
+use Rattle.escrow_core.proofs.Txns.{savepoint_accepted, same_reason}
+use Rattle.escrow_core.specs.Serving.{open_in}
 use Rattle.escrow_machine.proofs.ValidSavepoint.{savepoint_orderly, savepoint_valid}
 use Rattle.escrow_core.proofs.database.Database.savepoint.Goals as goal
 use Rattle.escrow_core.proofs.database.Database.savepoint.Goals.{in-Ok, in-Err}

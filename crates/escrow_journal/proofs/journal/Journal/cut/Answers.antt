@@ -1,4 +1,4 @@
-use Rattle.std.specs.Prelude.{◌≡◌, ◌+◌, ◌-◌, List, length, position, Option, Some, option_map}
+use Rattle.std.specs.Prelude.{◌≡◌, ◌-◌, List, length, position, Option, Some, option_map}
 use Rattle.std.proofs.Common.{ap, ap₂, sym, subst, ◌∙◌, get_or}
 use Rattle.escrow_num.specs.declared.reservation.Reservation.{Reservation}
 use Rattle.escrow_num.specs.declared.reservation.Savepoint.{Savepoint}

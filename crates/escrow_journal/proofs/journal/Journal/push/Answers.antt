@@ -1,12 +1,12 @@
-use Rattle.std.specs.Prelude.{◌≡◌, ◌++◌, [], ◌∷◌, IsTrue}
+use Rattle.std.specs.Prelude.{IsTrue, length}
 use Rattle.std.specs.List.{AllByRecursion}
-use Rattle.std.proofs.Common.{ap, sym, subst, ◌∙◌, arith}
+use Rattle.std.proofs.Common.{ap, sym, subst, ◌∙◌, ◌<◌}
 use Rattle.escrow_num.specs.declared.reservation.Reservation.{Reservation}
 use Rattle.escrow_journal.specs.Inside.{log_of}
 use Rattle.escrow_journal.specs.Log.{Log}
 use Rattle.escrow_journal.specs.Reservations.{reservation_before}
+use Rattle.escrow_journal.specs.declared.journal.TheConstants.Journal.{MAX_RESERVATIONS}
 use Rattle.escrow_journal.proofs.Kept.{push_kept}
-use Rattle.escrow_journal.proofs.Outcomes.{on_ok}
 use Rattle.escrow_journal.proofs.journal.Journal.push.Goals as goal
 
 pub invariant_of-self-2 : goal.invariant_of-self-2
@@ -14,8 +14,8 @@ invariant_of-self-2 c =
     let r = c.args.r in
     let own = c.requires.own ∙ sym (ap (λ (log : Log). log.session) c.self.view_is) in
     let above = subst (λ (log : Log). AllByRecursion (λ (earlier : Reservation). IsTrue (reservation_before earlier r)) log.reservations) (sym c.self.view_is) c.requires.above in
-    let items = on_ok c.push.result (c.push.new.self.items ≡ c.self.inside.reservations.items ++ r ∷ []) (sym c.if-is_err.ensures.value) c.push.ensures.ok in
-    rw items (push_kept r (log_of c.self.inside) c.self.invariant (omega arith) own above)
+    let room = subst (λ (log : Log). length log.reservations < MAX_RESERVATIONS) (sym c.self.view_is) c.requires.room in
+    rw c.in_ok-push.ensures.ok (push_kept r (log_of c.self.inside) c.self.invariant room own above)
 
 pub returns-clause-valid : goal.returns-clause-valid
 returns-clause-valid c = invariant_of-self-2 c

@@ -1,13 +1,12 @@
-use Rattle.std.specs.Prelude.{◌≡◌, ◌+◌, false, None, Err}
-use Rattle.std.proofs.Common.{inl, inr, refl, ap, sym, ◌∙◌, set, arith}
-use Rattle.std.proofs.lemmas.Bool.{false≢true}
+use Rattle.std.specs.Prelude.{◌≡◌, ◌+◌, None}
+use Rattle.std.proofs.Common.{refl, ap, sym, ◌∙◌, set, arith}
 use Rattle.escrow_num.specs.declared.reservation.Reservation.{Reservation}
-use Rattle.escrow_journal.specs.Log.{Log, is_full}
+use Rattle.escrow_journal.specs.Log.{Log}
 use Rattle.escrow_txn.specs.Joined.{opened}
 use Rattle.escrow_txn.specs.Open.{Open, granted, grant_refusal}
 use Rattle.escrow_txn.proofs.Kept.{below_at, push_kept, journals_kept}
 use Rattle.escrow_txn.proofs.Places.{place_is}
-use Rattle.escrow_txn.proofs.Refusals.{not_full, id_left}
+use Rattle.escrow_txn.proofs.Refusals.{has_room, id_left}
 use Rattle.escrow_txn.proofs.Sessions.{granted_is}
 use Rattle.escrow_txn.proofs.table.TxnTable.grant.Goals as goal
 
@@ -16,17 +15,13 @@ push-requires-clause-own c =
     let at = place_is c.self.inside.journals.items c.self.inside.next_id c.args.session c.place_of.result c.index_mut.result.now c.self.invariant c.place_of.ensures.within c.place_of.ensures.place c.index_mut.ensures.value in
     sym at.number
 
-pub returns-in-Err-clause-only : goal.returns-in-Err-clause-only
-returns-in-Err-clause-only c =
+pub push-requires-clause-room : goal.push-requires-clause-room
+push-requires-clause-room c =
     let logs = c.self.inside.journals.items in
     let log = c.index_mut.result.now in
     let at = place_is logs c.self.inside.next_id c.args.session c.place_of.result log c.self.invariant c.place_of.ensures.within c.place_of.ensures.place c.index_mut.ensures.value in
-    let none : grant_refusal c.args.session (opened logs c.self.inside.next_id) ≡ None = ap (λ (o : Open). grant_refusal c.args.session o) c.self.view_is ∙ sym c.grant_refusal.ensures ∙ c.in_default.is in
-    let room : is_full log ≡ false = not_full c.args.session c.self.inside.next_id logs c.place_of.result log at none in
-    elim c.in-Err.ensures.only [
-      | inl full ↦ absurd (false≢true (sym room ∙ c.in-Err.ensures.room (ap Err full)))
-      | inr memory ↦ inr memory
-    ]
+    let none : grant_refusal c.args.session (opened logs c.self.inside.next_id) ≡ None = ap (λ (o : Open). grant_refusal c.args.session o) c.self.view_is ∙ c.requires in
+    has_room c.args.session c.self.inside.next_id logs c.place_of.result log at none
 
 pub invariant_of-self-2 : goal.invariant_of-self-2
 invariant_of-self-2 c =
@@ -37,10 +32,10 @@ invariant_of-self-2 c =
     let r : Reservation = record { id = next; session = c.args.session; row = c.args.row; changes = c.args.changes } in
     let at = place_is logs next c.args.session c.place_of.result log c.self.invariant c.place_of.ensures.within c.place_of.ensures.place c.index_mut.ensures.value in
     let below = below_at logs next c.args.session c.place_of.result log c.self.invariant at in
-    let none : grant_refusal c.args.session (opened logs next) ≡ None = ap (λ (o : Open). grant_refusal c.args.session o) c.self.view_is ∙ sym c.grant_refusal.ensures ∙ c.in_default.is in
+    let none : grant_refusal c.args.session (opened logs next) ≡ None = ap (λ (o : Open). grant_refusal c.args.session o) c.self.view_is ∙ c.requires in
     let left = id_left c.args.session (opened logs next) none in
-    journals_kept logs next (next + 1) c.args.session c.place_of.result new log c.self.invariant at c.in_default-push.ensures.valid
-    (push_kept next r new log below refl c.in_default-push.ensures.pushed) (omega arith) (omega arith)
+    journals_kept logs next (next + 1) c.args.session c.place_of.result new log c.self.invariant at c.in_ok-push.ensures.valid
+    (push_kept next r new log below refl c.in_ok-push.ensures.pushed) (omega arith) (omega arith)
 
 pub returns-clause-granted : goal.returns-clause-granted
 returns-clause-granted c =
@@ -49,6 +44,6 @@ returns-clause-granted c =
     let log = c.index_mut.result.now in
     let at = place_is logs next c.args.session c.place_of.result log c.self.invariant c.place_of.ensures.within c.place_of.ensures.place c.index_mut.ensures.value in
     let below = below_at logs next c.args.session c.place_of.result log c.self.invariant at in
-    ap (λ (l : Log). opened (set logs c.place_of.result l) (next + 1)) c.in_default-push.ensures.pushed
+    ap (λ (l : Log). opened (set logs c.place_of.result l) (next + 1)) c.in_ok-push.ensures.pushed
     ∙ granted_is c.args.session next c.args.row c.args.changes logs c.place_of.result log at c.self.invariant.below below
     ∙ ap (λ (o : Open). granted c.args.session c.args.row c.args.changes o) c.self.view_is
