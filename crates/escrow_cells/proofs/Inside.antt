@@ -7,6 +7,8 @@ use Rattle.sqlite_trees.specs.Tree.{Trees}
 use Rattle.sqlite_schema.specs.declared.schema.Keys.{Keys}
 use Rattle.sqlite_schema.specs.declared.schema.Keys.TheVariants.{Enforced}
 use Rattle.sqlite_schema.specs.declared.schema.Table.{Table}
+use Rattle.sqlite_schema.specs.declared.schema.Index.{Index}
+use Rattle.sqlite_schema.specs.declared.schema.View.{View}
 use Rattle.sqlite_schema.specs.declared.schema.Schema.{Schema}
 use Rattle.sqlite_schema.specs.declared.program.Program.{Program}
 use Rattle.sqlite_schema.specs.declared.command.Source.{Source}
@@ -19,14 +21,17 @@ use Rattle.sqlite_rules.specs.Action.{works, work_for}
 use Rattle.sqlite.specs.declared.error.Error.{Error}
 use Rattle.sqlite.specs.Effect.{Database, IsDatabase, Answers, IsSource}
 use Rattle.sqlite.specs.Does.{Tally, OnRows, WritesRows}
+use Rattle.sqlite.specs.Listing.{understood}
 use Rattle.sqlite.specs.Rows.{Task, Counts, Inserts, Sourced, Written, Edited, rowids_for, count_of, stamped}
-use Rattle.sqlite.specs.State.{State, HasCleanDisk, KeepsCommit, Survives, Executes, ExecutesInside, Writes as Wrote, mode_of}
+use Rattle.sqlite.specs.State.{State, HasCleanDisk, KeepsCommit, Survives, Executes, ExecutesInside, Writes as Wrote, Runs, mode_of}
 use Rattle.sqlite.specs.Values.{bound_value}
 use Rattle.sqlite.proofs.InsideLemmas.{inside_keeps}
-use Rattle.sqlite.proofs.Callers.{one_step}
+use Rattle.sqlite.proofs.Callers.{IsPlain, command_of, one_step, runs_as, statement_of}
 use Rattle.escrow_cells.specs.declared.datum.Datum.{Datum}
 use Rattle.escrow_cells.specs.declared.datum.Datum.TheVariants as datum
 use Rattle.escrow_cells.specs.Step.{kept}
+use Rattle.escrow_cells.specs.Store.{HasTables}
+use Rattle.escrow_cells.specs.Tables.{beside}
 use Rattle.escrow_cells.specs.Inside.{Acts}
 
 module _ (sql : List ℕ) (params : Row) (old new : State) where
@@ -53,6 +58,16 @@ acts sql params given old new r Makes ended survives runs same makes = record {
     by : (r : Result ℕ Error) → is_ok r ≡ true → ExecutesInside 0 sql params old new r → IsTrue new.in_transaction × Makes old.now new.now
     by (Ok n) ok h = (h.1.mode, makes n h.0)
     by (Err e) ok h = absurd (false≢true ok)
+
+-- a text is that of a statement that does a command, whatever objects stand after the three tables
+pub record IsStatement (text : List ℕ) (command : Command) : Type 0 where
+  pub is : (more : List Table) (indexes : List Index) (views : List View) → command_of (understood (beside more indexes views) text) ≡ command
+  pub plain : (more : List Table) (indexes : List Index) (views : List View) → IsPlain (understood (beside more indexes views) text)
+
+-- what it writes
+pub wrote_by : {sql : List ℕ} {command : Command} → IsStatement sql command → (params : Row) (old new : State) (has : HasTables old.now.schema) (n : ℕ) → Executes sql params old new (Ok n)
+    → Runs old new None command (statement_of sql (understood (beside has.more has.indexes has.views) sql)) params n
+wrote_by it params old new has n ran = runs_as _ params old new (beside has.more has.indexes has.views) has.is _ (it.is _ _ _) (it.plain _ _ _) n ran
 
 -- ---- one edit
 
