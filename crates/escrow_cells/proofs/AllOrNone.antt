@@ -1,5 +1,5 @@
 -- A transaction from its beginning to its end, over what connections show.
-use Rattle.std.proofs.Common.{◌≡◌, ℕ, List, [], ◌∷◌, take, length, get_or, ◌<◌, ◌≤◌, ◌+◌, true, false, IsTrue, Result, Ok, Err, OnOk, IfErr, is_ok, inl, inr, refl, sym, ap, subst, ◌∙◌, arith}
+use Rattle.std.proofs.Common.{◌≡◌, ℕ, Bool, List, [], ◌∷◌, take, length, get_or, ◌<◌, ◌≤◌, ◌+◌, true, false, IsTrue, Result, Ok, Err, OnOk, IfErr, is_ok, inl, inr, refl, sym, ap, subst, ◌∙◌, arith}
 use Rattle.std.proofs.lemmas.List.{take_more, take_all}
 use Rattle.std.proofs.lemmas.Bool.{both_ways, false≢true}
 use Rattle.sqlite_trees.specs.declared.store.Store.{Ghosts}
@@ -7,27 +7,27 @@ use Rattle.sqlite_trees.specs.Tree.{Trees}
 use Rattle.sqlite.specs.declared.error.Error.{Error}
 use Rattle.sqlite.specs.Effect.{Database}
 use Rattle.sqlite.specs.Held.{Held, state}
-use Rattle.sqlite.specs.State.{State, HasCleanDisk, KeepsCommit, KeepsCounts, Survives, Shows, IsRolledBack}
+use Rattle.sqlite.specs.State.{State, HasCleanDisk, KeepsCounts, Survives, Shows, IsRolledBack}
 use Rattle.sqlite.specs.Steps.{FailsToCommit}
 use Rattle.sqlite.proofs.StateLemmas.{survives_then}
 use Rattle.escrow_cells.specs.declared.step.Step.{Step}
 use Rattle.escrow_cells.specs.Step.{Does}
 use Rattle.escrow_cells.specs.Calls.{Writes}
-use Rattle.escrow_cells.specs.Inside.{HasDone, IsPending, GoesOn}
-use Rattle.escrow_cells.proofs.Steps.{does_none, does_more}
+use Rattle.escrow_cells.specs.Inside.{Acts, IsPending, GoesOn}
+use Rattle.escrow_cells.proofs.Steps.{does_more}
 
 -- a transaction has just begun
-pub begun : {S : Type 0} (g : Ghosts S) (old : Held S) → GoesOn [] (state g old) (state g (record old { in_transaction = true }))
-begun g old = record {
+pub begun : {S : Type 0} (g : Ghosts S) (old : Held S) (Makes : Database → Database → Type 0) → ((db : Database) → Makes db db) → GoesOn Makes (state g old) (state g (record old { in_transaction = true }))
+begun g old Makes none = record {
   pending = record {
     survives = record { clean = omega arith; shield = λ h. h; counts = omega arith; limit = refl; closes = λ _ h. inl h; crash = λ _ db h. inl h };
     kept = λ _. record { was_open = λ h. h; committed = λ _. refl };
   };
   inside = λ _. refl;
-  so_far = λ _. does_none _;
+  made = λ _. none _;
 }
 
-pub pending_then : (a b c : State) → IsPending a b → IsPending b c → IsPending a c
+pending_then : (a b c : State) → IsPending a b → IsPending b c → IsPending a c
 pending_then a b c one two = record {
   survives = survives_then a b c _ _ _ (λ _ db none. none) (λ _ db none. none) one.survives two.survives;
   kept = λ clean.
@@ -36,47 +36,43 @@ pending_then a b c one two = record {
       record { was_open = λ h. first.was_open (last.was_open h); committed = λ h. last.committed h ∙ first.committed (last.was_open h) };
 }
 
--- the step at a place is done after those before it
-pub goes_on : (steps : List Step) (at : ℕ) (some : Step) (old mid new : State) → at < length steps → GoesOn (take at steps) old mid → Survives mid new (λ _. ⊥) → (HasCleanDisk new → KeepsCommit mid new)
-    → (HasCleanDisk new → IsTrue mid.in_transaction → HasDone (get_or steps at some ∷ []) mid new) → GoesOn (take (at + 1) steps) old new
-goes_on steps at some old mid new within before survives keeps done =
-    let was = λ (clean : HasCleanDisk new). let h : HasCleanDisk mid = omega (arith, survives.clean) in h in
-    let one = λ (clean : HasCleanDisk new). done clean (before.inside (was clean)) in
-    record {
-      pending = pending_then old mid new before.pending (record { survives = survives; kept = keeps });
-      inside = λ clean. (one clean).inside;
-      so_far = λ clean. subst (λ some. Does some old.now new.now) (sym (take_more steps at some within)) (does_more (take at steps) (get_or steps at some) old.now mid.now new.now (before.so_far (was clean)) (one clean).does);
-    }
+module _ (A B C : Database → Database → Type 0) (joined : (x y z : Database) → A x y → B y z → C x z) (a b c : State) where
+  -- one call after another that is done
+  pub acts_then : (is_done : Bool) → Acts a b true A → Acts b c is_done B → Acts a c is_done C
+  acts_then is_done one two = record {
+    done = λ e clean inside.
+        let first = one.done refl (omega (arith, two.pending.survives.clean)) inside in
+        let last = two.done e clean first.0 in
+        (last.0, joined _ _ _ first.1 last.1);
+    pending = pending_then a b c one.pending two.pending;
+  }
 
--- a transaction that has begun goes on, and this holds of its database
-pub record Holds (Fact : Database → Type 0) (old last : State) : Type 0 where
-  pub pending : IsPending old last
-  pub inside : HasCleanDisk last → IsTrue last.in_transaction
-  pub fact : HasCleanDisk last → Fact last.now
+  -- one call more in a transaction
+  pub goes_then : GoesOn A a b → Acts b c true B → GoesOn C a c
+  goes_then before one =
+      let was = λ (clean : HasCleanDisk c). let h : HasCleanDisk b = omega (arith, one.pending.survives.clean) in h in
+      record {
+        pending = pending_then a b c before.pending one.pending;
+        inside = λ clean. (one.done refl clean (before.inside (was clean))).0;
+        made = λ clean. joined _ _ _ (before.made (was clean)) (one.done refl clean (before.inside (was clean))).1;
+      }
+
+-- the step at a place is done after those before it
+pub goes_on : (steps : List Step) (at : ℕ) (some : Step) (old mid new : State) → at < length steps → GoesOn (Does (take at steps)) old mid → Acts mid new true (Does (get_or steps at some ∷ []))
+    → GoesOn (Does (take (at + 1) steps)) old new
+goes_on steps at some old mid new within before one =
+    subst (λ these. GoesOn (Does these) old new) (sym (take_more steps at some within))
+    (goes_then (Does (take at steps)) (Does (get_or steps at some ∷ [])) _ (λ x y z. does_more (take at steps) (get_or steps at some) x y z) old mid new before one)
 
 -- after the last step
-pub all_steps : (steps : List Step) (at : ℕ) (old last : State) → length steps ≤ at → GoesOn (take at steps) old last → Holds (Does steps old.now) old last
-all_steps steps at old last past goes = record {
-  pending = goes.pending;
-  inside = goes.inside;
-  fact = λ clean. subst (λ some. Does some old.now last.now) (take_all at steps past) (goes.so_far clean);
-}
-
--- after one call in a transaction that had just begun
-pub one_call : {S : Type 0} (g : Ghosts S) (old : Held S) (Fact : Database → Type 0) (last : State) → Survives (state g (record old { in_transaction = true })) last (λ _. ⊥)
-    → (HasCleanDisk last → KeepsCommit (state g (record old { in_transaction = true })) last) → (HasCleanDisk last → IsTrue last.in_transaction × Fact last.now) → Holds Fact (state g old) last
-one_call g old Fact last survives keeps made = record {
-  pending = pending_then (state g old) (state g (record old { in_transaction = true })) last (begun g old).pending (record { survives = survives; kept = keeps });
-  inside = λ clean. (made clean).0;
-  fact = λ clean. (made clean).1;
-}
+pub all_steps : (steps : List Step) (at : ℕ) (old last : State) → length steps ≤ at → GoesOn (Does (take at steps)) old last → GoesOn (Does steps) old last
+all_steps steps at old last past goes = subst (λ these. GoesOn (Does these) old last) (take_all at steps past) goes
 
 module _ (old last new : State) (settled : IsTrue old.is_open → old.now ≡ old.committed) (Makes : Database → Database → Type 0) where
   -- an error drops the transaction, which rolls back
-  pub undone : (mid : State) → IsPending old mid → Survives mid last (λ _. ⊥) → (HasCleanDisk last → KeepsCommit mid last) → (HasCleanDisk new → IsRolledBack last new) → Survives last new (λ _. ⊥)
-      → Writes old new false Makes
-  undone mid one survives keeps back quiet =
-      let pending = pending_then old mid last one (record { survives = survives; kept = keeps }) in
+  pub undone : (mid : State) → IsPending old mid → IsPending mid last → (HasCleanDisk new → IsRolledBack last new) → Survives last new (λ _. ⊥) → Writes old new false Makes
+  undone mid one two back quiet =
+      let pending = pending_then old mid last one two in
       let kept = λ (clean : HasCleanDisk new). pending.kept (omega (arith, quiet.clean)) in
       let was = λ (clean : HasCleanDisk new) (h : IsTrue new.is_open). (kept clean).was_open ((back clean).was_open h) in
       record {
@@ -90,7 +86,7 @@ module _ (old last new : State) (settled : IsTrue old.is_open → old.now ≡ ol
       }
 
   -- COMMIT, after the last statement
-  module _ (held : Holds (Makes old.now) old last) (quiet : Survives last new (λ db. db ≡ last.now.trees))
+  module _ (held : GoesOn Makes old last) (quiet : Survives last new (λ db. db ≡ last.now.trees))
       (leaves : (trees : Trees) → IsTrue new.is_open → new.may_leave trees → trees ≡ new.committed.trees) where
     was_clean : HasCleanDisk new → HasCleanDisk last
     was_clean clean = omega (arith, quiet.clean)
@@ -105,12 +101,12 @@ module _ (old last new : State) (settled : IsTrue old.is_open → old.now ≡ ol
 
     -- a crash inside leaves what it left before, or what the transaction made
     crash : Survives old new (λ trees. (db : Database) × Makes old.now db × (trees ≡ db.trees))
-    crash = survives_then old last new _ _ _ (λ _ db none. absurd none) (λ clean db is. (last.now, held.fact (was_clean clean), is)) held.pending.survives quiet
+    crash = survives_then old last new _ _ _ (λ _ db none. absurd none) (λ clean db is. (last.now, held.made (was_clean clean), is)) held.pending.survives quiet
 
     pub ends : (r : Result (Unit {0}) Error) → (HasCleanDisk new → OnOk r (IsTrue last.in_transaction × Shows last new last.now last.now false × KeepsCounts last new × (new.marks ≡ [])))
         → (HasCleanDisk new → IfErr r (FailsToCommit last new)) → Writes old new (is_ok r) Makes
     ends (Ok x) commits fail = record {
-      done = λ _ clean. let shows = (commits clean).1 in (shows.is_open, subst (Makes old.now) (sym shows.now_is) (held.fact (was_clean clean)));
+      done = λ _ clean. let shows = (commits clean).1 in (shows.is_open, subst (Makes old.now) (sym shows.now_is) (held.made (was_clean clean)));
       refused = λ e. absurd (false≢true (sym e));
       usable = λ usable. (first_clean usable.0, (held.pending.kept (was_clean usable.0)).was_open (commits usable.0).1.was_open);
       durable = λ _ clean trees may. let shows = (commits clean).1 in leaves trees shows.is_open may ∙ ap (λ (db : Database). db.trees) (shows.committed_is ∙ sym shows.now_is);

@@ -7,13 +7,11 @@ use Rattle.sqlite_resolve.specs.declared.compiled.Compiled.{Compiled}
 use Rattle.sqlite_resolve.specs.declared.error.CompileError.{CompileError}
 use Rattle.sqlite_resolve.specs.Compile.{compiled, planned, meaning, first, returning, with_command}
 use Rattle.sqlite_resolve.specs.Lowering.{Checked, and_then}
-use Rattle.sqlite_tied.specs.Compute.{everything}
 use Rattle.sqlite.specs.Listing.{understood, reads_listing, if_select, is_select, listing_schema}
 use Rattle.escrow_cells.specs.Query.{OnlyReads}
-use Rattle.escrow_cells.proofs.ReadTexts.{tabs_text, row_text, table_text, keys_text, metas_text, owners_text, meta_ids_text, tab_ids_text, cell_ids_text}
 
 -- the grammar reads a statement that has no RETURNING
-abbrev IsBareRead : Checked Parsed → Type 0
+abbrev pub IsBareRead : Checked Parsed → Type 0
 IsBareRead (Ok p) = (schema : Schema) (base : ℕ) → returning schema base p.statement ≡ Ok None
 IsBareRead (Err e) = ⊥
 
@@ -48,68 +46,5 @@ understood_bare schema text h =
       | false ↦ compiled_bare schema text h
     ]
 
-only_reads : (text : List ℕ) → IsBareRead (first text) → OnlyReads text
+pub only_reads : (text : List ℕ) → IsBareRead (first text) → OnlyReads text
 only_reads text h schema c is = subst HasNoReturning is (understood_bare schema text h)
-
-tabs_read : IsBareRead (first tabs_text)
-unfolding everything
-tabs_read = λ schema base. refl
-
-row_read : IsBareRead (first row_text)
-unfolding everything
-row_read = λ schema base. refl
-
-table_read : IsBareRead (first table_text)
-unfolding everything
-table_read = λ schema base. refl
-
-keys_read : IsBareRead (first keys_text)
-unfolding everything
-keys_read = λ schema base. refl
-
-metas_read : IsBareRead (first metas_text)
-unfolding everything
-metas_read = λ schema base. refl
-
-owners_read : IsBareRead (first owners_text)
-unfolding everything
-owners_read = λ schema base. refl
-
-meta_ids_read : IsBareRead (first meta_ids_text)
-unfolding everything
-meta_ids_read = λ schema base. refl
-
-tab_ids_read : IsBareRead (first tab_ids_text)
-unfolding everything
-tab_ids_read = λ schema base. refl
-
-cell_ids_read : IsBareRead (first cell_ids_text)
-unfolding everything
-cell_ids_read = λ schema base. refl
-
-pub tabs_only : OnlyReads tabs_text
-tabs_only = only_reads tabs_text tabs_read
-
-pub row_only : OnlyReads row_text
-row_only = only_reads row_text row_read
-
-pub table_only : OnlyReads table_text
-table_only = only_reads table_text table_read
-
-pub keys_only : OnlyReads keys_text
-keys_only = only_reads keys_text keys_read
-
-pub metas_only : OnlyReads metas_text
-metas_only = only_reads metas_text metas_read
-
-pub owners_only : OnlyReads owners_text
-owners_only = only_reads owners_text owners_read
-
-pub meta_ids_only : OnlyReads meta_ids_text
-meta_ids_only = only_reads meta_ids_text meta_ids_read
-
-pub tab_ids_only : OnlyReads tab_ids_text
-tab_ids_only = only_reads tab_ids_text tab_ids_read
-
-pub cell_ids_only : OnlyReads cell_ids_text
-cell_ids_only = only_reads cell_ids_text cell_ids_read

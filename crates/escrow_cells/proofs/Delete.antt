@@ -1,31 +1,26 @@
 -- What the three DELETEs take out of CELL and of TAB.
-use Rattle.std.proofs.Common.{◌≡◌, ℕ, ℤ, Bool, true, false, not, ◌&&◌, List, [], ◌∷◌, map, filter, codes, slice_get, Some, Ok, Result, OnOk, IsPermutation, refl, sym, ap, ◌∙◌}
+use Rattle.std.proofs.Common.{◌≡◌, ℕ, ℤ, Bool, true, false, not, ◌&&◌, List, [], ◌∷◌, map, filter, codes, slice_get, Some, Ok, IsPermutation, refl, sym, ap, ◌∙◌}
 use Rattle.sqlite_value.specs.declared.value.Value.TheVariants.{Int}
 use Rattle.sqlite_value.specs.Order.{Row, column}
 use Rattle.sqlite_trees.specs.Tree.{rowid}
 use Rattle.sqlite_trees.proofs.ListLemmas.{all_of, filter-map, filter_same, IsPermutation-same}
 use Rattle.sqlite_sql.specs.Term.{Term, col}
 use Rattle.sqlite_schema.specs.declared.schema.Table.{Table}
-use Rattle.sqlite_schema.specs.declared.schema.Index.{Index}
-use Rattle.sqlite_schema.specs.declared.schema.View.{View}
 use Rattle.sqlite_schema.specs.declared.schema.Schema.{Schema}
 use Rattle.sqlite_schema.specs.declared.command.Command.TheVariants.{Delete}
 use Rattle.sqlite_rules.specs.declared.error.Rowids.TheVariants.{Given}
 use Rattle.sqlite_rules.specs.Edit.{edit_of}
 use Rattle.sqlite_rules.specs.Calls.{ids_of}
 use Rattle.sqlite_tied.specs.Compute.{everything}
-use Rattle.sqlite.specs.declared.error.Error.{Error}
 use Rattle.sqlite.specs.Effect.{Database}
 use Rattle.sqlite.specs.Listing.{understood}
-use Rattle.sqlite.specs.State.{State, Executes, ExecutesInside}
-use Rattle.sqlite.proofs.Callers.{IsPlain, command_of, runs_as}
+use Rattle.sqlite.specs.State.{State, Executes}
 use Rattle.escrow_cells.specs.declared.datum.Datum.{Datum}
 use Rattle.escrow_cells.specs.declared.step.Step.TheVariants as step
-use Rattle.escrow_cells.specs.Tables.{beside, tab, cell, tab_tree, cell_tree}
+use Rattle.escrow_cells.specs.Tables.{tab, cell, tab_tree, cell_tree}
 use Rattle.escrow_cells.specs.Store.{IsStore, AreNumbered, tabs, cells}
-use Rattle.escrow_cells.specs.Step.{kept, same, is_in, is_of, Holds}
-use Rattle.escrow_cells.specs.Inside.{HasDone}
-use Rattle.escrow_cells.proofs.Inside.{Edits, has_done, deletes}
+use Rattle.escrow_cells.specs.Step.{kept, same, is_in, is_of, Does, Holds}
+use Rattle.escrow_cells.proofs.Inside.{Edits, IsStatement, deletes, wrote_by}
 use Rattle.escrow_cells.proofs.Makes.{left_is}
 use Rattle.escrow_cells.proofs.Leaves.{cell_of, tab_of, holds_cells, holds_tabs}
 use Rattle.escrow_cells.proofs.Matches.{equals, plain_query, passes, matched}
@@ -51,30 +46,17 @@ of_id = equals 0 0 ∷ []
 abbrev rowids : List Term
 rowids = col 1 0 ∷ []
 
-module _ (more : List Table) (indexes : List Index) (views : List View) where
-  row_is : command_of (understood (beside more indexes views) row_text) ≡ Delete 2 (record { lets = []; body = plain_query 4 of_key rowids })
-  unfolding understood everything
-  row_is = refl
+row_delete : IsStatement row_text (Delete 2 (record { lets = []; body = plain_query 4 of_key rowids }))
+unfolding understood everything
+row_delete = record { is = λ _ _ _. refl; plain = λ _ _ _. (refl, refl) }
 
-  row_plain : IsPlain (understood (beside more indexes views) row_text)
-  unfolding understood everything
-  row_plain = (refl, refl)
+cells_delete : IsStatement cells_text (Delete 2 (record { lets = []; body = plain_query 4 of_table rowids }))
+unfolding understood everything
+cells_delete = record { is = λ _ _ _. refl; plain = λ _ _ _. (refl, refl) }
 
-  cells_is : command_of (understood (beside more indexes views) cells_text) ≡ Delete 2 (record { lets = []; body = plain_query 4 of_table rowids })
-  unfolding understood everything
-  cells_is = refl
-
-  cells_plain : IsPlain (understood (beside more indexes views) cells_text)
-  unfolding understood everything
-  cells_plain = (refl, refl)
-
-  tab_is : command_of (understood (beside more indexes views) tab_text) ≡ Delete 1 (record { lets = []; body = plain_query 2 of_id rowids })
-  unfolding understood everything
-  tab_is = refl
-
-  tab_plain : IsPlain (understood (beside more indexes views) tab_text)
-  unfolding understood everything
-  tab_plain = (refl, refl)
+tab_delete : IsStatement tab_text (Delete 1 (record { lets = []; body = plain_query 2 of_id rowids }))
+unfolding understood everything
+tab_delete = record { is = λ _ _ _. refl; plain = λ _ _ _. (refl, refl) }
 
 -- ---- the rows that are left
 
@@ -87,11 +69,10 @@ AreFound tests params rows found = IsPermutation (map (λ r. rowid r ∷ []) (fi
 -- a DELETE takes out the rows that pass its tests
 module _ (sql : List ℕ) (params : Row) (old new : State) (store : IsStore old.now) (at : ℕ) (table : Table) (tests : List Term)
     (got : slice_get old.now.schema.tables at ≡ Some table) where
-  deleted : command_of (understood old.now.schema sql) ≡ Delete at (record { lets = []; body = plain_query table.tree tests rowids }) → IsPlain (understood old.now.schema sql)
-      → (n : ℕ) → Executes sql params old new (Ok n) → (rows : List Row) × AreFound tests params (old.now.trees table.tree) rows × gone_by rows old.now table new.now
-  deleted is plain n ran =
-      let w = runs_as sql params old new old.now.schema refl _ is plain n ran in
-      let d = deletes old new table at got store.no_keys _ params n _ w in
+  deleted : IsStatement sql (Delete at (record { lets = []; body = plain_query table.tree tests rowids })) → (n : ℕ) → Executes sql params old new (Ok n)
+      → (rows : List Row) × AreFound tests params (old.now.trees table.tree) rows × gone_by rows old.now table new.now
+  deleted it n ran =
+      let d = deletes old new table at got store.no_keys _ params n _ (wrote_by it params old new store.tables n ran) in
       (d.0, matched old.now params table.tree tests rowids d.0 d.1, d.2)
 
 rows_left : (old new : Database) (table : Table) (tests : List Term) (params : Row) (rows : List Row) → AreNumbered (old.trees table.tree) → AreFound tests params (old.trees table.tree) rows → gone_by rows old table new
@@ -114,25 +95,22 @@ last : (a : Bool) → (a && true) ≡ a
 last true = refl
 last false = refl
 
-pub deletes_row : (table : ℤ) (key : Datum) (old new : State) (r : Result ℕ Error) → ExecutesInside 0 row_text (Int table ∷ kept key ∷ []) old new r → OnOk r (HasDone (step.DeleteRow table key ∷ []) old new)
-deletes_row table key old new r = has_done row_text (Int table ∷ kept key ∷ []) old new (step.DeleteRow table key ∷ []) r (λ n ran store.
-    let t = store.tables in
+pub deletes_row : (table : ℤ) (key : Datum) (old new : State) (n : ℕ) → Executes row_text (Int table ∷ kept key ∷ []) old new (Ok n) → Does (step.DeleteRow table key ∷ []) old.now new.now
+deletes_row table key old new n ran store =
     let params = Int table ∷ kept key ∷ [] in
-    let gone = deleted row_text params old new store 2 cell of_key (ap (λ (s : Schema). slice_get s.tables 2) t.is) (rw t.is (row_is t.more t.indexes t.views)) (rw t.is (row_plain t.more t.indexes t.views)) n ran in
-    cells_deleted old.now new.now store of_key params (is_of (Int table) (kept key)) (λ r. ap (λ b. same (column r 1) (Int table) && b) (last (same (column r 2) (kept key)))) gone.0 gone.1 gone.2)
+    let gone = deleted row_text params old new store 2 cell of_key (ap (λ (s : Schema). slice_get s.tables 2) store.tables.is) row_delete n ran in
+    cells_deleted old.now new.now store of_key params (is_of (Int table) (kept key)) (λ r. ap (λ b. same (column r 1) (Int table) && b) (last (same (column r 2) (kept key)))) gone.0 gone.1 gone.2
 
-pub deletes_cells : (table : ℤ) (old new : State) (r : Result ℕ Error) → ExecutesInside 0 cells_text (Int table ∷ []) old new r → OnOk r (HasDone (step.DeleteCells table ∷ []) old new)
-deletes_cells table old new r = has_done cells_text (Int table ∷ []) old new (step.DeleteCells table ∷ []) r (λ n ran store.
-    let t = store.tables in
+pub deletes_cells : (table : ℤ) (old new : State) (n : ℕ) → Executes cells_text (Int table ∷ []) old new (Ok n) → Does (step.DeleteCells table ∷ []) old.now new.now
+deletes_cells table old new n ran store =
     let params = Int table ∷ [] in
-    let gone = deleted cells_text params old new store 2 cell of_table (ap (λ (s : Schema). slice_get s.tables 2) t.is) (rw t.is (cells_is t.more t.indexes t.views)) (rw t.is (cells_plain t.more t.indexes t.views)) n ran in
-    cells_deleted old.now new.now store of_table params (is_in (Int table)) (λ r. last (same (column r 1) (Int table))) gone.0 gone.1 gone.2)
+    let gone = deleted cells_text params old new store 2 cell of_table (ap (λ (s : Schema). slice_get s.tables 2) store.tables.is) cells_delete n ran in
+    cells_deleted old.now new.now store of_table params (is_in (Int table)) (λ r. last (same (column r 1) (Int table))) gone.0 gone.1 gone.2
 
-pub deletes_tab : (id : ℤ) (old new : State) (r : Result ℕ Error) → ExecutesInside 0 tab_text (Int id ∷ []) old new r → OnOk r (HasDone (step.DeleteTab id ∷ []) old new)
-deletes_tab id old new r = has_done tab_text (Int id ∷ []) old new (step.DeleteTab id ∷ []) r (λ n ran store.
-    let t = store.tables in
+pub deletes_tab : (id : ℤ) (old new : State) (n : ℕ) → Executes tab_text (Int id ∷ []) old new (Ok n) → Does (step.DeleteTab id ∷ []) old.now new.now
+deletes_tab id old new n ran store =
     let params = Int id ∷ [] in
-    let gone = deleted tab_text params old new store 1 tab of_id (ap (λ (s : Schema). slice_get s.tables 1) t.is) (rw t.is (tab_is t.more t.indexes t.views)) (rw t.is (tab_plain t.more t.indexes t.views)) n ran in
+    let gone = deleted tab_text params old new store 1 tab of_id (ap (λ (s : Schema). slice_get s.tables 1) store.tables.is) tab_delete n ran in
     let left = rows_left old.now new.now tab of_id params gone.0 store.tabs_numbered gone.1 gone.2 in
     holds_tabs old.now new.now _ store gone.2 refl _
-    (shown_left tab_of (passes of_id params) (λ x. same (column x 0) (Int id)) (λ r. last (same (rowid r) (Int id))) (old.now.trees tab_tree) (new.now.trees tab_tree) left))
+    (shown_left tab_of (passes of_id params) (λ x. same (column x 0) (Int id)) (λ r. last (same (rowid r) (Int id))) (old.now.trees tab_tree) (new.now.trees tab_tree) left)

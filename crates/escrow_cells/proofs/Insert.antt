@@ -8,8 +8,6 @@ use Rattle.sqlite_trees.specs.Tree.{Trees}
 use Rattle.sqlite_sql.specs.Term.{Term, lit, col}
 use Rattle.sqlite_schema.specs.declared.schema.Kind.TheVariants.{Integer}
 use Rattle.sqlite_schema.specs.declared.schema.Table.{Table}
-use Rattle.sqlite_schema.specs.declared.schema.Index.{Index}
-use Rattle.sqlite_schema.specs.declared.schema.View.{View}
 use Rattle.sqlite_schema.specs.declared.command.Source.TheVariants.{Values}
 use Rattle.sqlite_schema.specs.declared.command.Command.TheVariants.{Insert}
 use Rattle.sqlite_rules.specs.declared.error.Rowids.TheVariants.{Chosen}
@@ -19,13 +17,12 @@ use Rattle.sqlite_tied.specs.Compute.{everything}
 use Rattle.sqlite.specs.Listing.{understood}
 use Rattle.sqlite.specs.Effect.{Database}
 use Rattle.sqlite.specs.State.{State, Executes}
-use Rattle.sqlite.proofs.Callers.{IsPlain, command_of, statement_of, runs_as}
 use Rattle.escrow_cells.specs.declared.datum.Datum.{Datum}
 use Rattle.escrow_cells.specs.declared.step.Step.TheVariants as step
-use Rattle.escrow_cells.specs.Tables.{beside, tab, cell}
+use Rattle.escrow_cells.specs.Tables.{tab, cell}
 use Rattle.escrow_cells.specs.Store.{IsStore, tabs, cells}
 use Rattle.escrow_cells.specs.Step.{kept, Holds, Does}
-use Rattle.escrow_cells.proofs.Inside.{Edits, inserts}
+use Rattle.escrow_cells.proofs.Inside.{Edits, IsStatement, inserts, wrote_by}
 use Rattle.escrow_cells.proofs.Columns.{cast_held}
 use Rattle.escrow_cells.proofs.Leaves.{cell_of, tab_of, holds_cells, holds_tabs}
 use Rattle.escrow_cells.proofs.Makes.{put_beside}
@@ -42,22 +39,13 @@ cell_terms = lit Null ∷ col 0 0 ∷ col 0 1 ∷ col 0 2 ∷ col 0 3 ∷ []
 abbrev tab_terms : List Term
 tab_terms = col 0 0 ∷ lit Null ∷ col 0 1 ∷ col 0 2 ∷ []
 
-module _ (more : List Table) (indexes : List Index) (views : List View) where
-  cell_insert_is : command_of (understood (beside more indexes views) cell_insert) ≡ Insert 2 (Values cell_terms 5)
-  unfolding understood everything
-  cell_insert_is = refl
+cell_statement : IsStatement cell_insert (Insert 2 (Values cell_terms 5))
+unfolding understood everything
+cell_statement = record { is = λ _ _ _. refl; plain = λ _ _ _. (refl, refl) }
 
-  cell_insert_plain : IsPlain (understood (beside more indexes views) cell_insert)
-  unfolding understood everything
-  cell_insert_plain = (refl, refl)
-
-  tab_insert_is : command_of (understood (beside more indexes views) tab_insert) ≡ Insert 1 (Values tab_terms 4)
-  unfolding understood everything
-  tab_insert_is = refl
-
-  tab_insert_plain : IsPlain (understood (beside more indexes views) tab_insert)
-  unfolding understood everything
-  tab_insert_plain = (refl, refl)
+tab_statement : IsStatement tab_insert (Insert 1 (Values tab_terms 4))
+unfolding understood everything
+tab_statement = record { is = λ _ _ _. refl; plain = λ _ _ _. (refl, refl) }
 
 -- ---- the row that is added
 
@@ -86,10 +74,8 @@ pub inserts_cell : (old new : State) (table place : ℤ) (key value : Datum) (co
 inserts_cell old new table place key value count h it =
     let has = it.tables.is in
     let params = Int table ∷ kept key ∷ Int place ∷ kept value ∷ [] in
-    let schema = beside it.tables.more it.tables.indexes it.tables.views in
-    let text = statement_of cell_insert (understood schema cell_insert) in
-    let w = runs_as cell_insert params old new schema has (Insert 2 (Values cell_terms 5)) (cell_insert_is _ _ _) (cell_insert_plain _ _ _) count h in
-    let given = inserts old new cell 2 (rw has refl) it.no_keys text params count (Values cell_terms 5) refl w in
+    let w = wrote_by cell_statement params old new it.tables count h in
+    let given = inserts old new cell 2 (rw has refl) it.no_keys _ params count (Values cell_terms 5) refl w in
     let made_is = made_cell old.now.trees table place (kept key) (kept value) in
     let edits = subst (λ rows. Edits old.now new.now (edit_of old.now.trees cell [] Chosen 0 rows)) given.1.1 given.2 in
     let more = IsPermutation-map cell_of _ _ (added old.now new.now cell (Null ∷ params) edits) in
@@ -100,10 +86,8 @@ pub inserts_tab : (old new : State) (id : ℤ) (name ddl : List ℕ) (count : �
 inserts_tab old new id name ddl count h it =
     let has = it.tables.is in
     let params = Int id ∷ Text name ∷ Text ddl ∷ [] in
-    let schema = beside it.tables.more it.tables.indexes it.tables.views in
-    let text = statement_of tab_insert (understood schema tab_insert) in
-    let w = runs_as tab_insert params old new schema has (Insert 1 (Values tab_terms 4)) (tab_insert_is _ _ _) (tab_insert_plain _ _ _) count h in
-    let given = inserts old new tab 1 (rw has refl) it.no_keys text params count (Values tab_terms 4) refl w in
+    let w = wrote_by tab_statement params old new it.tables count h in
+    let given = inserts old new tab 1 (rw has refl) it.no_keys _ params count (Values tab_terms 4) refl w in
     let edits = subst (λ rows. Edits old.now new.now (edit_of old.now.trees tab [] Chosen 0 rows)) given.1.1 given.2 in
     let more = IsPermutation-map tab_of _ _ (added old.now new.now tab (Int id ∷ Null ∷ Text name ∷ Text ddl ∷ []) edits) in
     holds_tabs old.now new.now _ it edits refl (params ∷ tabs old.now) (subst (λ r. IsPermutation (r ∷ tabs old.now) (tabs new.now)) (made_tab old.now.trees id name ddl) more)

@@ -1,12 +1,14 @@
 -- What a statement does inside a transaction.
-use Rattle.std.proofs.Common.{◌≡◌, ℕ, List, [], ◌∷◌, ◌⊎◌, false, cond, Option, ℤ, slice_get, Some, None, Ok, Err, Result, OnOk, IsTrue, refl, sym, ap, ◌∙◌, subst, subst₂, inl, inr}
-use Rattle.std.proofs.lemmas.Bool.{cases_Bool}
+use Rattle.std.proofs.Common.{◌≡◌, ℕ, List, [], ◌∷◌, ◌⊎◌, true, false, cond, Option, ℤ, slice_get, Some, None, Ok, Err, Result, is_ok, IsTrue, refl, sym, ap, ◌∙◌, subst, subst₂, inl, inr}
+use Rattle.std.proofs.lemmas.Bool.{cases_Bool, false≢true}
 use Rattle.std.specs.List.{AllByRecursion, flat_map, filter_map}
 use Rattle.sqlite_value.specs.Order.{Row}
 use Rattle.sqlite_trees.specs.Tree.{Trees}
 use Rattle.sqlite_schema.specs.declared.schema.Keys.{Keys}
 use Rattle.sqlite_schema.specs.declared.schema.Keys.TheVariants.{Enforced}
 use Rattle.sqlite_schema.specs.declared.schema.Table.{Table}
+use Rattle.sqlite_schema.specs.declared.schema.Index.{Index}
+use Rattle.sqlite_schema.specs.declared.schema.View.{View}
 use Rattle.sqlite_schema.specs.declared.schema.Schema.{Schema}
 use Rattle.sqlite_schema.specs.declared.program.Program.{Program}
 use Rattle.sqlite_schema.specs.declared.command.Source.{Source}
@@ -19,16 +21,18 @@ use Rattle.sqlite_rules.specs.Action.{works, work_for}
 use Rattle.sqlite.specs.declared.error.Error.{Error}
 use Rattle.sqlite.specs.Effect.{Database, IsDatabase, Answers, IsSource}
 use Rattle.sqlite.specs.Does.{Tally, OnRows, WritesRows}
+use Rattle.sqlite.specs.Listing.{understood}
 use Rattle.sqlite.specs.Rows.{Task, Counts, Inserts, Sourced, Written, Edited, rowids_for, count_of, stamped}
-use Rattle.sqlite.specs.State.{State, KeepsCommit, Executes, ExecutesInside, Writes as Wrote, mode_of}
+use Rattle.sqlite.specs.State.{State, HasCleanDisk, KeepsCommit, Survives, Executes, ExecutesInside, Writes as Wrote, Runs, mode_of}
 use Rattle.sqlite.specs.Values.{bound_value}
 use Rattle.sqlite.proofs.InsideLemmas.{inside_keeps}
-use Rattle.sqlite.proofs.Callers.{one_step}
-use Rattle.escrow_cells.specs.declared.step.Step.{Step}
+use Rattle.sqlite.proofs.Callers.{IsPlain, command_of, one_step, runs_as, statement_of}
 use Rattle.escrow_cells.specs.declared.datum.Datum.{Datum}
 use Rattle.escrow_cells.specs.declared.datum.Datum.TheVariants as datum
-use Rattle.escrow_cells.specs.Step.{kept, Does}
-use Rattle.escrow_cells.specs.Inside.{HasDone}
+use Rattle.escrow_cells.specs.Step.{kept}
+use Rattle.escrow_cells.specs.Store.{HasTables}
+use Rattle.escrow_cells.specs.Tables.{beside}
+use Rattle.escrow_cells.specs.Inside.{Acts}
 
 module _ (sql : List ℕ) (params : Row) (old new : State) where
   -- inside a transaction nothing is committed, and outside of one nothing is done
@@ -38,19 +42,32 @@ module _ (sql : List ℕ) (params : Row) (old new : State) where
     | inr outside ↦ rw (ended outside) (record { was_open = λ h. h; committed = λ _. refl })
   ]
 
-  -- a statement that is done leaves the transaction open, so what it does to the database is left to show
-  pub has_done : (steps : List Step) (r : Result ℕ Error) → ((n : ℕ) → Executes sql params old new (Ok n) → Does steps old.now new.now) → ExecutesInside 0 sql params old new r → OnOk r (HasDone steps old new)
-  has_done steps (Ok n) does h = record { inside = h.1.mode; is_open = h.1.is_open; does = does n h.0 }
-  has_done steps (Err e) does h = tt
-
 -- a parameter is bound as it is kept
 pub bound_kept : (d : Datum) → bound_value (kept d) ≡ kept d
 bound_kept (datum.Number n) = refl
 bound_kept (datum.Text t) = refl
 
--- what a statement does under parameters that are equal
-pub under : (sql : List ℕ) (ps qs : Row) (old new : State) (r : Result ℕ Error) → ExecutesInside 0 sql ps old new r → ps ≡ qs → ExecutesInside 0 sql qs old new r
-under sql ps qs old new r h e = subst (λ x. ExecutesInside 0 sql x old new r) e h
+-- what a statement makes that is done inside a transaction, under parameters that are equal to those it has
+pub acts : (sql : List ℕ) (params given : Row) (old new : State) (r : Result ℕ Error) (Makes : Database → Database → Type 0) → (old.in_transaction ≡ false → new ≡ old) → Survives old new (λ _. ⊥)
+    → (HasCleanDisk new → IsTrue old.in_transaction → ExecutesInside 0 sql given old new r) → given ≡ params → ((n : ℕ) → Executes sql params old new (Ok n) → Makes old.now new.now) → Acts old new (is_ok r) Makes
+acts sql params given old new r Makes ended survives runs same makes = record {
+  done = λ ok clean inside. by r ok (subst (λ (ps : Row). ExecutesInside 0 sql ps old new r) same (runs clean inside));
+  pending = record { survives = survives; kept = λ clean. keeps_commit sql given old new r ended (runs clean) };
+}
+  where
+    by : (r : Result ℕ Error) → is_ok r ≡ true → ExecutesInside 0 sql params old new r → IsTrue new.in_transaction × Makes old.now new.now
+    by (Ok n) ok h = (h.1.mode, makes n h.0)
+    by (Err e) ok h = absurd (false≢true ok)
+
+-- a text is that of a statement that does a command, whatever objects stand after the three tables
+pub record IsStatement (text : List ℕ) (command : Command) : Type 0 where
+  pub is : (more : List Table) (indexes : List Index) (views : List View) → command_of (understood (beside more indexes views) text) ≡ command
+  pub plain : (more : List Table) (indexes : List Index) (views : List View) → IsPlain (understood (beside more indexes views) text)
+
+-- what it writes
+pub wrote_by : {sql : List ℕ} {command : Command} → IsStatement sql command → (params : Row) (old new : State) (has : HasTables old.now.schema) (n : ℕ) → Executes sql params old new (Ok n)
+    → Runs old new None command (statement_of sql (understood (beside has.more has.indexes has.views) sql)) params n
+wrote_by it params old new has n ran = runs_as _ params old new (beside has.more has.indexes has.views) has.is _ (it.is _ _ _) (it.plain _ _ _) n ran
 
 -- ---- one edit
 

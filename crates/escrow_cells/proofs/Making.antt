@@ -1,5 +1,5 @@
 -- What the three CREATEs make, and the row of META.
-use Rattle.std.proofs.Common.{◌≡◌, ℕ, true, false, List, [], None, Ok, Err, Result, OnOk, IsTrue, refl, sym, ap, subst, ◌∙◌}
+use Rattle.std.proofs.Common.{◌≡◌, ℕ, true, false, List, [], None, Ok, refl, sym, ap, subst, ◌∙◌}
 use Rattle.std.specs.List.{AllByRecursion}
 use Rattle.sqlite_trees.specs.declared.store.Store.{Ghosts}
 use Rattle.sqlite_trees.proofs.ListLemmas.{all-append, all_both}
@@ -13,13 +13,13 @@ use Rattle.sqlite.specs.Listing.{understood}
 use Rattle.sqlite.specs.Effect.{Database}
 use Rattle.sqlite.specs.Does.{Tally, lacks_sequence}
 use Rattle.sqlite.specs.Held.{Held, state}
-use Rattle.sqlite.specs.State.{State, HasCleanDisk, KeepsCommit, Survives, Writes, Executes, ExecutesInside}
-use Rattle.sqlite.specs.declared.error.Error.{Error}
+use Rattle.sqlite.specs.State.{State, Writes, Executes}
 use Rattle.sqlite.proofs.Callers.{IsPlain, command_of, statement_of, runs_as}
 use Rattle.escrow_cells.specs.Tables.{no_schema, meta, tab, cell, meta_text, tab_text, cell_text}
-use Rattle.escrow_cells.specs.Store.{IsEmpty, MakesStore}
-use Rattle.escrow_cells.specs.Making.{with_meta, with_tab, with_cell, IsBare, HasMade}
-use Rattle.escrow_cells.proofs.AllOrNone.{Holds, one_call}
+use Rattle.escrow_cells.specs.Store.{MakesStore}
+use Rattle.escrow_cells.specs.Inside.{Acts, GoesOn}
+use Rattle.escrow_cells.specs.Making.{with_meta, with_tab, with_cell, IsBare, Extends, Fills}
+use Rattle.escrow_cells.proofs.AllOrNone.{begun, goes_then}
 use Rattle.escrow_cells.proofs.Inside.{went, same_value}
 use Rattle.escrow_cells.proofs.Texts.{meta_is, tab_is, cell_is}
 
@@ -43,11 +43,6 @@ cell_create : IsCreate with_tab cell_text (record cell { tree = 0 })
 unfolding understood everything
 cell_create = record { command = refl; whole = refl; plain = (refl, refl); defined = cell_is; counts = refl }
 
--- a transaction inside of which a statement was done goes on
-pub has_made : (sql : List ℕ) (params : _) (old new : State) (Fact : Type 0) (r : Result ℕ Error) → ((n : ℕ) → Executes sql params old new (Ok n) → Fact) → ExecutesInside 0 sql params old new r → OnOk r (HasMade new Fact)
-has_made sql params old new Fact (Ok n) made h = record { inside = h.1.mode; is_open = h.1.is_open; fact = made n h.0 }
-has_made sql params old new Fact (Err e) made h = tt
-
 module _ (schema : Schema) (text : List ℕ) (table : Table) (is : IsCreate schema text table) (old new : State) (count : ℕ) where
   creates : Executes text [] old new (Ok count) → IsBare schema old.now → IsBare (created schema table) new.now
   creates h bare =
@@ -65,19 +60,17 @@ module _ (schema : Schema) (text : List ℕ) (table : Table) (is : IsCreate sche
       let empty : first.0.trees (next_tree schema) ≡ [] = subst (λ s. first.0.trees (next_tree s) ≡ []) has made.empty in
       rw now (record { schema_is = after; bare = all-append (λ (t : Table). first.0.trees t.tree ≡ []) schema.tables _ kept (empty, tt) })
 
-pub creates_meta : (old new : State) (count : ℕ) → Executes meta_text [] old new (Ok count) → IsBare no_schema old.now → IsBare with_meta new.now
+pub creates_meta : (old new : State) (count : ℕ) → Executes meta_text [] old new (Ok count) → Extends no_schema with_meta old.now new.now
 creates_meta = creates no_schema meta_text meta meta_create
 
-pub creates_tab : (old new : State) (count : ℕ) → Executes tab_text [] old new (Ok count) → IsBare with_meta old.now → IsBare with_tab new.now
+pub creates_tab : (old new : State) (count : ℕ) → Executes tab_text [] old new (Ok count) → Extends with_meta with_tab old.now new.now
 creates_tab = creates with_meta tab_text (record tab { tree = 0 }) tab_create
 
-pub creates_cell : (old new : State) (count : ℕ) → Executes cell_text [] old new (Ok count) → IsBare with_tab old.now → IsBare with_cell new.now
+pub creates_cell : (old new : State) (count : ℕ) → Executes cell_text [] old new (Ok count) → Extends with_tab with_cell old.now new.now
 creates_cell = creates with_tab cell_text (record cell { tree = 0 }) cell_create
 
 -- in a transaction that had just begun the tables and their row were made
-pub made_in : {S : Type 0} (g : Ghosts S) (old start : Held S) (last : State) → start ≡ record old { in_transaction = true } → Survives (state g start) last (λ _. ⊥)
-    → (HasCleanDisk last → KeepsCommit (state g start) last) → (HasCleanDisk last → IsTrue start.in_transaction → HasMade last (IsBare no_schema (state g start).now → IsEmpty last.now))
-    → Holds (MakesStore (state g old).now) (state g old) last
-made_in g old start last begun survives keeps made =
-    let done = λ (clean : HasCleanDisk last). rw begun at (made clean (rw begun refl)) in
-    one_call g old _ last (rw begun at survives) (rw begun at keeps) (λ clean. ((done clean).inside, λ none. (done clean).fact (record { schema_is = none; bare = tt })))
+pub made_in : {S : Type 0} (g : Ghosts S) (old start : Held S) (last : State) → start ≡ record old { in_transaction = true } → Acts (state g start) last true (Fills no_schema) → GoesOn MakesStore (state g old) last
+made_in g old start last is acts =
+    goes_then ◌≡◌ (Fills no_schema) MakesStore (λ x y z same fills none. fills (record { schema_is = ap (λ (db : Database). db.schema) (sym same) ∙ none; bare = tt })) (state g old) _ last
+    (begun g old ◌≡◌ (λ _. refl)) (rw is at acts)

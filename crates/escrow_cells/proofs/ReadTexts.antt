@@ -13,10 +13,13 @@ use Rattle.sqlite_schema.specs.declared.schema.Index.{Index}
 use Rattle.sqlite_schema.specs.declared.schema.View.{View}
 use Rattle.sqlite_schema.specs.declared.command.Command.{Command}
 use Rattle.sqlite_schema.specs.declared.command.Command.TheVariants.{Select}
+use Rattle.sqlite_resolve.specs.Compile.{first}
 use Rattle.sqlite_tied.specs.Compute.{everything}
 use Rattle.sqlite.specs.Listing.{understood, reads_listing}
 use Rattle.sqlite.proofs.Callers.{IsPlain, command_of}
+use Rattle.escrow_cells.specs.Query.{OnlyReads}
 use Rattle.escrow_cells.specs.Tables.{beside, meta_tree, tab_tree, cell_tree}
+use Rattle.escrow_cells.proofs.Bare.{IsBareRead, only_reads}
 
 abbrev pub tabs_text : List ℕ
 tabs_text = codes "SELECT ID, NAME, DDL FROM TAB ORDER BY ID"
@@ -90,111 +93,50 @@ owners_query = selection cell_tree [] (col 1 1 ∷ []) []
 abbrev pub ids_query : ℕ → Query
 ids_query tree = selection tree [] (col 1 0 ∷ []) (by_column 0 ∷ [])
 
-module _ (more : List Table) (indexes : List Index) (views : List View) where
-  pub tabs_is : command_of (understood (beside more indexes views) tabs_text) ≡ selects tabs_query (codes "ID" ∷ codes "NAME" ∷ codes "DDL" ∷ [])
-  unfolding understood everything
-  tabs_is = refl
+-- a text is that of a SELECT, whatever objects stand after the three tables: it lists no schema, and has no
+-- RETURNING
+pub record IsSelect (text : List ℕ) (query : Query) (names : List (List ℕ)) : Type 0 where
+  pub command : (more : List Table) (indexes : List Index) (views : List View) → command_of (understood (beside more indexes views) text) ≡ selects query names
+  pub plain : (more : List Table) (indexes : List Index) (views : List View) → IsPlain (understood (beside more indexes views) text)
+  pub unlisted : (more : List Table) (indexes : List Index) (views : List View) → reads_listing (beside more indexes views) text ≡ false
+  pub bare : IsBareRead (first text)
 
-  pub row_is : command_of (understood (beside more indexes views) row_text) ≡ selects row_query (codes "C" ∷ codes "V" ∷ [])
-  unfolding understood everything
-  row_is = refl
+-- so it writes nothing
+pub reads : {text : List ℕ} {query : Query} {names : List (List ℕ)} → IsSelect text query names → OnlyReads text
+reads it = only_reads _ it.bare
 
-  pub table_is : command_of (understood (beside more indexes views) table_text) ≡ selects table_query (codes "K" ∷ codes "C" ∷ codes "V" ∷ [])
-  unfolding understood everything
-  table_is = refl
+pub tabs_select : IsSelect tabs_text tabs_query (codes "ID" ∷ codes "NAME" ∷ codes "DDL" ∷ [])
+unfolding understood everything
+tabs_select = record { command = λ _ _ _. refl; plain = λ _ _ _. (refl, refl); unlisted = λ _ _ _. refl; bare = λ _ _. refl }
 
-  pub keys_is : command_of (understood (beside more indexes views) keys_text) ≡ selects keys_query (codes "K" ∷ [])
-  unfolding understood everything
-  keys_is = refl
+pub row_select : IsSelect row_text row_query (codes "C" ∷ codes "V" ∷ [])
+unfolding understood everything
+row_select = record { command = λ _ _ _. refl; plain = λ _ _ _. (refl, refl); unlisted = λ _ _ _. refl; bare = λ _ _. refl }
 
-  pub metas_is : command_of (understood (beside more indexes views) metas_text) ≡ selects metas_query (codes "K" ∷ codes "V" ∷ [])
-  unfolding understood everything
-  metas_is = refl
+pub table_select : IsSelect table_text table_query (codes "K" ∷ codes "C" ∷ codes "V" ∷ [])
+unfolding understood everything
+table_select = record { command = λ _ _ _. refl; plain = λ _ _ _. (refl, refl); unlisted = λ _ _ _. refl; bare = λ _ _. refl }
 
-  pub owners_is : command_of (understood (beside more indexes views) owners_text) ≡ selects owners_query (codes "TAB" ∷ [])
-  unfolding understood everything
-  owners_is = refl
+pub keys_select : IsSelect keys_text keys_query (codes "K" ∷ [])
+unfolding understood everything
+keys_select = record { command = λ _ _ _. refl; plain = λ _ _ _. (refl, refl); unlisted = λ _ _ _. refl; bare = λ _ _. refl }
 
-  pub meta_ids_is : command_of (understood (beside more indexes views) meta_ids_text) ≡ selects (ids_query meta_tree) (codes "rowid" ∷ [])
-  unfolding understood everything
-  meta_ids_is = refl
+pub metas_select : IsSelect metas_text metas_query (codes "K" ∷ codes "V" ∷ [])
+unfolding understood everything
+metas_select = record { command = λ _ _ _. refl; plain = λ _ _ _. (refl, refl); unlisted = λ _ _ _. refl; bare = λ _ _. refl }
 
-  pub tab_ids_is : command_of (understood (beside more indexes views) tab_ids_text) ≡ selects (ids_query tab_tree) (codes "ID" ∷ [])
-  unfolding understood everything
-  tab_ids_is = refl
+pub owners_select : IsSelect owners_text owners_query (codes "TAB" ∷ [])
+unfolding understood everything
+owners_select = record { command = λ _ _ _. refl; plain = λ _ _ _. (refl, refl); unlisted = λ _ _ _. refl; bare = λ _ _. refl }
 
-  pub cell_ids_is : command_of (understood (beside more indexes views) cell_ids_text) ≡ selects (ids_query cell_tree) (codes "rowid" ∷ [])
-  unfolding understood everything
-  cell_ids_is = refl
+pub meta_ids_select : IsSelect meta_ids_text (ids_query meta_tree) (codes "rowid" ∷ [])
+unfolding understood everything
+meta_ids_select = record { command = λ _ _ _. refl; plain = λ _ _ _. (refl, refl); unlisted = λ _ _ _. refl; bare = λ _ _. refl }
 
-  pub tabs_plain : IsPlain (understood (beside more indexes views) tabs_text)
-  unfolding understood everything
-  tabs_plain = (refl, refl)
+pub tab_ids_select : IsSelect tab_ids_text (ids_query tab_tree) (codes "ID" ∷ [])
+unfolding understood everything
+tab_ids_select = record { command = λ _ _ _. refl; plain = λ _ _ _. (refl, refl); unlisted = λ _ _ _. refl; bare = λ _ _. refl }
 
-  pub row_plain : IsPlain (understood (beside more indexes views) row_text)
-  unfolding understood everything
-  row_plain = (refl, refl)
-
-  pub table_plain : IsPlain (understood (beside more indexes views) table_text)
-  unfolding understood everything
-  table_plain = (refl, refl)
-
-  pub keys_plain : IsPlain (understood (beside more indexes views) keys_text)
-  unfolding understood everything
-  keys_plain = (refl, refl)
-
-  pub metas_plain : IsPlain (understood (beside more indexes views) metas_text)
-  unfolding understood everything
-  metas_plain = (refl, refl)
-
-  pub owners_plain : IsPlain (understood (beside more indexes views) owners_text)
-  unfolding understood everything
-  owners_plain = (refl, refl)
-
-  pub meta_ids_plain : IsPlain (understood (beside more indexes views) meta_ids_text)
-  unfolding understood everything
-  meta_ids_plain = (refl, refl)
-
-  pub tab_ids_plain : IsPlain (understood (beside more indexes views) tab_ids_text)
-  unfolding understood everything
-  tab_ids_plain = (refl, refl)
-
-  pub cell_ids_plain : IsPlain (understood (beside more indexes views) cell_ids_text)
-  unfolding understood everything
-  cell_ids_plain = (refl, refl)
-
-  pub tabs_unlisted : reads_listing (beside more indexes views) tabs_text ≡ false
-  unfolding understood everything
-  tabs_unlisted = refl
-
-  pub row_unlisted : reads_listing (beside more indexes views) row_text ≡ false
-  unfolding understood everything
-  row_unlisted = refl
-
-  pub table_unlisted : reads_listing (beside more indexes views) table_text ≡ false
-  unfolding understood everything
-  table_unlisted = refl
-
-  pub keys_unlisted : reads_listing (beside more indexes views) keys_text ≡ false
-  unfolding understood everything
-  keys_unlisted = refl
-
-  pub metas_unlisted : reads_listing (beside more indexes views) metas_text ≡ false
-  unfolding understood everything
-  metas_unlisted = refl
-
-  pub owners_unlisted : reads_listing (beside more indexes views) owners_text ≡ false
-  unfolding understood everything
-  owners_unlisted = refl
-
-  pub meta_ids_unlisted : reads_listing (beside more indexes views) meta_ids_text ≡ false
-  unfolding understood everything
-  meta_ids_unlisted = refl
-
-  pub tab_ids_unlisted : reads_listing (beside more indexes views) tab_ids_text ≡ false
-  unfolding understood everything
-  tab_ids_unlisted = refl
-
-  pub cell_ids_unlisted : reads_listing (beside more indexes views) cell_ids_text ≡ false
-  unfolding understood everything
-  cell_ids_unlisted = refl
+pub cell_ids_select : IsSelect cell_ids_text (ids_query cell_tree) (codes "rowid" ∷ [])
+unfolding understood everything
+cell_ids_select = record { command = λ _ _ _. refl; plain = λ _ _ _. (refl, refl); unlisted = λ _ _ _. refl; bare = λ _ _. refl }

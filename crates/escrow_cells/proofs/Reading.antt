@@ -13,15 +13,14 @@ use Rattle.sqlite_sql.specs.Program.{overlay}
 use Rattle.sqlite_sql.specs.Query.{Query, IsAnswer}
 use Rattle.sqlite_exec.proofs.RowsLemmas.{IsSorted-map}
 use Rattle.sqlite.specs.State.{State, Shown}
-use Rattle.sqlite.specs.Listing.{understood, reads_listing}
-use Rattle.sqlite.proofs.Callers.{reads_as, command_of, IsPlain}
+use Rattle.sqlite.proofs.Callers.{reads_as}
 use Rattle.escrow_cells.specs.Numbered.{AreIds}
 use Rattle.escrow_cells.specs.Store.{IsStore, HasTables, metas, cells, tabs}
 use Rattle.escrow_cells.specs.Step.{same, is_in, is_of}
 use Rattle.escrow_cells.specs.Read.{AreOfRow, AreOfTable, AreKeys, AreTabs, AreTablesOfCells}
 use Rattle.escrow_cells.specs.Tables.{beside, meta_tree, tab_tree, cell_tree}
 use Rattle.escrow_cells.proofs.Selects.{selected, then_equal, sorted_same}
-use Rattle.escrow_cells.proofs.ReadTexts.{tabs_text, row_text, table_text, keys_text, metas_text, owners_text, selects, tabs_query, row_query, table_query, keys_query, metas_query, owners_query, tabs_is, row_is, table_is, keys_is, metas_is, owners_is, tabs_plain, row_plain, table_plain, keys_plain, metas_plain, owners_plain, tabs_unlisted, row_unlisted, table_unlisted, keys_unlisted, metas_unlisted, owners_unlisted, ids_query, meta_ids_text, meta_ids_is, meta_ids_plain, meta_ids_unlisted, tab_ids_text, tab_ids_is, tab_ids_plain, tab_ids_unlisted, cell_ids_text, cell_ids_is, cell_ids_plain, cell_ids_unlisted}
+use Rattle.escrow_cells.proofs.ReadTexts.{IsSelect, ids_query, tabs_text, tabs_select, row_text, row_select, table_text, table_select, keys_text, keys_select, metas_text, metas_select, owners_text, owners_select}
 
 abbrev cell_of : Row → Row
 cell_of r = column r 1 ∷ column r 2 ∷ column r 3 ∷ column r 4 ∷ []
@@ -55,17 +54,15 @@ permuted rows taken passes test pick same perm =
     let cells_first = ap (map pick) (filter-map test cell_of rows) ∙ map-map pick cell_of (filter (λ r. test (cell_of r)) rows) in
     subst (λ l. IsPermutation l (map shown taken)) (by_test ∙ sym cells_first) (IsPermutation-map shown _ _ perm)
 
-module _ (sql : List ℕ) (params : Row) (old new : State) (rows : List Row) (q : Query) (names : List (List ℕ)) (has : HasTables old.now.schema)
-    (is : command_of (understood (beside has.more has.indexes has.views) sql) ≡ selects q names)
-    (plain : IsPlain (understood (beside has.more has.indexes has.views) sql))
-    (unlisted : reads_listing (beside has.more has.indexes has.views) sql ≡ false) where
-  answer_of : Shown sql params old new rows → IsAnswer q (overlay old.now.trees []) params rows
-  answer_of h = (reads_as sql params old new (beside has.more has.indexes has.views) has.is (selects q names) is plain unlisted rows h).answer Null
+answer_of : {sql : List ℕ} {q : Query} {names : List (List ℕ)} → IsSelect sql q names → (params : Row) (old new : State) (rows : List Row) (has : HasTables old.now.schema) → Shown sql params old new rows
+    → IsAnswer q (overlay old.now.trees []) params rows
+answer_of it params old new rows has h =
+    (reads_as _ params old new (beside has.more has.indexes has.views) has.is _ (it.command _ _ _) (it.plain _ _ _) (it.unlisted _ _ _) rows h).answer Null
 
 pub tabs_shown : (old new : State) (rows : List Row) → Shown tabs_text [] old new rows → IsStore old.now → AreTabs (tabs old.now) rows
 tabs_shown old new rows h store =
     let has = store.tables in
-    let a = selected _ _ _ _ _ _ _ (answer_of tabs_text [] old new rows tabs_query _ has (tabs_is _ _ _) (tabs_plain _ _ _) (tabs_unlisted _ _ _) h) in
+    let a = selected _ _ _ _ _ _ _ (answer_of tabs_select [] old new rows has h) in
     let perm = subst (λ l. IsPermutation l a.taken) (filter_all (old.now.trees tab_tree)) a.same in
     let by_id = sorted_same _ (λ x y. value_cmp (column x 0) (column y 0)) (λ x y. then_equal _) a.taken a.sorted in
     record {
@@ -77,7 +74,7 @@ pub row_shown : (table key : Value) (old new : State) (rows : List Row) → Show
     → AreOfRow table key (cells old.now) rows
 row_shown table key old new rows h store =
     let has = store.tables in
-    let a = selected _ _ _ _ _ _ _ (answer_of row_text (table ∷ key ∷ []) old new rows row_query _ has (row_is _ _ _) (row_plain _ _ _) (row_unlisted _ _ _) h) in
+    let a = selected _ _ _ _ _ _ _ (answer_of row_select (table ∷ key ∷ []) old new rows has h) in
     let pick : Row → Row = λ c. column c 2 ∷ column c 3 ∷ [] in
     let by_place = sorted_same _ (λ x y. value_cmp (column x 3) (column y 3)) (λ x y. then_equal _) a.taken a.sorted in
     record {
@@ -90,7 +87,7 @@ pub table_shown : (table : Value) (old new : State) (rows : List Row) → Shown 
     → AreOfTable table (cells old.now) rows
 table_shown table old new rows h store =
     let has = store.tables in
-    let a = selected _ _ _ _ _ _ _ (answer_of table_text (table ∷ []) old new rows table_query _ has (table_is _ _ _) (table_plain _ _ _) (table_unlisted _ _ _) h) in
+    let a = selected _ _ _ _ _ _ _ (answer_of table_select (table ∷ []) old new rows has h) in
     let pick : Row → Row = λ c. column c 1 ∷ column c 2 ∷ column c 3 ∷ [] in
     let by_both = sorted_same _ (λ x y. ordering_then (value_cmp (column x 2) (column y 2)) (value_cmp (column x 3) (column y 3))) (λ x y. ap (ordering_then (value_cmp (column x 2) (column y 2))) (then_equal (value_cmp (column x 3) (column y 3)))) a.taken a.sorted in
     record {
@@ -103,7 +100,7 @@ pub keys_shown : (table place : Value) (old new : State) (rows : List Row) → S
     → AreKeys table place (cells old.now) rows
 keys_shown table place old new rows h store =
     let has = store.tables in
-    let a = selected _ _ _ _ _ _ _ (answer_of keys_text (table ∷ place ∷ []) old new rows keys_query _ has (keys_is _ _ _) (keys_plain _ _ _) (keys_unlisted _ _ _) h) in
+    let a = selected _ _ _ _ _ _ _ (answer_of keys_select (table ∷ place ∷ []) old new rows has h) in
     let test : Row → Bool = λ c. is_in table c && same (column c 2) place in
     let pick : Row → Row = λ c. column c 1 ∷ [] in
     record {
@@ -113,39 +110,28 @@ keys_shown table place old new rows h store =
 
 pub metas_shown : (old new : State) (rows : List Row) → Shown metas_text [] old new rows → HasTables old.now.schema → IsPermutation (metas old.now) rows
 metas_shown old new rows h has =
-    let a = selected _ _ _ _ _ _ _ (answer_of metas_text [] old new rows metas_query _ has (metas_is _ _ _) (metas_plain _ _ _) (metas_unlisted _ _ _) h) in
+    let a = selected _ _ _ _ _ _ _ (answer_of metas_select [] old new rows has h) in
     let perm = subst (λ l. IsPermutation l a.taken) (filter_all (old.now.trees meta_tree)) a.same in
     subst (IsPermutation (metas old.now)) (sym a.shows) (IsPermutation-map meta_of _ _ perm)
 
 pub owners_shown : (old new : State) (rows : List Row) → Shown owners_text [] old new rows → HasTables old.now.schema → AreTablesOfCells (cells old.now) rows
 owners_shown old new rows h has =
-    let a = selected _ _ _ _ _ _ _ (answer_of owners_text [] old new rows owners_query _ has (owners_is _ _ _) (owners_plain _ _ _) (owners_unlisted _ _ _) h) in
+    let a = selected _ _ _ _ _ _ _ (answer_of owners_select [] old new rows has h) in
     let pick : Row → Row = λ c. column c 0 ∷ [] in
     let perm = subst (λ l. IsPermutation l a.taken) (filter_all (old.now.trees cell_tree)) a.same in
     subst (IsPermutation (map pick (cells old.now))) (sym a.shows)
     (subst (λ l. IsPermutation l (map (λ r. pick (cell_of r)) a.taken)) (sym (map-map pick cell_of (old.now.trees cell_tree))) (IsPermutation-map (λ r. pick (cell_of r)) _ _ perm))
 
-ids_shown : (text : List ℕ) (tree : ℕ) (names : List (List ℕ)) (old new : State) (rows : List Row) (has : HasTables old.now.schema) → overlay old.now.trees [] tree ≡ old.now.trees tree
-    → command_of (understood (beside has.more has.indexes has.views) text) ≡ selects (ids_query tree) names
-    → IsPlain (understood (beside has.more has.indexes has.views) text) → reads_listing (beside has.more has.indexes has.views) text ≡ false
-    → Shown text [] old new rows → AreIds (old.now.trees tree) rows
-ids_shown text tree names old new rows has of_tree is plain unlisted h =
-    let a = selected _ _ _ _ _ _ _ (answer_of text [] old new rows (ids_query tree) names has is plain unlisted h) in
+pub ids_shown : {text : List ℕ} {names : List (List ℕ)} (tree : ℕ) → IsSelect text (ids_query tree) names → (old new : State) → overlay old.now.trees [] tree ≡ old.now.trees tree
+    → (rows : List Row) → Shown text [] old new rows → HasTables old.now.schema → AreIds (old.now.trees tree) rows
+ids_shown tree it old new of_tree rows h has =
+    let a = selected _ _ _ _ _ _ _ (answer_of it [] old new rows has h) in
     let perm = subst (λ l. IsPermutation l a.taken) (filter_all (overlay old.now.trees [] tree) ∙ of_tree) a.same in
     let by_number = sorted_same _ (λ x y. value_cmp (rowid x) (rowid y)) (λ x y. then_equal _) a.taken a.sorted in
     record {
       same_ids = subst (IsPermutation (map (λ r. rowid r ∷ []) (old.now.trees tree))) (sym a.shows) (IsPermutation-map (λ r. rowid r ∷ []) _ _ perm);
       in_order = subst (IsSorted (on rowid value_cmp)) (sym a.shows) (IsSorted-map (on rowid value_cmp) (λ r. rowid r ∷ []) a.taken by_number);
     }
-
-pub meta_ids_shown : (old new : State) (rows : List Row) → Shown meta_ids_text [] old new rows → HasTables old.now.schema → AreIds (old.now.trees meta_tree) rows
-meta_ids_shown old new rows h has = ids_shown meta_ids_text meta_tree _ old new rows has refl (meta_ids_is _ _ _) (meta_ids_plain _ _ _) (meta_ids_unlisted _ _ _) h
-
-pub tab_ids_shown : (old new : State) (rows : List Row) → Shown tab_ids_text [] old new rows → HasTables old.now.schema → AreIds (old.now.trees tab_tree) rows
-tab_ids_shown old new rows h has = ids_shown tab_ids_text tab_tree _ old new rows has refl (tab_ids_is _ _ _) (tab_ids_plain _ _ _) (tab_ids_unlisted _ _ _) h
-
-pub cell_ids_shown : (old new : State) (rows : List Row) → Shown cell_ids_text [] old new rows → HasTables old.now.schema → AreIds (old.now.trees cell_tree) rows
-cell_ids_shown old new rows h has = ids_shown cell_ids_text cell_tree _ old new rows has refl (cell_ids_is _ _ _) (cell_ids_plain _ _ _) (cell_ids_unlisted _ _ _) h
 
 -- as many keys are answered as there are cells at the place
 pub keys_count : (table place : Value) (all rows : List Row) → AreKeys table place all rows → length rows ≡ length (filter (λ c. is_in table c && same (column c 2) place) all)

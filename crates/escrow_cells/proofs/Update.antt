@@ -1,5 +1,5 @@
 -- What UPDATE makes of CELL.
-use Rattle.std.proofs.Common.{◌≡◌, ℕ, ℤ, Bool, true, false, not, ◌&&◌, cond, List, [], ◌∷◌, ◌++◌, map, filter, drop, codes, slice_get, Result, OnOk, IsPermutation, refl, sym, ap, ap₂, ◌∙◌, subst, subst₂}
+use Rattle.std.proofs.Common.{◌≡◌, ℕ, ℤ, Bool, true, false, not, ◌&&◌, cond, List, [], ◌∷◌, ◌++◌, map, filter, drop, codes, slice_get, Ok, IsPermutation, refl, sym, ap, ap₂, ◌∙◌, subst, subst₂}
 use Rattle.std.specs.List.{AllByRecursion}
 use Rattle.std.proofs.lemmas.Bool.{not-true}
 use Rattle.std.proofs.lemmas.List.{map-append}
@@ -9,9 +9,6 @@ use Rattle.sqlite_value.specs.declared.value.Value.TheVariants.{Int}
 use Rattle.sqlite_value.specs.Order.{Row, column}
 use Rattle.sqlite_trees.proofs.ListLemmas.{map-map}
 use Rattle.sqlite_sql.specs.Term.{Term, col, eval_all}
-use Rattle.sqlite_schema.specs.declared.schema.Table.{Table}
-use Rattle.sqlite_schema.specs.declared.schema.Index.{Index}
-use Rattle.sqlite_schema.specs.declared.schema.View.{View}
 use Rattle.sqlite_schema.specs.declared.schema.Schema.{Schema}
 use Rattle.sqlite_schema.specs.declared.command.Command.TheVariants.{Update}
 use Rattle.sqlite_rules.specs.declared.error.Rowids.TheVariants.{Given}
@@ -21,17 +18,14 @@ use Rattle.sqlite_rules.specs.Calls.{ids_of}
 use Rattle.sqlite_rules.proofs.ListLemmas.{all_has, all_from, has_filtered}
 use Rattle.sqlite_rules.proofs.PlaceLemmas.{given}
 use Rattle.sqlite_tied.specs.Compute.{everything}
-use Rattle.sqlite.specs.declared.error.Error.{Error}
 use Rattle.sqlite.specs.Listing.{understood}
-use Rattle.sqlite.specs.State.{State, ExecutesInside}
-use Rattle.sqlite.proofs.Callers.{IsPlain, command_of, runs_as}
+use Rattle.sqlite.specs.State.{State, Executes}
 use Rattle.escrow_cells.specs.declared.datum.Datum.{Datum}
 use Rattle.escrow_cells.specs.declared.step.Step.TheVariants as step
-use Rattle.escrow_cells.specs.Tables.{beside, cell}
+use Rattle.escrow_cells.specs.Tables.{cell}
 use Rattle.escrow_cells.specs.Store.{AreNumbered}
-use Rattle.escrow_cells.specs.Step.{kept, same, is_at, with_value}
-use Rattle.escrow_cells.specs.Inside.{HasDone}
-use Rattle.escrow_cells.proofs.Inside.{has_done, updates}
+use Rattle.escrow_cells.specs.Step.{kept, same, is_at, with_value, Does}
+use Rattle.escrow_cells.proofs.Inside.{IsStatement, updates, wrote_by}
 use Rattle.escrow_cells.proofs.Makes.{put_beside, left_is}
 use Rattle.escrow_cells.proofs.Columns.{IsWritten, all_written}
 use Rattle.escrow_cells.proofs.Leaves.{cell_of, holds_cells}
@@ -47,14 +41,9 @@ at_tests = equals 1 0 ∷ equals 2 1 ∷ equals 3 2 ∷ []
 abbrev set_terms : List Term
 set_terms = col 1 0 ∷ col 1 0 ∷ col 1 1 ∷ col 1 2 ∷ col 1 3 ∷ col 0 3 ∷ []
 
-module _ (more : List Table) (indexes : List Index) (views : List View) where
-  set_is : command_of (understood (beside more indexes views) set_text) ≡ Update 2 (record { lets = []; body = plain_query 4 at_tests set_terms })
-  unfolding understood everything
-  set_is = refl
-
-  set_plain : IsPlain (understood (beside more indexes views) set_text)
-  unfolding understood everything
-  set_plain = (refl, refl)
+set_statement : IsStatement set_text (Update 2 (record { lets = []; body = plain_query 4 at_tests set_terms }))
+unfolding understood everything
+set_statement = record { is = λ _ _ _. refl; plain = λ _ _ _. (refl, refl) }
 
 -- ---- the list of cells
 
@@ -132,14 +121,13 @@ module _ (table key place value : Value) where
         rw (map-map (with_value table key place value) cell_of rows) (IsPermutation-trans _ _ _ told (subst (λ l. IsPermutation l (map cell_of (put_all left news))) parts shown))
 
 -- UPDATE puts another value in the cell
-pub sets : (table : ℤ) (key : Datum) (place : ℤ) (value : Datum) (old new : State) (r : Result ℕ Error) → ExecutesInside 0 set_text (Int table ∷ kept key ∷ Int place ∷ kept value ∷ []) old new r
-    → OnOk r (HasDone (step.SetCell table key place value ∷ []) old new)
-sets table key place value old new r = has_done set_text (params (Int table) (kept key) (Int place) (kept value)) old new (step.SetCell table key place value ∷ []) r (λ n ran store.
+pub sets : (table : ℤ) (key : Datum) (place : ℤ) (value : Datum) (old new : State) (n : ℕ) → Executes set_text (Int table ∷ kept key ∷ Int place ∷ kept value ∷ []) old new (Ok n)
+    → Does (step.SetCell table key place value ∷ []) old.now new.now
+sets table key place value old new n ran store =
     let t = store.tables in
-    let is = set_is t.more t.indexes t.views in
     let given_params = params (Int table) (kept key) (Int place) (kept value) in
-    let w = runs_as set_text given_params old new (beside t.more t.indexes t.views) t.is _ is (set_plain t.more t.indexes t.views) n ran in
+    let w = wrote_by set_statement given_params old new t n ran in
     let u = updates old new cell 2 (ap (λ (s : Schema). slice_get s.tables 2) t.is) store.no_keys _ given_params n _ w in
     let found = matched old.now given_params 4 at_tests set_terms u.0 u.1 in
     let cells_are = set_rows (Int table) (kept key) (Int place) (kept value) (old.now.trees 4) u.0 store.cells_numbered (all_written old.now store) found u.2.applies.fresh in
-    holds_cells old.now new.now _ store u.2 refl _ (rw u.2.applies.rows cells_are))
+    holds_cells old.now new.now _ store u.2 refl _ (rw u.2.applies.rows cells_are)

@@ -1,22 +1,21 @@
 -- Helps: what private contracts say of a call inside a transaction. Nothing that callers see rests on it.
-use Rattle.std.specs.Prelude.{List, IsTrue}
+use Rattle.std.specs.Prelude.{◌≡◌, Bool, true, IsTrue}
+use Rattle.sqlite.specs.Effect.{Database}
 use Rattle.sqlite.specs.State.{State, HasCleanDisk, KeepsCommit, Survives}
-use Rattle.escrow_cells.specs.declared.step.Step.{Step}
-use Rattle.escrow_cells.specs.Step.{Does}
-
--- the transaction goes on, with these steps done
-pub record HasDone (steps : List Step) (old new : State) : Type 0 where
-  pub inside : IsTrue new.in_transaction
-  pub is_open : IsTrue new.is_open
-  pub does : Does steps old.now new.now
 
 -- nothing is committed, and a crash leaves what it left before
 pub record IsPending (old new : State) : Type 0 where
   pub survives : Survives old new (λ _. ⊥)
   pub kept : HasCleanDisk new → KeepsCommit old new
 
--- a transaction that has begun goes on, and these steps are done in it
-pub record GoesOn (steps : List Step) (old new : State) : Type 0 where
+-- A call inside a transaction: where it is done the transaction goes on, and its database is one that the
+-- call makes of the old one. Whatever comes of it, nothing is committed.
+pub record Acts (old new : State) (is_done : Bool) (Makes : Database → Database → Type 0) : Type 0 where
+  pub done : is_done ≡ true → HasCleanDisk new → IsTrue old.in_transaction → IsTrue new.in_transaction × Makes old.now new.now
+  pub pending : IsPending old new
+
+-- a transaction that has begun goes on, and its database is one that is made of the old one
+pub record GoesOn (Makes : Database → Database → Type 0) (old new : State) : Type 0 where
   pub pending : IsPending old new
   pub inside : HasCleanDisk new → IsTrue new.in_transaction
-  pub so_far : HasCleanDisk new → Does steps old.now new.now
+  pub made : HasCleanDisk new → Makes old.now new.now

@@ -1,11 +1,11 @@
 -- Helps: what private contracts say of a store that is being made. Nothing that callers see rests on it.
-use Rattle.std.specs.Prelude.{◌≡◌, [], IsTrue}
+use Rattle.std.specs.Prelude.{◌≡◌, []}
 use Rattle.std.specs.List.{AllByRecursion}
 use Rattle.sqlite_schema.specs.declared.schema.Table.{Table}
 use Rattle.sqlite_schema.specs.declared.schema.Schema.{Schema}
 use Rattle.sqlite_catalog.specs.Change.{created}
 use Rattle.sqlite.specs.Effect.{Database}
-use Rattle.sqlite.specs.State.{State}
+use Rattle.escrow_cells.specs.Store.{IsEmpty}
 use Rattle.escrow_cells.specs.Tables.{no_schema, meta, tab, cell}
 
 -- the schema after each CREATE
@@ -23,8 +23,10 @@ pub record IsBare (schema : Schema) (db : Database) : Type 0 where
   pub schema_is : db.schema ≡ schema
   pub bare : AllByRecursion (λ (t : Table). db.trees t.tree ≡ []) schema.tables
 
--- the transaction goes on, and a fact holds
-pub record HasMade (new : State) (Fact : Type 0) : Type 0 where
-  pub inside : IsTrue new.in_transaction
-  pub is_open : IsTrue new.is_open
-  pub fact : Fact
+-- of a database without rows that has one schema comes one that has the next
+abbrev pub Extends : Schema → Schema → Database → Database → Type 0
+Extends before after old new = IsBare before old → IsBare after new
+
+-- of a database without rows that has a schema comes an empty store
+abbrev pub Fills : Schema → Database → Database → Type 0
+Fills before old new = IsBare before old → IsEmpty new

@@ -1,11 +1,11 @@
 //! A new store.
-ghost use Rattle.std.specs.Prelude.{◌≡◌, false, is_ok, IsTrue, OnOk};
+ghost use Rattle.std.specs.Prelude.{◌≡◌, false, is_ok, IsTrue};
 ghost use Rattle.sqlite.specs.Held.{state};
-ghost use Rattle.sqlite.specs.State.{HasCleanDisk, KeepsCommit, Survives};
 ghost use Rattle.escrow_cells.specs.Calls.{Writes};
 ghost use Rattle.escrow_cells.specs.Tables.{no_schema};
-ghost use Rattle.escrow_cells.specs.Store.{IsEmpty, MakesStore};
-ghost use Rattle.escrow_cells.specs.Making.{with_meta, with_tab, with_cell, IsBare, HasMade};
+ghost use Rattle.escrow_cells.specs.Store.{MakesStore};
+ghost use Rattle.escrow_cells.specs.Inside.{Acts};
+ghost use Rattle.escrow_cells.specs.Making.{with_meta, with_tab, with_cell, Extends, Fills};
 
 use crate::failure::failure_of;
 use escrow_num::Failure;
@@ -13,9 +13,7 @@ use sqlite::{Alter, Connection, Error, Transaction};
 
 fn create_meta<S: Alter>(tx: &mut Transaction<'_, S>) -> Result<usize, Error>
     ensures same_reference { tx.new.conn.ghost_name ≡ tx.old.conn.ghost_name }
-    ensures done { HasCleanDisk (state S.Store tx.new.conn.now) → IsTrue (state S.Store tx.old.conn.now).in_transaction → OnOk result (HasMade (state S.Store tx.new.conn.now) (IsBare no_schema (state S.Store tx.old.conn.now).now → IsBare with_meta (state S.Store tx.new.conn.now).now)) }
-    ensures kept { HasCleanDisk (state S.Store tx.new.conn.now) → KeepsCommit (state S.Store tx.old.conn.now) (state S.Store tx.new.conn.now) }
-    ensures survives { Survives (state S.Store tx.old.conn.now) (state S.Store tx.new.conn.now) (λ _. ⊥) }
+    ensures acts { Acts (state S.Store tx.old.conn.now) (state S.Store tx.new.conn.now) (is_ok result) (Extends no_schema with_meta) }
 {
     tx.execute(
         "CREATE TABLE META(K TEXT NOT NULL PRIMARY KEY, V INTEGER NOT NULL) STRICT",
@@ -25,9 +23,7 @@ fn create_meta<S: Alter>(tx: &mut Transaction<'_, S>) -> Result<usize, Error>
 
 fn create_tab<S: Alter>(tx: &mut Transaction<'_, S>) -> Result<usize, Error>
     ensures same_reference { tx.new.conn.ghost_name ≡ tx.old.conn.ghost_name }
-    ensures done { HasCleanDisk (state S.Store tx.new.conn.now) → IsTrue (state S.Store tx.old.conn.now).in_transaction → OnOk result (HasMade (state S.Store tx.new.conn.now) (IsBare with_meta (state S.Store tx.old.conn.now).now → IsBare with_tab (state S.Store tx.new.conn.now).now)) }
-    ensures kept { HasCleanDisk (state S.Store tx.new.conn.now) → KeepsCommit (state S.Store tx.old.conn.now) (state S.Store tx.new.conn.now) }
-    ensures survives { Survives (state S.Store tx.old.conn.now) (state S.Store tx.new.conn.now) (λ _. ⊥) }
+    ensures acts { Acts (state S.Store tx.old.conn.now) (state S.Store tx.new.conn.now) (is_ok result) (Extends with_meta with_tab) }
 {
     tx.execute(
         "CREATE TABLE TAB(ID INTEGER PRIMARY KEY, NAME TEXT NOT NULL UNIQUE, DDL TEXT NOT NULL) STRICT",
@@ -37,9 +33,7 @@ fn create_tab<S: Alter>(tx: &mut Transaction<'_, S>) -> Result<usize, Error>
 
 fn create_cell<S: Alter>(tx: &mut Transaction<'_, S>) -> Result<usize, Error>
     ensures same_reference { tx.new.conn.ghost_name ≡ tx.old.conn.ghost_name }
-    ensures done { HasCleanDisk (state S.Store tx.new.conn.now) → IsTrue (state S.Store tx.old.conn.now).in_transaction → OnOk result (HasMade (state S.Store tx.new.conn.now) (IsBare with_tab (state S.Store tx.old.conn.now).now → IsBare with_cell (state S.Store tx.new.conn.now).now)) }
-    ensures kept { HasCleanDisk (state S.Store tx.new.conn.now) → KeepsCommit (state S.Store tx.old.conn.now) (state S.Store tx.new.conn.now) }
-    ensures survives { Survives (state S.Store tx.old.conn.now) (state S.Store tx.new.conn.now) (λ _. ⊥) }
+    ensures acts { Acts (state S.Store tx.old.conn.now) (state S.Store tx.new.conn.now) (is_ok result) (Extends with_tab with_cell) }
 {
     tx.execute(
         "CREATE TABLE CELL(TAB INTEGER NOT NULL, K ANY NOT NULL, C INTEGER NOT NULL, V ANY NOT NULL, PRIMARY KEY(TAB, K, C)) STRICT",
@@ -50,9 +44,7 @@ fn create_cell<S: Alter>(tx: &mut Transaction<'_, S>) -> Result<usize, Error>
 /// Writes down that the store has the format 1.
 fn insert_format<S: Alter>(tx: &mut Transaction<'_, S>) -> Result<usize, Error>
     ensures same_reference { tx.new.conn.ghost_name ≡ tx.old.conn.ghost_name }
-    ensures done { HasCleanDisk (state S.Store tx.new.conn.now) → IsTrue (state S.Store tx.old.conn.now).in_transaction → OnOk result (HasMade (state S.Store tx.new.conn.now) (IsBare with_cell (state S.Store tx.old.conn.now).now → IsEmpty (state S.Store tx.new.conn.now).now)) }
-    ensures kept { HasCleanDisk (state S.Store tx.new.conn.now) → KeepsCommit (state S.Store tx.old.conn.now) (state S.Store tx.new.conn.now) }
-    ensures survives { Survives (state S.Store tx.old.conn.now) (state S.Store tx.new.conn.now) (λ _. ⊥) }
+    ensures acts { Acts (state S.Store tx.old.conn.now) (state S.Store tx.new.conn.now) (is_ok result) (Fills with_cell) }
 {
     tx.execute("INSERT INTO META VALUES ('format', 1)", &[])
 }
@@ -60,9 +52,7 @@ fn insert_format<S: Alter>(tx: &mut Transaction<'_, S>) -> Result<usize, Error>
 /// Makes what an empty store has.
 fn make_tables<S: Alter>(tx: &mut Transaction<'_, S>) -> Result<usize, Error>
     ensures same_reference { tx.new.conn.ghost_name ≡ tx.old.conn.ghost_name }
-    ensures done { HasCleanDisk (state S.Store tx.new.conn.now) → IsTrue (state S.Store tx.old.conn.now).in_transaction → OnOk result (HasMade (state S.Store tx.new.conn.now) (IsBare no_schema (state S.Store tx.old.conn.now).now → IsEmpty (state S.Store tx.new.conn.now).now)) }
-    ensures kept { HasCleanDisk (state S.Store tx.new.conn.now) → KeepsCommit (state S.Store tx.old.conn.now) (state S.Store tx.new.conn.now) }
-    ensures survives { Survives (state S.Store tx.old.conn.now) (state S.Store tx.new.conn.now) (λ _. ⊥) }
+    ensures acts { Acts (state S.Store tx.old.conn.now) (state S.Store tx.new.conn.now) (is_ok result) (Fills no_schema) }
 {
     create_meta(tx)?;
     create_tab(tx)?;

@@ -1,9 +1,9 @@
 //! The statements that write, each inside a transaction.
-ghost use Rattle.std.specs.Prelude.{◌≡◌, [], ◌∷◌, IsTrue, OnOk};
+ghost use Rattle.std.specs.Prelude.{◌≡◌, [], ◌∷◌, is_ok};
 ghost use Rattle.sqlite.specs.Held.{state};
-ghost use Rattle.sqlite.specs.State.{HasCleanDisk, KeepsCommit, Survives};
 ghost use Rattle.escrow_cells.specs.declared.step.Step.TheVariants as step;
-ghost use Rattle.escrow_cells.specs.Inside.{HasDone};
+ghost use Rattle.escrow_cells.specs.Step.{Does};
+ghost use Rattle.escrow_cells.specs.Inside.{Acts};
 
 use crate::datum::Datum;
 use crate::step::Step;
@@ -19,9 +19,7 @@ fn insert_cell<S: Alter>(
     value: Datum<'_>,
 ) -> Result<usize, Error>
     ensures same_reference { tx.new.conn.ghost_name ≡ tx.old.conn.ghost_name }
-    ensures done { HasCleanDisk (state S.Store tx.new.conn.now) → IsTrue (state S.Store tx.old.conn.now).in_transaction → OnOk result (HasDone (step.InsertCell table key.entry place value.entry ∷ []) (state S.Store tx.old.conn.now) (state S.Store tx.new.conn.now)) }
-    ensures kept { HasCleanDisk (state S.Store tx.new.conn.now) → KeepsCommit (state S.Store tx.old.conn.now) (state S.Store tx.new.conn.now) }
-    ensures survives { Survives (state S.Store tx.old.conn.now) (state S.Store tx.new.conn.now) (λ _. ⊥) }
+    ensures acts { Acts (state S.Store tx.old.conn.now) (state S.Store tx.new.conn.now) (is_ok result) (Does (step.InsertCell table key.entry place value.entry ∷ [])) }
 {
     tx.execute(
         "INSERT INTO CELL VALUES (?1, ?2, ?3, ?4)",
@@ -38,9 +36,7 @@ fn set_cell<S: Alter>(
     value: Datum<'_>,
 ) -> Result<usize, Error>
     ensures same_reference { tx.new.conn.ghost_name ≡ tx.old.conn.ghost_name }
-    ensures done { HasCleanDisk (state S.Store tx.new.conn.now) → IsTrue (state S.Store tx.old.conn.now).in_transaction → OnOk result (HasDone (step.SetCell table key.entry place value.entry ∷ []) (state S.Store tx.old.conn.now) (state S.Store tx.new.conn.now)) }
-    ensures kept { HasCleanDisk (state S.Store tx.new.conn.now) → KeepsCommit (state S.Store tx.old.conn.now) (state S.Store tx.new.conn.now) }
-    ensures survives { Survives (state S.Store tx.old.conn.now) (state S.Store tx.new.conn.now) (λ _. ⊥) }
+    ensures acts { Acts (state S.Store tx.old.conn.now) (state S.Store tx.new.conn.now) (is_ok result) (Does (step.SetCell table key.entry place value.entry ∷ [])) }
 {
     tx.execute(
         "UPDATE CELL SET V = ?4 WHERE TAB = ?1 AND K = ?2 AND C = ?3",
@@ -55,9 +51,7 @@ fn delete_row<S: Alter>(
     key: Datum<'_>,
 ) -> Result<usize, Error>
     ensures same_reference { tx.new.conn.ghost_name ≡ tx.old.conn.ghost_name }
-    ensures done { HasCleanDisk (state S.Store tx.new.conn.now) → IsTrue (state S.Store tx.old.conn.now).in_transaction → OnOk result (HasDone (step.DeleteRow table key.entry ∷ []) (state S.Store tx.old.conn.now) (state S.Store tx.new.conn.now)) }
-    ensures kept { HasCleanDisk (state S.Store tx.new.conn.now) → KeepsCommit (state S.Store tx.old.conn.now) (state S.Store tx.new.conn.now) }
-    ensures survives { Survives (state S.Store tx.old.conn.now) (state S.Store tx.new.conn.now) (λ _. ⊥) }
+    ensures acts { Acts (state S.Store tx.old.conn.now) (state S.Store tx.new.conn.now) (is_ok result) (Does (step.DeleteRow table key.entry ∷ [])) }
 {
     tx.execute(
         "DELETE FROM CELL WHERE TAB = ?1 AND K = ?2",
@@ -68,9 +62,7 @@ fn delete_row<S: Alter>(
 /// Takes out the cells of a table.
 fn delete_cells<S: Alter>(tx: &mut Transaction<'_, S>, table: i64) -> Result<usize, Error>
     ensures same_reference { tx.new.conn.ghost_name ≡ tx.old.conn.ghost_name }
-    ensures done { HasCleanDisk (state S.Store tx.new.conn.now) → IsTrue (state S.Store tx.old.conn.now).in_transaction → OnOk result (HasDone (step.DeleteCells table ∷ []) (state S.Store tx.old.conn.now) (state S.Store tx.new.conn.now)) }
-    ensures kept { HasCleanDisk (state S.Store tx.new.conn.now) → KeepsCommit (state S.Store tx.old.conn.now) (state S.Store tx.new.conn.now) }
-    ensures survives { Survives (state S.Store tx.old.conn.now) (state S.Store tx.new.conn.now) (λ _. ⊥) }
+    ensures acts { Acts (state S.Store tx.old.conn.now) (state S.Store tx.new.conn.now) (is_ok result) (Does (step.DeleteCells table ∷ [])) }
 {
     tx.execute("DELETE FROM CELL WHERE TAB = ?1", params![table])
 }
@@ -83,9 +75,7 @@ fn insert_tab<S: Alter>(
     text: &str,
 ) -> Result<usize, Error>
     ensures same_reference { tx.new.conn.ghost_name ≡ tx.old.conn.ghost_name }
-    ensures done { HasCleanDisk (state S.Store tx.new.conn.now) → IsTrue (state S.Store tx.old.conn.now).in_transaction → OnOk result (HasDone (step.InsertTab id name.entry text.entry ∷ []) (state S.Store tx.old.conn.now) (state S.Store tx.new.conn.now)) }
-    ensures kept { HasCleanDisk (state S.Store tx.new.conn.now) → KeepsCommit (state S.Store tx.old.conn.now) (state S.Store tx.new.conn.now) }
-    ensures survives { Survives (state S.Store tx.old.conn.now) (state S.Store tx.new.conn.now) (λ _. ⊥) }
+    ensures acts { Acts (state S.Store tx.old.conn.now) (state S.Store tx.new.conn.now) (is_ok result) (Does (step.InsertTab id name.entry text.entry ∷ [])) }
 {
     tx.execute(
         "INSERT INTO TAB VALUES (?1, ?2, ?3)",
@@ -96,9 +86,7 @@ fn insert_tab<S: Alter>(
 /// Takes out a table's name and text.
 fn delete_tab<S: Alter>(tx: &mut Transaction<'_, S>, id: i64) -> Result<usize, Error>
     ensures same_reference { tx.new.conn.ghost_name ≡ tx.old.conn.ghost_name }
-    ensures done { HasCleanDisk (state S.Store tx.new.conn.now) → IsTrue (state S.Store tx.old.conn.now).in_transaction → OnOk result (HasDone (step.DeleteTab id ∷ []) (state S.Store tx.old.conn.now) (state S.Store tx.new.conn.now)) }
-    ensures kept { HasCleanDisk (state S.Store tx.new.conn.now) → KeepsCommit (state S.Store tx.old.conn.now) (state S.Store tx.new.conn.now) }
-    ensures survives { Survives (state S.Store tx.old.conn.now) (state S.Store tx.new.conn.now) (λ _. ⊥) }
+    ensures acts { Acts (state S.Store tx.old.conn.now) (state S.Store tx.new.conn.now) (is_ok result) (Does (step.DeleteTab id ∷ [])) }
 {
     tx.execute("DELETE FROM TAB WHERE ID = ?1", params![id])
 }
@@ -109,9 +97,7 @@ pub(crate) fn do_step<S: Alter>(
     step: &Step<'_>,
 ) -> Result<usize, Error>
     ensures same_reference { tx.new.conn.ghost_name ≡ tx.old.conn.ghost_name }
-    ensures done { HasCleanDisk (state S.Store tx.new.conn.now) → IsTrue (state S.Store tx.old.conn.now).in_transaction → OnOk result (HasDone (step.now ∷ []) (state S.Store tx.old.conn.now) (state S.Store tx.new.conn.now)) }
-    ensures kept { HasCleanDisk (state S.Store tx.new.conn.now) → KeepsCommit (state S.Store tx.old.conn.now) (state S.Store tx.new.conn.now) }
-    ensures survives { Survives (state S.Store tx.old.conn.now) (state S.Store tx.new.conn.now) (λ _. ⊥) }
+    ensures acts { Acts (state S.Store tx.old.conn.now) (state S.Store tx.new.conn.now) (is_ok result) (Does (step.now ∷ [])) }
 {
     match *step {
         Step::InsertCell {

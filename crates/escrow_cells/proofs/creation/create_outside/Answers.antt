@@ -1,13 +1,12 @@
 use Rattle.std.proofs.Common.{rules}
 use Rattle.sqlite.specs.Held.{state}
 use Rattle.escrow_cells.specs.Store.{MakesStore}
-use Rattle.escrow_cells.proofs.AllOrNone.{ends}
+use Rattle.escrow_cells.proofs.AllOrNone.{begun, ends}
 use Rattle.escrow_cells.proofs.Making.{made_in}
 use Rattle.escrow_cells.proofs.creation.create_outside.Goals as goal
 
 pub returns-clause-writes : goal.returns-clause-writes
 returns-clause-writes g c =
-    let last = state g.S.Store c.make_tables.new.tx.conn.now in
-    let made = made_in g.S.Store c.args.conn.now _ last c.transaction-tx.ensures.begun c.make_tables.ensures.survives c.make_tables.ensures.kept c.in_ok-make_tables.ensures.done in
+    let made = made_in g.S.Store c.args.conn.now _ (state g.S.Store c.make_tables.new.tx.conn.now) c.transaction-tx.ensures.begun c.in_ok-make_tables.ensures.acts in
     let it = ends _ _ _ c.requires.settled MakesStore made c.commit.ensures.survives (g.met.S.Store.settled c.commit.new.self.0.store) c.commit.result c.commit.ensures.ok c.commit.ensures.err in
     search (rules, it)

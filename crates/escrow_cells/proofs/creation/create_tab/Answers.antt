@@ -1,15 +1,12 @@
-use Rattle.std.proofs.Common.{ap}
+use Rattle.std.proofs.Common.{[], ap, rules}
 use Rattle.sqlite.specs.Held.{state}
-use Rattle.escrow_cells.proofs.Making.{has_made, creates_tab}
-use Rattle.escrow_cells.proofs.Inside.{keeps_commit}
+use Rattle.escrow_cells.specs.Tables.{tab_text}
+use Rattle.escrow_cells.proofs.Inside.{acts}
+use Rattle.escrow_cells.proofs.Making.{creates_tab}
 use Rattle.escrow_cells.proofs.creation.create_tab.Goals as goal
 
-pub returns-clause-done : goal.returns-clause-done
-returns-clause-done g c clean inside =
-    let old = state g.S.Store c.args.tx.now.conn.now in
-    let new = state g.S.Store c.execute.new.self.conn.now in
-    has_made _ _ old new _ c.execute.result (creates_tab old new) (c.execute.ensures.runs clean inside)
-
-pub returns-clause-kept : goal.returns-clause-kept
-returns-clause-kept g c clean =
-    keeps_commit _ _ (state g.S.Store c.args.tx.now.conn.now) (state g.S.Store c.execute.new.self.conn.now) c.execute.result (λ out. ap (state g.S.Store) (c.execute.ensures.ended out).1) (c.execute.ensures.runs clean)
+pub returns-clause-acts : goal.returns-clause-acts
+returns-clause-acts g c =
+    let a = c.args in
+    acts tab_text ([]) _ (state g.S.Store a.tx.now.conn.now) (state g.S.Store c.execute.new.self.conn.now) c.execute.result _ (λ outside. ap (state g.S.Store) (c.execute.ensures.ended outside).1) c.execute.ensures.survives
+    c.execute.ensures.runs (search rules) (creates_tab _ _)

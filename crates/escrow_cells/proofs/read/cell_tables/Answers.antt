@@ -2,14 +2,13 @@ use Rattle.std.proofs.Common.{[], rules}
 use Rattle.sqlite.specs.Held.{state}
 use Rattle.escrow_cells.specs.Read.{AreTablesOfCells}
 use Rattle.escrow_cells.specs.Store.{HasTables, cells}
-use Rattle.escrow_cells.proofs.Bare.{owners_only}
 use Rattle.escrow_cells.proofs.Reading.{owners_shown}
-use Rattle.escrow_cells.proofs.ReadTexts.{owners_text}
+use Rattle.escrow_cells.proofs.ReadTexts.{reads, owners_select, owners_text}
 use Rattle.escrow_cells.proofs.Streaming.{taken_answers}
 use Rattle.escrow_cells.proofs.read.cell_tables.Goals as goal
 
 pub read_each-requires : goal.read_each-requires
-read_each-requires g c = owners_only
+read_each-requires g c = reads owners_select
 
 pub returns-clause-rows : goal.returns-clause-rows
 returns-clause-rows g c clean =

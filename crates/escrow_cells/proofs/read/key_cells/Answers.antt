@@ -3,14 +3,13 @@ use Rattle.sqlite_value.specs.declared.value.Value.TheVariants.{Int}
 use Rattle.sqlite.specs.Held.{state}
 use Rattle.escrow_cells.specs.Read.{AreKeys}
 use Rattle.escrow_cells.specs.Store.{IsStore, cells}
-use Rattle.escrow_cells.proofs.Bare.{keys_only}
 use Rattle.escrow_cells.proofs.Reading.{keys_shown}
-use Rattle.escrow_cells.proofs.ReadTexts.{keys_text}
+use Rattle.escrow_cells.proofs.ReadTexts.{reads, keys_select, keys_text}
 use Rattle.escrow_cells.proofs.Streaming.{taken_answers}
 use Rattle.escrow_cells.proofs.read.key_cells.Goals as goal
 
 pub read_each-requires : goal.read_each-requires
-read_each-requires g c = keys_only
+read_each-requires g c = reads keys_select
 
 pub returns-clause-rows : goal.returns-clause-rows
 returns-clause-rows g c clean =

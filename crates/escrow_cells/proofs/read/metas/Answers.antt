@@ -1,14 +1,13 @@
 use Rattle.std.proofs.Common.{[], IsPermutation, rules}
 use Rattle.sqlite.specs.Held.{state}
 use Rattle.escrow_cells.specs.Store.{HasTables, metas}
-use Rattle.escrow_cells.proofs.Bare.{metas_only}
 use Rattle.escrow_cells.proofs.Reading.{metas_shown}
-use Rattle.escrow_cells.proofs.ReadTexts.{metas_text}
+use Rattle.escrow_cells.proofs.ReadTexts.{reads, metas_select, metas_text}
 use Rattle.escrow_cells.proofs.Streaming.{taken_answers}
 use Rattle.escrow_cells.proofs.read.metas.Goals as goal
 
 pub read_each-requires : goal.read_each-requires
-read_each-requires g c = metas_only
+read_each-requires g c = reads metas_select
 
 pub returns-clause-rows : goal.returns-clause-rows
 returns-clause-rows g c clean =

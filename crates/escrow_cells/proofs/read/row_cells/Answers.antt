@@ -4,14 +4,13 @@ use Rattle.sqlite.specs.Held.{state}
 use Rattle.escrow_cells.specs.Read.{AreOfRow}
 use Rattle.escrow_cells.specs.Step.{kept}
 use Rattle.escrow_cells.specs.Store.{IsStore, cells}
-use Rattle.escrow_cells.proofs.Bare.{row_only}
 use Rattle.escrow_cells.proofs.Inside.{bound_kept}
 use Rattle.escrow_cells.proofs.Reading.{row_shown, all_answers}
-use Rattle.escrow_cells.proofs.ReadTexts.{row_text}
+use Rattle.escrow_cells.proofs.ReadTexts.{reads, row_select, row_text}
 use Rattle.escrow_cells.proofs.read.row_cells.Goals as goal
 
 pub read_all-requires : goal.read_all-requires
-read_all-requires g c = row_only
+read_all-requires g c = reads row_select
 
 pub returns-clause-rows : goal.returns-clause-rows
 returns-clause-rows g c clean =

@@ -3,14 +3,13 @@ use Rattle.sqlite_value.specs.declared.value.Value.TheVariants.{Int}
 use Rattle.sqlite.specs.Held.{state}
 use Rattle.escrow_cells.specs.Read.{AreOfTable}
 use Rattle.escrow_cells.specs.Store.{IsStore, cells}
-use Rattle.escrow_cells.proofs.Bare.{table_only}
 use Rattle.escrow_cells.proofs.Reading.{table_shown}
-use Rattle.escrow_cells.proofs.ReadTexts.{table_text}
+use Rattle.escrow_cells.proofs.ReadTexts.{reads, table_select, table_text}
 use Rattle.escrow_cells.proofs.Streaming.{taken_answers}
 use Rattle.escrow_cells.proofs.read.table_cells.Goals as goal
 
 pub read_each-requires : goal.read_each-requires
-read_each-requires g c = table_only
+read_each-requires g c = reads table_select
 
 pub returns-clause-rows : goal.returns-clause-rows
 returns-clause-rows g c clean =

@@ -2,16 +2,12 @@ use Rattle.std.proofs.Common.{[], ◌∷◌, ap, rules}
 use Rattle.sqlite_value.specs.declared.value.Value.TheVariants.{Int}
 use Rattle.sqlite.specs.Held.{state}
 use Rattle.escrow_cells.specs.Step.{kept}
-use Rattle.escrow_cells.proofs.Inside.{bound_kept, keeps_commit, under}
 use Rattle.escrow_cells.proofs.Delete.{row_text, deletes_row}
+use Rattle.escrow_cells.proofs.Inside.{acts, bound_kept}
 use Rattle.escrow_cells.proofs.statement.delete_row.Goals as goal
 
-pub returns-clause-done : goal.returns-clause-done
-returns-clause-done g c = λ clean inside.
+pub returns-clause-acts : goal.returns-clause-acts
+returns-clause-acts g c =
     let a = c.args in
-    let old = state g.S.Store a.tx.now.conn.now in
-    let new = state g.S.Store c.execute.new.self.conn.now in
-    deletes_row a.table a.key old new c.execute.result (under row_text _ (Int a.table ∷ kept a.key ∷ []) old new c.execute.result (c.execute.ensures.runs clean inside) (search (rules, bound_kept)))
-
-pub returns-clause-kept : goal.returns-clause-kept
-returns-clause-kept g c = λ clean. keeps_commit _ _ _ _ _ (λ outside. ap (state g.S.Store) (c.execute.ensures.ended outside).1) (c.execute.ensures.runs clean)
+    acts row_text (Int a.table ∷ kept a.key ∷ []) _ (state g.S.Store a.tx.now.conn.now) (state g.S.Store c.execute.new.self.conn.now) c.execute.result _ (λ outside. ap (state g.S.Store) (c.execute.ensures.ended outside).1) c.execute.ensures.survives
+    c.execute.ensures.runs (search (rules, bound_kept)) (deletes_row a.table a.key _ _)

@@ -2,17 +2,12 @@ use Rattle.std.proofs.Common.{[], ◌∷◌, ap, rules}
 use Rattle.sqlite_value.specs.declared.value.Value.TheVariants.{Int}
 use Rattle.sqlite.specs.Held.{state}
 use Rattle.escrow_cells.specs.Step.{kept}
-use Rattle.escrow_cells.proofs.Inside.{bound_kept, keeps_commit, under}
+use Rattle.escrow_cells.proofs.Inside.{acts, bound_kept}
 use Rattle.escrow_cells.proofs.Update.{set_text, sets}
 use Rattle.escrow_cells.proofs.statement.set_cell.Goals as goal
 
-pub returns-clause-done : goal.returns-clause-done
-returns-clause-done g c = λ clean inside.
+pub returns-clause-acts : goal.returns-clause-acts
+returns-clause-acts g c =
     let a = c.args in
-    let old = state g.S.Store a.tx.now.conn.now in
-    let new = state g.S.Store c.execute.new.self.conn.now in
-    let params = Int a.table ∷ kept a.key ∷ Int a.place ∷ kept a.value ∷ [] in
-    sets a.table a.key a.place a.value old new c.execute.result (under set_text _ params old new c.execute.result (c.execute.ensures.runs clean inside) (search (rules, bound_kept)))
-
-pub returns-clause-kept : goal.returns-clause-kept
-returns-clause-kept g c = λ clean. keeps_commit _ _ _ _ _ (λ outside. ap (state g.S.Store) (c.execute.ensures.ended outside).1) (c.execute.ensures.runs clean)
+    acts set_text (Int a.table ∷ kept a.key ∷ Int a.place ∷ kept a.value ∷ []) _ (state g.S.Store a.tx.now.conn.now) (state g.S.Store c.execute.new.self.conn.now) c.execute.result _ (λ outside. ap (state g.S.Store) (c.execute.ensures.ended outside).1) c.execute.ensures.survives
+    c.execute.ensures.runs (search (rules, bound_kept)) (sets a.table a.key a.place a.value _ _)
