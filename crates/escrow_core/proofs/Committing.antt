@@ -49,11 +49,6 @@ commit_step : (s : State) (session : ℕ) → step s session statement.Commit �
 unfolding turn_of
 commit_step s session = refl
 
--- where its session holds a reservation it may fail for memory or for the store
-takes : (s : State) (session : ℕ) (f : Failure) → nat_lt 0 (length (own session s.reservations)) ≡ true → (turn_of s session statement.Commit).fails_for f ≡ true
-unfolding turn_of
-takes s session f holds = rw holds refl
-
 -- where its session holds none, no row changes
 changes_none : (s : State) (session : ℕ) → own session s.reservations ≡ [] → after_commit s session ≡ after_rollback s session
 changes_none s session none =
@@ -81,7 +76,7 @@ module _ {S : Type 0} (g : Ghosts S) (session : ℕ) (t : Committed S) (o : Open
         → Serves g session statement.Commit (seen_of t o) (done session o) (seen_of new (ended session o))
     committed holds writes =
         let s : State = (seen_of t o).state in
-        wrote g session statement.Commit t new o (ended session o) (done session o) (after_commit s session) holds (passes s session) refl refl writes (λ _. commit_step s session) refl
+        wrote g session statement.Commit t new o (ended session o) (done session o) (after_commit s session) holds (passes s session) refl writes (λ _. commit_step s session) refl
 
     pub committed_keeps : IsKept g (seen_of t o) → Writes g t new true t.catalog (applied t.rows (own session o.reservations)) → IsKept g (seen_of new (ended session o))
     committed_keeps kept writes =
@@ -93,4 +88,4 @@ module _ {S : Type 0} (g : Ghosts S) (session : ℕ) (t : Committed S) (o : Open
         → Serves g session statement.Commit (seen_of t o) (reply.Refused (told f)) (seen_of new o)
     not_committed f holds writes =
         let s : State = (seen_of t o).state in
-        write_failed g session statement.Commit t new o f (done session o) (after_commit s session) holds (passes s session) (takes s session f holds) writes (λ _. commit_step s session)
+        write_failed g session statement.Commit t new o f (done session o) (after_commit s session) holds (passes s session) holds writes (λ _. commit_step s session)

@@ -54,17 +54,13 @@ unfolding turn_of
 created_step s session text table early made room =
     accepted_step s session (statement.Create text) (none_applies s session (statement.Create text) early (rw (made, lt-leb MAX_TABLES (length s.catalog) room) refl)) ∙ rw made refl
 
-create_takes : (s : State) (session : ℕ) (text : CreateText) (f : Failure) → (turn_of s session (statement.Create text)).fails_for f ≡ true
-unfolding turn_of
-create_takes s session text f = refl
-
 module _ {S : Type 0} (g : Ghosts S) (session : ℕ) (text : CreateText) (t new : Committed S) (o : Open) (table : TableDef)
     (early : PassesEarly (seen_of t o).state session (statement.Create text)) (made : definition_of text ≡ Some table) (room : length t.catalog < MAX_TABLES) where
   -- the store agreed
   pub created : Writes g t new true (with_table table t.catalog) t.rows → Serves g session (statement.Create text) (seen_of t o) (reply.Created text.table) (seen_of new o)
   created writes =
       let s : State = (seen_of t o).state in
-      wrote g session (statement.Create text) t new o o (reply.Created text.table) (record s { catalog = with_table table s.catalog }) refl early refl refl writes
+      wrote g session (statement.Create text) t new o o (reply.Created text.table) (record s { catalog = with_table table s.catalog }) refl early refl writes
       (λ _. created_step s session text table early made room) refl
 
   pub created_keeps : IsKept g (seen_of t o) → Writes g t new true (with_table table t.catalog) t.rows → IsKept g (seen_of new o)
@@ -78,5 +74,5 @@ module _ {S : Type 0} (g : Ghosts S) (session : ℕ) (text : CreateText) (t new 
   pub not_created : (f : Failure) → Writes g t new false (with_table table t.catalog) t.rows → Serves g session (statement.Create text) (seen_of t o) (reply.Refused (told f)) (seen_of new o)
   not_created f writes =
       let s : State = (seen_of t o).state in
-      write_failed g session (statement.Create text) t new o f (reply.Created text.table) (record s { catalog = with_table table s.catalog }) refl early (create_takes s session text f) writes
+      write_failed g session (statement.Create text) t new o f (reply.Created text.table) (record s { catalog = with_table table s.catalog }) refl early refl writes
       (λ _. created_step s session text table early made room)

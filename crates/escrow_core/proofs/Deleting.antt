@@ -86,7 +86,7 @@ module _ {S : Type 0} (g : Ghosts S) (session : ℕ) (text : RowText) (name : Ro
       → (HasCleanDisk (state g t.store) → IsSome (row_named t.rows name)) → is_reserved (seen_of t o).state name ≡ false
       → Writes g t new true t.catalog (without_row name t.rows) → Serves g session (statement.Delete text) (seen_of t o) reply.Deleted (seen_of new o)
   row_deleted t new o early stands free writes =
-      wrote g session (statement.Delete text) t new o o reply.Deleted (record (seen_of t o).state { rows = without_row name t.rows }) refl early refl refl writes
+      wrote g session (statement.Delete text) t new o o reply.Deleted (record (seen_of t o).state { rows = without_row name t.rows }) refl early refl writes
       (steps_by_name (seen_of t o) early stands free) refl
 
   pub delete_failed : (t new : Committed S) (o : Open) (f : Failure) → PassesEarly (seen_of t o).state session (statement.Delete text)

@@ -51,16 +51,12 @@ dropped_step : (s : State) (session : ℕ) (name : List ℕ) → PassesEarly s s
 unfolding turn_of
 dropped_step s session name early = accepted_step s session (statement.Drop name) (none_applies s session (statement.Drop name) early refl)
 
-drop_takes : (s : State) (session : ℕ) (name : List ℕ) (f : Failure) → (turn_of s session (statement.Drop name)).fails_for f ≡ true
-unfolding turn_of
-drop_takes s session name f = refl
-
 module _ {S : Type 0} (g : Ghosts S) (session : ℕ) (name : List ℕ) (t new : Committed S) (o : Open) (early : PassesEarly (seen_of t o).state session (statement.Drop name)) where
   -- the store agreed
   pub dropped : Writes g t new true (without_table name t.catalog) (without_rows_of name t.rows) → Serves g session (statement.Drop name) (seen_of t o) (reply.Dropped name) (seen_of new o)
   dropped writes =
       let s : State = (seen_of t o).state in
-      wrote g session (statement.Drop name) t new o o (reply.Dropped name) (after_drop s name) refl early refl refl writes (λ _. dropped_step s session name early) refl
+      wrote g session (statement.Drop name) t new o o (reply.Dropped name) (after_drop s name) refl early refl writes (λ _. dropped_step s session name early) refl
 
   pub dropped_keeps : IsKept g (seen_of t o) → Writes g t new true (without_table name t.catalog) (without_rows_of name t.rows) → IsKept g (seen_of new o)
   dropped_keeps kept writes =
@@ -73,4 +69,4 @@ module _ {S : Type 0} (g : Ghosts S) (session : ℕ) (name : List ℕ) (t new : 
       → Serves g session (statement.Drop name) (seen_of t o) (reply.Refused (told f)) (seen_of new o)
   not_dropped f writes =
       let s : State = (seen_of t o).state in
-      write_failed g session (statement.Drop name) t new o f (reply.Dropped name) (after_drop s name) refl early (drop_takes s session name f) writes (λ _. dropped_step s session name early)
+      write_failed g session (statement.Drop name) t new o f (reply.Dropped name) (after_drop s name) refl early refl writes (λ _. dropped_step s session name early)

@@ -110,10 +110,6 @@ new_room s text none =
 
 -- THE STEP
 
-pub insert_fails : (s : State) (session : ℕ) (text : InsertText) (f : Failure) → (turn_of s session (statement.Insert text)).fails_for f ≡ true
-unfolding turn_of
-insert_fails s session text f = refl
-
 pub insert_step : (s : State) (session : ℕ) (text : InsertText) (row : Row) → row_of s text ≡ Some row → IsAccepted s session (statement.Insert text)
     → step s session (statement.Insert text) ≡ (reply.Inserted, record s { rows = with_row row s.rows })
 unfolding turn_of
@@ -140,7 +136,7 @@ module _ {S : Type 0} (g : Ghosts S) (session : ℕ) (text : InsertText) (row : 
   -- it was put
   pub put_serves : Writes g t new true t.catalog (with_row row t.rows) → Serves g session (statement.Insert text) (seen_of t o) reply.Inserted (seen_of new o)
   put_serves writes =
-      wrote g session (statement.Insert text) t new o o reply.Inserted (record (seen_of t o).state { rows = with_row row t.rows }) refl is_new.early refl refl writes steps refl
+      wrote g session (statement.Insert text) t new o o reply.Inserted (record (seen_of t o).state { rows = with_row row t.rows }) refl is_new.early refl writes steps refl
 
   pub put_keeps : IsKept g (seen_of t o) → Writes g t new true t.catalog (with_row row t.rows) → IsKept g (seen_of new o)
   put_keeps kept writes =
@@ -150,5 +146,4 @@ module _ {S : Type 0} (g : Ghosts S) (session : ℕ) (text : InsertText) (row : 
   -- it could not be put
   pub put_fails : (f : Failure) → Writes g t new false t.catalog (with_row row t.rows) → Serves g session (statement.Insert text) (seen_of t o) (reply.Refused (told f)) (seen_of new o)
   put_fails f writes =
-      write_failed g session (statement.Insert text) t new o f reply.Inserted (record (seen_of t o).state { rows = with_row row t.rows }) refl is_new.early
-      (insert_fails (seen_of t o).state session text f) writes steps
+      write_failed g session (statement.Insert text) t new o f reply.Inserted (record (seen_of t o).state { rows = with_row row t.rows }) refl is_new.early refl writes steps

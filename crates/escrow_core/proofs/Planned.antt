@@ -1,5 +1,5 @@
 -- UPDATE: what follows for its turn from the plan, or from why there is none.
-use Rattle.std.specs.Prelude.{◌≡◌, ◌⊎◌, ◌≤◌, ℕ, ℤ, true, Option, Some, None, Result, Ok, Err, IfErr, IsErrOf, IsOk, List, length}
+use Rattle.std.specs.Prelude.{◌≡◌, ◌⊎◌, ◌≤◌, ℕ, ℤ, Option, Some, None, Result, Ok, Err, IfErr, IsErrOf, IsOk, List, length}
 use Rattle.std.specs.Result.{result_ok}
 use Rattle.std.proofs.Common.{inl, inr, refl, sym, ap, subst, arith, ◌∙◌}
 use Rattle.std.proofs.lemmas.Option.{option_and_then_some}
@@ -15,7 +15,6 @@ use Rattle.escrow_schema.specs.declared.plan.Plan.TheVariants as plan
 use Rattle.escrow_schema.specs.declared.table.TableDef.{TableDef}
 use Rattle.escrow_schema.specs.Catalog.{table_named}
 use Rattle.escrow_schema.specs.Plan.{planned}
-use Rattle.escrow_num.specs.declared.failure.Failure.{Failure}
 use Rattle.escrow_num.specs.declared.failure.Failure.TheVariants as failure
 use Rattle.escrow_machine.specs.Asked.{plan_of}
 use Rattle.escrow_machine.specs.Accepted.{IsAccepted, IsRefusal, PassesEarly}
@@ -72,10 +71,6 @@ early_none s session text asked table named at = rw (named, at) refl
 
 pub planned_early : (s : State) (session : ℕ) (text : UpdateText) (asked : Plan) → plan_of s text ≡ Some asked → PassesEarly s session (statement.Update text)
 planned_early s session text asked is = planned_in s text asked is (early_none s session text asked)
-
-pub update_fails : (s : State) (session : ℕ) (text : UpdateText) (f : Failure) → (turn_of s session (statement.Update text)).fails_for f ≡ true
-unfolding turn_of
-update_fails s session text f = refl
 
 -- a refusal to plan is one of the statement
 early_refuses : (s : State) (session : ℕ) (text : UpdateText) (table : TableDef) (r : Refusal) → table_named s.catalog text.table ≡ Some table → planned table text ≡ Err r

@@ -1,22 +1,21 @@
 -- What is served whatever memory there is and whatever the store does.
-use Rattle.std.specs.Prelude.{◌≡◌, ℕ, true, false, nat_lt, is_none, option_map, unwrap_or, MatchOption, IsTrue, Option, Some, None, List, [], ◌∷◌, ◌++◌, length}
+use Rattle.std.specs.Prelude.{◌≡◌, ℕ, true, false, not, is_none, option_map, unwrap_or, MatchOption, IsTrue, Option, Some, None, List, [], ◌∷◌, ◌++◌}
 use Rattle.std.proofs.Common.{inl, inr, refl, sym, ap, ap₂, ◌∙◌, true≢false}
-use Rattle.std.proofs.lemmas.Bool.{and_parts, false≢true, not-true, or_cases}
+use Rattle.std.proofs.lemmas.Bool.{and_parts, not-true, or_cases}
 use Rattle.sqlite_trees.specs.declared.store.Store.{Ghosts}
 use Rattle.escrow_num.specs.declared.refusal.Refusal.{Refusal}
 use Rattle.escrow_num.specs.Refusal.{first_refusal}
 use Rattle.escrow_sql.specs.declared.statement.Statement.{Statement}
-use Rattle.escrow_sql.specs.declared.statement.Statement.TheVariants as statement
-use Rattle.escrow_journal.specs.Reservations.{own}
 use Rattle.escrow_machine.specs.declared.reply.Reply.{Reply}
 use Rattle.escrow_machine.specs.declared.reply.Reply.TheVariants as reply
 use Rattle.escrow_num.specs.declared.failure.Failure.{Failure}
+use Rattle.escrow_num.specs.declared.failure.Failure.TheVariants as failure
 use Rattle.escrow_machine.specs.Promised.{asks_store, needs_nothing, is_plain_refusal, is_promised}
 use Rattle.escrow_machine.specs.Reply.{failure_of}
 use Rattle.escrow_core.specs.Seen.{Seen}
 use Rattle.escrow_core.specs.Serves.{Serves}
 use Rattle.escrow_machine.specs.State.{State}
-use Rattle.escrow_machine.specs.Step.{step, may_fail, IsStep}
+use Rattle.escrow_machine.specs.Step.{step, fails_for, may_fail, IsStep}
 use Rattle.escrow_machine.specs.Turn.{turn_of}
 use Rattle.escrow_machine.proofs.LawsSteps.{step_has}
 use Rattle.escrow_machine.proofs.Refusals.{first_among, first_in_front}
@@ -26,21 +25,7 @@ use Rattle.escrow_machine.proofs.Turns.{is_turn}
 -- a reply that is a refusal without need is a refusal
 plain_refused : (asked : Statement) (answer : Reply) → is_plain_refusal asked answer ≡ true → (r : Refusal) × (answer ≡ reply.Refused r)
 plain_refused asked (reply.Refused r) e = (r, refl)
-plain_refused asked (reply.Created name) e = absurd (cc)
-plain_refused asked (reply.Dropped name) e = absurd (cc)
-plain_refused asked reply.Inserted e = absurd (cc)
-plain_refused asked reply.Deleted e = absurd (cc)
-plain_refused asked reply.Updated e = absurd (cc)
-plain_refused asked (reply.Reserved id) e = absurd (cc)
-plain_refused asked (reply.Rows columns rows) e = absurd (cc)
-plain_refused asked (reply.Table text) e = absurd (cc)
-plain_refused asked (reply.Bounds columns checks) e = absurd (cc)
-plain_refused asked (reply.Journal entries) e = absurd (cc)
-plain_refused asked (reply.Savepoint name) e = absurd (cc)
-plain_refused asked (reply.Committed count) e = absurd (cc)
-plain_refused asked (reply.RolledBack count) e = absurd (cc)
-plain_refused asked (reply.RolledBackTo name count) e = absurd (cc)
-plain_refused asked reply.Restarted e = absurd (cc)
+plain_refused asked _ e = absurd (cc)
 
 -- where no early refusal applies, the first that applies is a late one
 late_first : (early late : List (Option Refusal)) (r : Refusal) → is_none (first_refusal early) ≡ true → first_refusal (early ++ late) ≡ Some r → first_refusal late ≡ Some r
@@ -71,29 +56,17 @@ early_step s session asked r first =
     let turn = turn_of s session asked in
     sym (ap (λ (o : Option Refusal). unwrap_or (option_map (λ (q : Refusal). (reply.Refused q, s)) o) (turn.reply, turn.next)) (first_in_front turn.early turn.late r first))
 
--- what needs neither memory nor the store asks nothing of the store
-nothing_asked : (s : State) (session : ℕ) (asked : Statement) → needs_nothing s session asked ≡ true → asks_store s session asked ≡ false
-nothing_asked s session statement.Rollback e = refl
-nothing_asked s session (statement.RollbackTo name) e = refl
-nothing_asked s session statement.Commit e = not-true (nat_lt 0 (length (own session s.reservations))) e
-nothing_asked s session (statement.Create text) e = absurd (false≢true e)
-nothing_asked s session (statement.Drop name) e = absurd (false≢true e)
-nothing_asked s session (statement.Insert text) e = absurd (false≢true e)
-nothing_asked s session (statement.Update text) e = absurd (false≢true e)
-nothing_asked s session (statement.Delete text) e = absurd (false≢true e)
-nothing_asked s session (statement.Select text) e = absurd (false≢true e)
-nothing_asked s session (statement.ShowTable name) e = absurd (false≢true e)
-nothing_asked s session (statement.ShowBounds text) e = absurd (false≢true e)
-nothing_asked s session (statement.ShowJournal table) e = absurd (false≢true e)
-nothing_asked s session (statement.Savepoint name) e = absurd (false≢true e)
+-- what needs neither memory nor the store fails for neither
+takes_nothing : (s : State) (session : ℕ) (asked : Statement) (f : Failure) → needs_nothing s session asked ≡ true → fails_for s session asked f ≡ false
+takes_nothing s session asked failure.Memory none =
+    not-true (fails_for s session asked failure.Memory) (and_parts (not (fails_for s session asked failure.Memory)) (not (asks_store s session asked)) none).0
+takes_nothing s session asked failure.Store none =
+    not-true (asks_store s session asked) (and_parts (not (fails_for s session asked failure.Memory)) (not (asks_store s session asked)) none).1
 
--- nor does it fail
 never_fails : (s : State) (session : ℕ) (asked : Statement) (f : Failure) → needs_nothing s session asked ≡ true → ¬ (may_fail s session asked f ≡ true)
 never_fails s session asked f none = λ may.
-    let turn = turn_of s session asked in
-    let parts = and_parts (is_none (first_refusal turn.early)) (turn.fails_for f) may in
-    let needs = ((is_turn s session asked).fails f parts.1).0 in
-    absurd (true≢false (sym none ∙ needs))
+    let takes = (and_parts (is_none (first_refusal (turn_of s session asked).early)) (fails_for s session asked f) may).1 in
+    absurd (true≢false (sym takes ∙ takes_nothing s session asked f none))
 
 kept : (s : State) (session : ℕ) (asked : Statement) (answer : Reply) (new : State) (o : Option Failure) → needs_nothing s session asked ≡ true
     → MatchOption o (IsStep s session asked answer new) (λ f. IsTrue (may_fail s session asked f) × (new ≡ s)) → IsStep s session asked answer new
@@ -106,7 +79,7 @@ pub promised : {S : Type 0} (g : Ghosts S) (session : ℕ) (asked : Statement) (
 promised {S} g session asked old answer new serves promise =
     let s = old.state in
     elim (or_cases (needs_nothing s session asked) (is_plain_refusal asked (step s session asked).0) promise) [
-      | inl none ↦ (let left = serves.apart (nothing_asked s session asked none) in
+      | inl none ↦ (let left = serves.apart (takes_nothing s session asked failure.Store none) in
           (left.0, kept s session asked answer new.state (failure_of answer) none left.1))
       | inr plain ↦ (let first = early_at s session asked (first_refusal (turn_of s session asked).early) refl plain in
           let is = serves.early first.0 first.1 in

@@ -20,7 +20,7 @@ use Rattle.escrow_journal.specs.declared.journal.TheConstants.Journal.{MAX_SAVEP
 use Rattle.escrow_journal.specs.Reservations.{own, own_savepoints}
 use Rattle.escrow_journal.specs.Savepoints.{savepoint_of, without_savepoint, after}
 use Rattle.escrow_machine.specs.State.{State}
-use Rattle.escrow_machine.specs.Step.{refusals, step, may_fail, IsStep, StepOrRefusal}
+use Rattle.escrow_machine.specs.Step.{refusals, step, fails_for, may_fail, IsStep, StepOrRefusal}
 use Rattle.escrow_machine.specs.Turn.{turn_of, update_reply, after_update, after_commit, after_rollback, after_savepoint, returned_to, after_rollback_to, released}
 use Rattle.escrow_machine.specs.Asked.{plan_of}
 use Rattle.escrow_machine.proofs.Refusals.{none_in_front, first_among}
@@ -64,12 +64,12 @@ accepted_serves s session asked accepted =
     (sym (ap (λ (o : Option Refusal). unwrap_or (option_map (λ (q : Refusal). (reply.Refused q, s)) o) (turn.reply, turn.next)) accepted))
 
 -- out of memory where no refusal applies, of a statement that may be so
-pub memory_serves : (s : State) (session : ℕ) (asked : Statement) → IsAccepted s session asked → (turn_of s session asked).fails_for failure.Memory ≡ true
+pub memory_serves : (s : State) (session : ℕ) (asked : Statement) → IsAccepted s session asked → fails_for s session asked failure.Memory ≡ true
     → StepOrRefusal s session asked (reply.Refused refusal.Memory) s
 memory_serves s session asked accepted wants =
     let turn = turn_of s session asked in
     let none_early : is_none (first_refusal turn.early) ≡ true = ap (λ (o : Option Refusal). is_none o) (none_in_front turn.early turn.late accepted) in
-    (and_from (is_none (first_refusal turn.early)) (turn.fails_for failure.Memory) none_early wants, refl)
+    (and_from (is_none (first_refusal turn.early)) (fails_for s session asked failure.Memory) none_early wants, refl)
 
 -- UPDATE
 pub update_serves : (s : State) (session : ℕ) (text : UpdateText) (asked : Plan) → IsAccepted s session (statement.Update text) → plan_of s text ≡ Some asked

@@ -24,7 +24,7 @@ use Rattle.escrow_core.specs.Serves.{AreAfter, AreHeldOf, Serves}
 use Rattle.escrow_machine.specs.Accepted.{IsAccepted, IsRefusal, PassesEarly}
 use Rattle.escrow_core.specs.Serving.{Looks}
 use Rattle.escrow_machine.specs.State.{State}
-use Rattle.escrow_machine.specs.Step.{refusals, step, StepOrRefusal}
+use Rattle.escrow_machine.specs.Step.{refusals, step, fails_for, StepOrRefusal}
 use Rattle.escrow_machine.specs.Turn.{turn_of}
 use Rattle.escrow_machine.specs.Valid.{IsOrderly, AreSafeRows, IsValid}
 use Rattle.escrow_machine.proofs.LawsSteps.{early_refusals_stand, refused_stays}
@@ -38,8 +38,8 @@ accepted_step s session asked accepted =
     let turn = turn_of s session asked in
     ap (λ (o : Option Refusal). unwrap_or (option_map (λ (q : Refusal). (reply.Refused q, s)) o) (turn.reply, turn.next)) accepted
 
--- a statement that passes its early refusals may fail for what its turn fails for
-pub fails : (s : State) (session : ℕ) (asked : Statement) (f : Failure) → PassesEarly s session asked → (turn_of s session asked).fails_for f ≡ true → IsRefusal s session asked (told f)
+-- a statement that passes its early refusals may fail for what it takes
+pub fails : (s : State) (session : ℕ) (asked : Statement) (f : Failure) → PassesEarly s session asked → fails_for s session asked f ≡ true → IsRefusal s session asked (told f)
 fails s session asked f early takes = inr (f, refl, rw (early, takes) refl)
 
 -- a late refusal applies where no early one does, and where neither does none applies
@@ -68,9 +68,14 @@ early_answered s session asked r other (inl first) early =
 early_answered s session asked r other (inr failing) early =
     let turn = turn_of s session asked in
     let may = failing.2 in
-    let parts = and_parts (is_none (first_refusal turn.early)) (turn.fails_for failing.0) may in
+    let parts = and_parts (is_none (first_refusal turn.early)) (fails_for s session asked failing.0) may in
     let none : is_none (Some other) ≡ true = subst (λ (o : Option Refusal). is_none o ≡ true) early parts.0 in
     absurd (false≢true none)
+
+-- a reply that is no refusal is no failure
+succeeds : (answer : Reply) → is_refused answer ≡ false → failure_of answer ≡ None
+succeeds (reply.Refused r) accepted = absurd (cc)
+succeeds _ accepted = refl
 
 no_write : (r : Refusal) → ¬ (IsTrue (tells_write (reply.Refused r)))
 no_write r e = false≢true e
@@ -189,16 +194,16 @@ module _ {S : Type 0} (g : Ghosts S) (session : ℕ) (asked : Statement) where
 
   -- a write was done, and the reply is the step's
   pub wrote : (t new : Committed S) (o after : Open) (answer : Reply) (next : State)
-      → asks_store (seen_of t o).state session asked ≡ true → PassesEarly (seen_of t o).state session asked → failure_of answer ≡ None → is_refused answer ≡ false
+      → asks_store (seen_of t o).state session asked ≡ true → PassesEarly (seen_of t o).state session asked → is_refused answer ≡ false
       → Writes g t new true next.catalog next.rows
       → (HasCleanDisk (state g t.store) → step (seen_of t o).state session asked ≡ (answer, next))
       → next ≡ record (seen_of new after).state { catalog = next.catalog; rows = next.rows }
       → Serves g session asked (seen_of t o) answer (seen_of new after)
-  wrote t new o after answer next asks early succeeds accepted writes steps is =
+  wrote t new o after answer next asks early accepted writes steps is =
       let same : HasCleanDisk (state g new.store) → (seen_of new after).state ≡ next =
       λ clean. ap (λ (c : _ × _). record (seen_of new after).state { catalog = c.0; rows = c.1 }) (ap₂ (λ a b. (a, b)) (writes.done_catalog refl) (writes.done_rows refl clean)) ∙ sym is in
       served (seen_of t o) (seen_of new after) answer asks early
-      (λ clean. stepped (seen_of t o).state session asked answer (seen_of new after).state succeeds
+      (λ clean. stepped (seen_of t o).state session asked answer (seen_of new after).state (succeeds answer accepted)
       (ap (λ (s : State). (answer, s)) (same clean) ∙ sym (steps (still_clean _ _ _ writes.survives clean))))
       (λ is_refusal. absurd (false≢true (sym accepted ∙ is_refusal))) (crashed t new o answer next true writes steps)
       (λ _ clean trees may.
@@ -207,7 +212,7 @@ module _ {S : Type 0} (g : Ghosts S) (session : ℕ) (asked : Statement) where
 
   -- a write failed
   pub write_failed : (t new : Committed S) (o : Open) (f : Failure) (answer : Reply) (next : State)
-      → asks_store (seen_of t o).state session asked ≡ true → PassesEarly (seen_of t o).state session asked → (turn_of (seen_of t o).state session asked).fails_for f ≡ true
+      → asks_store (seen_of t o).state session asked ≡ true → PassesEarly (seen_of t o).state session asked → fails_for (seen_of t o).state session asked f ≡ true
       → Writes g t new false next.catalog next.rows
       → (HasCleanDisk (state g t.store) → step (seen_of t o).state session asked ≡ (answer, next))
       → Serves g session asked (seen_of t o) (reply.Refused (told f)) (seen_of new o)

@@ -38,7 +38,7 @@ use Rattle.escrow_machine.specs.State.{State, is_open}
 use Rattle.escrow_machine.specs.Step.{step, StepOrRefusal}
 use Rattle.escrow_machine.specs.Turn.{turn_of, granted, update_refusals, update_reply, after_update}
 use Rattle.escrow_machine.specs.Valid.{IsOrderly, IsValid}
-use Rattle.escrow_core.proofs.Planned.{planned_in, plan_refused, plan_accepted, planned_early, update_fails}
+use Rattle.escrow_core.proofs.Planned.{planned_in, plan_refused, plan_accepted, planned_early}
 use Rattle.escrow_machine.proofs.Refusals.{passed, failed, below, not_above}
 use Rattle.escrow_core.proofs.Served.{update_serves}
 use Rattle.escrow_core.proofs.Serving.{accepted_step, fails, late_refused, served, survives_itself, wrote, wrote_keeps, write_failed}
@@ -123,7 +123,7 @@ module _ {S : Type 0} (g : Ghosts S) (session : ℕ) (text : UpdateText) (name :
     pub replace_serves : Writes g t new true t.catalog (with_plain name values t.rows) → Serves g session (statement.Update text) (seen_of t o) reply.Updated (seen_of new o)
     replace_serves writes =
         wrote g session (statement.Update text) t new o o reply.Updated (record (seen_of t o).state { rows = with_plain name values t.rows }) refl
-        (planned_early (seen_of t o).state session text (plan.Plain name.key values) may.planned) refl refl writes replace_step refl
+        (planned_early (seen_of t o).state session text (plan.Plain name.key values) may.planned) refl writes replace_step refl
 
     pub replace_keeps : IsKept g (seen_of t o) → Writes g t new true t.catalog (with_plain name values t.rows) → IsKept g (seen_of new o)
     replace_keeps kept writes =
@@ -136,7 +136,7 @@ module _ {S : Type 0} (g : Ghosts S) (session : ℕ) (text : UpdateText) (name :
     replace_fails f writes =
         let s : State = (seen_of t o).state in
         write_failed g session (statement.Update text) t new o f reply.Updated (record s { rows = with_plain name values t.rows }) refl
-        (planned_early s session text (plan.Plain name.key values) may.planned) (update_fails s session text f) writes replace_step
+        (planned_early s session text (plan.Plain name.key values) may.planned) refl writes replace_step
 
 -- A RESERVATION, where the row was looked at
 
@@ -236,4 +236,4 @@ module _ {S : Type 0} (g : Ghosts S) (session : ℕ) (text : UpdateText) (row : 
         let s : State = (seen_of t o).state in
         let early = planned_early s session text (plan.Reserve name.key changes) is.may.planned in
         late_refused g session (statement.Update text) (seen_of t o) refusal.Memory refl early
-        (λ u. fails s session (statement.Update text) failure.Memory early (update_fails s session text failure.Memory))
+        (λ u. fails s session (statement.Update text) failure.Memory early refl)

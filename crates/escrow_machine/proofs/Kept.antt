@@ -1,5 +1,5 @@
 -- Rows and tables that a test keeps, and what is found among them.
-use Rattle.std.specs.Prelude.{◌≡◌, Bool, true, false, cond, ◌||◌, Option, Some, List, [], ◌∷◌, filter, find, IsSome, IsSomeAnd, bytes_eq}
+use Rattle.std.specs.Prelude.{◌≡◌, Bool, true, false, cond, ◌||◌, Option, Some, List, [], ◌∷◌, filter, find, IsSome, IsSomeAnd, bytes_eq, length}
 use Rattle.std.specs.List.{AllByRecursion, list_any}
 use Rattle.std.proofs.Common.{inl, inr, sym, ap, ◌∙◌, subst, refl, le_trans}
 use Rattle.std.proofs.lemmas.Bool.{cond_both, cond-false, false_from_ne_true}
@@ -10,11 +10,12 @@ use Rattle.escrow_num.proofs.Ascending.{ascending_filter}
 use Rattle.escrow_num.proofs.Items.{Has, all_has, has_all, has_filter}
 use Rattle.escrow_checks.specs.Grant.{Meets}
 use Rattle.escrow_schema.specs.declared.table.TableDef.{TableDef}
-use Rattle.escrow_schema.specs.Catalog.{table_named}
+use Rattle.escrow_schema.specs.Catalog.{IsCatalog, table_named}
+use Rattle.escrow_schema.specs.Column.{reservables}
 use Rattle.escrow_schema.specs.Fit.{IsRowOf}
 use Rattle.escrow_machine.specs.State.{State}
 use Rattle.escrow_machine.specs.Rows.{row_after, applied, HasTable, MeetsChecks, row_before}
-use Rattle.escrow_machine.specs.Valid.{IsValid, AreSafeRows, HasRow}
+use Rattle.escrow_machine.specs.Valid.{IsValid, IsOrderly, IsReservationIn, AreSafeRows, HasRow}
 use Rattle.escrow_machine.proofs.Choices.{IsChoice, choices_all}
 use Rattle.escrow_machine.proofs.Lengths.{length-filter_filter}
 use Rattle.escrow_machine.proofs.Safe.{safe_row, safe_rows}
@@ -63,4 +64,24 @@ kept_safe s keep catalog valid found kept =
       reserved_rows = has_all (HasRow rows) s.reservations (λ r h.
           still_stands keep s.rows r (kept r h) (all_has (HasRow s.rows) s.reservations valid.safe_rows.reserved_rows r h));
       safe = choices_all Safe s.reservations (λ c h. safe_rows catalog rows c (met c h));
+    }
+
+-- what is in order is so beside other tables, among which the table of each open reservation is found as before
+pub over_catalog : (s : State) (catalog : List TableDef) → IsOrderly s.catalog s.reservations s.savepoints s.next_id → IsCatalog catalog
+    → ((P : TableDef → Type 0) (r : Reservation) → Has s.reservations r → IsSomeAnd (table_named s.catalog r.row.table) P → IsSomeAnd (table_named catalog r.row.table) P)
+    → IsOrderly catalog s.reservations s.savepoints s.next_id
+over_catalog s catalog orderly tables found =
+    let still_in : (r : Reservation) → Has s.reservations r → IsReservationIn catalog s.next_id r = λ r h.
+    let was = all_has (IsReservationIn s.catalog s.next_id) s.reservations orderly.reservations_in r h in
+    record { session = was.session; first = was.first; below = was.below; changes = found (λ table. length r.changes ≡ length (reservables table.columns)) r h was.changes } in
+    record {
+      tables = tables;
+      reservations_in = has_all (IsReservationIn catalog s.next_id) s.reservations still_in;
+      reservation_order = orderly.reservation_order;
+      few_reservations = orderly.few_reservations;
+      savepoints_in = orderly.savepoints_in;
+      savepoint_order = orderly.savepoint_order;
+      few_savepoints = orderly.few_savepoints;
+      first_id = orderly.first_id;
+      last_id = orderly.last_id;
     }

@@ -224,16 +224,8 @@ shows_alone s session asked same = step_has (λ (p : Reply × State). p.1 ≡ s)
 
 pub queries_ignore_who_asks : QueriesIgnoreWhoAsks
 unfolding turn_of
-queries_ignore_who_asks s session other (statement.Create text) shows = absurd shows
-queries_ignore_who_asks s session other (statement.Drop name) shows = absurd shows
-queries_ignore_who_asks s session other (statement.Insert text) shows = absurd shows
-queries_ignore_who_asks s session other (statement.Update text) shows = absurd shows
-queries_ignore_who_asks s session other (statement.Delete text) shows = absurd shows
 queries_ignore_who_asks s session other (statement.Select text) shows = (shows_alone s session (statement.Select text) refl, refl)
 queries_ignore_who_asks s session other (statement.ShowTable name) shows = (shows_alone s session (statement.ShowTable name) refl, refl)
 queries_ignore_who_asks s session other (statement.ShowJournal table) shows = (shows_alone s session (statement.ShowJournal table) refl, refl)
 queries_ignore_who_asks s session other (statement.ShowBounds text) shows = (shows_alone s session (statement.ShowBounds text) refl, refl)
-queries_ignore_who_asks s session other (statement.Savepoint name) shows = absurd shows
-queries_ignore_who_asks s session other statement.Commit shows = absurd shows
-queries_ignore_who_asks s session other statement.Rollback shows = absurd shows
-queries_ignore_who_asks s session other (statement.RollbackTo name) shows = absurd shows
+queries_ignore_who_asks s session other _ shows = absurd shows

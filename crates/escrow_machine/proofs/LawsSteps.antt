@@ -13,14 +13,12 @@ use Rattle.escrow_machine.specs.declared.event.Event.TheVariants as event
 use Rattle.escrow_machine.specs.declared.reply.Reply.{Reply}
 use Rattle.escrow_machine.specs.declared.reply.Reply.TheVariants as reply
 use Rattle.escrow_num.specs.declared.failure.Failure.{Failure}
-use Rattle.escrow_num.specs.declared.failure.Failure.TheVariants as failure
 use Rattle.escrow_machine.specs.Event.{HasSession}
-use Rattle.escrow_machine.specs.Promised.{asks_store, needs_nothing}
 use Rattle.escrow_machine.specs.Reply.{failure_of, is_refused}
-use Rattle.escrow_machine.specs.Laws.{IsSeen}
+use Rattle.escrow_machine.specs.Laws.{SeesCommitsAlone, ShowsAfter}
 use Rattle.escrow_journal.specs.Reservations.{own}
 use Rattle.escrow_machine.specs.State.{State}
-use Rattle.escrow_machine.specs.Step.{refusals, step, may_fail, IsStep, StepOrRefusal, IsServed, IsRun}
+use Rattle.escrow_machine.specs.Step.{refusals, step, fails_for, may_fail, IsStep, StepOrRefusal, IsServed, IsRun}
 use Rattle.escrow_machine.specs.Turn.{turn_of}
 use Rattle.escrow_machine.specs.Valid.{IsValid}
 use Rattle.escrow_machine.proofs.Queries.{shows_just}
@@ -107,23 +105,6 @@ machine_never_fails s session asked =
     step_has (λ (p : Reply × State). failure_of p.0 ≡ None) s session asked
     (first_among IsJudged (refusals (turn_of s session asked)) turn.judged) (λ _. turn.succeeds)
 
--- what fails
-failed_with : (s : State) (session : ℕ) (asked : Statement) (answer : Reply) (new : State) (f : Failure)
-    → StepOrRefusal s session asked answer new → failure_of answer ≡ Some f → IsTrue (may_fail s session asked f) × (new ≡ s)
-failed_with s session asked answer new f event failed =
-    subst (λ (o : Option Failure). MatchOption o (IsStep s session asked answer new) (λ g. IsTrue (may_fail s session asked g) × (new ≡ s))) failed event
-
-fails : (s : State) (session : ℕ) (asked : Statement) (f : Failure) → may_fail s session asked f ≡ true → (turn_of s session asked).fails_for f ≡ true
-fails s session asked f e =
-    let turn = turn_of s session asked in
-    (and_parts (is_none (first_refusal turn.early)) (turn.fails_for f) e).1
-
-pub fails_for_what_is_asked : (s : State) (session : ℕ) (asked : Statement) (answer : Reply) (new : State) (f : Failure)
-    → StepOrRefusal s session asked answer new → failure_of answer ≡ Some f
-    → (needs_nothing s session asked ≡ false) × (f ≡ failure.Store → asks_store s session asked ≡ true)
-fails_for_what_is_asked s session asked answer new f event failed =
-    (is_turn s session asked).fails f (fails s session asked f (failed_with s session asked answer new f event failed).0)
-
 -- where an early refusal applies nothing fails, and it is the answer
 early_at : (s : State) (session : ℕ) (asked : Statement) (answer : Reply) (new : State) (r : Refusal) (o : Option Failure)
     → MatchOption o (IsStep s session asked answer new) (λ f. IsTrue (may_fail s session asked f) × (new ≡ s))
@@ -136,7 +117,7 @@ early_at s session asked answer new r None event first =
     (ap (λ (p : Reply × State). p.0) is, ap (λ (p : Reply × State). p.1) is)
 early_at s session asked answer new r (Some f) event first =
     let turn = turn_of s session asked in
-    let may : is_none (first_refusal turn.early) ≡ true = (and_parts (is_none (first_refusal turn.early)) (turn.fails_for f) event.0).0 in
+    let may : is_none (first_refusal turn.early) ≡ true = (and_parts (is_none (first_refusal turn.early)) (fails_for s session asked f) event.0).0 in
     absurd (cc)
 
 pub early_refusals_stand : (s : State) (session : ℕ) (asked : Statement) (answer : Reply) (new : State) (r : Refusal)
@@ -153,33 +134,15 @@ pub rollback_answers : (s : State) (session : ℕ) → (step s session statement
 unfolding turn_of
 rollback_answers s session = refl
 
--- what queries see after a statement: a refusal leaves it
-none_for_commit : (s : State) (session : ℕ) (r : Refusal) → ¬ (first_refusal (refusals (turn_of s session statement.Commit)) ≡ Some r)
-unfolding turn_of
-none_for_commit s session r = λ e. absurd (cc)
-
-none_for_rollback : (s : State) (session : ℕ) (r : Refusal) → ¬ (first_refusal (refusals (turn_of s session statement.Rollback)) ≡ Some r)
-unfolding turn_of
-none_for_rollback s session r = λ e. absurd (cc)
-
-refused_unseen : (s : State) (session : ℕ) (asked : Statement) (r : Refusal) → first_refusal (refusals (turn_of s session asked)) ≡ Some r
-    → IsSeen s session asked (reply.Refused r) s
-refused_unseen s session asked r first = record {
-  before = shows_just s s.catalog s.rows refl refl;
-  created = λ text is answered. absurd (cc);
-  dropped = λ name answered. absurd (cc);
-  inserted = λ text is answered. absurd (cc);
-  updated = λ text is answered. absurd (cc);
-  deleted = λ text is answered. absurd (cc);
-  committed = λ is. absurd (none_for_commit s session r (subst (λ (a : Statement). first_refusal (refusals (turn_of s session a)) ≡ Some r) is first));
-  rolled_back = λ is. absurd (none_for_rollback s session r (subst (λ (a : Statement). first_refusal (refusals (turn_of s session a)) ≡ Some r) is first));
-  otherwise = λ _. shows_just s s.catalog s.rows refl refl;
-}
-
-pub queries_see_commits_alone : (s : State) (session : ℕ) (asked : Statement) → IsSeen s session asked (step s session asked).0 (step s session asked).1
+-- what queries see after a statement
+pub queries_see_commits_alone : (s : State) (session : ℕ) (asked : Statement) → SeesCommitsAlone s session asked (step s session asked).0 (step s session asked).1
 queries_see_commits_alone s session asked =
-    step_has (λ (p : Reply × State). IsSeen s session asked p.0 p.1) s session asked
-    (refused_unseen s session asked) (is_turn s session asked).seen
+    let turn = is_turn s session asked in
+    record {
+      before = shows_just s s.catalog s.rows refl refl;
+      refused = λ is. let refused = refused_is (step s session asked).0 is in refused_changes_nothing s session asked refused.0 refused.1;
+      accepted = step_has (λ (p : Reply × State). is_refused p.0 ≡ false → ShowsAfter s session asked p.1) s session asked (λ _ _ e. absurd (cc)) (λ accepted _. turn.seen accepted);
+    }
 
 -- the id of a reservation
 pub reserved_takes_the_next_id : (s : State) (session : ℕ) (asked : Statement) (id : ℕ)

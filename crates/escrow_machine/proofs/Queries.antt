@@ -47,19 +47,9 @@ show_alike s session other name reservations savepoints next_id =
 -- a query is answered alike whatever is open, and whoever asks
 pub query_alike : (s : State) (session other : ℕ) (asked : Statement) (reservations : List Reservation) (savepoints : List Savepoint) (next_id : ℕ) → IsQuery asked
     → (step (beside s reservations savepoints next_id) other asked).0 ≡ (step s session asked).0
-query_alike s session other (statement.Create text) reservations savepoints next_id query = absurd query
-query_alike s session other (statement.Drop name) reservations savepoints next_id query = absurd query
-query_alike s session other (statement.Insert text) reservations savepoints next_id query = absurd query
-query_alike s session other (statement.Update text) reservations savepoints next_id query = absurd query
-query_alike s session other (statement.Delete text) reservations savepoints next_id query = absurd query
 query_alike s session other (statement.Select text) reservations savepoints next_id query = select_alike s session other text reservations savepoints next_id
 query_alike s session other (statement.ShowTable name) reservations savepoints next_id query = show_alike s session other name reservations savepoints next_id
-query_alike s session other (statement.ShowJournal table) reservations savepoints next_id query = absurd query
-query_alike s session other (statement.ShowBounds text) reservations savepoints next_id query = absurd query
-query_alike s session other (statement.Savepoint name) reservations savepoints next_id query = absurd query
-query_alike s session other statement.Commit reservations savepoints next_id query = absurd query
-query_alike s session other statement.Rollback reservations savepoints next_id query = absurd query
-query_alike s session other (statement.RollbackTo name) reservations savepoints next_id query = absurd query
+query_alike s session other _ reservations savepoints next_id query = absurd query
 
 -- so a state shows its own tables and rows
 pub shows_just : (s : State) (tables : List TableDef) (committed : List Row) → s.catalog ≡ tables → s.rows ≡ committed → ShowsJust s tables committed

@@ -1,6 +1,6 @@
 -- The turn of an UPDATE, by its plan.
 use Rattle.std.specs.Prelude.{◌≡◌, ℕ, ℤ, ◌+◌, ◌≤◌, is_none, unwrap_or, option_map, Option, Some, None, List, [], ◌∷◌}
-use Rattle.std.proofs.Common.{refl, sym, subst, arith, le_refl, ◌∙◌}
+use Rattle.std.proofs.Common.{refl, sym, arith, le_refl, ◌∙◌}
 use Rattle.escrow_num.specs.declared.refusal.Refusal.{Refusal}
 use Rattle.escrow_num.specs.declared.refusal.Refusal.TheVariants as refusal
 use Rattle.escrow_num.specs.declared.value.Value.{Value}
@@ -14,11 +14,10 @@ use Rattle.escrow_schema.specs.Catalog.{table_named}
 use Rattle.escrow_machine.specs.declared.reply.Reply.TheVariants as reply
 use Rattle.escrow_machine.specs.Asked.{plan_of, plan_refusal_of, row_name, reservation_from, breach_of}
 use Rattle.escrow_machine.specs.Accepted.{IsAccepted}
-use Rattle.escrow_machine.specs.Laws.{ShowsJust}
 use Rattle.escrow_machine.specs.State.{State}
 use Rattle.escrow_machine.specs.Rows.{with_plain}
 use Rattle.escrow_machine.specs.Step.{refusals}
-use Rattle.escrow_machine.specs.Turn.{Turn, turn_of, for_any, granted, update_refusals, update_reply, after_update}
+use Rattle.escrow_machine.specs.Turn.{Turn, turn_of, granted, update_refusals, update_reply, after_update}
 use Rattle.escrow_machine.specs.Valid.{IsValid}
 use Rattle.escrow_machine.proofs.Accepted.{plan_there, reserve_stands, plain_stands}
 use Rattle.escrow_machine.proofs.Plans.{plan_among}
@@ -27,7 +26,7 @@ use Rattle.escrow_machine.proofs.Refusals.{if_among, check_among}
 use Rattle.escrow_schema.proofs.PlanLemmas.{plans_of_whole_row, plain_plans_fit}
 use Rattle.escrow_machine.proofs.ValidPlain.{plain_valid}
 use Rattle.escrow_machine.proofs.ValidUpdate.{update_valid}
-use Rattle.escrow_machine.proofs.TurnWords.{IsJudged, NeedsMore, IsTurn, fails_any, unseen}
+use Rattle.escrow_machine.proofs.TurnWords.{IsJudged, NeedsMore, IsTurn}
 
 -- the turn of an UPDATE, by its plan
 abbrev update_by : State → ℕ → UpdateText → Option Plan → Turn
@@ -36,7 +35,6 @@ update_by s session text o = record {
   late = unwrap_or (option_map (update_refusals s session text.table) o) [];
   reply = unwrap_or (option_map (update_reply s) o) reply.Updated;
   next = unwrap_or (option_map (after_update s session text.table) o) s;
-  fails_for = for_any;
 }
 
 -- a reservation that is granted leaves the state valid
@@ -72,7 +70,6 @@ update_turn_by s session text None is accepts = record {
   succeeds = refl;
   judged = (if_among IsJudged _ _ refl, (plan_among IsJudged s text refl refl refl, tt));
   late = tt;
-  fails = fails_any s session (statement.Update text) refl refl;
   seen = λ accepted. absurd (no_plan s text [] is accepted);
   ids = λ _. le_refl _;
   next = λ _ id e. absurd (cc);
@@ -104,9 +101,7 @@ update_turn_by s session text (Some (plan.Reserve key changes)) is accepts = rec
       ),
     ),
   );
-  fails = fails_any s session (statement.Update text) refl refl;
-  seen = λ _. unseen s session (statement.Update text) (reply.Reserved s.next_id) (granted s (reservation_from s session (row_name text.table key) changes)) refl refl refl
-      (λ e. absurd (cc)) (λ e. absurd (cc));
+  seen = λ _. (plan.Reserve key changes, is, shows_just (granted s (reservation_from s session (row_name text.table key) changes)) s.catalog s.rows refl refl);
   ids = λ _. more s.next_id;
   next = λ _ id answered. let same : id ≡ s.next_id = cc in (same, refl);
   valid = λ accepted valid of_session. reserved_valid s session text key changes valid of_session is (accepts accepted);
@@ -119,22 +114,9 @@ update_turn_by s session text (Some (plan.Plain key values)) is accepts = record
     (plan_among IsJudged s text refl refl refl, (if_among IsJudged _ _ refl, (if_among IsJudged _ _ refl, tt))),
   );
   late = (if_among (NeedsMore (statement.Update text)) _ _ refl, (if_among (NeedsMore (statement.Update text)) _ _ refl, tt));
-  fails = fails_any s session (statement.Update text) refl refl;
-  seen = λ _. record {
-    before = shows_just s s.catalog s.rows refl refl;
-    created = λ other asked _. absurd (cc);
-    dropped = λ name answered. absurd (cc);
-    inserted = λ other asked _. absurd (cc);
-    updated = λ other asked _.
-        let same : text ≡ other = cc in
-        let next : State = record s { rows = with_plain (row_name text.table key) values s.rows } in
-        subst (λ (t : UpdateText). (k : Value) × (vs : List (Option Value)) × (plan_of s t ≡ Some (plan.Plain k vs)) × ShowsJust next s.catalog (with_plain (row_name t.table k) vs s.rows))
-        same (key, values, is, shows_just next s.catalog (with_plain (row_name text.table key) values s.rows) refl refl);
-    deleted = λ other asked _. absurd (cc);
-    committed = λ asked. absurd (cc);
-    rolled_back = λ asked. absurd (cc);
-    otherwise = λ quiet. absurd (cc);
-  };
+  seen = λ _.
+      let next : State = record s { rows = with_plain (row_name text.table key) values s.rows } in
+      (plan.Plain key values, is, shows_just next s.catalog (with_plain (row_name text.table key) values s.rows) refl refl);
   ids = λ _. le_refl _;
   next = λ _ id e. absurd (cc);
   valid = λ accepted valid _. replaced_valid s session text key values valid is (accepts accepted);

@@ -13,13 +13,13 @@ use Rattle.escrow_checks.specs.Grant.{Meets}
 use Rattle.escrow_schema.specs.declared.catalog.TheConstants.Catalog.{MAX_TABLES}
 use Rattle.escrow_schema.specs.declared.table.TableDef.{TableDef}
 use Rattle.escrow_schema.specs.Catalog.{table_before, table_named, with_table}
-use Rattle.escrow_schema.specs.Column.{reservables}
 use Rattle.escrow_schema.specs.Definition.{definition_of}
 use Rattle.escrow_schema.specs.Fit.{IsRowOf}
 use Rattle.escrow_machine.specs.State.{State}
 use Rattle.escrow_machine.specs.Rows.{row_after, applied, HasTable, MeetsChecks}
-use Rattle.escrow_machine.specs.Valid.{IsValid, IsOrderly, IsReservationIn}
+use Rattle.escrow_machine.specs.Valid.{IsValid, IsOrderly}
 use Rattle.escrow_machine.proofs.Choices.{IsChoice, choices_all}
+use Rattle.escrow_machine.proofs.Kept.{over_catalog}
 use Rattle.escrow_machine.proofs.Safe.{safe_row, safe_rows}
 use Rattle.escrow_schema.proofs.CatalogLemmas.{with_new, with_table_put}
 use Rattle.escrow_schema.proofs.LawLemmas.{name_of_table}
@@ -44,26 +44,8 @@ pub create_orderly : (s : State) (text : CreateText) (table : TableDef) → IsOr
     → IsOrderly (with_table table s.catalog) s.reservations s.savepoints s.next_id
 create_orderly s text table orderly made new room =
     let free = free_name s.catalog text table made new in
-    let catalog : List TableDef = with_table table s.catalog in
-    let still_in : (r : Reservation) → Has s.reservations r → IsReservationIn catalog s.next_id r = λ r h.
-    let was = all_has (IsReservationIn s.catalog s.next_id) s.reservations orderly.reservations_in r h in
-    record {
-      session = was.session;
-      first = was.first;
-      below = was.below;
-      changes = still_named s.catalog table r.row.table (λ t. length r.changes ≡ length (reservables t.columns)) free was.changes;
-    } in
-    record {
-      tables = with_new s.catalog table orderly.tables (text, made) free room;
-      reservations_in = has_all (IsReservationIn catalog s.next_id) s.reservations still_in;
-      reservation_order = orderly.reservation_order;
-      few_reservations = orderly.few_reservations;
-      savepoints_in = orderly.savepoints_in;
-      savepoint_order = orderly.savepoint_order;
-      few_savepoints = orderly.few_savepoints;
-      first_id = orderly.first_id;
-      last_id = orderly.last_id;
-    }
+    over_catalog s (with_table table s.catalog) orderly (with_new s.catalog table orderly.tables (text, made) free room)
+    (λ P r _. still_named s.catalog table r.row.table P free)
 
 -- and a valid state valid
 pub create_valid : (s : State) (text : CreateText) (table : TableDef) → IsValid s → definition_of text ≡ Some table

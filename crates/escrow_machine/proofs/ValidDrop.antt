@@ -1,18 +1,17 @@
 -- DROP TABLE: no open reservation is of a row of the table that is taken out.
-use Rattle.std.specs.Prelude.{◌≡◌, ℕ, false, not, Option, List, length, bytes_eq, IsSomeAnd}
+use Rattle.std.specs.Prelude.{◌≡◌, ℕ, false, not, Option, List, bytes_eq, IsSomeAnd}
 use Rattle.std.proofs.Common.{sym, ap, ◌∙◌, subst}
 use Rattle.std.proofs.lemmas.Bool.{not-true}
 use Rattle.escrow_num.specs.declared.reservation.Reservation.{Reservation}
 use Rattle.escrow_num.specs.declared.value.RowName.{RowName}
-use Rattle.escrow_num.proofs.Items.{Has, all_has, has_all}
+use Rattle.escrow_num.proofs.Items.{Has}
 use Rattle.escrow_num.proofs.Orders.{row_same, name_same}
 use Rattle.escrow_schema.specs.declared.table.TableDef.{TableDef}
 use Rattle.escrow_schema.specs.Catalog.{table_named, without_table}
-use Rattle.escrow_schema.specs.Column.{reservables}
 use Rattle.escrow_machine.specs.State.{State, is_table_reserved}
 use Rattle.escrow_machine.specs.Turn.{after_drop}
-use Rattle.escrow_machine.specs.Valid.{IsValid, IsOrderly, IsReservationIn}
-use Rattle.escrow_machine.proofs.Kept.{any_none, find_filter, kept_safe}
+use Rattle.escrow_machine.specs.Valid.{IsValid, IsOrderly}
+use Rattle.escrow_machine.proofs.Kept.{any_none, find_filter, kept_safe, over_catalog}
 use Rattle.escrow_schema.proofs.CatalogLemmas.{without_one}
 
 -- a table of another name is found as before
@@ -29,27 +28,8 @@ other_tables s name free = any_none (λ (r : Reservation). bytes_eq r.row.table 
 pub drop_orderly : (s : State) (name : List ℕ) → IsOrderly s.catalog s.reservations s.savepoints s.next_id → is_table_reserved s name ≡ false
     → IsOrderly (without_table name s.catalog) s.reservations s.savepoints s.next_id
 drop_orderly s name orderly free =
-    let catalog : List TableDef = without_table name s.catalog in
-    let still_in : (r : Reservation) → Has s.reservations r → IsReservationIn catalog s.next_id r = λ r h.
-    let was = all_has (IsReservationIn s.catalog s.next_id) s.reservations orderly.reservations_in r h in
-    record {
-      session = was.session;
-      first = was.first;
-      below = was.below;
-      changes = subst (λ (o : Option TableDef). IsSomeAnd o (λ t. length r.changes ≡ length (reservables t.columns)))
-          (sym (other_table s.catalog name r.row.table (other_tables s name free r h))) was.changes;
-    } in
-    record {
-      tables = without_one s.catalog name orderly.tables;
-      reservations_in = has_all (IsReservationIn catalog s.next_id) s.reservations still_in;
-      reservation_order = orderly.reservation_order;
-      few_reservations = orderly.few_reservations;
-      savepoints_in = orderly.savepoints_in;
-      savepoint_order = orderly.savepoint_order;
-      few_savepoints = orderly.few_savepoints;
-      first_id = orderly.first_id;
-      last_id = orderly.last_id;
-    }
+    over_catalog s (without_table name s.catalog) orderly (without_one s.catalog name orderly.tables)
+    (λ P r h. subst (λ (o : Option TableDef). IsSomeAnd o P) (sym (other_table s.catalog name r.row.table (other_tables s name free r h))))
 
 -- and a valid state valid
 pub drop_valid : (s : State) (name : List ℕ) → IsValid s → is_table_reserved s name ≡ false → IsValid (after_drop s name)

@@ -1,5 +1,5 @@
 -- Believed: the statements of the laws in src/laws.rt.
-use Rattle.std.specs.Prelude.{◌≡◌, ◌↔◌, ℕ, nat_lt, ℤ, ◌+◌, ◌<◌, ◌≤◌, ◌+ℤ◌, ◌≤ℤ◌, Bool, true, false, Option, Some, None, IsSome, IsSomeAnd, List, [], ◌∷◌, ◌++◌, length, map, take, slice_get, Contains}
+use Rattle.std.specs.Prelude.{◌≡◌, ◌↔◌, ℕ, nat_lt, ℤ, ◌+◌, ◌<◌, ◌≤◌, ◌+ℤ◌, ◌≤ℤ◌, Bool, false, Option, Some, None, IsSome, IsSomeAnd, List, [], ◌∷◌, ◌++◌, length, map, take, slice_get, Contains, IsTrue}
 use Rattle.std.specs.List.{AllByRecursion, AllZip}
 use Rattle.escrow_num.specs.declared.refusal.Breach.{Breach}
 use Rattle.escrow_num.specs.declared.refusal.Refusal.{Refusal}
@@ -17,9 +17,7 @@ use Rattle.escrow_num.specs.Session.{IsSession}
 use Rattle.escrow_num.specs.Span.{Holds}
 use Rattle.escrow_sql.specs.declared.statement.Statement.{Statement}
 use Rattle.escrow_sql.specs.declared.statement.Statement.TheVariants as statement
-use Rattle.escrow_sql.specs.declared.statement.CreateText.{CreateText}
 use Rattle.escrow_sql.specs.declared.statement.UpdateText.{UpdateText}
-use Rattle.escrow_sql.specs.declared.statement.InsertText.{InsertText}
 use Rattle.escrow_sql.specs.declared.statement.RowText.{RowText}
 use Rattle.escrow_sql.specs.declared.statement.SelectText.{SelectText}
 use Rattle.escrow_sql.specs.declared.statement.WhereText.{WhereText}
@@ -31,6 +29,7 @@ use Rattle.escrow_checks.specs.Grant.{Meets}
 use Rattle.escrow_checks.specs.Laws.{IsBeyond}
 use Rattle.escrow_checks.specs.Sublists.{sublists}
 use Rattle.escrow_schema.specs.declared.table.TableDef.{TableDef}
+use Rattle.escrow_schema.specs.declared.plan.Plan.{Plan}
 use Rattle.escrow_schema.specs.declared.plan.Plan.TheVariants as plan
 use Rattle.escrow_schema.specs.Catalog.{table_named, with_table, without_table}
 use Rattle.escrow_schema.specs.Column.{names_of, reservables, value_of}
@@ -42,13 +41,10 @@ use Rattle.escrow_machine.specs.declared.event.Event.TheVariants as event
 use Rattle.escrow_machine.specs.declared.reply.JournalEntry.{JournalEntry}
 use Rattle.escrow_machine.specs.declared.reply.CheckBounds.{CheckBounds}
 use Rattle.escrow_machine.specs.declared.reply.ColumnBounds.{ColumnBounds}
-use Rattle.escrow_num.specs.declared.failure.Failure.{Failure}
-use Rattle.escrow_num.specs.declared.failure.Failure.TheVariants as failure
 use Rattle.escrow_machine.specs.declared.reply.Reply.{Reply}
 use Rattle.escrow_machine.specs.declared.reply.Reply.TheVariants as reply
 use Rattle.escrow_machine.specs.Event.{HasSession}
-use Rattle.escrow_machine.specs.Promised.{needs_nothing, asks_store}
-use Rattle.escrow_machine.specs.Reply.{failure_of}
+use Rattle.escrow_machine.specs.Reply.{failure_of, is_refused}
 use Rattle.escrow_journal.specs.Reservations.{own, others, own_savepoints}
 use Rattle.escrow_journal.specs.Savepoints.{savepoint_of, without_savepoint}
 use Rattle.escrow_machine.specs.Journal.{entry_of}
@@ -99,12 +95,6 @@ RefusedChangesNothing = (s : State) (session : ℕ) (asked : Statement) (r : Ref
 abbrev pub MachineNeverFails : Type 0
 MachineNeverFails = (s : State) (session : ℕ) (asked : Statement) → failure_of (step s session asked).0 ≡ None
 
--- what fails needs memory or the store, and what the store refuses asked it
-abbrev pub FailsForWhatIsAsked : Type 0
-FailsForWhatIsAsked = (s : State) (session : ℕ) (asked : Statement) (answer : Reply) (new : State) (f : Failure)
-    → StepOrRefusal s session asked answer new → failure_of answer ≡ Some f
-    → (needs_nothing s session asked ≡ false) × (f ≡ failure.Store → asks_store s session asked ≡ true)
-
 -- where an early refusal applies, the first of them is the answer, whatever memory there is
 abbrev pub EarlyRefusalsStand : Type 0
 EarlyRefusalsStand = (s : State) (session : ℕ) (asked : Statement) (answer : Reply) (new : State) (r : Refusal)
@@ -134,39 +124,34 @@ pub record ShowsJust (s : State) (tables : List TableDef) (committed : List Row)
   pub rows : s.rows ≡ committed
   pub answers : (asker : ℕ) (query : Statement) → IsQuery query → (step s asker query).0 ≡ (step (opened tables committed) asker query).0
 
--- a reply that tells that committed tables or rows change
-abbrev pub tells_of_change : Reply → Bool
-tells_of_change (reply.Created name) = true
-tells_of_change (reply.Dropped name) = true
-tells_of_change reply.Inserted = true
-tells_of_change reply.Deleted = true
-tells_of_change reply.Updated = true
-tells_of_change (reply.Committed count) = true
-tells_of_change _ = false
+-- what a state shows after an UPDATE, by its plan: the plain values that it replaces; what it reserves shows nowhere
+abbrev pub ShowsPlanned : State → List ℕ → Plan → State → Type 0
+ShowsPlanned s table (plan.Reserve key changes) new = ShowsJust new s.catalog s.rows
+ShowsPlanned s table (plan.Plain key values) new = ShowsJust new s.catalog (with_plain (row_name table key) values s.rows)
 
--- what a state shows after a statement and its answer: one table more after a CREATE TABLE, neither the
--- table nor its rows after a DROP TABLE, the row of an accepted INSERT among the others, no longer that of
--- a DELETE, the plain values of an UPDATE; after a COMMIT the changes of its session's reservations, added;
--- and after anything else, as a reservation or a ROLLBACK, what it showed before. ROLLBACK leaves open the
--- reservations of the other sessions alone, so that no COMMIT adds what it dropped
-pub record IsSeen (s : State) (session : ℕ) (asked : Statement) (answer : Reply) (new : State) : Type 0 where
+-- what a state shows after a statement that is accepted: one table more after a CREATE TABLE, neither the
+-- table nor its rows after a DROP TABLE, the row of an INSERT among the others, no longer that of a DELETE;
+-- after a COMMIT the changes of its session's reservations, added; and after anything else, as a ROLLBACK,
+-- what it showed before. ROLLBACK leaves open the reservations of the other sessions alone, so that no COMMIT
+-- adds what it dropped
+abbrev pub ShowsAfter : State → ℕ → Statement → State → Type 0
+ShowsAfter s session (statement.Create text) new = (table : TableDef) × (definition_of text ≡ Some table) × ShowsJust new (with_table table s.catalog) s.rows
+ShowsAfter s session (statement.Drop name) new = ShowsJust new (without_table name s.catalog) (without_rows_of name s.rows)
+ShowsAfter s session (statement.Insert text) new = (row : Row) × (row_of s text ≡ Some row) × ShowsJust new s.catalog (with_row row s.rows)
+ShowsAfter s session (statement.Update text) new = (asked : Plan) × (plan_of s text ≡ Some asked) × ShowsPlanned s text.table asked new
+ShowsAfter s session (statement.Delete text) new = ShowsJust new s.catalog (without_row (named_by text.table text.row) s.rows)
+ShowsAfter s session statement.Commit new = ShowsJust new s.catalog (applied s.rows (own session s.reservations))
+ShowsAfter s session statement.Rollback new = ShowsJust new s.catalog s.rows × (new.reservations ≡ others session s.reservations)
+ShowsAfter s session asked new = ShowsJust new s.catalog s.rows
+
+-- every statement of every session is answered from what is committed, and a refused one leaves it
+pub record SeesCommitsAlone (s : State) (session : ℕ) (asked : Statement) (answer : Reply) (new : State) : Type 0 where
   pub before : ShowsJust s s.catalog s.rows
-  pub created : (text : CreateText) → asked ≡ statement.Create text → answer ≡ reply.Created text.table
-      → (table : TableDef) × (definition_of text ≡ Some table) × ShowsJust new (with_table table s.catalog) s.rows
-  pub dropped : (name : List ℕ) → answer ≡ reply.Dropped name → ShowsJust new (without_table name s.catalog) (without_rows_of name s.rows)
-  pub inserted : (text : InsertText) → asked ≡ statement.Insert text → answer ≡ reply.Inserted
-      → (row : Row) × (row_of s text ≡ Some row) × ShowsJust new s.catalog (with_row row s.rows)
-  pub updated : (text : UpdateText) → asked ≡ statement.Update text → answer ≡ reply.Updated
-      → (key : Value) × (values : List (Option Value)) × (plan_of s text ≡ Some (plan.Plain key values)) × ShowsJust new s.catalog (with_plain (row_name text.table key) values s.rows)
-  pub deleted : (text : RowText) → asked ≡ statement.Delete text → answer ≡ reply.Deleted
-      → ShowsJust new s.catalog (without_row (named_by text.table text.row) s.rows)
-  pub committed : asked ≡ statement.Commit → ShowsJust new s.catalog (applied s.rows (own session s.reservations))
-  pub rolled_back : asked ≡ statement.Rollback → new.reservations ≡ others session s.reservations
-  pub otherwise : tells_of_change answer ≡ false → ShowsJust new s.catalog s.rows
+  pub refused : IsTrue (is_refused answer) → new ≡ s
+  pub accepted : is_refused answer ≡ false → ShowsAfter s session asked new
 
--- so it does after every statement of every session
 abbrev pub QueriesSeeCommitsAlone : Type 0
-QueriesSeeCommitsAlone = (s : State) (session : ℕ) (asked : Statement) → let after = step s session asked in IsSeen s session asked after.0 after.1
+QueriesSeeCommitsAlone = (s : State) (session : ℕ) (asked : Statement) → let after = step s session asked in SeesCommitsAlone s session asked after.0 after.1
 
 -- a reservation takes the next id, and the next id is then one more
 abbrev pub ReservedTakesTheNextId : Type 0

@@ -1,14 +1,17 @@
 -- Believed: the step, what may come in its place, and runs.
-use Rattle.std.specs.Prelude.{◌≡◌, ◌⊎◌, ℕ, Bool, ◌&&◌, Option, is_none, option_map, unwrap_or, MatchOption, IsTrue, List, [], ◌∷◌, ◌++◌}
+use Rattle.std.specs.Prelude.{◌≡◌, ◌⊎◌, ℕ, Bool, true, false, ◌&&◌, nat_lt, length, Option, is_none, option_map, unwrap_or, MatchOption, IsTrue, List, [], ◌∷◌, ◌++◌}
 use Rattle.escrow_num.specs.declared.refusal.Refusal.{Refusal}
 use Rattle.escrow_num.specs.declared.refusal.Refusal.TheVariants as refusal
 use Rattle.escrow_num.specs.Refusal.{first_refusal}
 use Rattle.escrow_sql.specs.declared.statement.Statement.{Statement}
+use Rattle.escrow_sql.specs.declared.statement.Statement.TheVariants as statement
+use Rattle.escrow_journal.specs.Reservations.{own}
 use Rattle.escrow_machine.specs.declared.event.Event.{Event}
 use Rattle.escrow_machine.specs.declared.event.Event.TheVariants as event
 use Rattle.escrow_machine.specs.declared.reply.Reply.{Reply}
 use Rattle.escrow_machine.specs.declared.reply.Reply.TheVariants as reply
 use Rattle.escrow_num.specs.declared.failure.Failure.{Failure}
+use Rattle.escrow_num.specs.declared.failure.Failure.TheVariants as failure
 use Rattle.escrow_machine.specs.Reply.{failure_of}
 use Rattle.escrow_machine.specs.State.{State, opened}
 use Rattle.escrow_machine.specs.Turn.{Turn, turn_of}
@@ -29,10 +32,21 @@ step s session asked = let turn = turn_of s session asked in unless_refused s (r
 pub record IsStep (s : State) (session : ℕ) (asked : Statement) (answer : Reply) (new : State) : Type 0 where
   pub is_step : (answer, new) ≡ step s session asked
 
+-- what a statement takes, and so may fail for: ROLLBACK and ROLLBACK TO nothing, nor does a COMMIT of a session
+-- that holds no reservation; SAVEPOINT, SHOW TABLE and SHOW JOURNAL memory; all others memory and the store
+abbrev pub fails_for : State → ℕ → Statement → Failure → Bool
+fails_for s session statement.Rollback f = false
+fails_for s session (statement.RollbackTo name) f = false
+fails_for s session statement.Commit f = nat_lt 0 (length (own session s.reservations))
+fails_for s session (statement.Savepoint name) failure.Store = false
+fails_for s session (statement.ShowTable name) failure.Store = false
+fails_for s session (statement.ShowJournal table) failure.Store = false
+fails_for s session asked f = true
+
 -- a statement may fail, out of memory or refused by the store, where no early refusal applies, and
 -- only for what it takes
 abbrev pub may_fail : State → ℕ → Statement → Failure → Bool
-may_fail s session asked failure = let turn = turn_of s session asked in is_none (first_refusal turn.early) && turn.fails_for failure
+may_fail s session asked failure = is_none (first_refusal (turn_of s session asked).early) && fails_for s session asked failure
 
 -- the step, or a failure that the statement may meet, which leaves the state equal
 abbrev pub StepOrRefusal : State → ℕ → Statement → Reply → State → Type 0

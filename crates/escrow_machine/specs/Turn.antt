@@ -1,5 +1,5 @@
 -- Believed: the table of statements.
-use Rattle.std.specs.Prelude.{ℕ, ◌+◌, Bool, true, false, if◌then◌else◌, nat_lt, nat_le, Option, is_some, is_none, option_map, option_and_then, unwrap_or, List, [], ◌∷◌, ◌++◌, length}
+use Rattle.std.specs.Prelude.{ℕ, ◌+◌, nat_lt, nat_le, Option, is_some, is_none, option_map, option_and_then, unwrap_or, List, [], ◌∷◌, ◌++◌, length}
 use Rattle.escrow_num.specs.declared.refusal.Refusal.{Refusal}
 use Rattle.escrow_num.specs.declared.refusal.Refusal.TheVariants as refusal
 use Rattle.escrow_num.specs.declared.reservation.Reservation.{Reservation}
@@ -22,8 +22,6 @@ use Rattle.escrow_schema.specs.declared.table.TheConstants.TableDef.{MAX_ROWS}
 use Rattle.escrow_journal.specs.declared.journal.TheConstants.Journal.{MAX_RESERVATIONS, MAX_SAVEPOINTS}
 use Rattle.escrow_machine.specs.declared.reply.Reply.{Reply}
 use Rattle.escrow_machine.specs.declared.reply.Reply.TheVariants as reply
-use Rattle.escrow_num.specs.declared.failure.Failure.{Failure}
-use Rattle.escrow_num.specs.declared.failure.Failure.TheVariants as failure
 use Rattle.escrow_machine.specs.Asked.{row_of, insert_breach, plan_of, plan_refusal_of, row_name, reservation_from, breach_of, named_by, key_refusal_of, select_refusal_of, select_reply, show_reply}
 use Rattle.escrow_machine.specs.Bounds.{bounds_reply}
 use Rattle.escrow_machine.specs.Journal.{journal_reply}
@@ -31,27 +29,12 @@ use Rattle.escrow_machine.specs.State.{State, is_open, is_reserved, is_table_res
 use Rattle.escrow_machine.specs.Rows.{row_named, rows_of, applied, with_row, without_row, without_rows_of, with_plain}
 
 -- How the machine takes a statement of a session: its refusals in their order, first those that are
--- answered whatever memory there is; the reply and the next state where none of them applies; and what
--- it may fail for where no early refusal applies.
+-- answered whatever memory there is; the reply and the next state where none of them applies.
 pub record Turn : Type 0 where
   pub early : List (Option Refusal)
   pub late : List (Option Refusal)
   pub reply : Reply
   pub next : State
-  pub fails_for : Failure → Bool
-
--- what takes memory may fail for it
-abbrev pub for_memory : Failure → Bool
-for_memory failure.Memory = true
-for_memory failure.Store = false
-
--- what asks the store may fail for memory, or be refused by the store
-abbrev pub for_any : Failure → Bool
-for_any f = true
-
--- what takes nothing fails for nothing
-abbrev pub for_nothing : Failure → Bool
-for_nothing f = false
 
 -- the state with the table that a text defines in its catalog
 abbrev pub after_create : State → CreateText → State
@@ -138,7 +121,6 @@ turn_of s session (statement.Create text) = record {
       ∷ [];
   reply = reply.Created text.table;
   next = after_create s text;
-  fails_for = for_any;
 }
 turn_of s session (statement.Drop name) = record {
   early = refuse_if (is_open session s) refusal.TransactionOpen
@@ -148,7 +130,6 @@ turn_of s session (statement.Drop name) = record {
   late = [];
   reply = reply.Dropped name;
   next = after_drop s name;
-  fails_for = for_any;
 }
 turn_of s session (statement.Insert text) = record {
   early = refuse_if (is_open session s) refusal.TransactionOpen
@@ -161,7 +142,6 @@ turn_of s session (statement.Insert text) = record {
       ∷ [];
   reply = reply.Inserted;
   next = after_insert s text;
-  fails_for = for_any;
 }
 -- an UPDATE without a plan is refused early
 turn_of s session (statement.Update text) = record {
@@ -171,7 +151,6 @@ turn_of s session (statement.Update text) = record {
   late = unwrap_or (option_map (update_refusals s session text.table) (plan_of s text)) [];
   reply = unwrap_or (option_map (update_reply s) (plan_of s text)) reply.Updated;
   next = unwrap_or (option_map (after_update s session text.table) (plan_of s text)) s;
-  fails_for = for_any;
 }
 turn_of s session (statement.Delete text) = record {
   early = refuse_if (is_open session s) refusal.TransactionOpen
@@ -183,7 +162,6 @@ turn_of s session (statement.Delete text) = record {
       ∷ [];
   reply = reply.Deleted;
   next = after_delete s text;
-  fails_for = for_any;
 }
 turn_of s session (statement.Select text) = record {
   early = refuse_if (is_none (table_named s.catalog text.table)) refusal.NoSuchTable
@@ -192,7 +170,6 @@ turn_of s session (statement.Select text) = record {
   late = [];
   reply = select_reply s text;
   next = s;
-  fails_for = for_any;
 }
 turn_of s session (statement.ShowTable name) = record {
   early = refuse_if (is_none (table_named s.catalog name)) refusal.NoSuchTable
@@ -200,7 +177,6 @@ turn_of s session (statement.ShowTable name) = record {
   late = [];
   reply = show_reply s name;
   next = s;
-  fails_for = for_memory;
 }
 turn_of s session (statement.ShowBounds text) = record {
   early = refuse_if (is_none (table_named s.catalog text.table)) refusal.NoSuchTable
@@ -210,7 +186,6 @@ turn_of s session (statement.ShowBounds text) = record {
       ∷ [];
   reply = bounds_reply s text;
   next = s;
-  fails_for = for_any;
 }
 turn_of s session (statement.ShowJournal table) = record {
   early = option_and_then (λ name. refuse_if (is_none (table_named s.catalog name)) refusal.NoSuchTable) table
@@ -218,7 +193,6 @@ turn_of s session (statement.ShowJournal table) = record {
   late = [];
   reply = journal_reply s table;
   next = s;
-  fails_for = for_memory;
 }
 turn_of s session (statement.Savepoint name) = record {
   early = refuse_if (nat_le MAX_SAVEPOINTS (length (own_savepoints session (without_savepoint session name s.savepoints)))) refusal.TooManySavepoints
@@ -226,21 +200,18 @@ turn_of s session (statement.Savepoint name) = record {
   late = [];
   reply = reply.Savepoint name;
   next = after_savepoint s session name;
-  fails_for = for_memory;
 }
 turn_of s session statement.Commit = record {
   early = [];
   late = [];
   reply = reply.Committed (length (own session s.reservations));
   next = after_commit s session;
-  fails_for = if nat_lt 0 (length (own session s.reservations)) then for_any else for_nothing;
 }
 turn_of s session statement.Rollback = record {
   early = [];
   late = [];
   reply = reply.RolledBack (length (own session s.reservations));
   next = after_rollback s session;
-  fails_for = for_nothing;
 }
 turn_of s session (statement.RollbackTo name) = record {
   early = refuse_if (is_none (savepoint_of session name s.savepoints)) refusal.NoSuchSavepoint
@@ -248,5 +219,4 @@ turn_of s session (statement.RollbackTo name) = record {
   late = [];
   reply = reply.RolledBackTo name (unwrap_or (released s session name) 0);
   next = after_rollback_to s session name;
-  fails_for = for_nothing;
 }

@@ -1,7 +1,7 @@
 //! Laws of the machine: facts about its definitions, each the contract of a function that does
 //! nothing. They say of its steps what O'Neil's escrow method (1986) promises of transactions.
 
-ghost use Rattle.escrow_machine.specs.Laws.{StepKeepsValid, RunKeepsValid, CommittedRowsMeetChecks, CommittedValuesFit, EveryRunIsSafe, RefusedChangesNothing, MachineNeverFails, FailsForWhatIsAsked, EarlyRefusalsStand, CommitIsNeverRefused, RollbackIsNeverRefused, QueriesSeeCommitsAlone, ReservedTakesTheNextId, IdsNeverFall, IdsAreUsedOnce, IdsTellTheOrder, TransactionsCommute, AnyOrderOfEnds, SettledIsTheRun, SettledStaysValid, SettledInAnyOrder, DropsOneTable, DeletesOneRow, PlainUpdatesKeepAmounts, ReservationsKeepRows, SelectsShowRows, ShowsTheTable, QueriesIgnoreWhatIsOpen, QueriesIgnoreWhoAsks, ShowsTheJournal, BoundsAreReached, SavepointsStandAsMade, BackDropsWhatCameAfter, BackAtOnceChangesNothing, BackLeavesWhatWas, BackRefusesNothing, GrantedInEveryChoice, OwnIncrementNotSpent, RefusedByAChoice, BoundsDecideGrants};
+ghost use Rattle.escrow_machine.specs.Laws.{StepKeepsValid, RunKeepsValid, CommittedRowsMeetChecks, CommittedValuesFit, EveryRunIsSafe, RefusedChangesNothing, MachineNeverFails, EarlyRefusalsStand, CommitIsNeverRefused, RollbackIsNeverRefused, QueriesSeeCommitsAlone, ReservedTakesTheNextId, IdsNeverFall, IdsAreUsedOnce, IdsTellTheOrder, TransactionsCommute, AnyOrderOfEnds, SettledIsTheRun, SettledStaysValid, SettledInAnyOrder, DropsOneTable, DeletesOneRow, PlainUpdatesKeepAmounts, ReservationsKeepRows, SelectsShowRows, ShowsTheTable, QueriesIgnoreWhatIsOpen, QueriesIgnoreWhoAsks, ShowsTheJournal, BoundsAreReached, SavepointsStandAsMade, BackDropsWhatCameAfter, BackAtOnceChangesNothing, BackLeavesWhatWas, BackRefusesNothing, GrantedInEveryChoice, OwnIncrementNotSpent, RefusedByAChoice, BoundsDecideGrants};
 
 /// Whatever a session asks in a valid state, the state after it is valid: whichever of the open
 /// reservations are applied, each row meets each check of its table.
@@ -23,12 +23,6 @@ pub fn refused_changes_nothing()
 /// The machine itself is never out of memory, nor refused by a store: no reply of it says so.
 pub fn machine_never_fails()
     ensures { MachineNeverFails }
-{}
-
-/// What fails needs memory or the store, so ROLLBACK, ROLLBACK TO and a COMMIT of nothing never do; and
-/// the store refuses only what asks it, so it refuses no SAVEPOINT, SHOW TABLE or SHOW JOURNAL.
-pub fn fails_for_what_is_asked()
-    ensures { FailsForWhatIsAsked }
 {}
 
 /// A refusal that needs neither memory nor the store is answered whatever there is of both: an open

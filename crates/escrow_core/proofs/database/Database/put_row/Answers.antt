@@ -1,7 +1,7 @@
 use Rattle.std.proofs.Common.{refl, sym}
 use Rattle.escrow_num.specs.declared.refusal.Refusal.TheVariants as refusal
 use Rattle.escrow_sql.specs.declared.statement.Statement.TheVariants as statement
-use Rattle.escrow_core.proofs.Inserting.{is_made, row_exists, insert_fails}
+use Rattle.escrow_core.proofs.Inserting.{is_made, row_exists}
 use Rattle.escrow_core.proofs.Serving.{after_look, fails, look_refused, still_passes}
 use Rattle.escrow_core.proofs.database.Database.put_row.Goals as goal
 
@@ -30,4 +30,4 @@ returns g c =
     let d = c.args.self.now in
     let f = c.in-Err.failure in
     rw c.refusal_of.ensures (look_refused g.S.Store c.args.session (statement.Insert c.args.text.now) d c.row.new.self _ c.row.ensures.looks refl c.requires.early
-    (λ u. fails d.state c.args.session (statement.Insert c.args.text.now) f c.requires.early (insert_fails d.state c.args.session c.args.text.now f)))
+    (λ u. fails d.state c.args.session (statement.Insert c.args.text.now) f c.requires.early refl))

@@ -2,7 +2,7 @@ use Rattle.std.proofs.Common.{refl, sym, ◌∙◌}
 use Rattle.escrow_num.specs.declared.refusal.Refusal.TheVariants as refusal
 use Rattle.escrow_sql.specs.declared.statement.Statement.TheVariants as statement
 use Rattle.escrow_schema.specs.declared.plan.Plan.TheVariants as plan
-use Rattle.escrow_core.proofs.Planned.{planned_early, update_fails}
+use Rattle.escrow_core.proofs.Planned.{planned_early}
 use Rattle.escrow_core.proofs.Serving.{after_look, fails, look_refused, refused}
 use Rattle.escrow_core.proofs.Updating.{plain_lacks, plain_open}
 use Rattle.escrow_core.proofs.database.Database.replace.Goals as goal
@@ -35,4 +35,4 @@ returns g c =
     let text = c.args.text.now in
     let early = planned_early d.state c.args.session text (plan.Plain c.args.key c.args.values) c.requires in
     rw c.refusal_of.ensures (look_refused g.S.Store c.args.session (statement.Update text) d c.row.new.self _ c.row.ensures.looks refl early
-    (λ u. fails d.state c.args.session (statement.Update text) c.in-Err.failure early (update_fails d.state c.args.session text c.in-Err.failure)))
+    (λ u. fails d.state c.args.session (statement.Update text) c.in-Err.failure early refl))
