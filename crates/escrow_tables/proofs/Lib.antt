@@ -1,4 +1,5 @@
 pub mod Applying
+pub mod AtPlace
 pub mod Changed
 pub mod Committing
 pub mod Created

@@ -1,14 +1,16 @@
 use crate::tables::{Tables, find_counted};
-use escrow_num::{Failure, Name, Row, RowName};
+use escrow_num::{Amount, Failure, Name, Row, RowName, Seq, Value};
 use sqlite::Alter;
 use std::alloc::Global;
 
 impl<S: Alter> Tables<S> {
-    ghost use Rattle.std.specs.Prelude.{◌≡◌, IsSome, IfOk, OnOk, IfSome, IsTrue};
+    ghost use Rattle.std.specs.Prelude.{◌≡◌, Some, IsSome, IsSomeAnd, IfOk, OnOk, IfSome, IsTrue, length, map, option_map};
     ghost use Rattle.std.specs.List.{AllByRecursion};
     ghost use Rattle.sqlite.specs.Held.{state};
     ghost use Rattle.sqlite.specs.State.{HasCleanDisk};
-    ghost use Rattle.escrow_schema.specs.Catalog.{table_named};
+    ghost use Rattle.escrow_schema.specs.Catalog.{place_named, table_named};
+    ghost use Rattle.escrow_schema.specs.Column.{reservables};
+    ghost use Rattle.escrow_schema.specs.Fit.{values_of};
     ghost use Rattle.escrow_machine.specs.Rows.{row_named, rows_of, HasTable};
     ghost use Rattle.escrow_tables.specs.Calls.{Reads};
 
@@ -38,5 +40,56 @@ impl<S: Alter> Tables<S> {
             return Err(Failure::Store);
         };
         self.store.rows(alloc, &counted.stored)
+    }
+
+    /// The amounts of the committed row of a name, one for each RESERVABLE column in column order, or `None`
+    /// where there is no such row; the place is that of its table.
+    pub fn amounts(
+        &mut self,
+        alloc: Global,
+        place: usize,
+        name: &RowName,
+    ) -> Result<Option<Seq<Amount>>, Failure>
+        requires { place_named self.old.catalog name.now.table ≡ Some place }
+        ensures told { HasCleanDisk (state S.Store self.new.store) → IfOk result (λ found. found ≡ option_map (λ row. row.amounts) (row_named self.old.rows name.now)) }
+        ensures many { IfOk result (λ found. IfSome found (λ amounts. IsSomeAnd (table_named self.old.catalog name.now.table) (λ table. length amounts ≡ length (reservables table.columns)))) }
+        ensures reads { Reads S.Store self.old self.new }
+        ensures open { HasCleanDisk (state S.Store self.new.store) → OnOk result (IsTrue (state S.Store self.new.store).is_open) }
+    {
+        self.store
+            .amounts(alloc, &self.tables[place].stored, &name.key)
+    }
+
+    /// The values of the committed row of a name, in column order, or `None` where there is no such row; the
+    /// place is that of its table.
+    pub fn values(
+        &mut self,
+        alloc: Global,
+        place: usize,
+        name: &RowName,
+    ) -> Result<Option<Seq<Value>>, Failure>
+        requires { place_named self.old.catalog name.now.table ≡ Some place }
+        ensures told { HasCleanDisk (state S.Store self.new.store) → IfOk result (λ found. IsSomeAnd (table_named self.old.catalog name.now.table) (λ table. found ≡ option_map (values_of table) (row_named self.old.rows name.now))) }
+        ensures reads { Reads S.Store self.old self.new }
+        ensures open { HasCleanDisk (state S.Store self.new.store) → OnOk result (IsTrue (state S.Store self.new.store).is_open) }
+    {
+        self.store
+            .values(alloc, &self.tables[place].stored, &name.key)
+    }
+
+    /// The values of each committed row of the table of a name, which stands at a place: in column order, the
+    /// rows in order of key.
+    pub fn all_values(
+        &mut self,
+        alloc: Global,
+        place: usize,
+        name: Name,
+    ) -> Result<Seq<Seq<Value>>, Failure>
+        requires { place_named self.old.catalog name ≡ Some place }
+        ensures told { HasCleanDisk (state S.Store self.new.store) → IfOk result (λ rows. IsSomeAnd (table_named self.old.catalog name) (λ table. rows ≡ map (values_of table) (rows_of self.old.rows name))) }
+        ensures reads { Reads S.Store self.old self.new }
+        ensures open { HasCleanDisk (state S.Store self.new.store) → OnOk result (IsTrue (state S.Store self.new.store).is_open) }
+    {
+        self.store.all_values(alloc, &self.tables[place].stored)
     }
 }

@@ -42,7 +42,7 @@ impl<S: Alter> Tables<S> {
     ghost use Rattle.sqlite.specs.Held.{state};
     ghost use Rattle.sqlite.specs.State.{HasCleanDisk};
     ghost use Rattle.sqlite_trees.specs.Tree.{Trees};
-    ghost use Rattle.escrow_schema.specs.Catalog.{table_named, IsCatalog};
+    ghost use Rattle.escrow_schema.specs.Catalog.{place_named, table_named, IsCatalog};
     ghost use Rattle.escrow_schema.specs.Definition.{IsTable};
     ghost use Rattle.escrow_rows.specs.Answers.{IsUsable};
     ghost use Rattle.escrow_rows.specs.Image.{IsImage};
@@ -81,6 +81,13 @@ impl<S: Alter> Tables<S> {
         ensures { IsTrue result ↔ (self.now.catalog ≡ []) }
     {
         self.tables.is_empty()
+    }
+
+    /// The place of the table of a name among all, in order of name. Makes no store call.
+    pub fn place(&self, name: Name) -> Option<usize>
+        ensures { result ≡ place_named self.now.catalog name }
+    {
+        place_named(&self.tables, name)
     }
 
     /// The table of a name. Makes no store call.

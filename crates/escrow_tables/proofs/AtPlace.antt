@@ -1,0 +1,71 @@
+-- What is read of the table at a place.
+use Rattle.std.proofs.Common.{◌≡◌, ◌<◌, ◌+◌, ℕ, Bool, List, [], ◌∷◌, Option, Some, None, Result, map, option_map, ap, ap₂, bytes_eq, cond, get_or, inl, inr, length, nat_lt, position, refl, subst, sym, ◌∙◌}
+use Rattle.std.specs.Prelude.{IfOk, IfSome, IsSomeAnd, IsTrue}
+use Rattle.std.specs.List.{position_or_len}
+use Rattle.std.proofs.lemmas.Bool.{cases_Bool}
+use Rattle.std.proofs.lemmas.List.{length-map}
+use Rattle.std.proofs.lemmas.Result.{IfOk-weaker}
+use Rattle.sqlite.specs.State.{State, HasCleanDisk}
+use Rattle.escrow_num.specs.declared.row.Row.{Row}
+use Rattle.escrow_num.specs.declared.value.RowName.{RowName}
+use Rattle.escrow_num.specs.declared.value.Value.{Value}
+use Rattle.escrow_schema.specs.declared.table.TableDef.{TableDef}
+use Rattle.escrow_schema.specs.Catalog.{place_named, table_named}
+use Rattle.escrow_rows.specs.Answers.{IsUsable, Tells}
+use Rattle.escrow_rows.specs.Changes.{name_in}
+use Rattle.escrow_rows.specs.View.{rows_in}
+use Rattle.escrow_verify.specs.declared.counted.Counted.{Counted}
+use Rattle.escrow_machine.specs.Rows.{row_named, rows_of}
+use Rattle.escrow_tables.specs.Inside.{Keeps, stored_of, catalog_of}
+use Rattle.escrow_tables.proofs.Named.{IsNamed}
+use Rattle.escrow_tables.proofs.Placed.{is_placed}
+use Rattle.escrow_tables.proofs.Reading.{name_of, told_of}
+
+-- the first item that passes stands where its image does
+first_through : {A B : Type 0} (p : B → Bool) (f : A → B) (xs : List A) → position_or_len p (map f xs) ≡ position_or_len (λ x. p (f x)) xs
+first_through p f [] = refl
+first_through p f (x ∷ xs) = elim (cases_Bool (p (f x))) [ inl t ↦ rw t refl | inr fails ↦ rw fails (ap (λ n. 1 + n) (first_through p f xs)) ]
+
+position_through : {A B : Type 0} (p : B → Bool) (f : A → B) (xs : List A) → position p (map f xs) ≡ position (λ x. p (f x)) xs
+position_through p f xs = ap₂ (λ n l. cond (nat_lt n l) (Some n) None) (first_through p f xs) (length-map xs f)
+
+-- where the table of a name stands in the catalog, it stands among those that are kept
+pub kept_place : (tables : List Counted) (name : List ℕ) → place_named (catalog_of tables) name ≡ position (λ (c : Counted). bytes_eq c.stored.table.name name) tables
+kept_place tables name = position_through (λ (t : TableDef). bytes_eq t.name name) (λ (c : Counted). c.stored.table) tables
+
+-- what stands at the place of a name is its table
+pub named_at : (tables : List Counted) (name : List ℕ) (place : ℕ) (c : Counted) → place_named (catalog_of tables) name ≡ Some place → c ≡ get_or tables place c → IsNamed tables name c
+named_at tables name place c at item = (is_placed tables tables name place c refl (sym at ∙ kept_place tables name) item).named
+
+module _ (tables : List Counted) (name : List ℕ) (c : Counted) (named : IsNamed tables name c) where
+  -- what holds of a table holds of that of its name in the catalog
+  pub in_catalog : (P : TableDef → Type 0) → P c.stored.table → IsSomeAnd (table_named (catalog_of tables) name) P
+  in_catalog P h = rw named.in_catalog h
+
+  -- an answer of the row of a key is one of the row of its name
+  pub row_told : {A E : Type 0} (of : Row → A) (key : Value) (old new last : State) (r : Result (Option A) E) → Keeps old last tables → (IsUsable new → IsUsable old) → HasCleanDisk new
+      → IfOk r (λ found. IsTrue new.is_open × Tells c.stored (λ rows. option_map of (row_named rows (name_in c.stored key))) old.now found)
+      → IfOk r (λ found. found ≡ option_map of (row_named (rows_in (stored_of tables) last.now) (record { table = name; key = key })))
+  row_told of key old new last r keeps before clean told =
+      subst (λ (n : RowName). IfOk r (λ found. found ≡ option_map of (row_named (rows_in (stored_of tables) last.now) n))) (name_of tables name c named key)
+      (told_of tables name c named old new last r (λ found. found) (λ rows. option_map of (row_named rows (name_in c.stored key))) keeps before clean told)
+
+  -- and one of the rows of a table is one of the rows of its name
+  pub rows_told : {A E : Type 0} (of : List Row → A) (old new last : State) (r : Result A E) → Keeps old last tables → (IsUsable new → IsUsable old) → HasCleanDisk new
+      → IfOk r (λ found. IsTrue new.is_open × Tells c.stored (λ rows. of (rows_of rows c.stored.table.name)) old.now found)
+      → IfOk r (λ found. found ≡ of (rows_of (rows_in (stored_of tables) last.now) name))
+  rows_told of old new last r keeps before clean told =
+      subst (λ (n : List ℕ). IfOk r (λ found. found ≡ of (rows_of (rows_in (stored_of tables) last.now) n))) named.name_is
+      (told_of tables name c named old new last r (λ found. found) (λ rows. of (rows_of rows c.stored.table.name)) keeps before clean told)
+
+  -- an answer by the definition of the table is one by that of its name in the catalog
+  pub by_table : {A E : Type 0} (P : TableDef → A → Type 0) (r : Result A E) → IfOk r (P c.stored.table) → IfOk r (λ found. IsSomeAnd (table_named (catalog_of tables) name) (λ table. P table found))
+  by_table P r = IfOk-weaker r (P c.stored.table) (λ found. IsSomeAnd (table_named (catalog_of tables) name) (λ table. P table found)) (λ found told. in_catalog (λ table. P table found) told)
+
+  pub some_by_table : {A E : Type 0} (P : TableDef → A → Type 0) (r : Result (Option A) E) → IfOk r (λ found. IfSome found (P c.stored.table))
+      → IfOk r (λ found. IfSome found (λ x. IsSomeAnd (table_named (catalog_of tables) name) (λ table. P table x)))
+  some_by_table {A} P r = IfOk-weaker r (λ found. IfSome found (P c.stored.table)) (λ found. IfSome found (λ x. IsSomeAnd (table_named (catalog_of tables) name) (λ table. P table x))) at
+    where
+      at : (found : Option A) → IfSome found (P c.stored.table) → IfSome found (λ x. IsSomeAnd (table_named (catalog_of tables) name) (λ table. P table x))
+      at None h = tt
+      at (Some x) h = in_catalog (λ table. P table x) h
