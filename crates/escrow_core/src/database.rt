@@ -20,7 +20,7 @@ use escrow_sql::Statement;
 use escrow_tables::Tables;
 use escrow_txn::TxnTable;
 use sqlite::Alter;
-use std::alloc::Global;
+use std::alloc::{AllocFailed, Global};
 use std::marker::Model;
 
 /// A database: its tables and their committed rows, in a store that SQLite writes to; the open
@@ -65,17 +65,17 @@ impl<S: Alter> Database<S> {
     /// A database of tables and rows that were committed, in which nothing is open and the next id is 1.
     /// Each row has to meet the checks of its table. Out of memory is the only error, and hands the
     /// tables back.
-    pub fn open(alloc: Global, tables: Tables<S>) -> Result<Self, (Tables<S>, Refusal)>
+    pub fn open(alloc: Global, tables: Tables<S>) -> Result<Self, AllocFailed<Tables<S>>>
         requires { HasCleanDisk (state S.Store tables.store) → AllByRecursion (MeetsChecks tables.catalog) tables.rows }
         ensures store { IfOk result (λ d. d.store ≡ tables.store) }
         ensures state { IfOk result (λ d. d.state ≡ opened tables.catalog tables.rows) }
-        ensures refused { IfErr result (λ f. (f.0 ≡ tables) × (f.1 ≡ Refusal.Memory)) }
+        ensures refused { IfErr result (λ failed. failed.value ≡ tables) }
     {
         // What its type knows of the tables is told where they are counted.
         let _ = tables.len();
         match TxnTable::new(alloc) {
             Ok(open) => Ok(Database { tables, open }),
-            Err(_) => Err((tables, Refusal::Memory)),
+            Err(_) => Err(AllocFailed { value: tables }),
         }
     }
 

@@ -116,12 +116,12 @@ impl Reply {
     ghost use Rattle.escrow_machine.specs.Reply.{failure_of, holds_memory, restart_reply};
 
     /// What a restart is answered that ended so.
-    pub fn to_restart(outcome: Result<(), Refusal>) -> Reply
+    pub fn to_restart(outcome: Result<(), Failure>) -> Reply
         ensures { result ≡ restart_reply outcome }
     {
         match outcome {
             Ok(()) => Reply::Restarted,
-            Err(refusal) => Reply::Refused(refusal),
+            Err(failure) => Reply::Refused(Refusal::from(failure)),
         }
     }
 

@@ -22,10 +22,9 @@ pub fn define(alloc: Global, text: &CreateText) -> Result<TableDef, Refusal>
     ensures broken { definition_of text.now ≡ None → IsErr result }
     ensures only { IfErr result (λ e. (e ≡ Refusal.BadDefinition) ⊎ (e ≡ Refusal.Memory)) }
 {
-    match definition_of(alloc, text) {
-        Ok(Some(table)) => Ok(table),
-        Ok(None) => Err(Refusal::BadDefinition),
-        Err(_) => Err(Refusal::Memory),
+    match definition_of(alloc, text)? {
+        Some(table) => Ok(table),
+        None => Err(Refusal::BadDefinition),
     }
 }
 

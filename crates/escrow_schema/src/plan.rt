@@ -47,10 +47,7 @@ pub fn plan_update(alloc: Global, table: &TableDef, text: &UpdateText) -> Result
     ensures memory { IsErrOf result Refusal.Memory → IsOk (planned table.now text.now) }
 {
     check_update(table, text)?;
-    match make_plan(alloc, table, text) {
-        Ok(plan) => Ok(plan),
-        Err(_) => Err(Refusal::Memory),
-    }
+    Ok(make_plan(alloc, table, text)?)
 }
 
 /// Why an UPDATE can't be planned, if it can't. Takes no memory.

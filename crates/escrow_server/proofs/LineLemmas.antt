@@ -19,7 +19,7 @@ use Rattle.clap.proofs.CutLemmas.{Lacks}
 use Rattle.escrow_num.specs.Session.{IsSession}
 use Rattle.escrow_server.specs.Line.{Reading, nothing, join, restart, statement, no_line, is_blank, after_blanks, database_name, IsComment, IsJoin, IsRestart, IsStatement, IsMadeOf}
 use Rattle.escrow_server.specs.declared.limits.TheConstants.{MAX_DATABASES}
-use Rattle.escrow_server.specs.Reading.{is_nothing, is_join, is_first_digit, named_place, place_of, restart_of, session_of, word_len}
+use Rattle.escrow_server.specs.Reading.{is_nothing, is_join, is_first_digit, named_place, database_place, restart_of, session_of, word_len}
 
 -- WHERE A LINE MAY BE CUT
 
@@ -160,14 +160,14 @@ place_of_more n name None other rest = λ place within same. elim (cases_lt plac
 ]
 
 place_of_step : (n : ℕ) (name : List ℕ) (same : Bool) → bytes_eq (database_name n) name ≡ same
-    → MatchOption (place_of n name) ((place : ℕ) → place < n → name ≡ database_name place → ⊥) (λ place. (place < n) × (name ≡ database_name place))
-    → MatchOption (place_of (suc n) name) ((place : ℕ) → place < suc n → name ≡ database_name place → ⊥) (λ place. (place < suc n) × (name ≡ database_name place))
+    → MatchOption (database_place n name) ((place : ℕ) → place < n → name ≡ database_name place → ⊥) (λ place. (place < n) × (name ≡ database_name place))
+    → MatchOption (database_place (suc n) name) ((place : ℕ) → place < suc n → name ≡ database_name place → ⊥) (λ place. (place < suc n) × (name ≡ database_name place))
 place_of_step n name true same rest = rw same (omega arith, sym ((bytes_eq-Decides (database_name n) name).0 same))
-place_of_step n name false same rest = rw same (place_of_more n name (place_of n name) (λ e. true≢false (sym ((bytes_eq-Decides (database_name n) name).1 (sym e)) ∙ same)) rest)
+place_of_step n name false same rest = rw same (place_of_more n name (database_place n name) (λ e. true≢false (sym ((bytes_eq-Decides (database_name n) name).1 (sym e)) ∙ same)) rest)
 
 -- a place that is found has the name, and where none is found no place has it
 pub place_of_is : (databases : ℕ) (name : List ℕ)
-    → MatchOption (place_of databases name) ((place : ℕ) → place < databases → name ≡ database_name place → ⊥) (λ place. (place < databases) × (name ≡ database_name place))
+    → MatchOption (database_place databases name) ((place : ℕ) → place < databases → name ≡ database_name place → ⊥) (λ place. (place < databases) × (name ≡ database_name place))
 place_of_is zero name = λ place within. absurd (omega arith)
 place_of_is (suc n) name = place_of_step n name (bytes_eq (database_name n) name) refl (place_of_is n name)
 
@@ -316,13 +316,13 @@ pub at_none : {X : Type 0} (P : Type 0) (r : Option X) → r ≡ None → P → 
 at_none {X} P r none p = subst (λ (r : Option X). IfNone r P) (sym none) p
 
 -- a name that isn't found is no database's
-pub no_place : (databases : ℕ) (name : List ℕ) (found : Option ℕ) → found ≡ place_of databases name → found ≡ None
+pub no_place : (databases : ℕ) (name : List ℕ) (found : Option ℕ) → found ≡ database_place databases name → found ≡ None
     → (place : ℕ) → place < databases → name ≡ database_name place → ⊥
 no_place databases name found is none =
     subst (λ (r : Option ℕ). MatchOption r ((place : ℕ) → place < databases → name ≡ database_name place → ⊥) (λ place. (place < databases) × (name ≡ database_name place)))
     (sym is ∙ none) (place_of_is databases name)
 
-pub this_place : (databases : ℕ) (name : List ℕ) (found : Option ℕ) (place : ℕ) → found ≡ place_of databases name → found ≡ Some place
+pub this_place : (databases : ℕ) (name : List ℕ) (found : Option ℕ) (place : ℕ) → found ≡ database_place databases name → found ≡ Some place
     → (place < databases) × (name ≡ database_name place)
 this_place databases name found place is some =
     subst (λ (r : Option ℕ). MatchOption r ((place : ℕ) → place < databases → name ≡ database_name place → ⊥) (λ place. (place < databases) × (name ≡ database_name place)))
@@ -385,7 +385,7 @@ blanks_end (b ∷ back) blank =
 
 -- the place of a name, by how many blanks stand before it and how long it is
 abbrev pick : ℕ → List ℕ → ℕ → ℕ → Option ℕ
-pick databases named front len = if front == 0 || not (list_all is_blank (drop len named)) then None else place_of databases (take len named)
+pick databases named front len = if front == 0 || not (list_all is_blank (drop len named)) then None else database_place databases (take len named)
 
 -- what stands behind `@restart`, by its parts
 module _ (front back : List ℕ) (place : ℕ) (few : place < MAX_DATABASES) (front_blank : AllPass is_blank front) (back_blank : AllPass is_blank back) where
@@ -401,7 +401,7 @@ module _ (front back : List ℕ) (place : ℕ) (few : place < MAX_DATABASES) (fr
   name_alone : take (word_len (database_name place ++ back)) (database_name place ++ back) ≡ database_name place
   name_alone = ap (λ (n : ℕ). take n (database_name place ++ back)) name_len ∙ take_front (database_name place) back
 
-  named_found : (databases : ℕ) → 0 < length front → named_place databases (front ++ (database_name place ++ back)) ≡ place_of databases (database_name place)
+  named_found : (databases : ℕ) → 0 < length front → named_place databases (front ++ (database_name place ++ back)) ≡ database_place databases (database_name place)
   named_found databases apart =
       let bytes = front ++ (database_name place ++ back) in
       let some : (length front == 0) ≡ false = grind (arith, nat_tests) in
@@ -425,7 +425,7 @@ restart_names databases content place few is =
     ∙ ap (λ (m : List ℕ). take (word_len m) m) (name_behind is.front is.back place small is.front_blank is.back_blank)
     ∙ name_alone is.front is.back place small is.front_blank is.back_blank
 
-restart_found : (databases : ℕ) (content : List ℕ) (place : ℕ) → databases ≤ MAX_DATABASES → IsRestart databases content place → restart_of databases content ≡ place_of databases (database_name place)
+restart_found : (databases : ℕ) (content : List ℕ) (place : ℕ) → databases ≤ MAX_DATABASES → IsRestart databases content place → restart_of databases content ≡ database_place databases (database_name place)
 restart_found databases content place few is =
     let small : place < MAX_DATABASES = omega (arith, is.within) in
     let starts : starts_with nat_eq content (codes "@restart") ≡ true =
@@ -452,7 +452,7 @@ record Named (databases : ℕ) (bytes : List ℕ) (place : ℕ) : Type 0 where
 
 named_made : (databases : ℕ) (bytes : List ℕ) (place : ℕ) (none : Bool)
     → (prefix_len is_blank bytes == 0 || not (list_all is_blank (drop (word_len (after_blanks bytes)) (after_blanks bytes)))) ≡ none
-    → (if none then None else place_of databases (take (word_len (after_blanks bytes)) (after_blanks bytes))) ≡ Some place → Named databases bytes place
+    → (if none then None else database_place databases (take (word_len (after_blanks bytes)) (after_blanks bytes))) ≡ Some place → Named databases bytes place
 named_made databases bytes place true is found = absurd (cc)
 named_made databases bytes place false is found =
     let n = prefix_len is_blank bytes in

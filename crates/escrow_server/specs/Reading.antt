@@ -23,9 +23,9 @@ abbrev pub is_join : List ℕ → Bool
 is_join content = starts_with nat_eq content (codes "@join") && list_all is_blank (drop 5 content)
 
 -- the place of the database of a name, of so many databases
-abbrev pub place_of : ℕ → List ℕ → Option ℕ
-place_of zero name = None
-place_of (suc n) name = if bytes_eq (database_name n) name then Some n else place_of n name
+abbrev pub database_place : ℕ → List ℕ → Option ℕ
+database_place zero name = None
+database_place (suc n) name = if bytes_eq (database_name n) name then Some n else database_place n name
 
 -- how many bytes stand before the first blank
 abbrev pub word_len : List ℕ → ℕ
@@ -35,7 +35,7 @@ word_len bytes = prefix_len (λ c. not (is_blank c)) bytes
 abbrev pub named_place : ℕ → List ℕ → Option ℕ
 named_place databases bytes =
     if prefix_len is_blank bytes == 0 || not (list_all is_blank (drop (word_len (after_blanks bytes)) (after_blanks bytes))) then None
-    else place_of databases (take (word_len (after_blanks bytes)) (after_blanks bytes))
+    else database_place databases (take (word_len (after_blanks bytes)) (after_blanks bytes))
 
 -- the place of the database that is to be restarted
 abbrev pub restart_of : ℕ → List ℕ → Option ℕ

@@ -4,7 +4,7 @@ ghost use Rattle.escrow_server.specs.Line.{Reads, ReadsContent, IsMadeOf, IsStat
 ghost use Rattle.escrow_server.specs.Reading.{seen, is_nothing, is_join, named_place, restart_of, session_of, word_len};
 
 use crate::limits::{MAX_DATABASES, MAX_LINE};
-use crate::names::place_of;
+use crate::names::database_place;
 use escrow_num::Session;
 
 /// What a line of a script is.
@@ -153,7 +153,7 @@ fn named_place(databases: usize, bytes: &[u8]) -> Option<usize>
     if front.is_empty() || !is_all_blank(back) {
         return None;
     }
-    place_of(databases, name)
+    database_place(databases, name)
 }
 
 /// How many bytes stand before the first space or tab.
@@ -177,7 +177,7 @@ fn statement_of(databases: usize, content: &str) -> Option<Line<'_>>
 {
     let (name, rest) = content.split_once('.')?;
     let (number, text) = rest.split_once(':')?;
-    let database = place_of(databases, name.as_bytes())?;
+    let database = database_place(databases, name.as_bytes())?;
     let session = session_of(number.as_bytes())?;
     Some(Line::Statement {
         database,

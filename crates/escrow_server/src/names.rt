@@ -1,6 +1,6 @@
 ghost use Rattle.std.specs.Prelude.{◌≡◌, ◌<◌, ◌≤◌};
 ghost use Rattle.escrow_server.specs.Line.{database_name};
-ghost use Rattle.escrow_server.specs.Reading.{place_of};
+ghost use Rattle.escrow_server.specs.Reading.{database_place};
 
 use crate::limits::MAX_DATABASES;
 
@@ -31,9 +31,9 @@ pub(crate) fn database_name(place: usize) -> &'static str
 }
 
 /// The place of the database of a name, of so many databases.
-pub(crate) fn place_of(databases: usize, name: &[u8]) -> Option<usize>
+pub(crate) fn database_place(databases: usize, name: &[u8]) -> Option<usize>
     requires { databases ≤ MAX_DATABASES }
-    ensures { result ≡ place_of databases name.now }
+    ensures { result ≡ database_place databases name.now }
 {
     let mut left = databases;
     while left > 0 {

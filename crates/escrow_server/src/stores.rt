@@ -6,7 +6,8 @@ ghost use Rattle.escrow_cells.specs.Tables.{no_schema};
 ghost use Rattle.escrow_rows.specs.Answers.{IsUsable};
 ghost use Rattle.escrow_server.specs.Program.{file_of};
 
-use escrow_num::Refusal;
+use escrow_num::Failure;
+use escrow_tables::Unverified;
 use sqlite::{Alter, Connection, Error, ErrorCode, File, FileStore, MemStore, Options, Unknown};
 use sqlite_std_file::OpenError;
 use std::alloc::{AllocError, Global};
@@ -83,13 +84,13 @@ impl From<Error> for OpenFault {
     }
 }
 
-impl From<Refusal> for OpenFault {
-    fn from(cause: Refusal) -> OpenFault {
+impl From<Unverified> for OpenFault {
+    fn from(cause: Unverified) -> OpenFault {
         match cause {
-            Refusal::Memory => OpenFault::Memory,
-            Refusal::ForeignStore => OpenFault::Foreign,
-            Refusal::UnknownVersion => OpenFault::Version,
-            _ => OpenFault::Store,
+            Unverified::Failed(Failure::Memory) => OpenFault::Memory,
+            Unverified::Failed(Failure::Store) => OpenFault::Store,
+            Unverified::ForeignStore => OpenFault::Foreign,
+            Unverified::OtherFormat => OpenFault::Version,
         }
     }
 }

@@ -16,5 +16,6 @@ mod verified;
 mod write;
 
 pub use escrow_rows::StoredTable;
+pub use escrow_verify::Unverified;
 pub use open::{StoreFault, open_store};
 pub use tables::Tables;

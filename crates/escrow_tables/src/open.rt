@@ -1,20 +1,22 @@
-ghost use Rattle.std.specs.Prelude.{◌≡◌, ◌≢◌, ◌⊎◌, false, [], IsTrue, IfOk, IfErr};
+ghost use Rattle.std.specs.Prelude.{◌≡◌, ◌≢◌, false, [], IsTrue, IfOk, IfErr};
 ghost use Rattle.std.specs.List.{AllByRecursion};
 ghost use Rattle.sqlite.specs.Held.{state};
 ghost use Rattle.sqlite.specs.State.{HasCleanDisk, Survives};
 ghost use Rattle.sqlite_trees.specs.Tree.{Trees};
-ghost use Rattle.escrow_num.specs.declared.refusal.Refusal.TheVariants as refusal;
+ghost use Rattle.escrow_num.specs.declared.failure.Failure.{Failure as Why};
 ghost use Rattle.escrow_cells.specs.Tables.{no_schema};
 ghost use Rattle.escrow_rows.specs.Answers.{IsUsable, Looks};
-ghost use Rattle.escrow_verify.specs.Stored.{IsNoStore, HasOtherFormat, IsCause};
+ghost use Rattle.escrow_verify.specs.declared.unverified.Unverified.TheVariants.{Failed, ForeignStore, OtherFormat};
+ghost use Rattle.escrow_verify.specs.Stored.{IsNoStore, HasOtherFormat};
 ghost use Rattle.escrow_machine.specs.Rows.{MeetsChecks};
 ghost use Rattle.escrow_tables.specs.Committed.{Holds};
 ghost use Rattle.escrow_tables.specs.Found.{IsFounded};
 
 use crate::bare::{is_bare, make_store};
 use crate::tables::Tables;
-use escrow_num::Refusal;
+use escrow_num::Failure;
 use escrow_rows::RowStore;
+use escrow_verify::Unverified;
 use sqlite::{Alter, Connection};
 use std::alloc::Global;
 
@@ -23,9 +25,8 @@ use std::alloc::Global;
 pub struct StoreFault<S: Alter> {
     /// The connection to it.
     pub connection: Connection<S>,
-    /// Want of memory (51), a refusal of the store (60), a database that is no store (61), or a store of
-    /// another format (62).
-    pub cause: Refusal,
+    /// Why it isn't opened.
+    pub cause: Unverified,
 }
 
 /// Opens a store. A database without objects is made an empty one, in one transaction. Any other is read
@@ -33,7 +34,8 @@ pub struct StoreFault<S: Alter> {
 ///
 /// # Errors
 ///
-/// The connection is handed back, with the cause. One that is inside a transaction is refused with 60.
+/// The connection is handed back, with the cause. One that is inside a transaction is refused as by the
+/// store (60).
 pub fn open_store<S: Alter>(
     alloc: Global,
     connection: Connection<S>,
@@ -44,11 +46,10 @@ pub fn open_store<S: Alter>(
     ensures made { IfOk result (λ t. (state S.Store connection).now.schema ≡ no_schema → (t.catalog ≡ []) × (HasCleanDisk (state S.Store t.store) → t.rows ≡ [])) }
 
     // Why a store isn't opened, just where that is so.
-    ensures cause { IfErr result (λ f. IsCause f.cause) }
-    ensures bare { (state S.Store connection).now.schema ≡ no_schema → IfErr result (λ f. (f.cause ≡ refusal.Memory) ⊎ (f.cause ≡ refusal.Store)) }
-    ensures foreign { IfErr result (λ f. IsUsable (state S.Store f.connection) → f.cause ≡ refusal.ForeignStore → IsNoStore (state S.Store connection).now) }
-    ensures version { IfErr result (λ f. IsUsable (state S.Store f.connection) → f.cause ≡ refusal.UnknownVersion → HasOtherFormat (state S.Store connection).now) }
-    ensures other { IfErr result (λ f. IsUsable (state S.Store f.connection) → f.cause ≡ refusal.ForeignStore → HasOtherFormat (state S.Store connection).now → ⊥) }
+    ensures bare { (state S.Store connection).now.schema ≡ no_schema → IfErr result (λ f. (why : Why) × (f.cause ≡ Failed why)) }
+    ensures foreign { IfErr result (λ f. IsUsable (state S.Store f.connection) → f.cause ≡ ForeignStore → IsNoStore (state S.Store connection).now) }
+    ensures version { IfErr result (λ f. IsUsable (state S.Store f.connection) → f.cause ≡ OtherFormat → HasOtherFormat (state S.Store connection).now) }
+    ensures other { IfErr result (λ f. IsUsable (state S.Store f.connection) → f.cause ≡ ForeignStore → HasOtherFormat (state S.Store connection).now → ⊥) }
 
     // The connection is then as it was.
     ensures kept { IfErr result (λ f. IsUsable (state S.Store f.connection) → (state S.Store f.connection).now ≡ (state S.Store connection).now) }
@@ -63,7 +64,7 @@ pub fn open_store<S: Alter>(
     ensures crash_refused { IfErr result (λ f. Survives (state S.Store connection) (state S.Store f.connection) (IsFounded (state S.Store connection).now)) }
 {
     if !connection.is_autocommit() {
-        let cause = Refusal::Store;
+        let cause = Unverified::Failed(Failure::Store);
         return Err(StoreFault { connection, cause });
     }
     if is_bare(connection.schema()) {
@@ -82,7 +83,7 @@ fn make_tables<S: Alter>(
     requires bare { (state S.Store connection).now.schema ≡ no_schema }
     ensures store { IfOk result (λ t. HasCleanDisk (state S.Store t.store) → IsTrue (state S.Store t.store).is_open × Holds t.catalog t.rows (state S.Store t.store).now × AllByRecursion (MeetsChecks t.catalog) t.rows) }
     ensures made { IfOk result (λ t. (t.catalog ≡ []) × (HasCleanDisk (state S.Store t.store) → t.rows ≡ [])) }
-    ensures cause { IfErr result (λ f. (f.cause ≡ refusal.Memory) ⊎ (f.cause ≡ refusal.Store)) }
+    ensures cause { IfErr result (λ f. (why : Why) × (f.cause ≡ Failed why)) }
     ensures kept { IfErr result (λ f. IsUsable (state S.Store f.connection) → (state S.Store f.connection).now ≡ (state S.Store connection).now) }
     ensures outside { IfErr result (λ f. f.connection.in_transaction ≡ false) }
     ensures usable_opened { IfOk result (λ t. IsUsable (state S.Store t.store) → IsUsable (state S.Store connection)) }
@@ -93,7 +94,10 @@ fn make_tables<S: Alter>(
 {
     match make_store(&mut connection) {
         Ok(()) => Ok(Tables::empty(alloc, RowStore::over(connection))),
-        Err(cause) => Err(StoreFault { connection, cause }),
+        Err(failure) => {
+            let cause = Unverified::Failed(failure);
+            Err(StoreFault { connection, cause })
+        }
     }
 }
 
@@ -104,10 +108,9 @@ fn read_tables<S: Alter>(
 ) -> Result<Tables<S>, StoreFault<S>>
     requires { connection.in_transaction ≡ false }
     ensures store { IfOk result (λ t. HasCleanDisk (state S.Store t.store) → IsTrue (state S.Store t.store).is_open × Holds t.catalog t.rows (state S.Store t.store).now × AllByRecursion (MeetsChecks t.catalog) t.rows) }
-    ensures cause { IfErr result (λ f. IsCause f.cause) }
-    ensures foreign { IfErr result (λ f. IsUsable (state S.Store f.connection) → f.cause ≡ refusal.ForeignStore → IsNoStore (state S.Store connection).now) }
-    ensures version { IfErr result (λ f. IsUsable (state S.Store f.connection) → f.cause ≡ refusal.UnknownVersion → HasOtherFormat (state S.Store connection).now) }
-    ensures other { IfErr result (λ f. IsUsable (state S.Store f.connection) → f.cause ≡ refusal.ForeignStore → HasOtherFormat (state S.Store connection).now → ⊥) }
+    ensures foreign { IfErr result (λ f. IsUsable (state S.Store f.connection) → f.cause ≡ ForeignStore → IsNoStore (state S.Store connection).now) }
+    ensures version { IfErr result (λ f. IsUsable (state S.Store f.connection) → f.cause ≡ OtherFormat → HasOtherFormat (state S.Store connection).now) }
+    ensures other { IfErr result (λ f. IsUsable (state S.Store f.connection) → f.cause ≡ ForeignStore → HasOtherFormat (state S.Store connection).now → ⊥) }
     ensures outside { IfErr result (λ f. f.connection.in_transaction ≡ false) }
     ensures looks { IfOk result (λ t. Looks (state S.Store connection) (state S.Store t.store)) }
     ensures looks_refused { IfErr result (λ f. Looks (state S.Store connection) (state S.Store f.connection)) }

@@ -1,7 +1,7 @@
 use crate::tables::Tables;
-use escrow_num::{Failure, Refusal};
+use escrow_num::Failure;
 use escrow_rows::RowStore;
-use escrow_verify::verify;
+use escrow_verify::{Unverified, verify};
 use sqlite::Alter;
 use std::alloc::Global;
 use std::snapshot::Snapshot;
@@ -11,9 +11,9 @@ impl<S: Alter> Tables<S> {
     ghost use Rattle.std.specs.List.{AllByRecursion};
     ghost use Rattle.sqlite.specs.Held.{state};
     ghost use Rattle.sqlite.specs.State.{HasCleanDisk};
-    ghost use Rattle.escrow_num.specs.declared.refusal.Refusal.TheVariants as refusal;
     ghost use Rattle.escrow_rows.specs.Answers.{IsUsable, Looks};
-    ghost use Rattle.escrow_verify.specs.Stored.{IsNoStore, HasOtherFormat, IsCause};
+    ghost use Rattle.escrow_verify.specs.declared.unverified.Unverified.TheVariants.{ForeignStore, OtherFormat};
+    ghost use Rattle.escrow_verify.specs.Stored.{IsNoStore, HasOtherFormat};
     ghost use Rattle.escrow_machine.specs.Rows.{MeetsChecks};
     ghost use Rattle.escrow_tables.specs.Calls.{Reads};
     ghost use Rattle.escrow_tables.specs.Committed.{Holds};
@@ -23,14 +23,12 @@ impl<S: Alter> Tables<S> {
     ///
     /// # Errors
     ///
-    /// The store is handed back, with the cause: want of memory (51), a refusal of the store (60), no store
-    /// (61), or one of another format (62).
-    pub fn read(alloc: Global, mut store: RowStore<S>) -> Result<Self, (RowStore<S>, Refusal)>
+    /// The store is handed back, with the cause.
+    pub fn read(alloc: Global, mut store: RowStore<S>) -> Result<Self, (RowStore<S>, Unverified)>
         ensures store { IfOk result (λ t. HasCleanDisk (state S.Store t.store) → IsTrue (state S.Store t.store).is_open × Holds t.catalog t.rows (state S.Store t.store).now × AllByRecursion (MeetsChecks t.catalog) t.rows) }
-        ensures foreign { IfErr result (λ f. IsUsable (state S.Store f.0) → f.1 ≡ refusal.ForeignStore → IsNoStore (state S.Store store).now) }
-        ensures version { IfErr result (λ f. IsUsable (state S.Store f.0) → f.1 ≡ refusal.UnknownVersion → HasOtherFormat (state S.Store store).now) }
-        ensures other { IfErr result (λ f. IsUsable (state S.Store f.0) → f.1 ≡ refusal.ForeignStore → HasOtherFormat (state S.Store store).now → ⊥) }
-        ensures cause { IfErr result (λ f. IsCause f.1) }
+        ensures foreign { IfErr result (λ f. IsUsable (state S.Store f.0) → f.1 ≡ ForeignStore → IsNoStore (state S.Store store).now) }
+        ensures version { IfErr result (λ f. IsUsable (state S.Store f.0) → f.1 ≡ OtherFormat → HasOtherFormat (state S.Store store).now) }
+        ensures other { IfErr result (λ f. IsUsable (state S.Store f.0) → f.1 ≡ ForeignStore → HasOtherFormat (state S.Store store).now → ⊥) }
         ensures looks { IfOk result (λ t. Looks (state S.Store store) (state S.Store t.store)) }
         ensures looks_refused { IfErr result (λ f. Looks (state S.Store store) (state S.Store f.0)) }
     {
@@ -58,8 +56,8 @@ impl<S: Alter> Tables<S> {
     {
         match verify(alloc, &mut self.store) {
             Ok(_) => Ok(()),
-            Err(Refusal::Memory) => Err(Failure::Memory),
-            Err(_) => Err(Failure::Store),
+            Err(Unverified::Failed(failure)) => Err(failure),
+            Err(Unverified::ForeignStore | Unverified::OtherFormat) => Err(Failure::Store),
         }
     }
 }

@@ -8,8 +8,6 @@ use Rattle.std.proofs.lemmas.List.Sorted.{IsPermutation-sym}
 use Rattle.sqlite_value.specs.declared.value.Value.TheVariants as sql
 use Rattle.sqlite_value.specs.Order.{Row as SqlRow, column}
 use Rattle.sqlite.specs.Effect.{Database}
-use Rattle.escrow_num.specs.declared.refusal.Refusal.{Refusal}
-use Rattle.escrow_num.specs.declared.refusal.Refusal.TheVariants as refusal
 use Rattle.escrow_num.specs.declared.row.Row.{Row}
 use Rattle.escrow_num.specs.declared.value.Value.{Value}
 use Rattle.escrow_schema.specs.declared.table.TableDef.{TableDef}
@@ -22,6 +20,8 @@ use Rattle.escrow_rows.specs.declared.stored.StoredTable.{StoredTable}
 use Rattle.escrow_rows.specs.Gathered.{keyed}
 use Rattle.escrow_rows.specs.Image.{CanBeHeld}
 use Rattle.escrow_verify.specs.declared.rows.counter.RowCounter.{RowCounter}
+use Rattle.escrow_verify.specs.declared.unverified.PartFault.{PartFault}
+use Rattle.escrow_verify.specs.declared.unverified.PartFault.TheVariants.{Foreign}
 use Rattle.escrow_verify.specs.Counting.{AreSoundRows, HasCounted, HasTaken}
 use Rattle.escrow_verify.specs.Inside.{AreRowsIn, IsSoundRow, keyed_cells}
 use Rattle.escrow_verify.proofs.Fronts.{later_rows, length-cells, length-keyed}
@@ -124,10 +124,10 @@ module _ (s : StoredTable) (db : Database) (is_table : IsTable s.table) (fresh l
       ]
 
 -- an answer that is there, or is told as foreign
-pub told_found : (P Q : ℕ → Type 0) → ((n : ℕ) → P n → Q n) → (o : Option ℕ) (r : Result ℕ Refusal) → r ≡ ok_or o refusal.ForeignStore → IfSome o P → IfOk r Q
-told_found P Q then None r is h = subst (λ (x : Result ℕ Refusal). IfOk x Q) (sym is) tt
-told_found P Q then (Some n) r is h = subst (λ (x : Result ℕ Refusal). IfOk x Q) (sym is) (then n h)
+pub told_found : (P Q : ℕ → Type 0) → ((n : ℕ) → P n → Q n) → (o : Option ℕ) (r : Result ℕ PartFault) → r ≡ ok_or o Foreign → IfSome o P → IfOk r Q
+told_found P Q then None r is h = subst (λ (x : Result ℕ PartFault). IfOk x Q) (sym is) tt
+told_found P Q then (Some n) r is h = subst (λ (x : Result ℕ PartFault). IfOk x Q) (sym is) (then n h)
 
-pub told_foreign : (o : Option ℕ) (r : Result ℕ Refusal) → r ≡ ok_or o refusal.ForeignStore → r ≡ Err refusal.ForeignStore → o ≡ None
+pub told_foreign : (o : Option ℕ) (r : Result ℕ PartFault) → r ≡ ok_or o Foreign → r ≡ Err Foreign → o ≡ None
 told_foreign None r is e = refl
-told_foreign (Some n) r is e = let both : ok_or (Some n) refusal.ForeignStore ≡ Err refusal.ForeignStore = sym is ∙ e in absurd (cc)
+told_foreign (Some n) r is e = let both : ok_or (Some n) Foreign ≡ Err Foreign = sym is ∙ e in absurd (cc)

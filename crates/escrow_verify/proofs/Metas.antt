@@ -8,14 +8,14 @@ use Rattle.escrow_cells.specs.Read.{Takes}
 use Rattle.escrow_cells.specs.Store.{IsStoreSchema, format, metas}
 use Rattle.escrow_verify.specs.declared.format.Meta.{Meta}
 use Rattle.escrow_verify.specs.declared.format.Meta.TheVariants.{Empty, Format, Other}
-use Rattle.escrow_verify.specs.Format.{Tells, format_row}
+use Rattle.escrow_verify.specs.Format.{IsMetaOf, format_row}
 use Rattle.escrow_verify.specs.Stored.{HasOtherFormat}
 
 -- META is read from nothing on
 abbrev pub IsRead : Database → Meta → Type 0
-IsRead db meta = Takes (λ (first last : Meta) (rows : List SqlRow). first ≡ Empty → Tells last rows) (IsPermutation (metas db)) Empty meta
+IsRead db meta = Takes (λ (first last : Meta) (rows : List SqlRow). first ≡ Empty → IsMetaOf last rows) (IsPermutation (metas db)) Empty meta
 
-told : (db : Database) (meta : Meta) → IsRead db meta → (rows : List SqlRow) × IsPermutation (metas db) rows × Tells meta rows
+told : (db : Database) (meta : Meta) → IsRead db meta → (rows : List SqlRow) × IsPermutation (metas db) rows × IsMetaOf meta rows
 told db meta read = let taken = read Empty [] (λ e. refl) in (taken.0, taken.1, taken.2 refl)
 
 one_row : (db : Database) (rows : List SqlRow) (row : SqlRow) → IsPermutation (metas db) rows → rows ≡ row ∷ [] → metas db ≡ row ∷ []
@@ -25,7 +25,7 @@ one_row db rows row same is = one_permutation row (metas db) (subst (λ (rs : Li
 pub format_told : (db : Database) (number : ℤ) (meta : Meta) → meta ≡ Format number → IsRead db meta → metas db ≡ format_row number ∷ []
 format_told db number meta is read =
     let found = told db meta read in
-    one_row db found.0 (format_row number) found.1 (subst (λ (m : Meta). Tells m found.0) is found.2)
+    one_row db found.0 (format_row number) found.1 (subst (λ (m : Meta). IsMetaOf m found.0) is found.2)
 
 -- anything else
 pub none_told : (db : Database) (number : ℤ) (meta : Meta) → IsRead db meta → metas db ≡ format_row number ∷ [] → meta ≡ Format number
@@ -33,7 +33,7 @@ none_told db number meta read is =
     let found = told db meta read in
     at meta found.0 (one_permutation (format_row number) found.0 (subst (λ (rs : List SqlRow). IsPermutation rs found.0) is found.1)) found.2
   where
-    at : (m : Meta) (rows : List SqlRow) → rows ≡ format_row number ∷ [] → Tells m rows → m ≡ Format number
+    at : (m : Meta) (rows : List SqlRow) → rows ≡ format_row number ∷ [] → IsMetaOf m rows → m ≡ Format number
     at Empty rows one none = absurd (cc)
     at (Format other) rows one h = let same : other ≡ number = cc in ap Format same
     at Other rows one h = absurd (h.1 number one)

@@ -7,7 +7,6 @@ use Rattle.std.proofs.lemmas.Bool.{both_ways, false≢true}
 use Rattle.std.proofs.lemmas.Bool.Decides.{nat_tests}
 use Rattle.std.proofs.lemmas.Option.{none-some}
 use Rattle.sqlite_value.specs.Order.{Row as SqlRow}
-use Rattle.escrow_num.specs.declared.refusal.Refusal.{Refusal}
 use Rattle.escrow_num.proofs.Orders.{same_name}
 use Rattle.escrow_sql.specs.Parser.{Asks}
 use Rattle.escrow_sql.specs.declared.statement.CreateText.{CreateText}
@@ -20,11 +19,11 @@ use Rattle.escrow_schema.specs.Print.{canonical}
 use Rattle.escrow_schema.proofs.PrintBack.{sound_of}
 use Rattle.escrow_schema.proofs.PrintText.{canonical_text, name_text}
 use Rattle.escrow_rows.specs.Image.{tab_row}
-use Rattle.escrow_verify.specs.Tabs.{Defines, IsTab, row_with}
+use Rattle.escrow_verify.specs.Tabs.{Defines, IsTab, tab_with}
 use Rattle.escrow_verify.proofs.Only.{defined_by, one_definition}
 
--- a refusal that is passed on was that of the call
-pub passed_on : {X Y : Type 0} (r : Result X Refusal) (call : Result Y Refusal) (why e : Refusal) → IsErrAnd r (λ y. y ≡ why) → call ≡ Err why → r ≡ Err e → call ≡ Err e
+-- an error that is passed on was that of the call
+pub passed_on : {X Y E : Type 0} (r : Result X E) (call : Result Y E) (why e : E) → IsErrAnd r (λ y. y ≡ why) → call ≡ Err why → r ≡ Err e → call ≡ Err e
 passed_on (Ok x) call why e is was told = absurd is
 passed_on (Err y) call why e is was told = was ∙ ap Err (sym is) ∙ (cc)
 
@@ -37,21 +36,21 @@ undefined text create asked none table (other, same, e) =
     none-some table (sym none ∙ ap definition_of is ∙ e)
 
 -- a row of TAB has a number, a name and a text in UTF-8
-pub tab_parts : (row : SqlRow) → ((id : ℤ) (name text : List ℕ) → IsUtf8 name → IsUtf8 text → row ≢ row_with id name text) → IsTab row → ⊥
+pub tab_parts : (row : SqlRow) → ((id : ℤ) (name text : List ℕ) → IsUtf8 name → IsUtf8 text → row ≢ tab_with id name text) → IsTab row → ⊥
 tab_parts row none (s, can, is) = none s.id s.table.name (canonical s.table) (name_text s.table.name (sound_of s.table can.defined).name) (canonical_text s.table can.defined) is
 
-module _ (row : SqlRow) (id : ℤ) (name text : List ℕ) (read : row ≡ row_with id name text) where
+module _ (row : SqlRow) (id : ℤ) (name text : List ℕ) (read : row ≡ tab_with id name text) where
   -- the number is from 1 on
   pub numbered : IsTab row → int_le (pos 1) id ≡ true
   numbered (s, can, is) =
-      let both : row_with id name text ≡ tab_row s = sym read ∙ is in
+      let both : tab_with id name text ≡ tab_row s = sym read ∙ is in
       let same : s.id ≡ id = cc in
       subst (λ (n : ℤ). int_le (pos 1) n ≡ true) same can.from_one
 
   -- the name is that of the table whose canonical text it has
   pub named : (table : TableDef) → IsTable table → text ≡ canonical table → IsTab row → name ≡ table.name
   named table defined printed (s, can, is) =
-      let both : row_with id name text ≡ tab_row s = sym read ∙ is in
+      let both : tab_with id name text ≡ tab_row s = sym read ∙ is in
       let texts : text ≡ canonical s.table = cc in
       let names : name ≡ s.table.name = cc in
       names ∙ ap (λ (t : TableDef). t.name) (one_definition text s.table table (defined_by text s.table can.defined texts) (defined_by text table defined printed))
@@ -70,6 +69,6 @@ pub not_below : (id : ℤ) → int_lt id (pos 1) ≡ true → int_le (pos 1) id 
 not_below (pos n) below above = absurd (grind (arith, nat_tests))
 not_below (negsuc n) below above = absurd (false≢true above)
 
--- what is known of the refusal that a call gives
-pub told_of : {X : Type 0} (P : Refusal → Type 0) (r : Result X Refusal) (e : Refusal) → r ≡ Err e → IfErr r P → P e
+-- what is known of the error that a call gives
+pub told_of : {X E : Type 0} (P : E → Type 0) (r : Result X E) (e : E) → r ≡ Err e → IfErr r P → P e
 told_of P r e told h = subst (λ r. IfErr r P) told h

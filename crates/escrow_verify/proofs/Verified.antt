@@ -1,11 +1,10 @@
 -- What the parts of a verification say together.
 use Rattle.std.proofs.Common.{◌≡◌, List, map, sym, ap, ◌∙◌, subst, arith, IsTrue, Result, Ok, Err}
 use Rattle.std.specs.List.{AllByRecursion}
-use Rattle.std.specs.Result.{IfOk, IsErrAnd}
+use Rattle.std.specs.Result.{IsErrAnd}
 use Rattle.sqlite_trees.proofs.ListLemmas.{map-map}
 use Rattle.sqlite.specs.Effect.{Database}
 use Rattle.sqlite.specs.State.{State, HasCleanDisk}
-use Rattle.escrow_num.specs.declared.refusal.Refusal.{Refusal}
 use Rattle.escrow_num.specs.declared.row.Row.{Row}
 use Rattle.escrow_num.proofs.Items.{has_all}
 use Rattle.escrow_schema.specs.Catalog.{IsCatalog}
@@ -16,17 +15,22 @@ use Rattle.escrow_rows.specs.Image.{AreTables}
 use Rattle.escrow_machine.specs.Rows.{rows_of}
 use Rattle.escrow_rows.proofs.ImageTables.{has_permutation}
 use Rattle.escrow_verify.specs.declared.counted.Counted.{Counted}
-use Rattle.escrow_verify.specs.Inside.{AreOfTables, AreRowsIn, AreTablesIn, HasRows, HaveRows, IsKnown}
+use Rattle.escrow_verify.specs.declared.unverified.PartFault.{PartFault}
+use Rattle.escrow_verify.specs.declared.unverified.PartFault.TheVariants.{Failed, Foreign}
+use Rattle.escrow_verify.specs.declared.unverified.Unverified.{Unverified}
+use Rattle.escrow_verify.specs.declared.unverified.Unverified.TheVariants.{ForeignStore}
+use Rattle.escrow_verify.specs.Inside.{AreOfTables, AreRowsIn, AreTablesIn, HasRows, HaveRows, IsKnown, unverified_by}
 use Rattle.escrow_verify.specs.Stored.{HasCount, HasOtherFormat, IsNoStore, IsStoreOf, catalog_of, stored_of}
 use Rattle.escrow_verify.proofs.Metas.{not_other}
 use Rattle.escrow_verify.proofs.Back.{store_cells, store_rows, store_tables}
 use Rattle.escrow_verify.proofs.Only.{only_tables}
 use Rattle.escrow_verify.proofs.Parts.{counted_store}
 
--- the refusal of a call, passed on
-pub passed_on : {X Y : Type 0} (r : Result X Refusal) (call : Result Y Refusal) (why cause : Refusal) → IsErrAnd r (λ e. e ≡ why) → call ≡ Err why → r ≡ Err cause → call ≡ Err cause
-passed_on (Ok x) call why cause is was refused = absurd is
-passed_on (Err e) call why cause is was refused = let here : e ≡ cause = cc in was ∙ ap Err (sym is ∙ here)
+-- what isn't verified since a part of it is none was refused by that part
+pub by_part : {X Y : Type 0} (r : Result X Unverified) (call : Result Y PartFault) (why : PartFault) → IsErrAnd r (λ e. e ≡ unverified_by why) → call ≡ Err why → r ≡ Err ForeignStore → call ≡ Err Foreign
+by_part (Ok x) call why is was refused = absurd is
+by_part (Err e) call (Failed failure) is was refused = absurd (cc)
+by_part (Err e) call Foreign is was refused = was
 
 -- what is clean was clean
 was_clean : (a b : State) → Looks a b → HasCleanDisk b → HasCleanDisk a
@@ -76,33 +80,31 @@ module _ (first format tab : State) (tables : List StoredTable) (finds : Finds f
         (has_all (λ (s : StoredTable). (mine : List Row) × AreRowsIn s mine first.now) tables (λ s has. (rows_of rows s.table.name, store_rows others rows first.now s (has_permutation tables others one s has) is))))
 
     -- tables that are counted are those of a store
-    pub verified : {V : Type 0} (items : V → List Counted) (r : Result V Refusal) (last : State) → Looks cells last → IsCatalog (map (λ s. s.table) tables)
+    pub verified : (counted : List Counted) (last : State) → Looks cells last → IsCatalog (map (λ s. s.table) tables)
         → (HasCleanDisk cells → IsTrue cells.is_open × (HasTables tab.now.schema → AreOfTables tables tab.now))
-        → IfOk r (λ v. stored_of (items v) ≡ tables)
-        → (HasCleanDisk last → IsTrue cells.is_open → IfOk r (λ v. IsTrue last.is_open × (IsStore cells.now → AllByRecursion (HasRows cells.now) (items v))))
-        → HasCleanDisk last → IfOk r (λ v. IsTrue last.is_open × (rows : List Row) × IsStoreOf (stored_of (items v)) rows first.now × AllByRecursion (HasCount rows) (items v))
-    verified items (Err e) last to_last catalog owned are counts clean = tt
-    verified items (Ok v) last to_last catalog owned are counts clean =
+        → stored_of counted ≡ tables
+        → (HasCleanDisk last → IsTrue cells.is_open → IsTrue last.is_open × (IsStore cells.now → AllByRecursion (HasRows cells.now) counted))
+        → HasCleanDisk last → IsTrue last.is_open × (rows : List Row) × IsStoreOf (stored_of counted) rows first.now × AllByRecursion (HasCount rows) counted
+    verified counted last to_last catalog owned are counts clean =
         let clean_cells = was_clean cells last to_last clean in
         let of = owned clean_cells in
-        let counted = counts clean of.0 in
+        let found = counts clean of.0 in
         let usable : IsUsable cells = (clean_cells, of.0) in
         let at_tab = to_cells.usable usable in
         let same = cells_same usable in
         let known = (finds.known (finds.to_tab.usable at_tab).0).1 in
         let of_tables = subst (AreOfTables tables) (tab_same at_tab) (of.1 (subst (λ (db : Database). HasTables db.schema) (sym (tab_same at_tab)) known.store.tables)) in
-        let whole = counted_store first.now (items v) known
+        let whole = counted_store first.now counted known
         (subst (λ (ts : List StoredTable). AreTablesIn ts first.now) (sym are) (found_in at_tab known.store))
         (subst (λ (ts : List StoredTable). IsCatalog (map (λ s. s.table) ts)) (sym are) catalog).order
         (subst (λ (ts : List StoredTable). AreOfTables ts first.now) (sym are) of_tables)
-        (subst (λ (db : Database). AllByRecursion (HasRows db) (items v)) same (counted.1 (subst IsStore (sym same) known.store))) in
-        (counted.0, whole.0, whole.1, whole.2)
+        (subst (λ (db : Database). AllByRecursion (HasRows db) counted) same (found.1 (subst IsStore (sym same) known.store))) in
+        (found.0, whole.0, whole.1, whole.2)
 
 -- the tables that are counted are tables, and a catalog
-pub verified_tables : {V : Type 0} (items : V → List Counted) (r : Result V Refusal) (tables : List StoredTable) → AreTables tables × IsCatalog (map (λ s. s.table) tables)
-    → IfOk r (λ v. stored_of (items v) ≡ tables) → IfOk r (λ v. AreTables (stored_of (items v)) × IsCatalog (catalog_of (items v)))
-verified_tables items (Err e) tables are is = tt
-verified_tables items (Ok v) tables are is = (
+pub verified_tables : (counted : List Counted) (tables : List StoredTable) → AreTables tables × IsCatalog (map (λ s. s.table) tables)
+    → stored_of counted ≡ tables → AreTables (stored_of counted) × IsCatalog (catalog_of counted)
+verified_tables counted tables are is = (
   subst AreTables (sym is) are.0,
-  subst IsCatalog (ap (map (λ (s : StoredTable). s.table)) (sym is) ∙ map-map (λ (s : StoredTable). s.table) (λ (c : Counted). c.stored) (items v)) are.1,
+  subst IsCatalog (ap (map (λ (s : StoredTable). s.table)) (sym is) ∙ map-map (λ (s : StoredTable). s.table) (λ (c : Counted). c.stored) counted) are.1,
 )

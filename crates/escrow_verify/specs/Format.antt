@@ -11,7 +11,7 @@ format_row number = Text (codes "format") ∷ Int number ∷ []
 
 -- what is read of META is what its rows say: nothing where there is none, the number of one row of a
 -- format, and otherwise something else
-abbrev pub Tells : Meta → List SqlRow → Type 0
-Tells Empty rows = rows ≡ []
-Tells (Format number) rows = rows ≡ format_row number ∷ []
-Tells Other rows = (rows ≡ [] → ⊥) × ((number : ℤ) → rows ≡ format_row number ∷ [] → ⊥)
+abbrev pub IsMetaOf : Meta → List SqlRow → Type 0
+IsMetaOf Empty rows = rows ≡ []
+IsMetaOf (Format number) rows = rows ≡ format_row number ∷ []
+IsMetaOf Other rows = (rows ≡ [] → ⊥) × ((number : ℤ) → rows ≡ format_row number ∷ [] → ⊥)

@@ -1,13 +1,11 @@
 -- Helps: what private contracts say of a store that is being verified. Nothing that callers see rests on it.
-use Rattle.std.specs.Prelude.{◌≡◌, ◌⊎◌, ◌≤◌, ℤ, Bool, IsTrue, List, [], ◌∷◌, map, filter, length, IsPermutation}
+use Rattle.std.specs.Prelude.{◌≡◌, ◌≤◌, ℤ, Bool, IsTrue, List, [], ◌∷◌, map, filter, length, IsPermutation}
 use Rattle.std.specs.List.{AllByRecursion, flat_map, list_any}
 use Rattle.std.specs.Ordering.{int_eq}
 use Rattle.sqlite_value.specs.declared.value.Value.{Value as Sql}
 use Rattle.sqlite_value.specs.declared.value.Value.TheVariants.{Int}
 use Rattle.sqlite_value.specs.Order.{Row as SqlRow, column}
 use Rattle.sqlite.specs.Effect.{Database}
-use Rattle.escrow_num.specs.declared.refusal.Refusal.{Refusal}
-use Rattle.escrow_num.specs.declared.refusal.Refusal.TheVariants as refusal
 use Rattle.escrow_num.specs.declared.row.Row.{Row}
 use Rattle.escrow_num.specs.Ascending.{IsAscending}
 use Rattle.escrow_checks.specs.Grant.{Meets}
@@ -21,10 +19,15 @@ use Rattle.escrow_rows.specs.Gathered.{keyed}
 use Rattle.escrow_rows.specs.Image.{AreTables, CanBeHeld, tab_row}
 use Rattle.escrow_machine.specs.Rows.{row_before}
 use Rattle.escrow_verify.specs.declared.counted.Counted.{Counted}
+use Rattle.escrow_verify.specs.declared.unverified.PartFault.{PartFault}
+use Rattle.escrow_verify.specs.declared.unverified.PartFault.TheVariants as part
+use Rattle.escrow_verify.specs.declared.unverified.Unverified.{Unverified}
+use Rattle.escrow_verify.specs.declared.unverified.Unverified.TheVariants as unverified
 
--- why a part of a store isn't verified: 51, 60, or 61
-abbrev pub IsPartCause : Refusal → Type 0
-IsPartCause cause = (cause ≡ refusal.Memory) ⊎ ((cause ≡ refusal.Store) ⊎ (cause ≡ refusal.ForeignStore))
+-- what has a part of no store is no store
+abbrev pub unverified_by : PartFault → Unverified
+unverified_by (part.Failed failure) = unverified.Failed failure
+unverified_by part.Foreign = unverified.ForeignStore
 
 -- a row is one of a table, meets its checks, and has values that can be held
 pub record IsSoundRow (table : TableDef) (row : Row) : Type 0 where

@@ -1,10 +1,11 @@
 -- Believed: when a database of SQLite is a store, and of which tables and rows.
-use Rattle.std.specs.Prelude.{◌≡◌, ◌≢◌, ◌⊎◌, ℤ, pos, IsSomeAnd, List, [], ◌∷◌, map, length, codes}
+use Rattle.std.specs.Prelude.{◌≡◌, ◌≢◌, ℤ, pos, IsSomeAnd, List, [], ◌∷◌, map, length, codes}
 use Rattle.std.specs.List.{AllByRecursion}
 use Rattle.sqlite_value.specs.declared.value.Value.TheVariants.{Int, Text}
 use Rattle.sqlite.specs.Effect.{Database}
 use Rattle.escrow_num.specs.declared.refusal.Refusal.{Refusal}
 use Rattle.escrow_num.specs.declared.refusal.Refusal.TheVariants as refusal
+use Rattle.escrow_num.specs.Refusal.{told}
 use Rattle.escrow_num.specs.declared.row.Row.{Row}
 use Rattle.escrow_schema.specs.declared.table.TableDef.{TableDef}
 use Rattle.escrow_schema.specs.Catalog.{table_named}
@@ -14,6 +15,8 @@ use Rattle.escrow_rows.specs.declared.stored.StoredTable.{StoredTable}
 use Rattle.escrow_rows.specs.Image.{CanBeHeld, IsImage, AreTables, AreRows}
 use Rattle.escrow_machine.specs.Rows.{rows_of, MeetsChecks}
 use Rattle.escrow_verify.specs.declared.counted.Counted.{Counted}
+use Rattle.escrow_verify.specs.declared.unverified.Unverified.{Unverified}
+use Rattle.escrow_verify.specs.declared.unverified.Unverified.TheVariants.{Failed, ForeignStore, OtherFormat}
 
 -- each value of a row is one that a column can hold: an amount, or a text in UTF-8
 abbrev pub HasHeldValues : List TableDef → Row → Type 0
@@ -39,10 +42,12 @@ pub record HasOtherFormat (db : Database) : Type 0 where
   pub other : number ≢ pos 1
   pub format_is : metas db ≡ (Text (codes "format") ∷ Int number ∷ []) ∷ []
 
--- why a database isn't verified: want of memory (51), a refusal of the store (60), that it is no store
--- (61), or that its format is another (62)
-abbrev pub IsCause : Refusal → Type 0
-IsCause cause = (cause ≡ refusal.Memory) ⊎ ((cause ≡ refusal.Store) ⊎ ((cause ≡ refusal.ForeignStore) ⊎ (cause ≡ refusal.UnknownVersion)))
+-- what isn't verified is refused for want of memory (51) or by the store (60), as no store (61), or as one
+-- of another format (62)
+abbrev pub refused_as : Unverified → Refusal
+refused_as (Failed failure) = told failure
+refused_as ForeignStore = refusal.ForeignStore
+refused_as OtherFormat = refusal.UnknownVersion
 
 -- tables, without their numbers of rows
 abbrev pub stored_of : List Counted → List StoredTable

@@ -20,8 +20,8 @@ abbrev pub Defines : List ℕ → TableDef → Type 0
 Defines text table = (create : CreateText) × Asks text (requests.Statement (statements.Create create)) × (definition_of create ≡ Some table)
 
 -- a row of a number, a name and a text
-abbrev pub row_with : ℤ → List ℕ → List ℕ → SqlRow
-row_with id name text = Int id ∷ Text name ∷ Text text ∷ []
+abbrev pub tab_with : ℤ → List ℕ → List ℕ → SqlRow
+tab_with id name text = Int id ∷ Text name ∷ Text text ∷ []
 
 -- a table can stand in a store: some text defines it, and its number is from 1 on
 pub record CanStand (s : StoredTable) : Type 0 where

@@ -1,16 +1,17 @@
 //! Whether each cell of a store is of one of its tables.
-ghost use Rattle.std.specs.Prelude.{◌≡◌, IsTrue, Err, OnOk, IfErr};
+ghost use Rattle.std.specs.Prelude.{◌≡◌, IsTrue, Err, OnOk};
 ghost use Rattle.std.specs.Ordering.{int_eq};
 ghost use Rattle.std.specs.List.{list_any};
 ghost use Rattle.sqlite.specs.Held.{state};
 ghost use Rattle.sqlite.specs.State.{HasCleanDisk};
-ghost use Rattle.escrow_num.specs.declared.refusal.Refusal.TheVariants as refusal;
 ghost use Rattle.escrow_cells.specs.Store.{HasTables};
 ghost use Rattle.escrow_rows.specs.Answers.{IsUsable, Looks};
-ghost use Rattle.escrow_verify.specs.Inside.{AreOfTables, IsPartCause, is_number_of};
+ghost use Rattle.escrow_verify.specs.Inside.{AreOfTables, is_number_of};
+ghost use Rattle.escrow_verify.specs.declared.unverified.PartFault.TheVariants.{Foreign};
 
+use crate::unverified::PartFault;
 use escrow_cells::{Sink, failure_of};
-use escrow_num::{Failure, Refusal, refusal_of};
+use escrow_num::Failure;
 use escrow_rows::{RowStore, StoredTable};
 use sqlite::{Alter, Row};
 
@@ -18,23 +19,20 @@ use sqlite::{Alter, Row};
 pub(crate) fn check_cells<S: Alter>(
     store: &mut RowStore<S>,
     tables: &[StoredTable],
-) -> Result<(), Refusal>
+) -> Result<(), PartFault>
     ensures found { HasCleanDisk (state S.Store store.new) → OnOk result (IsTrue (state S.Store store.new).is_open × (HasTables (state S.Store store.old).now.schema → AreOfTables tables.now (state S.Store store.old).now)) }
-    ensures foreign { IsUsable (state S.Store store.new) → result ≡ Err refusal.ForeignStore → HasTables (state S.Store store.old).now.schema → AreOfTables tables.now (state S.Store store.old).now → ⊥ }
-    ensures cause { IfErr result IsPartCause }
+    ensures foreign { IsUsable (state S.Store store.new) → result ≡ Err Foreign → HasTables (state S.Store store.old).now.schema → AreOfTables tables.now (state S.Store store.old).now → ⊥ }
     ensures looks { Looks (state S.Store store.old) (state S.Store store.new) }
 {
     let mut owners = Owners {
         tables,
         known: true,
     };
-    if let Err(failure) = store.cell_tables(&mut owners) {
-        return Err(refusal_of(failure));
-    }
+    store.cell_tables(&mut owners)?;
     if owners.known {
         Ok(())
     } else {
-        Err(Refusal::ForeignStore)
+        Err(PartFault::Foreign)
     }
 }
 

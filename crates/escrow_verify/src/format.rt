@@ -1,63 +1,60 @@
 //! The format of a store.
-ghost use Rattle.std.specs.Prelude.{◌≡◌, ◌↔◌, ℤ, Err, IsTrue, MatchOption, OnOk, IfOk, IfErr, [], ◌∷◌, codes};
+ghost use Rattle.std.specs.Prelude.{◌≡◌, ◌↔◌, ℤ, Err, IsTrue, MatchOption, OnOk, IfOk, [], ◌∷◌, codes};
 ghost use Rattle.sqlite_value.specs.declared.value.Value.TheVariants.{Int as IntValue, Text as TextValue};
 ghost use Rattle.sqlite_value.specs.Value.{owned};
 ghost use Rattle.sqlite.specs.Held.{state};
 ghost use Rattle.sqlite.specs.State.{HasCleanDisk};
-ghost use Rattle.escrow_num.specs.declared.refusal.Refusal.TheVariants as refusal;
 ghost use Rattle.escrow_cells.specs.Store.{HasTables, IsStoreSchema, metas, format};
 ghost use Rattle.escrow_rows.specs.Answers.{IsUsable, Looks};
 ghost use Rattle.escrow_verify.specs.Inside.{IsKnown};
-ghost use Rattle.escrow_verify.specs.Stored.{HasOtherFormat, IsCause};
-ghost use Rattle.escrow_verify.specs.Format.{Tells};
+ghost use Rattle.escrow_verify.specs.Stored.{HasOtherFormat};
+ghost use Rattle.escrow_verify.specs.Format.{IsMetaOf};
+ghost use Rattle.escrow_verify.specs.declared.unverified.Unverified.TheVariants as unverified;
 
+use crate::unverified::Unverified;
 use escrow_cells::{Sink, failure_of};
-use escrow_num::{Failure, Refusal, refusal_of};
+use escrow_num::Failure;
 use escrow_rows::RowStore;
 use sqlite::types::ValueRef;
 use sqlite::{Alter, Row};
 
 /// Tests whether a database is a store of the format that is known: its schema, META, and SQLite's
 /// numbers of the rows, in this order.
-pub(crate) fn check_format<S: Alter>(store: &mut RowStore<S>) -> Result<(), Refusal>
+pub(crate) fn check_format<S: Alter>(store: &mut RowStore<S>) -> Result<(), Unverified>
     ensures known { HasCleanDisk (state S.Store store.new) → OnOk result (IsTrue (state S.Store store.new).is_open × IsKnown (state S.Store store.old).now) }
-    ensures foreign { IsUsable (state S.Store store.new) → result ≡ Err refusal.ForeignStore → IsKnown (state S.Store store.old).now → ⊥ }
-    ensures other { IsUsable (state S.Store store.new) → result ≡ Err refusal.ForeignStore → HasOtherFormat (state S.Store store.old).now → ⊥ }
-    ensures version { IsUsable (state S.Store store.new) → result ≡ Err refusal.UnknownVersion → HasOtherFormat (state S.Store store.old).now }
-    ensures cause { IfErr result IsCause }
+    ensures foreign { IsUsable (state S.Store store.new) → result ≡ Err unverified.ForeignStore → IsKnown (state S.Store store.old).now → ⊥ }
+    ensures other { IsUsable (state S.Store store.new) → result ≡ Err unverified.ForeignStore → HasOtherFormat (state S.Store store.old).now → ⊥ }
+    ensures version { IsUsable (state S.Store store.new) → result ≡ Err unverified.OtherFormat → HasOtherFormat (state S.Store store.old).now }
     ensures looks { Looks (state S.Store store.old) (state S.Store store.new) }
 {
     if !store.is_store() {
-        return Err(Refusal::ForeignStore);
+        return Err(Unverified::ForeignStore);
     }
     check_meta(store)?;
-    match store.are_numbered() {
-        Ok(true) => Ok(()),
-        Ok(false) => Err(Refusal::ForeignStore),
-        Err(failure) => Err(refusal_of(failure)),
+    if store.are_numbered()? {
+        Ok(())
+    } else {
+        Err(Unverified::ForeignStore)
     }
 }
 
 /// Tests whether META has the one row of the format that is known.
-fn check_meta<S: Alter>(store: &mut RowStore<S>) -> Result<(), Refusal>
+fn check_meta<S: Alter>(store: &mut RowStore<S>) -> Result<(), Unverified>
     ensures known { HasCleanDisk (state S.Store store.new) → OnOk result (IsTrue (state S.Store store.new).is_open × (HasTables (state S.Store store.old).now.schema → metas (state S.Store store.old).now ≡ format)) }
-    ensures foreign { IsUsable (state S.Store store.new) → result ≡ Err refusal.ForeignStore → HasTables (state S.Store store.old).now.schema → metas (state S.Store store.old).now ≡ format → ⊥ }
-    ensures other { IsUsable (state S.Store store.new) → result ≡ Err refusal.ForeignStore → HasOtherFormat (state S.Store store.old).now → ⊥ }
-    ensures version { IsUsable (state S.Store store.new) → result ≡ Err refusal.UnknownVersion → IsStoreSchema (state S.Store store.old).now.schema → HasOtherFormat (state S.Store store.old).now }
-    ensures cause { IfErr result IsCause }
+    ensures foreign { IsUsable (state S.Store store.new) → result ≡ Err unverified.ForeignStore → HasTables (state S.Store store.old).now.schema → metas (state S.Store store.old).now ≡ format → ⊥ }
+    ensures other { IsUsable (state S.Store store.new) → result ≡ Err unverified.ForeignStore → HasOtherFormat (state S.Store store.old).now → ⊥ }
+    ensures version { IsUsable (state S.Store store.new) → result ≡ Err unverified.OtherFormat → IsStoreSchema (state S.Store store.old).now.schema → HasOtherFormat (state S.Store store.old).now }
     ensures looks { Looks (state S.Store store.old) (state S.Store store.new) }
 {
     let mut meta = Meta::Empty;
-    if let Err(failure) = store.metas(&mut meta) {
-        return Err(refusal_of(failure));
-    }
+    store.metas(&mut meta)?;
     let Meta::Format(number) = meta else {
-        return Err(Refusal::ForeignStore);
+        return Err(Unverified::ForeignStore);
     };
     if number == KNOWN {
         Ok(())
     } else {
-        Err(Refusal::UnknownVersion)
+        Err(Unverified::OtherFormat)
     }
 }
 
@@ -78,9 +75,9 @@ enum Meta {
 impl Sink for Meta {
     ghost use Rattle.std.specs.Prelude.{◌≡◌};
     ghost use Rattle.escrow_verify.specs.declared.format.Meta.TheVariants.{Empty};
-    ghost use Rattle.escrow_verify.specs.Format.{Tells};
+    ghost use Rattle.escrow_verify.specs.Format.{IsMetaOf};
 
-    ghost has_taken = { λ first meta rows. first ≡ Empty → Tells meta rows };
+    ghost has_taken = { λ first meta rows. first ≡ Empty → IsMetaOf meta rows };
 
     fn take(&mut self, row: &Row) -> Result<(), Failure> {
         *self = match *self {
@@ -93,7 +90,7 @@ impl Sink for Meta {
 
 /// What META says by one row.
 fn read_meta(row: &Row) -> Result<Meta, Failure>
-    ensures { IfOk result (λ meta. Tells meta (row.now ∷ [])) }
+    ensures { IfOk result (λ meta. IsMetaOf meta (row.now ∷ [])) }
 {
     if row.column_count() != 2 {
         return Ok(Meta::Other);

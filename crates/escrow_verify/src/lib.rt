@@ -9,7 +9,9 @@ mod counted;
 mod format;
 mod rows;
 mod tables;
+mod unverified;
 mod whole;
 
 pub use counted::Counted;
+pub use unverified::Unverified;
 pub use whole::verify;

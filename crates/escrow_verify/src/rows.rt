@@ -1,21 +1,21 @@
 //! The rows of a table of a store.
-ghost use Rattle.std.specs.Prelude.{◌≡◌, List, length, Err, IsTrue, IfOk, IfErr};
+ghost use Rattle.std.specs.Prelude.{◌≡◌, List, length, Err, IsTrue, IfOk};
 ghost use Rattle.sqlite.specs.Held.{state};
 ghost use Rattle.sqlite.specs.State.{HasCleanDisk};
-ghost use Rattle.escrow_num.specs.declared.refusal.Refusal.TheVariants as refusal;
 ghost use Rattle.escrow_num.specs.declared.row.Row.{Row};
 ghost use Rattle.escrow_schema.specs.Definition.{IsTable};
 ghost use Rattle.escrow_cells.specs.Store.{IsStore};
 ghost use Rattle.escrow_rows.specs.Answers.{IsUsable, Looks};
-ghost use Rattle.escrow_verify.specs.Inside.{AreRowsIn, IsPartCause};
+ghost use Rattle.escrow_verify.specs.Inside.{AreRowsIn};
+ghost use Rattle.escrow_verify.specs.declared.unverified.PartFault.TheVariants.{Foreign};
 
 mod cell;
 mod counter;
 mod defined;
 
+use crate::unverified::PartFault;
 use counter::RowCounter;
 use defined::DefinedTable;
-use escrow_num::{Refusal, refusal_of};
 use escrow_rows::{RowStore, StoredTable};
 use sqlite::Alter;
 use std::alloc::Global;
@@ -27,16 +27,13 @@ pub(crate) fn count_rows<S: Alter>(
     alloc: Global,
     store: &mut RowStore<S>,
     table: &StoredTable,
-) -> Result<usize, Refusal>
+) -> Result<usize, PartFault>
     requires { IsTable table.now.table }
     ensures found { HasCleanDisk (state S.Store store.new) → IfOk result (λ n. IsTrue (state S.Store store.new).is_open × (IsStore (state S.Store store.old).now → (rows : List Row) × AreRowsIn table.now rows (state S.Store store.old).now × (n ≡ length rows))) }
-    ensures foreign { IsUsable (state S.Store store.new) → result ≡ Err refusal.ForeignStore → IsStore (state S.Store store.old).now → (rows : List Row) → AreRowsIn table.now rows (state S.Store store.old).now → ⊥ }
-    ensures cause { IfErr result IsPartCause }
+    ensures foreign { IsUsable (state S.Store store.new) → result ≡ Err Foreign → IsStore (state S.Store store.old).now → (rows : List Row) → AreRowsIn table.now rows (state S.Store store.old).now → ⊥ }
     ensures looks { Looks (state S.Store store.old) (state S.Store store.new) }
 {
     let mut counter = RowCounter::new(alloc, DefinedTable::new(&table.table));
-    match store.cells(table, &mut counter) {
-        Ok(()) => counter.count().ok_or(Refusal::ForeignStore),
-        Err(failure) => Err(refusal_of(failure)),
-    }
+    store.cells(table, &mut counter)?;
+    counter.count().ok_or(PartFault::Foreign)
 }

@@ -5,7 +5,7 @@ ghost use Rattle.escrow_txn.specs.Open.{ended};
 
 use crate::database::Database;
 use escrow_machine::Reply;
-use escrow_num::{End, Failure, Session, refusal_of};
+use escrow_num::{End, Failure, Refusal, Session};
 use escrow_sql::Statement;
 use escrow_txn::TxnTable;
 use sqlite::Alter;
@@ -28,7 +28,7 @@ impl<S: Alter> Database<S> {
     {
         match self.apply(alloc, session) {
             Ok(count) => Reply::Committed { count },
-            Err(failure) => Reply::Refused(refusal_of(failure)),
+            Err(failure) => Reply::Refused(Refusal::from(failure)),
         }
     }
 

@@ -1,10 +1,10 @@
 use crate::database::Database;
-use escrow_num::{Refusal, refusal_of};
+use escrow_num::Failure;
 use sqlite::Alter;
 use std::alloc::Global;
 
 impl<S: Alter> Database<S> {
-    ghost use Rattle.std.specs.Prelude.{◌≡◌, ◌⊎◌, IfErr, OnOk, OnErr, IsTrue};
+    ghost use Rattle.std.specs.Prelude.{◌≡◌, OnOk, OnErr, IsTrue};
     ghost use Rattle.sqlite.specs.Held.{state};
     ghost use Rattle.sqlite.specs.State.{HasCleanDisk, Survives};
     ghost use Rattle.escrow_machine.specs.declared.event.Event.TheVariants as event;
@@ -13,23 +13,20 @@ impl<S: Alter> Database<S> {
     ghost use Rattle.escrow_machine.specs.Step.{IsServed};
 
     /// Restarts the database: verifies its store, and then drops all reservations and savepoints; the next
-    /// id is 1. Catalog and rows stay. Refused for want of memory (51), or where the store refuses or
-    /// doesn't hold the tables any more (60), and then nothing changes.
-    pub fn restart(&mut self, alloc: Global) -> Result<(), Refusal>
+    /// id is 1. Catalog and rows stay. Fails for want of memory, or where the store refuses or doesn't hold
+    /// the tables any more, and then nothing changes.
+    pub fn restart(&mut self, alloc: Global) -> Result<(), Failure>
         ensures event { HasCleanDisk (state S.Store self.new.store) → IsServed self.old.state event.Restart (restart_reply result) self.new.state }
         ensures open { HasCleanDisk (state S.Store self.new.store) → OnOk result (IsTrue (state S.Store self.new.store).is_open) }
 
         // Whatever the store is like, nothing is open after it, or all that was; catalog and rows stay.
         ensures done { OnOk result (self.new.state ≡ opened self.old.state.catalog self.old.state.rows) }
         ensures refused { OnErr result (self.new.state ≡ self.old.state) }
-        ensures cause { IfErr result (λ r. (r ≡ Refusal.Memory) ⊎ (r ≡ Refusal.Store)) }
 
         // The store isn't written: a crash leaves what it might have left before.
         ensures crash { Survives (state S.Store self.old.store) (state S.Store self.new.store) (λ _. ⊥) }
     {
-        if let Err(failure) = self.tables.verify(alloc) {
-            return Err(refusal_of(failure));
-        }
+        self.tables.verify(alloc)?;
         self.open.clear();
         Ok(())
     }

@@ -1,6 +1,6 @@
 //! Ends of transactions, restarts and lists of events, by the calls of a database that no script makes.
 use escrow_core::{Database, Event, Failure, Reply, Settled, Stop};
-use escrow_num::{End, Name, Refusal, Session};
+use escrow_num::{End, Name, Session};
 use escrow_reply::render_lines;
 use escrow_sql::{Request, Statement, parse};
 use escrow_tables::open_store;
@@ -306,7 +306,7 @@ fn restarts(rt: HostRuntime) -> Result<(), Fail> {
     serve(&rt, &mut database, &THREE_OPEN)?;
     assert_eq!(rt; database.rollback(session(&rt, 1)), 1);
     database.set_step_limit(Some(1));
-    assert!(rt; matches!(database.restart(alloc), Err(Refusal::Store)));
+    assert!(rt; matches!(database.restart(alloc), Err(Failure::Store)));
     database.set_step_limit(None);
     let kept =
         "2 session 2 ACCOUNT 1 BALANCE +7\n3 session 3 ACCOUNT 1 BALANCE -20\nOK reservations 2\n";

@@ -4,7 +4,7 @@ use escrow_core::Database;
 use escrow_num::{Refusal, Session};
 use escrow_reply::render;
 use escrow_sql::{Request, parse};
-use escrow_tables::{Tables, open_store};
+use escrow_tables::open_store;
 use sqlite::{Alter, Connection, MemStore};
 use std::alloc::Global;
 use std::process::Abort;
@@ -26,18 +26,12 @@ const ACCOUNT: [(&str, &str); 2] = [
 pub fn over<S: Alter + Drop>(alloc: Global, conn: Connection<S>) -> Result<Database<S>, Refusal> {
     let tables = match open_store(alloc, conn) {
         Ok(tables) => tables,
-        Err(fault) => return Err(fault.cause),
+        Err(fault) => return Err(Refusal::from(fault.cause)),
     };
     match Database::open(alloc, tables) {
         Ok(database) => Ok(database),
-        Err(refused) => Err(cause_of(refused)),
+        Err(_) => Err(Refusal::Memory),
     }
-}
-
-/// Why a database isn't opened.
-fn cause_of<S: Alter + Drop>(refused: (Tables<S>, Refusal)) -> Refusal {
-    let (_tables, cause) = refused;
-    cause
 }
 
 /// A database with an account, over a store in memory.

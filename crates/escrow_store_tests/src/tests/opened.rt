@@ -2,7 +2,7 @@
 use super::databases::{ask_all, over};
 use super::stores::{done, empty};
 use escrow_cells::{Datum, Step, failure_of};
-use escrow_num::Failure;
+use escrow_num::{Failure, Refusal};
 use escrow_tables::open_store;
 use sqlite::{Connection, Error, MemStore};
 use std::alloc::Global;
@@ -87,7 +87,7 @@ fn changed(alloc: Global, change: &str) -> Result<Connection<MemStore>, Failure>
 fn refusal(alloc: Global, conn: Connection<MemStore>) -> u8 {
     match open_store(alloc, conn) {
         Ok(_) => 0,
-        Err(fault) => fault.cause.number(),
+        Err(fault) => Refusal::from(fault.cause).number(),
     }
 }
 

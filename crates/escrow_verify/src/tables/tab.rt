@@ -2,7 +2,6 @@
 ghost use Rattle.std.specs.Prelude.{◌≡◌, ◌≢◌, ◌<◌, ℕ, ℤ, List, Err, None, IfErr, IfOk, IfSome, IsUtf8, length};
 ghost use Rattle.sqlite_value.specs.declared.value.Value.TheVariants as sql;
 ghost use Rattle.sqlite_value.specs.Order.{column};
-ghost use Rattle.escrow_num.specs.declared.refusal.Refusal.TheVariants as refusal;
 ghost use Rattle.escrow_sql.specs.Parser.{Asks};
 ghost use Rattle.escrow_sql.specs.declared.statement.CreateText.{CreateText as Create};
 ghost use Rattle.escrow_sql.specs.declared.statement.Request.TheVariants as requests;
@@ -11,10 +10,11 @@ ghost use Rattle.escrow_schema.specs.declared.table.TableDef.{TableDef as Table}
 ghost use Rattle.escrow_schema.specs.Definition.{IsTable};
 ghost use Rattle.escrow_schema.specs.Print.{canonical};
 ghost use Rattle.escrow_rows.specs.Image.{tab_row};
-ghost use Rattle.escrow_verify.specs.Inside.{IsPartCause};
-ghost use Rattle.escrow_verify.specs.Tabs.{CanStand, Defines, IsTab, row_with};
+ghost use Rattle.escrow_verify.specs.Tabs.{CanStand, Defines, IsTab, tab_with};
+ghost use Rattle.escrow_verify.specs.declared.unverified.PartFault.TheVariants.{Foreign};
 
-use escrow_num::Refusal;
+use crate::unverified::PartFault;
+use escrow_num::{Failure, Refusal};
 use escrow_rows::StoredTable;
 use escrow_schema::{TableDef, define, print_table};
 use escrow_sql::{CreateText, ParseFault, Request, Statement, parse};
@@ -31,25 +31,24 @@ struct Tab<'a> {
 }
 
 /// The table of a row of TAB: the one of which the text is the canonical one, under its own name.
-pub(super) fn table_of(alloc: Global, row: &Row) -> Result<StoredTable, Refusal>
+pub(super) fn table_of(alloc: Global, row: &Row) -> Result<StoredTable, PartFault>
     ensures table { IfOk result (λ s. CanStand s × (row.now ≡ tab_row s)) }
-    ensures foreign { result ≡ Err refusal.ForeignStore → IsTab row.now → ⊥ }
-    ensures cause { IfErr result IsPartCause }
+    ensures foreign { result ≡ Err Foreign → IsTab row.now → ⊥ }
 {
     let Some(tab) = tab_of(row) else {
-        return Err(Refusal::ForeignStore);
+        return Err(PartFault::Foreign);
     };
     let table = defined_by(alloc, tab.text)?;
     if tab.id < 1 || tab.name != table.name.as_str() {
-        return Err(Refusal::ForeignStore);
+        return Err(PartFault::Foreign);
     }
     Ok(StoredTable { id: tab.id, table })
 }
 
 /// What a row of TAB has, or `None` where a column has what TAB never has there.
 fn tab_of(row: &Row) -> Option<Tab<'_>>
-    ensures some { IfSome result (λ tab. row.now ≡ row_with tab.id tab.name.now tab.text.now) }
-    ensures none { result ≡ None → (id : ℤ) (name text : List ℕ) → IsUtf8 name → IsUtf8 text → row.now ≢ row_with id name text }
+    ensures some { IfSome result (λ tab. row.now ≡ tab_with tab.id tab.name.now tab.text.now) }
+    ensures none { result ≡ None → (id : ℤ) (name text : List ℕ) → IsUtf8 name → IsUtf8 text → row.now ≢ tab_with id name text }
 {
     if row.column_count() != 3 {
         return None;
@@ -86,53 +85,51 @@ fn text_at(row: &Row, place: usize) -> Option<&str>
 }
 
 /// The table of which a text is the canonical one.
-fn defined_by(alloc: Global, text: &str) -> Result<TableDef, Refusal>
+fn defined_by(alloc: Global, text: &str) -> Result<TableDef, PartFault>
     ensures table { IfOk result (λ table. IsTable table × (text.now ≡ canonical table)) }
-    ensures foreign { result ≡ Err refusal.ForeignStore → (table : Table) → IsTable table → text.now ≢ canonical table }
-    ensures cause { IfErr result IsPartCause }
+    ensures foreign { result ≡ Err Foreign → (table : Table) → IsTable table → text.now ≢ canonical table }
 {
     let table = created_by(alloc, text)?;
-    match print_table(alloc, &table) {
-        Ok(printed) if printed.as_str() == text => Ok(table),
-        Ok(_) => Err(Refusal::ForeignStore),
-        Err(_) => Err(Refusal::Memory),
+    let printed = print_table(alloc, &table)?;
+    if printed.as_str() == text {
+        Ok(table)
+    } else {
+        Err(PartFault::Foreign)
     }
 }
 
 /// The table that a text defines.
-fn created_by(alloc: Global, text: &str) -> Result<TableDef, Refusal>
+fn created_by(alloc: Global, text: &str) -> Result<TableDef, PartFault>
     ensures table { IfOk result (Defines text.now) }
-    ensures foreign { result ≡ Err refusal.ForeignStore → (table : Table) → Defines text.now table → ⊥ }
-    ensures cause { IfErr result IsPartCause }
+    ensures foreign { result ≡ Err Foreign → (table : Table) → Defines text.now table → ⊥ }
 {
     let create = create_in(alloc, text)?;
     match define(alloc, &create) {
         Ok(table) => Ok(table),
-        Err(Refusal::BadDefinition) => Err(Refusal::ForeignStore),
-        Err(_) => Err(Refusal::Memory),
+        Err(Refusal::BadDefinition) => Err(PartFault::Foreign),
+        Err(_) => Err(PartFault::Failed(Failure::Memory)),
     }
 }
 
 /// The CREATE TABLE that a text asks.
-fn create_in(alloc: Global, text: &str) -> Result<CreateText, Refusal>
+fn create_in(alloc: Global, text: &str) -> Result<CreateText, PartFault>
     ensures asked { IfOk result (λ create. Asks text.now (requests.Statement (statements.Create create))) }
-    ensures foreign { result ≡ Err refusal.ForeignStore → (create : Create) → Asks text.now (requests.Statement (statements.Create create)) → ⊥ }
-    ensures cause { IfErr result IsPartCause }
+    ensures foreign { result ≡ Err Foreign → (create : Create) → Asks text.now (requests.Statement (statements.Create create)) → ⊥ }
 {
     match parse(alloc, text) {
         Ok(request) => create_of(request),
-        Err(ParseFault::Memory) => Err(Refusal::Memory),
-        Err(ParseFault::Syntax { .. }) => Err(Refusal::ForeignStore),
+        Err(ParseFault::Memory) => Err(PartFault::Failed(Failure::Memory)),
+        Err(ParseFault::Syntax { .. }) => Err(PartFault::Foreign),
     }
 }
 
 /// The CREATE TABLE that a request is.
-fn create_of(request: Request) -> Result<CreateText, Refusal>
+fn create_of(request: Request) -> Result<CreateText, PartFault>
     ensures created { IfOk result (λ create. request ≡ requests.Statement (statements.Create create)) }
-    ensures other { IfErr result (λ e. (e ≡ refusal.ForeignStore) × ((create : Create) → request ≢ requests.Statement (statements.Create create))) }
+    ensures other { IfErr result (λ e. (e ≡ Foreign) × ((create : Create) → request ≢ requests.Statement (statements.Create create))) }
 {
     match request {
         Request::Statement(Statement::Create(create)) => Ok(create),
-        _ => Err(Refusal::ForeignStore),
+        _ => Err(PartFault::Foreign),
     }
 }

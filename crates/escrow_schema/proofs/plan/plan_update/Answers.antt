@@ -2,7 +2,6 @@ use Rattle.std.proofs.Common.{◌≡◌, Result, Err, inl, ap, subst, sym, ◌�
 use Rattle.std.specs.Prelude.{IfErr}
 use Rattle.std.specs.Result.{result_err}
 use Rattle.escrow_num.specs.declared.refusal.Refusal.{Refusal}
-use Rattle.escrow_num.specs.declared.refusal.Refusal.TheVariants as refusal
 use Rattle.escrow_schema.specs.declared.plan.Plan.{Plan}
 use Rattle.escrow_schema.specs.Plan.{planned}
 use Rattle.escrow_schema.proofs.PlanLemmas.{exit_refused, not_memory, planned_by, refused_by, unrefused}
@@ -26,9 +25,9 @@ returns-in_err-check_update-clause-memory c =
 pub make_plan-requires : goal.make_plan-requires
 make_plan-requires c = planned_by (planned c.args.table.now c.args.text.now) (sym (ap result_err c.in_ok-check_update.was) ∙ c.check_update.ensures)
 
-pub returns-in-Err-clause-refused : goal.returns-in-Err-clause-refused
-returns-in-Err-clause-refused c =
-    unrefused (planned c.args.table.now c.args.text.now) (λ e. Err refusal.Memory ≡ Err e) (sym (ap result_err c.in_ok-check_update.was) ∙ c.check_update.ensures)
+pub returns-in_err-make_plan-clause-refused : goal.returns-in_err-make_plan-clause-refused
+returns-in_err-make_plan-clause-refused c =
+    unrefused (planned c.args.table.now c.args.text.now) _ (sym (ap result_err c.in_ok-check_update.was) ∙ c.check_update.ensures)
 
-pub returns-in-Err-clause-memory : goal.returns-in-Err-clause-memory
-returns-in-Err-clause-memory c = λ _. planned_by (planned c.args.table.now c.args.text.now) (sym (ap result_err c.in_ok-check_update.was) ∙ c.check_update.ensures)
+pub returns-in_err-make_plan-clause-memory : goal.returns-in_err-make_plan-clause-memory
+returns-in_err-make_plan-clause-memory c = λ _. planned_by (planned c.args.table.now c.args.text.now) (sym (ap result_err c.in_ok-check_update.was) ∙ c.check_update.ensures)

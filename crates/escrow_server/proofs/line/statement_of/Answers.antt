@@ -1,5 +1,5 @@
 use Rattle.std.proofs.Common.{◌≡◌, ap, sym, ◌∙◌}
-use Rattle.escrow_server.specs.Reading.{place_of}
+use Rattle.escrow_server.specs.Reading.{database_place}
 use Rattle.escrow_server.proofs.LineLemmas.{at_none, no_point, no_colon, no_name, no_number, no_place, no_session, this_place, this_session, statement_found}
 use Rattle.escrow_server.proofs.line.statement_of.Goals as goal
 
@@ -19,7 +19,7 @@ returns-in_err-database-clause-none c =
     at_none _ c.from_residual-in_err-database.result c.from_residual-in_err-database.ensures
     (no_name c.args.databases c.args.content.now c.split_once.result (c.in_ok-name.name, c.in_ok-name.rest) c.requires
     c.split_once.ensures.cases c.in_ok-name.was
-    (no_place c.args.databases c.in_ok-name.name.now c.place_of.result (c.place_of.ensures ∙ ap (place_of c.args.databases) c.as_bytes.ensures.value) c.in_err-database.was))
+    (no_place c.args.databases c.in_ok-name.name.now c.database_place.result (c.database_place.ensures ∙ ap (database_place c.args.databases) c.as_bytes.ensures.value) c.in_err-database.was))
 
 pub returns-in_err-session-clause-none : goal.returns-in_err-session-clause-none
 returns-in_err-session-clause-none c =
@@ -37,5 +37,5 @@ returns-clause-some c =
     statement_found c.args.databases c.args.content.now c.split_once.result c.split_once-2.result (c.in_ok-name.name, c.in_ok-name.rest) (c.in_ok-number.number, c.in_ok-number.text)
     c.in_ok-database.database c.in_ok-session.session
     c.split_once.ensures.cases c.in_ok-name.was c.split_once-2.ensures.cases c.in_ok-number.was
-    (this_place c.args.databases c.in_ok-name.name.now c.place_of.result c.in_ok-database.database (c.place_of.ensures ∙ ap (place_of c.args.databases) c.as_bytes.ensures.value) c.in_ok-database.was)
+    (this_place c.args.databases c.in_ok-name.name.now c.database_place.result c.in_ok-database.database (c.database_place.ensures ∙ ap (database_place c.args.databases) c.as_bytes.ensures.value) c.in_ok-database.was)
     (spell.0, sym digits ∙ spell.1)

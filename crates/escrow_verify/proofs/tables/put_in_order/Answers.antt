@@ -3,11 +3,14 @@ use Rattle.std.specs.Ordering.{is_lt}
 use Rattle.std.proofs.lemmas.Cmp.{nat_list_cmp_total}
 use Rattle.std.proofs.lemmas.Fn.{always_returns_same}
 use Rattle.std.proofs.lemmas.List.Sorted.{ranks_by}
+use Rattle.std.proofs.lemmas.Result.{on_ok_weaker}
 use Rattle.escrow_rows.specs.declared.stored.StoredTable.{StoredTable}
 use Rattle.escrow_verify.specs.Tabs.{by_name}
 use Rattle.escrow_verify.proofs.tables.put_in_order.Goals as goal
 
-pub returns-in-Ok-clause-order : goal.returns-in-Ok-clause-order
-returns-in-Ok-clause-order c =
-    c.in-Ok.ensures.sorted (λ a b. is_lt (by_name a b)) (ranks_by nat_list_cmp_total (λ (s : StoredTable). s.table.name))
-    (always_returns_same _ (λ a r. is_lt r ≡ is_lt (by_name a.0.now a.1.0.now)) _ (λ a r q k. search rules))
+pub returns-clause-order : goal.returns-clause-order
+returns-clause-order c =
+    on_ok_weaker c.sort_by.result
+    (λ sorted. sorted (λ a b. is_lt (by_name a b)) (ranks_by nat_list_cmp_total (λ (s : StoredTable). s.table.name))
+    (always_returns_same _ (λ a r. is_lt r ≡ is_lt (by_name a.0.now a.1.0.now)) _ (λ a r q k. search rules)))
+    c.sort_by.ensures.sorted

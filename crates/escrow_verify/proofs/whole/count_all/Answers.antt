@@ -6,7 +6,7 @@ use Rattle.escrow_rows.proofs.Looking.{looks_then}
 use Rattle.escrow_verify.specs.declared.counted.Counted.{Counted}
 use Rattle.escrow_verify.specs.Stored.{stored_of}
 use Rattle.escrow_verify.proofs.Counts.{counts_more, none_have}
-use Rattle.escrow_verify.proofs.Verified.{passed_on}
+use Rattle.escrow_verify.proofs.Tab.{passed_on}
 use Rattle.escrow_verify.proofs.whole.count_all.Goals as goal
 
 pub returns-in_err-rows-clause-foreign : goal.returns-in_err-rows-clause-foreign
@@ -16,7 +16,7 @@ returns-in_err-rows-clause-foreign g c = λ usable same.
     let whole : at.yielded ++ c.in-Some.stored ∷ into_iter_items c.next.new.self ≡ c.args.tables.items = rw (← rest) (at.invariant.rest ∙ c.into_iter-stored-iterator.ensures.into_iter_gives.0) in
     none_have (state g.S.Store c.args.store.now) (state g.S.Store at.store) (state g.S.Store c.count_rows.new.store) c.args.tables.items at.yielded (into_iter_items c.next.new.self) c.in-Some.stored
     at.invariant.looks c.count_rows.ensures.looks whole usable
-    (c.count_rows.ensures.foreign usable (passed_on c.from_residual.result c.count_rows.result _ _ c.from_residual.ensures.1 c.in_err-rows.was same))
+    (c.count_rows.ensures.foreign usable (passed_on c.from_residual-in_err-rows.result c.count_rows.result _ _ c.from_residual-in_err-rows.ensures.1 c.in_err-rows.was same))
 
 pub loop-stored-preserved : goal.loop-stored-preserved
 loop-stored-preserved g c =
@@ -24,7 +24,7 @@ loop-stored-preserved g c =
     let s = c.in-Some.stored in
     let counted : Counted = record { stored = s; rows = c.in_ok-rows.rows } in
     let steps : into_iter_items at.stored-iterator ≡ s ∷ into_iter_items c.next.new.self = c.in-Some.ensures.steps.0 in
-    let added : c.push.new.counted.items ≡ at.counted.items ++ counted ∷ [] = c.in_ok-push.ensures.more in
+    let added : c.push.new.self.items ≡ at.counted.items ++ counted ∷ [] = c.in_ok-push.ensures.items in
     record {
       rest = append_assoc at.yielded (s ∷ []) _ ∙ rw (← steps) at.invariant.rest;
       long =

@@ -1,7 +1,7 @@
 use Rattle.sqlite.specs.Held.{state}
 use Rattle.escrow_tables.proofs.Verifying.{meet_again}
 use Rattle.escrow_tables.proofs.tables.Tables.verify.Goals as goal
-use Rattle.escrow_tables.proofs.tables.Tables.verify.Goals.{in-Ok, in-Err-Memory, in-Err}
+use Rattle.escrow_tables.proofs.tables.Tables.verify.Goals.{in-Ok, in-Err-Failed, in-Err-ForeignStore}
 
 pub returns-clause-meet : goal.returns-clause-meet
 returns-clause-meet g c = λ clean.
@@ -14,6 +14,6 @@ returns-clause-meet g c = λ clean.
             store = told.store;
             looks = told.looks;
           }) clean)
-      | in-Err-Memory w ↦ rw w.result-is tt
-      | in-Err w ↦ rw w.result-is tt
+      | in-Err-Failed w ↦ rw w.result-is tt
+      | in-Err-ForeignStore w ↦ rw w.result-is tt
     ]

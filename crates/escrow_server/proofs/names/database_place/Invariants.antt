@@ -1,11 +1,11 @@
 use Rattle.std.proofs.Common.{◌≡◌, ◌≤◌}
-use Rattle.escrow_server.specs.Reading.{place_of}
-use Rattle.escrow_server.proofs.names.place_of.Given as goal
+use Rattle.escrow_server.specs.Reading.{database_place}
+use Rattle.escrow_server.proofs.names.database_place.Given as goal
 
 abbrev pub invariant-loop-left : goal.invariant-loop-left
 invariant-loop-left l = record {
   few : l.left ≤ l.databases;
-  rest : place_of l.left l.name ≡ place_of l.databases l.name;
+  rest : database_place l.left l.name ≡ database_place l.databases l.name;
 }
 
 abbrev pub decreases-loop-left : goal.decreases-loop-left
