@@ -12,6 +12,7 @@ pub mod Restarting
 pub mod Running
 pub mod Served
 pub mod Serving
+pub mod Shown
 pub mod SpreadLemmas
 pub mod Txns
 pub mod Updating

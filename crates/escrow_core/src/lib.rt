@@ -11,7 +11,6 @@ mod database;
 mod grant;
 mod journal;
 mod reservations;
-mod shown;
 mod spreads;
 
 pub use database::Database;

@@ -1,14 +1,15 @@
 use crate::database::Database;
-use escrow_num::{Failure, Name, Row, RowName};
+use escrow_num::{Failure, Name, Row, RowName, Seq, Value};
 use sqlite::Alter;
 use std::alloc::Global;
 
 impl<S: Alter> Database<S> {
-    ghost use Rattle.std.specs.Prelude.{◌≡◌, IsSome, IsTrue, IfOk, IfSome, OnOk};
+    ghost use Rattle.std.specs.Prelude.{◌≡◌, Some, IsSome, IsSomeAnd, IsTrue, IfOk, IfSome, OnOk, map, option_map};
     ghost use Rattle.sqlite.specs.Held.{state};
     ghost use Rattle.sqlite.specs.State.{HasCleanDisk};
     ghost use Rattle.escrow_num.specs.Ascending.{IsAscending};
-    ghost use Rattle.escrow_schema.specs.Catalog.{table_named};
+    ghost use Rattle.escrow_schema.specs.Catalog.{place_named, table_named};
+    ghost use Rattle.escrow_schema.specs.Fit.{values_of};
     ghost use Rattle.escrow_core.specs.Serving.{Looks};
     ghost use Rattle.escrow_machine.specs.Rows.{row_named, rows_of, HasTable, row_before};
 
@@ -24,13 +25,36 @@ impl<S: Alter> Database<S> {
         self.tables.row(alloc, name)
     }
 
-    /// The committed rows of a table, in order of key.
-    pub(crate) fn rows(&mut self, alloc: Global, table: Name) -> Result<Vec<Row>, Failure>
-        requires { IsSome (table_named self.old.state.catalog table) }
-        ensures told { HasCleanDisk (state S.Store self.new.store) → IfOk result (λ rows. rows.items ≡ rows_of self.old.state.rows table) }
+    /// The values of the committed row of a name, in column order, if there is one; all rows are in order. The
+    /// place is that of its table.
+    pub(crate) fn values(
+        &mut self,
+        alloc: Global,
+        place: usize,
+        name: &RowName,
+    ) -> Result<Option<Seq<Value>>, Failure>
+        requires { place_named self.old.state.catalog name.now.table ≡ Some place }
+        ensures told { HasCleanDisk (state S.Store self.new.store) → IfOk result (λ found. IsSomeAnd (table_named self.old.state.catalog name.now.table) (λ table. found ≡ option_map (values_of table) (row_named self.old.state.rows name.now))) }
+        ensures order { HasCleanDisk (state S.Store self.new.store) → IsAscending row_before self.old.state.rows }
         ensures looks { Looks S.Store self.old self.new }
         ensures open { HasCleanDisk (state S.Store self.new.store) → OnOk result (IsTrue (state S.Store self.new.store).is_open) }
     {
-        self.tables.rows(alloc, table)
+        self.tables.values(alloc, place, name)
+    }
+
+    /// The values of each committed row of the table of a name, which stands at a place: in column order, the
+    /// rows in order of key.
+    pub(crate) fn all_values(
+        &mut self,
+        alloc: Global,
+        place: usize,
+        table: Name,
+    ) -> Result<Seq<Seq<Value>>, Failure>
+        requires { place_named self.old.state.catalog table ≡ Some place }
+        ensures told { HasCleanDisk (state S.Store self.new.store) → IfOk result (λ rows. IsSomeAnd (table_named self.old.state.catalog table) (λ definition. rows ≡ map (values_of definition) (rows_of self.old.state.rows table))) }
+        ensures looks { Looks S.Store self.old self.new }
+        ensures open { HasCleanDisk (state S.Store self.new.store) → OnOk result (IsTrue (state S.Store self.new.store).is_open) }
+    {
+        self.tables.all_values(alloc, place, table)
     }
 }

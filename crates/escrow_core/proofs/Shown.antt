@@ -1,0 +1,38 @@
+-- What a SELECT shows of what it reads.
+use Rattle.std.specs.Prelude.{◌≡◌, ℕ, Option, Some, None, IsSomeAnd, is_none, option_map, option_to_list, List, [], ◌∷◌, filter, map}
+use Rattle.std.proofs.Common.{refl, sym, ap, ap₂, subst, ◌∙◌}
+use Rattle.escrow_num.specs.declared.row.Row.{Row}
+use Rattle.escrow_num.specs.declared.value.RowName.{RowName}
+use Rattle.escrow_num.specs.declared.value.Value.{Value}
+use Rattle.escrow_num.specs.Ascending.{IsAscending}
+use Rattle.escrow_num.specs.Order.{same_row}
+use Rattle.escrow_sql.specs.declared.statement.SelectText.{SelectText}
+use Rattle.escrow_schema.specs.declared.table.TableDef.{TableDef}
+use Rattle.escrow_schema.specs.Catalog.{table_named}
+use Rattle.escrow_schema.specs.Column.{names_of}
+use Rattle.escrow_schema.specs.Fit.{values_of}
+use Rattle.escrow_machine.specs.declared.reply.Reply.TheVariants as reply
+use Rattle.escrow_machine.specs.Asked.{is_shown, select_reply}
+use Rattle.escrow_machine.specs.State.{State}
+use Rattle.escrow_machine.specs.Rows.{row_named, row_before}
+use Rattle.escrow_core.proofs.Queries.{selects_one}
+
+-- columns and rows of the table are what a SELECT shows
+pub shows : (s : State) (text : SelectText) (columns : List (List ℕ)) (rows : List (List Value)) → ((table : TableDef) → table_named s.catalog text.table ≡ Some table → columns ≡ names_of table.columns)
+    → IsSomeAnd (table_named s.catalog text.table) (λ table. rows ≡ map (values_of table) (filter (is_shown text.table text.row) s.rows)) → reply.Rows columns rows ≡ select_reply s text
+shows s text columns rows named told = at (table_named s.catalog text.table) refl told
+  where
+    at : (o : Option TableDef) → table_named s.catalog text.table ≡ o → IsSomeAnd o (λ table. rows ≡ map (values_of table) (filter (is_shown text.table text.row) s.rows)) → reply.Rows columns rows ≡ select_reply s text
+    at None e h = absurd h
+    at (Some table) e h = rw e (ap₂ (λ (names : List (List ℕ)) (shown : List (List Value)). reply.Rows names shown) (named table e) h)
+
+-- the values of the row of a name are those of the rows of that name
+pub one_shown : (o : Option TableDef) (rows : List Row) (name : RowName) (found : Option (List Value)) → IsAscending row_before rows
+    → IsSomeAnd o (λ table. found ≡ option_map (values_of table) (row_named rows name)) → IsSomeAnd o (λ table. option_to_list found ≡ map (values_of table) (filter (λ row. same_row row.name name) rows))
+one_shown None rows name found order told = told
+one_shown (Some table) rows name found order told =
+    ap option_to_list told ∙ mapped (row_named rows name) ∙ ap (map (values_of table)) (selects_one rows name (row_named rows name) order refl)
+  where
+    mapped : (o : Option Row) → option_to_list (option_map (values_of table) o) ≡ map (values_of table) (option_to_list o)
+    mapped None = refl
+    mapped (Some row) = refl
