@@ -14,6 +14,7 @@ use Rattle.escrow_num.proofs.Orders.{name_same}
 use Rattle.escrow_sql.specs.declared.statement.InsertText.{InsertText}
 use Rattle.escrow_sql.specs.declared.statement.Statement.TheVariants as statement
 use Rattle.escrow_schema.specs.declared.table.TableDef.{TableDef}
+use Rattle.escrow_checks.specs.Grant.{broken}
 use Rattle.escrow_schema.specs.Catalog.{table_named}
 use Rattle.escrow_schema.specs.Fit.{IsRowOf, inserted_row}
 use Rattle.escrow_schema.proofs.LawLemmas.{rows_of_table}
@@ -63,6 +64,15 @@ made_in s text row table named made =
 pub is_made : (s : State) (text : InsertText) (row : Row) → row_of s text ≡ Some row → IsMade s text row
 is_made s text row made =
     option_and_then_some (λ (table : TableDef). inserted_row table text) (table_named s.catalog text.table) row made (made_in s text row)
+
+-- what is decided of the row, its table and how many rows that has
+pub decided : (s : State) (text : InsertText) (row : Row) (table : TableDef) (count : ℕ) → table_named s.catalog text.table ≡ Some table → row_of s text ≡ Some row
+    → count ≡ length (rows_of s.rows text.table)
+    → first_refusal (new_refusals s text) ≡ first_refusal (refuse_if (nat_le MAX_ROWS count) refusal.TableFull ∷ option_map refusal.Check (broken table.checks row.amounts [] []) ∷ [])
+decided s text row table count named made is = rw (named, made, is) refl
+
+pub made_row : (s : State) (text : InsertText) (row : Row) (table : TableDef) → table_named s.catalog text.table ≡ Some table → row_of s text ≡ Some row → IsRowOf table row
+made_row s text row table named made = rows_of_table table text row (rw named at made)
 
 -- LATE REFUSALS
 
