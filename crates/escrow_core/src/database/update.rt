@@ -28,14 +28,13 @@ impl<S: Alter> Database<S> {
     pub(crate) fn update(&mut self, alloc: Global, session: Session, text: &UpdateText) -> Reply
         ensures { Serves S.Store session (Statement.Update text.now) self.old result self.new }
     {
-        match self.plan(alloc, session, text) {
-            Ok(planned) => match planned.1 {
-                Plan::Reserve { key, changes } => self.reserve(alloc, session, text, key, changes),
-                Plan::Plain { key, values } => {
-                    self.replace(alloc, session, text, planned.0, key, values)
-                }
-            },
-            Err(refusal) => Reply::Refused(refusal),
+        let (place, plan) = match self.plan(alloc, session, text) {
+            Ok(planned) => planned,
+            Err(refusal) => return Reply::Refused(refusal),
+        };
+        match plan {
+            Plan::Reserve { key, changes } => self.reserve(alloc, session, text, key, changes),
+            Plan::Plain { key, values } => self.replace(alloc, session, text, place, key, values),
         }
     }
 

@@ -24,19 +24,19 @@ returns-in-Some g c =
     let early = rw (← c.self.view_is) at c.requires.early in
     rw (← c.self.view_is) (late_refused g.S.Store c.args.session (statement.Insert text) d c.in-Some.refusal refl early
     (λ u. new_refused d.state c.args.session text row c.in-Some.refusal made early ((rw (← c.self.view_is) at c.requires.new) u)
-    (decided d.state text row c.table.result.now c.count.result (c.table.ensures.named text.table at) made (c.count.ensures u text.table at) ∙ sym c.in-Some.ensures)))
+    (decided d.state text row c.table-table.result.now c.count-count.result (c.table-table.ensures.named text.table at) made (c.count-count.ensures u text.table at) ∙ sym c.in-Some.ensures)))
 
-pub table-requires : goal.table-requires
-table-requires g c = place_within (seen_of c.self.inside.tables c.self.inside.open).state.catalog c.args.text.now.table c.args.place (rw (← c.self.view_is) at c.requires.place)
+pub table-table-requires : goal.table-table-requires
+table-table-requires g c = place_within (seen_of c.self.inside.tables c.self.inside.open).state.catalog c.args.text.now.table c.args.place (rw (← c.self.view_is) at c.requires.place)
 
-pub count-requires : goal.count-requires
-count-requires g c = place_within (seen_of c.self.inside.tables c.self.inside.open).state.catalog c.args.text.now.table c.args.place (rw (← c.self.view_is) at c.requires.place)
+pub count-count-requires : goal.count-count-requires
+count-count-requires g c = place_within (seen_of c.self.inside.tables c.self.inside.open).state.catalog c.args.text.now.table c.args.place (rw (← c.self.view_is) at c.requires.place)
 
 pub row_refusal-requires-clause-fits : goal.row_refusal-requires-clause-fits
 row_refusal-requires-clause-fits g c =
     let s : State = (seen_of c.self.inside.tables c.self.inside.open).state in
     let text = c.args.text.now in
-    made_row s text c.args.row.now c.table.result.now (c.table.ensures.named text.table (rw (← c.self.view_is) at c.requires.place)) (rw (← c.self.view_is) at c.requires.row)
+    made_row s text c.args.row.now c.table-table.result.now (c.table-table.ensures.named text.table (rw (← c.self.view_is) at c.requires.place)) (rw (← c.self.view_is) at c.requires.row)
 
 -- the row may be put
 is_new : (g : given.Over) (c : After-row_refusal g) → None ≡ c.row_refusal.result → IsNew g.S.Store (seen_of c.self.inside.tables c.self.inside.open) c.args.session c.args.text.now c.args.row.now
@@ -50,7 +50,7 @@ is_new g c none =
       made = made;
       early = rw (← c.self.view_is) at c.requires.early;
       none = rw (← c.self.view_is) at c.requires.new;
-      left = λ u. decided d.state text row c.table.result.now c.count.result (c.table.ensures.named text.table at) made (c.count.ensures u text.table at) ∙ sym (none ∙ c.row_refusal.ensures);
+      left = λ u. decided d.state text row c.table-table.result.now c.count-count.result (c.table-table.ensures.named text.table at) made (c.count-count.ensures u text.table at) ∙ sym (none ∙ c.row_refusal.ensures);
     }
 
 pub insert-requires-clause-place : goal.insert-requires-clause-place
@@ -74,7 +74,7 @@ pub insert-requires-clause-room : goal.insert-requires-clause-room
 insert-requires-clause-room g c = λ u.
     let d = seen_of c.self.inside.tables c.self.inside.open in
     let text = c.args.text.now in
-    let new = is_new g (goal.at.insert-requires-clause-room g c).After-row_refusal c.in_default.is in
+    let new = is_new g (goal.at.insert-requires-clause-room g c).After-row_refusal (sym c.in_default.is) in
     subst (λ n. length (rows_of d.state.rows n) < MAX_ROWS) (sym (is_made d.state text c.args.row.now new.made).table_name) (new_room d.state text (new.left u))
 
 pub invariant_of-self : goal.invariant_of-self
@@ -84,7 +84,7 @@ invariant_of-self g c =
     let session = c.args.session in
     let text = c.args.text.now in
     let row = c.args.row.now in
-    let new = is_new g (goal.at.invariant_of-self g c).After-row_refusal c.in_default.is in
+    let new = is_new g (goal.at.invariant_of-self g c).After-row_refusal (sym c.in_default.is) in
     elim c.match-insert.branch [
       | in-Ok w ↦ put_keeps g.S.Store session text row t c.insert.new.self o new c.self.invariant w.in-Ok.ensures
       | in-Err w ↦ failed_keeps g.S.Store session (statement.Insert text) t c.insert.new.self o _ _ c.self.invariant w.in-Err.ensures
@@ -97,7 +97,7 @@ returns g c =
     let session = c.args.session in
     let text = c.args.text.now in
     let row = c.args.row.now in
-    let new = is_new g (goal.at.returns g c).After-row_refusal c.in_default.is in
+    let new = is_new g (goal.at.returns g c).After-row_refusal (sym c.in_default.is) in
     elim c.match-insert.branch [
       | in-Ok w ↦ rw (← c.self.view_is, w.result-is) (put_serves g.S.Store session text row t c.insert.new.self o new w.in-Ok.ensures)
       | in-Err w ↦ rw (← c.self.view_is, w.result-is, w.refusal_of.ensures) (put_fails g.S.Store session text row t c.insert.new.self o new w.in-Err.failure w.in-Err.ensures)

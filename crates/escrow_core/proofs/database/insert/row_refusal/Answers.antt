@@ -1,5 +1,17 @@
+use Rattle.std.proofs.Common.{◌≡◌, [], ◌∙◌, rules, option_map, ap}
+use Rattle.escrow_num.specs.declared.refusal.Refusal.TheVariants as refusal
+use Rattle.escrow_checks.specs.Grant.{broken}
+use Rattle.escrow_core.proofs.Inserting.{unfull}
 use Rattle.escrow_machine.proofs.Shapes.{covered}
 use Rattle.escrow_core.proofs.database.insert.row_refusal.Goals as goal
 
 pub first_breach-requires-clause-covered : goal.first_breach-requires-clause-covered
 first_breach-requires-clause-covered c = rw c.as_slice.ensures (covered c.args.table.now c.args.row.now c.requires.table c.requires.fits.amounts)
+
+pub returns : goal.returns
+returns c =
+    let checks = c.args.table.now.checks in
+    let amounts = c.args.row.now.amounts in
+    let breach : c.first_breach.result ≡ broken checks amounts [] [] = search rules in
+    let told : c.map.result ≡ option_map refusal.Check (broken checks amounts [] []) = search rules in
+    unfull c.args.count (broken checks amounts [] []) c.map.result c.if-count-ge-MAX_ROWS.false told
