@@ -26,18 +26,17 @@ use Rattle.escrow_machine.proofs.Accepted.{DropStands, drop_stands}
 use Rattle.escrow_core.proofs.Serving.{accepted_step, none_applies, wrote, write_failed, wrote_keeps}
 use Rattle.escrow_machine.proofs.ValidDrop.{drop_orderly, drop_valid}
 
--- a table that was found is there
-found_there : (o : Option (Bor TableDef)) (named : Option TableDef) → option_copied o ≡ named → is_some o ≡ true → is_none named ≡ false
-found_there None named same e = absurd (cc)
-found_there (Some table) named same e = rw (← same) refl
+is_there : (named : Option TableDef) → is_some named ≡ true → is_none named ≡ false
+is_there None e = absurd (cc)
+is_there (Some table) e = refl
 
 -- what is left to refuse it for, where nothing is open and the table stands
-pub left_to_reserved : (s : State) (session : ℕ) (name : List ℕ) (o : Option (Bor TableDef)) (reserved : Bool) → is_open session s ≡ false
-    → option_copied o ≡ table_named s.catalog name → is_some o ≡ true → is_table_reserved s name ≡ reserved
+pub left_to_reserved : (s : State) (session : ℕ) (name : List ℕ) (reserved : Bool) → is_open session s ≡ false
+    → is_some (table_named s.catalog name) ≡ true → is_table_reserved s name ≡ reserved
     → first_refusal (turn_of s session (statement.Drop name)).early ≡ refuse_if reserved refusal.TableReserved
 unfolding turn_of
-left_to_reserved s session name o true closed named found is = rw (closed, found_there o (table_named s.catalog name) named found, is) refl
-left_to_reserved s session name o false closed named found is = rw (closed, found_there o (table_named s.catalog name) named found, is) refl
+left_to_reserved s session name true closed found is = rw (closed, is_there (table_named s.catalog name) found, is) refl
+left_to_reserved s session name false closed found is = rw (closed, is_there (table_named s.catalog name) found, is) refl
 
 -- what is known where no early refusal applies
 pub stands : (s : State) (session : ℕ) (name : List ℕ) → PassesEarly s session (statement.Drop name) → DropStands s name

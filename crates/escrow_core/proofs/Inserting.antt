@@ -5,6 +5,8 @@ use Rattle.std.proofs.lemmas.Option.{option_and_then_some}
 use Rattle.sqlite.specs.Held.{state}
 use Rattle.sqlite.specs.State.{HasCleanDisk}
 use Rattle.sqlite_trees.specs.declared.store.Store.{Ghosts}
+use Rattle.std.proofs.lemmas.Bool.{lt-leb}
+use Rattle.escrow_num.specs.declared.refusal.Breach.{Breach}
 use Rattle.escrow_num.specs.declared.refusal.Refusal.{Refusal}
 use Rattle.escrow_num.specs.declared.refusal.Refusal.TheVariants as refusal
 use Rattle.escrow_num.specs.declared.row.Row.{Row}
@@ -14,6 +16,7 @@ use Rattle.escrow_num.proofs.Orders.{name_same}
 use Rattle.escrow_sql.specs.declared.statement.InsertText.{InsertText}
 use Rattle.escrow_sql.specs.declared.statement.Statement.TheVariants as statement
 use Rattle.escrow_schema.specs.declared.table.TableDef.{TableDef}
+use Rattle.escrow_checks.specs.Grant.{broken}
 use Rattle.escrow_schema.specs.Catalog.{table_named}
 use Rattle.escrow_schema.specs.Fit.{IsRowOf, inserted_row}
 use Rattle.escrow_schema.proofs.LawLemmas.{rows_of_table}
@@ -63,6 +66,23 @@ made_in s text row table named made =
 pub is_made : (s : State) (text : InsertText) (row : Row) → row_of s text ≡ Some row → IsMade s text row
 is_made s text row made =
     option_and_then_some (λ (table : TableDef). inserted_row table text) (table_named s.catalog text.table) row made (made_in s text row)
+
+-- what is decided of the row, its table and how many rows that has
+pub decided : (s : State) (text : InsertText) (row : Row) (table : TableDef) (count : ℕ) → table_named s.catalog text.table ≡ Some table → row_of s text ≡ Some row
+    → count ≡ length (rows_of s.rows text.table)
+    → first_refusal (new_refusals s text) ≡ first_refusal (refuse_if (nat_le MAX_ROWS count) refusal.TableFull ∷ option_map refusal.Check (broken table.checks row.amounts [] []) ∷ [])
+decided s text row table count named made is =
+    let fits : inserted_row table text ≡ Some row = rw named at made in
+    rw (named, fits, is) refl
+
+-- where the table isn't full only a check can be broken
+pub unfull : (count : ℕ) (o : Option Breach) (r : Option Refusal) → count < MAX_ROWS → r ≡ option_map refusal.Check o
+    → r ≡ first_refusal (refuse_if (nat_le MAX_ROWS count) refusal.TableFull ∷ option_map refusal.Check o ∷ [])
+unfull count None r room is = rw (lt-leb MAX_ROWS count room) is
+unfull count (Some breach) r room is = rw (lt-leb MAX_ROWS count room) is
+
+pub made_row : (s : State) (text : InsertText) (row : Row) (table : TableDef) → table_named s.catalog text.table ≡ Some table → row_of s text ≡ Some row → IsRowOf table row
+made_row s text row table named made = rows_of_table table text row (rw named at made)
 
 -- LATE REFUSALS
 

@@ -21,21 +21,9 @@ use Rattle.escrow_tables.proofs.Named.{IsNamed}
 use Rattle.escrow_tables.proofs.Placed.{is_placed}
 use Rattle.escrow_tables.proofs.Reading.{name_of, told_of}
 
--- the first item that passes stands where its image does
-first_through : {A B : Type 0} (p : B → Bool) (f : A → B) (xs : List A) → position_or_len p (map f xs) ≡ position_or_len (λ x. p (f x)) xs
-first_through p f [] = refl
-first_through p f (x ∷ xs) = elim (cases_Bool (p (f x))) [ inl t ↦ rw t refl | inr fails ↦ rw fails (ap (λ n. 1 + n) (first_through p f xs)) ]
-
-position_through : {A B : Type 0} (p : B → Bool) (f : A → B) (xs : List A) → position p (map f xs) ≡ position (λ x. p (f x)) xs
-position_through p f xs = ap₂ (λ n l. cond (nat_lt n l) (Some n) None) (first_through p f xs) (length-map xs f)
-
--- where the table of a name stands in the catalog, it stands among those that are kept
-pub kept_place : (tables : List Counted) (name : List ℕ) → place_named (catalog_of tables) name ≡ position (λ (c : Counted). bytes_eq c.stored.table.name name) tables
-kept_place tables name = position_through (λ (t : TableDef). bytes_eq t.name name) (λ (c : Counted). c.stored.table) tables
-
 -- what stands at the place of a name is its table
 pub named_at : (tables : List Counted) (name : List ℕ) (place : ℕ) (c : Counted) → place_named (catalog_of tables) name ≡ Some place → c ≡ get_or tables place c → IsNamed tables name c
-named_at tables name place c at item = (is_placed tables tables name place c refl (sym at ∙ kept_place tables name) item).named
+named_at tables name place c at item = (is_placed tables name place c at item).named
 
 module _ (tables : List Counted) (name : List ℕ) (c : Counted) (named : IsNamed tables name c) where
   -- what holds of a table holds of that of its name in the catalog

@@ -13,7 +13,7 @@ use Rattle.escrow_num.proofs.Ascending.{ascending_filter}
 use Rattle.escrow_num.proofs.Items.{Has, all_has, has_all, has_filter}
 use Rattle.escrow_num.proofs.Orders.{name_same}
 use Rattle.escrow_schema.specs.declared.table.TableDef.{TableDef}
-use Rattle.escrow_schema.specs.Catalog.{IsCatalog, without_table}
+use Rattle.escrow_schema.specs.Catalog.{place_named, IsCatalog, without_table}
 use Rattle.escrow_schema.specs.Definition.{IsTable}
 use Rattle.escrow_schema.specs.Fit.{IsRowOf}
 use Rattle.escrow_schema.proofs.CatalogLemmas.{Once, once_named, taken_out, without_one}
@@ -28,6 +28,7 @@ use Rattle.escrow_verify.specs.declared.counted.Counted.{Counted}
 use Rattle.escrow_tables.specs.Calls.{Writes}
 use Rattle.escrow_tables.specs.Inside.{HasCount, IsHeld, Keeps, catalog_of, stored_of}
 use Rattle.escrow_tables.proofs.Named.{IsNamed}
+use Rattle.escrow_tables.proofs.Placed.{kept_place}
 use Rattle.escrow_tables.proofs.Writing.{keeps_on, seen, writes}
 
 -- the tables of other names
@@ -46,12 +47,11 @@ once_through p f [] h = tt
 once_through p f (x ∷ xs) h = ((λ e. all_from_map (λ y. p y ≡ false) f xs (h.0 e)), once_through p f xs h.1)
 
 -- without the table at the place of a name those of other names are left
-pub taken_at : (tables slice : List Counted) (name : List ℕ) (place : ℕ) (c : Counted) → IsCatalog (catalog_of tables) → slice ≡ tables
-    → Some place ≡ position (λ (c : Counted). bytes_eq c.stored.table.name name) slice → remove tables place ≡ without_counted name tables
-taken_at tables slice name place c catalog same at =
-    let p : Counted → Bool = λ c. bytes_eq c.stored.table.name name in
+pub taken_at : (tables : List Counted) (name : List ℕ) (place : ℕ) (c : Counted) → IsCatalog (catalog_of tables) → place_named (catalog_of tables) name ≡ Some place
+    → remove tables place ≡ without_counted name tables
+taken_at tables name place c catalog at =
     let once = once_through (λ (t : TableDef). bytes_eq t.name name) (λ (c : Counted). c.stored.table) tables (once_named (catalog_of tables) name catalog.order) in
-    (taken_out p tables place c once (sym (subst (λ (ts : List Counted). Some place ≡ position p ts) same at))).1
+    (taken_out (λ (c : Counted). bytes_eq c.stored.table.name name) tables place c once (sym (kept_place tables name) ∙ at)).1
 
 -- what passes a test among what passes another is no more than what passes it
 fewer : {A : Type 0} (p q : A → Bool) (xs : List A) → length (filter p (filter q xs)) ≤ length (filter p xs)

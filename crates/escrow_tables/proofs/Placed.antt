@@ -1,9 +1,10 @@
 -- The table at a place, and how many rows each table has after a change of one of them.
-use Rattle.std.proofs.Common.{◌≡◌, ◌<◌, ℕ, zero, suc, Bool, true, false, List, [], ◌∷◌, Some, ap, arith, bytes_eq, find, get_or, inl, inr, length, map, position, set, subst, sym, ◌∙◌}
-use Rattle.std.specs.Prelude.{IsTrue, not}
-use Rattle.std.specs.List.{AllByRecursion}
-use Rattle.std.proofs.lemmas.Bool.{both_ways, cond-false, cond-true, not-true}
-use Rattle.std.proofs.lemmas.List.{set-get_or}
+use Rattle.std.proofs.Common.{◌≡◌, ◌<◌, ℕ, zero, suc, Bool, true, false, List, [], ◌∷◌, None, Some, ap, ap₂, cond, nat_lt, refl, ◌+◌, arith, bytes_eq, find, get_or, inl, inr, length, map, position, set, subst, sym, ◌∙◌}
+use Rattle.std.specs.Prelude.{IsTrue, is_some, not}
+use Rattle.std.specs.List.{AllByRecursion, position_or_len}
+use Rattle.std.proofs.lemmas.Bool.{cases_Bool, both_ways, cond-false, cond-true, le-ltb, lt-ltb, ltb-false, ltb-true, not-true}
+use Rattle.std.proofs.lemmas.Grind.{common_steps}
+use Rattle.std.proofs.lemmas.List.{length-map, set-get_or}
 use Rattle.std.proofs.lemmas.List.Quantifiers.{position-Some}
 use Rattle.std.proofs.Math.Seq.{map-set_same}
 use Rattle.sqlite_trees.proofs.ListLemmas.{all_both, all_weaker}
@@ -11,12 +12,26 @@ use Rattle.escrow_num.proofs.Items.{Has, all_has}
 use Rattle.escrow_num.proofs.Orders.{same_name}
 use Rattle.escrow_num.specs.Ascending.{IsAscending}
 use Rattle.escrow_num.specs.declared.row.Row.{Row}
+use Rattle.escrow_schema.specs.Catalog.{IsCatalog, place_named}
+use Rattle.escrow_schema.specs.Definition.{IsTable}
+use Rattle.escrow_schema.specs.declared.table.TableDef.{TableDef}
 use Rattle.escrow_rows.specs.Image.{AreTables}
 use Rattle.escrow_machine.specs.Rows.{rows_of}
 use Rattle.escrow_rows.specs.declared.stored.StoredTable.{StoredTable}
 use Rattle.escrow_tables.specs.Inside.{HasCount, catalog_of, stored_of}
 use Rattle.escrow_verify.specs.declared.counted.Counted.{Counted}
 use Rattle.escrow_tables.proofs.Named.{IsNamed, is_named}
+
+-- what holds of the image of each item
+all_unmap : {A B : Type 0} (P : B → Type 0) (f : A → B) (xs : List A) → AllByRecursion P (map f xs) → AllByRecursion (λ x. P (f x)) xs
+all_unmap P f [] h = tt
+all_unmap P f (x ∷ xs) h = (h.0, all_unmap P f xs h.1)
+
+-- an item at a place is one of the items
+has_at : {A : Type 0} (xs : List A) (i : ℕ) (x : A) → i < length xs → x ≡ get_or xs i x → Has xs x
+has_at [] i x within at = absurd (omega arith)
+has_at (y ∷ ys) zero x within at = inl (sym at)
+has_at (y ∷ ys) (suc i) x within at = inr (has_at ys i x (omega arith) at)
 
 -- the first item that passes is found
 find_at : {A : Type 0} (p : A → Bool) (xs : List A) (i : ℕ) (d : A) → i < length xs → p (get_or xs i d) ≡ true → ((k : ℕ) → k < i → p (get_or xs k d) ≡ false) → find p xs ≡ Some (get_or xs i d)
@@ -31,14 +46,61 @@ pub record IsPlaced (tables : List Counted) (name : List ℕ) (place : ℕ) (c :
   pub item : c ≡ get_or tables place c
   pub named : IsNamed tables name c
 
--- what is found in a slice of the tables
-pub is_placed : (tables slice : List Counted) (name : List ℕ) (place : ℕ) (c : Counted) → slice ≡ tables → Some place ≡ position (λ (c : Counted). bytes_eq c.stored.table.name name) slice
-    → c ≡ get_or tables place c → IsPlaced tables name place c
-is_placed tables slice name place c same at item =
+-- the first item that passes stands where its image does
+first_through : {A B : Type 0} (p : B → Bool) (f : A → B) (xs : List A) → position_or_len p (map f xs) ≡ position_or_len (λ x. p (f x)) xs
+first_through p f [] = refl
+first_through p f (x ∷ xs) = elim (cases_Bool (p (f x))) [ inl t ↦ rw t refl | inr fails ↦ rw fails (ap (λ n. 1 + n) (first_through p f xs)) ]
+
+position_through : {A B : Type 0} (p : B → Bool) (f : A → B) (xs : List A) → position p (map f xs) ≡ position (λ x. p (f x)) xs
+position_through p f xs = ap₂ (λ n l. cond (nat_lt n l) (Some n) None) (first_through p f xs) (length-map xs f)
+
+-- one more on each side changes no comparison
+one_more : (n l : ℕ) → nat_lt (1 + n) (suc l) ≡ nat_lt n l
+one_more n l = elim (cases_Bool (nat_lt n l)) [
+  | inl less ↦ lt-ltb (1 + n) (suc l) (omega (arith, ltb-true n l less)) ∙ sym less
+  | inr not_less ↦ le-ltb (1 + n) (suc l) (omega (arith, ltb-false n l not_less)) ∙ sym not_less
+]
+
+-- an item that passes has a place where it is found
+passing : {A : Type 0} (p : A → Bool) (xs : List A) → nat_lt (position_or_len p xs) (length xs) ≡ is_some (find p xs)
+passing p [] = refl
+passing p (x ∷ xs) = elim (cases_Bool (p x)) [
+  | inl t ↦ rw t (lt-ltb 0 (length (x ∷ xs)) (omega arith))
+  | inr fails ↦ rw fails (one_more (position_or_len p xs) (length xs) ∙ passing p xs)
+]
+
+some_if : (b : Bool) (n : ℕ) → is_some (cond b (Some n) None) ≡ b
+some_if true n = refl
+some_if false n = refl
+
+pub has_place : {A : Type 0} (p : A → Bool) (xs : List A) → is_some (position p xs) ≡ is_some (find p xs)
+has_place p xs = some_if (nat_lt (position_or_len p xs) (length xs)) (position_or_len p xs) ∙ passing p xs
+
+-- where the table of a name stands in the catalog, it stands among those that are kept
+pub kept_place : (tables : List Counted) (name : List ℕ) → place_named (catalog_of tables) name ≡ position (λ (c : Counted). bytes_eq c.stored.table.name name) tables
+kept_place tables name = position_through (λ (t : TableDef). bytes_eq t.name name) (λ (c : Counted). c.stored.table) tables
+
+-- what stands at the place of a name
+pub is_placed : (tables : List Counted) (name : List ℕ) (place : ℕ) (c : Counted) → place_named (catalog_of tables) name ≡ Some place → c ≡ get_or tables place c → IsPlaced tables name place c
+is_placed tables name place c at item =
     let p : Counted → Bool = λ c. bytes_eq c.stored.table.name name in
-    let first = position-Some p tables place c (sym (subst (λ (ts : List Counted). Some place ≡ position p ts) same at)) in
+    let first = position-Some p tables place c (sym (kept_place tables name) ∙ at) in
     let found = find_at p tables place c first.0 first.1 first.2 in
     record { within = first.0; item = item; named = is_named tables name c (ap Some item ∙ sym found) }
+
+-- the place of a name is one of the catalog, and of the tables that are kept
+pub place_within : (catalog : List TableDef) (name : List ℕ) (place : ℕ) → place_named catalog name ≡ Some place → place < length catalog
+place_within catalog name place at = grind (arith, common_steps)
+
+pub length_kept : (tables : List Counted) (place : ℕ) → place < length (catalog_of tables) → place < length tables
+length_kept tables place within = omega (arith, length-map tables (λ (c : Counted). c.stored.table))
+
+pub kept_within : (tables : List Counted) (name : List ℕ) (place : ℕ) → place_named (catalog_of tables) name ≡ Some place → place < length tables
+kept_within tables name place at = length_kept tables place (place_within (catalog_of tables) name place at)
+
+-- what stands at a place is a table that some text defines
+pub kept_is_table : (tables : List Counted) (place : ℕ) (c : Counted) → IsCatalog (catalog_of tables) → place < length tables → c ≡ get_or tables place c → IsTable c.stored.table
+kept_is_table tables place c catalog within item = all_has (λ (c : Counted). IsTable c.stored.table) tables (all_unmap IsTable (λ (c : Counted). c.stored.table) tables catalog.tables) c (has_at tables place c within item)
 
 -- the tables, with another number of rows of the one at a place
 abbrev pub recounted : List Counted → ℕ → Counted → ℕ → List Counted
@@ -55,11 +117,6 @@ module _ (tables : List Counted) (name : List ℕ) (place : ℕ) (c : Counted) (
   pub recounted_itself : recounted tables place c c.rows ≡ tables
   recounted_itself = ap (set tables place) placed.item ∙ set-get_or tables place c
 
--- what holds of the image of each item
-all_unmap : {A B : Type 0} (P : B → Type 0) (f : A → B) (xs : List A) → AllByRecursion P (map f xs) → AllByRecursion (λ x. P (f x)) xs
-all_unmap P f [] h = tt
-all_unmap P f (x ∷ xs) h = (h.0, all_unmap P f xs h.1)
-
 -- no two tables have one name
 abbrev pub AreApart : List Counted → Type 0
 AreApart = IsAscending (λ (a b : Counted). not (bytes_eq a.stored.table.name b.stored.table.name))
@@ -74,12 +131,6 @@ apart tables are = apart_by tables are.names_apart
 
 other_name : (a b : List ℕ) → IsTrue (not (bytes_eq a b)) → ¬ (a ≡ b)
 other_name a b differ e = both_ways (bytes_eq a b) (not-true (bytes_eq a b) differ) (subst (λ (n : List ℕ). bytes_eq a n ≡ true) e (same_name a))
-
--- an item at a place is one of the items
-has_at : {A : Type 0} (xs : List A) (i : ℕ) (x : A) → i < length xs → x ≡ get_or xs i x → Has xs x
-has_at [] i x within at = absurd (omega arith)
-has_at (y ∷ ys) zero x within at = inl (sym at)
-has_at (y ∷ ys) (suc i) x within at = inr (has_at ys i x (omega arith) at)
 
 module _ (rows new : List Row) (c : Counted) (n : ℕ) (others : (name : List ℕ) → ¬ (name ≡ c.stored.table.name) → length (rows_of new name) ≡ length (rows_of rows name))
     (own : n ≡ length (rows_of new c.stored.table.name)) where

@@ -5,7 +5,7 @@ ghost use Rattle.std.specs.Ordering.{int_eq, is_lt, nat_cmp};
 ghost use Rattle.std.specs.Cmp.Lexicographic.{slice_cmp};
 ghost use Rattle.escrow_verify.specs.declared.counted.Counted.{Counted as Kept};
 
-use crate::tables::{Tables, place_named};
+use crate::tables::Tables;
 use escrow_num::{Failure, Name};
 use escrow_rows::StoredTable;
 use escrow_schema::TableDef;
@@ -15,9 +15,9 @@ use std::alloc::Global;
 use std::snapshot::Snapshot;
 
 impl<S: Alter> Tables<S> {
-    ghost use Rattle.std.specs.Prelude.{◌≡◌, ◌<◌, None, IsSome, length, is_ok};
+    ghost use Rattle.std.specs.Prelude.{◌≡◌, ◌<◌, ℕ, List, None, Some, length, is_ok};
     ghost use Rattle.escrow_schema.specs.declared.catalog.TheConstants.Catalog.{MAX_TABLES};
-    ghost use Rattle.escrow_schema.specs.Catalog.{table_named, with_table, without_table};
+    ghost use Rattle.escrow_schema.specs.Catalog.{place_named, table_named, with_table, without_table};
     ghost use Rattle.escrow_schema.specs.Definition.{IsTable};
     ghost use Rattle.escrow_machine.specs.Rows.{without_rows_of};
     ghost use Rattle.escrow_tables.specs.Calls.{Writes};
@@ -41,14 +41,11 @@ impl<S: Alter> Tables<S> {
         Ok(())
     }
 
-    /// DROP TABLE: takes out a table and its rows. Takes no memory of its own.
-    pub fn drop_table(&mut self, name: Name) -> Result<(), Failure>
-        requires { IsSome (table_named self.old.catalog name) }
-        ensures { Writes S.Store self.old self.new (is_ok result) (without_table name self.old.catalog) (without_rows_of name self.old.rows) }
+    /// DROP TABLE: takes out the table at a place, and its rows. Takes no memory of its own.
+    pub fn drop_table(&mut self, place: usize) -> Result<(), Failure>
+        requires { (name : List ℕ) × (place_named self.old.catalog name ≡ Some place) }
+        ensures { (name : List ℕ) → place_named self.old.catalog name ≡ Some place → Writes S.Store self.old self.new (is_ok result) (without_table name self.old.catalog) (without_rows_of name self.old.rows) }
     {
-        let Some(place) = place_named(&self.tables, name) else {
-            return Err(Failure::Store);
-        };
         self.store.drop_table(&self.tables[place].stored)?;
         self.tables.remove(place);
         self.last = Snapshot::of(&self.store);

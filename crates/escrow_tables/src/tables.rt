@@ -38,7 +38,7 @@ impl<S: Alter> Model for Tables<S> {
 }
 
 impl<S: Alter> Tables<S> {
-    ghost use Rattle.std.specs.Prelude.{◌≡◌, ◌↔◌, [], length, IfSome, IsSome, IsTrue, option_copied};
+    ghost use Rattle.std.specs.Prelude.{◌≡◌, ◌↔◌, ◌<◌, ℕ, List, [], Some, length, is_some, IfSome, IsTrue, option_copied};
     ghost use Rattle.sqlite.specs.Held.{state};
     ghost use Rattle.sqlite.specs.State.{HasCleanDisk};
     ghost use Rattle.sqlite_trees.specs.Tree.{Trees};
@@ -85,9 +85,19 @@ impl<S: Alter> Tables<S> {
 
     /// The place of the table of a name among all, in order of name. Makes no store call.
     pub fn place(&self, name: Name) -> Option<usize>
-        ensures { result ≡ place_named self.now.catalog name }
+        ensures place { result ≡ place_named self.now.catalog name }
+        ensures there { is_some result ≡ is_some (table_named self.now.catalog name) }
     {
         place_named(&self.tables, name)
+    }
+
+    /// The table at a place. Makes no store call.
+    pub fn table(&self, place: usize) -> &TableDef
+        requires { place < length self.now.catalog }
+        ensures named { (name : List ℕ) → place_named self.now.catalog name ≡ Some place → table_named self.now.catalog name ≡ Some result.now }
+        ensures table { IsTable result.now }
+    {
+        &self.tables[place].stored.table
     }
 
     /// The table of a name. Makes no store call.
@@ -99,15 +109,12 @@ impl<S: Alter> Tables<S> {
         Some(&counted.stored.table)
     }
 
-    /// How many rows a table has. Makes no store call.
-    pub fn count(&self, name: Name) -> usize
-        requires { IsSome (table_named self.now.catalog name) }
-        ensures { HasCleanDisk (state S.Store self.now.store) → result ≡ length (rows_of self.now.rows name) }
+    /// How many rows the table at a place has. Makes no store call.
+    pub fn count(&self, place: usize) -> usize
+        requires { place < length self.now.catalog }
+        ensures { HasCleanDisk (state S.Store self.now.store) → (name : List ℕ) → place_named self.now.catalog name ≡ Some place → result ≡ length (rows_of self.now.rows name) }
     {
-        match find_counted(&self.tables, name) {
-            Some(counted) => counted.rows,
-            None => 0,
-        }
+        self.tables[place].rows
     }
 
     /// Limits the steps that a statement of the store may take; with `None` there is no limit. A call

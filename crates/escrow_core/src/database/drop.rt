@@ -6,9 +6,10 @@ use escrow_sql::Statement;
 use sqlite::Alter;
 
 impl<S: Alter> Database<S> {
-    ghost use Rattle.std.specs.Prelude.{◌≡◌};
+    ghost use Rattle.std.specs.Prelude.{◌≡◌, Some, IfOk};
     ghost use Rattle.std.specs.Result.{result_err};
     ghost use Rattle.escrow_num.specs.Refusal.{first_refusal};
+    ghost use Rattle.escrow_schema.specs.Catalog.{place_named};
     ghost use Rattle.escrow_core.specs.Serves.{Serves};
     ghost use Rattle.escrow_machine.specs.Turn.{turn_of};
 
@@ -16,29 +17,31 @@ impl<S: Alter> Database<S> {
     pub(crate) fn drop_table(&mut self, session: Session, name: Name) -> Reply
         ensures { Serves S.Store session (Statement.Drop name) self.old result self.new }
     {
-        if let Err(refusal) = self.check_drop(session, name) {
-            return Reply::Refused(refusal);
-        }
-        match self.tables.drop_table(name) {
+        let place = match self.check_drop(session, name) {
+            Ok(place) => place,
+            Err(refusal) => return Reply::Refused(refusal),
+        };
+        match self.tables.drop_table(place) {
             Ok(()) => Reply::Dropped(name),
             Err(failure) => Reply::Refused(refusal_of(failure)),
         }
     }
 
-    /// Why a DROP TABLE is refused, if it is.
+    /// The place of the table of a DROP TABLE, or why it is refused.
     #[tactic(auto, unfolding(escrow_machine::specs::Turn::turn_of))]
-    fn check_drop(&self, session: Session, name: Name) -> Result<(), Refusal>
-        ensures { result_err result ≡ first_refusal (turn_of self.now.state session (Statement.Drop name)).early }
+    fn check_drop(&self, session: Session, name: Name) -> Result<usize, Refusal>
+        ensures place { IfOk result (λ place. place_named self.now.state.catalog name ≡ Some place) }
+        ensures early { result_err result ≡ first_refusal (turn_of self.now.state session (Statement.Drop name)).early }
     {
         if self.is_open(session) {
             return Err(Refusal::TransactionOpen);
         }
-        if self.tables.find(name).is_none() {
+        let Some(place) = self.tables.place(name) else {
             return Err(Refusal::NoSuchTable);
-        }
+        };
         if is_table_reserved(&self.open, name) {
             return Err(Refusal::TableReserved);
         }
-        Ok(())
+        Ok(place)
     }
 }

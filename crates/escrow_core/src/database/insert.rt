@@ -1,3 +1,10 @@
+ghost use Rattle.std.specs.Prelude.{◌≡◌, [], ◌∷◌, nat_le, option_map};
+ghost use Rattle.escrow_num.specs.Refusal.{first_refusal, refuse_if};
+ghost use Rattle.escrow_checks.specs.Grant.{broken};
+ghost use Rattle.escrow_schema.specs.Definition.{IsTable};
+ghost use Rattle.escrow_schema.specs.Fit.{IsRowOf};
+ghost use Rattle.escrow_schema.specs.declared.table.TheConstants.TableDef.{MAX_ROWS};
+
 use crate::database::Database;
 use crate::grant::first_breach;
 use crate::spreads::no_spreads;
@@ -9,15 +16,14 @@ use sqlite::Alter;
 use std::alloc::Global;
 
 impl<S: Alter> Database<S> {
-    ghost use Rattle.std.specs.Prelude.{◌≡◌, [], ◌∷◌, None, Some, IfOk, IfErr, nat_le, length, option_map};
+    ghost use Rattle.std.specs.Prelude.{◌≡◌, None, Some, IfOk, IfErr};
     ghost use Rattle.sqlite.specs.Held.{state};
     ghost use Rattle.sqlite.specs.State.{HasCleanDisk};
-    ghost use Rattle.escrow_num.specs.Refusal.{first_refusal, refuse_if};
-    ghost use Rattle.escrow_schema.specs.declared.table.TheConstants.TableDef.{MAX_ROWS};
-    ghost use Rattle.escrow_machine.specs.Asked.{insert_breach, row_of};
+    ghost use Rattle.escrow_machine.specs.Asked.{row_of};
+    ghost use Rattle.escrow_schema.specs.Catalog.{place_named};
     ghost use Rattle.escrow_core.specs.Serves.{Serves};
     ghost use Rattle.escrow_machine.specs.Accepted.{IsRefusal, PassesEarly};
-    ghost use Rattle.escrow_machine.specs.Rows.{row_named, rows_of};
+    ghost use Rattle.escrow_machine.specs.Rows.{row_named};
 
     /// INSERT: the row that the values make is put among the committed rows. The key is read first, so that
     /// no write is refused for a row that stands.
@@ -25,40 +31,52 @@ impl<S: Alter> Database<S> {
         ensures { Serves S.Store session (Statement.Insert text.now) self.old result self.new }
     {
         match self.plan_insert(alloc, session, text) {
-            Ok(row) => self.put_row(alloc, session, text, &row),
+            Ok(planned) => self.put_row(alloc, session, text, planned.0, &planned.1),
             Err(refusal) => Reply::Refused(refusal),
         }
     }
 
-    /// The row that an INSERT makes, or why it makes none.
+    /// The place of the table of an INSERT, and the row that it makes; or why it makes none.
     #[tactic(auto, unfolding(escrow_machine::specs::Turn::turn_of))]
     fn plan_insert(
         &self,
         alloc: Global,
         session: Session,
         text: &InsertText,
-    ) -> Result<Row, Refusal>
-        ensures row { IfOk result (λ row. row_of self.now.state text.now ≡ Some row) }
+    ) -> Result<(usize, Row), Refusal>
+        ensures place { IfOk result (λ planned. place_named self.now.state.catalog text.now.table ≡ Some planned.0) }
+        ensures row { IfOk result (λ planned. row_of self.now.state text.now ≡ Some planned.1) }
         ensures early { IfOk result (λ _. PassesEarly self.now.state session (Statement.Insert text.now)) }
         ensures refused { IfErr result (IsRefusal self.now.state session (Statement.Insert text.now)) }
     {
         if self.is_open(session) {
             return Err(Refusal::TransactionOpen);
         }
-        let Some(table) = self.tables.find(text.table) else {
+        let Some(place) = self.tables.place(text.table) else {
             return Err(Refusal::NoSuchTable);
         };
-        fit_row(alloc, table, text)
+        match fit_row(alloc, self.tables.table(place), text) {
+            Ok(row) => Ok((place, row)),
+            Err(refusal) => Err(refusal),
+        }
     }
 
     /// Puts a row, unless one of its name stands.
-    fn put_row(&mut self, alloc: Global, session: Session, text: &InsertText, row: &Row) -> Reply
+    fn put_row(
+        &mut self,
+        alloc: Global,
+        session: Session,
+        text: &InsertText,
+        place: usize,
+        row: &Row,
+    ) -> Reply
+        requires place { place_named self.old.state.catalog text.now.table ≡ Some place }
         requires row { row_of self.old.state text.now ≡ Some row.now }
         requires early { PassesEarly self.old.state session (Statement.Insert text.now) }
         ensures { Serves S.Store session (Statement.Insert text.now) self.old result self.new }
     {
         match self.row(alloc, &row.name) {
-            Ok(None) => self.put_new_row(alloc, session, text, row),
+            Ok(None) => self.put_new_row(alloc, session, text, place, row),
             Ok(Some(_)) => Reply::Refused(Refusal::RowExists),
             Err(failure) => Reply::Refused(refusal_of(failure)),
         }
@@ -70,35 +88,39 @@ impl<S: Alter> Database<S> {
         alloc: Global,
         session: Session,
         text: &InsertText,
+        place: usize,
         row: &Row,
     ) -> Reply
+        requires place { place_named self.old.state.catalog text.now.table ≡ Some place }
         requires row { row_of self.old.state text.now ≡ Some row.now }
         requires early { PassesEarly self.old.state session (Statement.Insert text.now) }
         requires new { HasCleanDisk (state S.Store self.old.store) → row_named self.old.state.rows row.now.name ≡ None }
         ensures { Serves S.Store session (Statement.Insert text.now) self.old result self.new }
     {
-        if let Some(refusal) = self.row_refusal(text, row) {
+        let table = self.tables.table(place);
+        let count = self.tables.count(place);
+        if let Some(refusal) = row_refusal(table, count, row) {
             return Reply::Refused(refusal);
         }
-        match self.tables.insert(alloc, row) {
+        match self.tables.insert(alloc, place, row) {
             Ok(()) => Reply::Inserted,
             Err(failure) => Reply::Refused(refusal_of(failure)),
         }
     }
+}
 
-    /// Why a new row isn't put: its table is full, or it breaks a check. It is judged with no open
-    /// reservation.
-    fn row_refusal(&self, text: &InsertText, row: &Row) -> Option<Refusal>
-        requires { row_of self.now.state text.now ≡ Some row.now }
-        ensures { HasCleanDisk (state S.Store self.now.store) → result ≡ first_refusal (
-            refuse_if (nat_le MAX_ROWS (length (rows_of self.now.state.rows text.now.table))) Refusal.TableFull
-            ∷ option_map Refusal.Check (insert_breach self.now.state text.now)
-            ∷ []) }
-    {
-        let table = self.tables.find(text.table)?;
-        if self.tables.count(text.table) >= TableDef::MAX_ROWS {
-            return Some(Refusal::TableFull);
-        }
-        first_breach(table.checks.as_slice(), row, &[], &no_spreads()).map(Refusal::Check)
+/// Why a new row isn't put: its table, which has so many rows, is full, or it breaks a check. It is judged
+/// with no open reservation.
+fn row_refusal(table: &TableDef, count: usize, row: &Row) -> Option<Refusal>
+    requires table { IsTable table.now }
+    requires fits { IsRowOf table.now row.now }
+    ensures { result ≡ first_refusal (
+        refuse_if (nat_le MAX_ROWS count) Refusal.TableFull
+        ∷ option_map Refusal.Check (broken table.now.checks row.now.amounts [] [])
+        ∷ []) }
+{
+    if count >= TableDef::MAX_ROWS {
+        return Some(Refusal::TableFull);
     }
+    first_breach(table.checks.as_slice(), row, &[], &no_spreads()).map(Refusal::Check)
 }

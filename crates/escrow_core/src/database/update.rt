@@ -15,6 +15,7 @@ impl<S: Alter> Database<S> {
     ghost use Rattle.escrow_num.specs.Session.{IsSession};
     ghost use Rattle.escrow_checks.specs.declared.coefficients.TheConstants.Coefficients.{MAX_LEN};
     ghost use Rattle.escrow_machine.specs.Asked.{plan_of, row_name};
+    ghost use Rattle.escrow_schema.specs.Catalog.{place_named};
     ghost use Rattle.escrow_core.specs.Serves.{Serves};
     ghost use Rattle.escrow_core.specs.Serving.{open_in};
     ghost use Rattle.escrow_txn.specs.Open.{grant_refusal};
@@ -27,23 +28,35 @@ impl<S: Alter> Database<S> {
     pub(crate) fn update(&mut self, alloc: Global, session: Session, text: &UpdateText) -> Reply
         ensures { Serves S.Store session (Statement.Update text.now) self.old result self.new }
     {
-        match self.plan(alloc, session, text) {
-            Ok(Plan::Reserve { key, changes }) => self.reserve(alloc, session, text, key, changes),
-            Ok(Plan::Plain { key, values }) => self.replace(alloc, session, text, key, values),
-            Err(refusal) => Reply::Refused(refusal),
+        let (place, plan) = match self.plan(alloc, session, text) {
+            Ok(planned) => planned,
+            Err(refusal) => return Reply::Refused(refusal),
+        };
+        match plan {
+            Plan::Reserve { key, changes } => self.reserve(alloc, session, text, key, changes),
+            Plan::Plain { key, values } => self.replace(alloc, session, text, place, key, values),
         }
     }
 
-    /// What an UPDATE asks of a row, or why it can't be planned.
+    /// The place of the table of an UPDATE, and what it asks of a row; or why it can't be planned.
     #[tactic(auto, unfolding(escrow_machine::specs::Turn::turn_of))]
-    fn plan(&self, alloc: Global, session: Session, text: &UpdateText) -> Result<Plan, Refusal>
-        ensures plan { IfOk result (λ plan. plan_of self.now.state text.now ≡ Some plan) }
+    fn plan(
+        &self,
+        alloc: Global,
+        session: Session,
+        text: &UpdateText,
+    ) -> Result<(usize, Plan), Refusal>
+        ensures place { IfOk result (λ planned. place_named self.now.state.catalog text.now.table ≡ Some planned.0) }
+        ensures plan { IfOk result (λ planned. plan_of self.now.state text.now ≡ Some planned.1) }
         ensures refused { IfErr result (IsRefusal self.now.state session (Statement.Update text.now)) }
     {
-        let Some(table) = self.tables.find(text.table) else {
+        let Some(place) = self.tables.place(text.table) else {
             return Err(Refusal::NoSuchTable);
         };
-        plan_update(alloc, table, text)
+        match plan_update(alloc, self.tables.table(place), text) {
+            Ok(plan) => Ok((place, plan)),
+            Err(refusal) => Err(refusal),
+        }
     }
 
     /// A reservation of changes of the row of a key, if it stands. The committed row stays as it is.
@@ -125,10 +138,12 @@ impl<S: Alter> Database<S> {
         alloc: Global,
         session: Session,
         text: &UpdateText,
+        place: usize,
         key: Value,
         values: Seq<Option<Value>>,
     ) -> Reply
-        requires { plan_of self.old.state text.now ≡ Some (Plan.Plain key values) }
+        requires place { place_named self.old.state.catalog text.now.table ≡ Some place }
+        requires plan { plan_of self.old.state text.now ≡ Some (Plan.Plain key values) }
         ensures { Serves S.Store session (Statement.Update text.now) self.old result self.new }
     {
         if self.is_open(session) {
@@ -139,7 +154,7 @@ impl<S: Alter> Database<S> {
             key,
         };
         match self.row(alloc, &name) {
-            Ok(Some(_)) => self.put_plain(alloc, session, text, &name, values.as_slice()),
+            Ok(Some(_)) => self.put_plain(alloc, session, text, place, &name, values.as_slice()),
             Ok(None) => Reply::Refused(Refusal::NoSuchRow),
             Err(failure) => Reply::Refused(refusal_of(failure)),
         }
@@ -151,16 +166,18 @@ impl<S: Alter> Database<S> {
         alloc: Global,
         session: Session,
         text: &UpdateText,
+        place: usize,
         name: &RowName,
         values: &[Option<Value>],
     ) -> Reply
+        requires place { place_named self.old.state.catalog name.now.table ≡ Some place }
         requires plan { plan_of self.old.state text.now ≡ Some (Plan.Plain name.now.key values.now) }
         requires table { name.now.table ≡ text.now.table }
         requires closed { is_open session self.old.state ≡ false }
         requires stands { HasCleanDisk (state S.Store self.old.store) → IsSome (row_named self.old.state.rows name.now) }
         ensures { Serves S.Store session (Statement.Update text.now) self.old result self.new }
     {
-        match self.tables.set_plain(alloc, name, values) {
+        match self.tables.set_plain(alloc, place, name, values) {
             Ok(()) => Reply::Updated,
             Err(failure) => Reply::Refused(refusal_of(failure)),
         }

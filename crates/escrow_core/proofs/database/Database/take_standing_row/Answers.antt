@@ -10,7 +10,7 @@ use Rattle.escrow_core.specs.Serves.{Serves}
 use Rattle.escrow_machine.specs.Accepted.{PassesEarly}
 use Rattle.escrow_machine.specs.State.{is_reserved}
 use Rattle.escrow_machine.specs.Rows.{row_named}
-use Rattle.escrow_core.proofs.Deleting.{delete_failed, delete_keeps, delete_table, reserved_refused, row_deleted}
+use Rattle.escrow_core.proofs.Deleting.{delete_failed, delete_keeps, reserved_refused, row_deleted}
 use Rattle.escrow_machine.proofs.Sessions.{open_ones}
 use Rattle.escrow_core.proofs.database.Database.take_standing_row.Goals.{in-Ok, in-Err}
 use Rattle.escrow_core.proofs.database.Database.take_standing_row.Goals as goal
@@ -27,12 +27,6 @@ returns-then-is_reserved g c =
     let stands = subst (λ v. HasCleanDisk (state g.S.Store v.store) → IsSome (row_named v.state.rows name)) (sym c.self.view_is) c.requires.stands in
     subst (λ v. Serves g.S.Store c.args.session asked v (reply.Refused refusal.RowReserved) v) c.self.view_is
     (reserved_refused g.S.Store c.args.session c.args.text.now name c.requires.name d early stands (sym c.is_reserved.ensures ∙ c.if-is_reserved.true))
-
-pub delete-requires-clause-table : goal.delete-requires-clause-table
-delete-requires-clause-table g c =
-    let d = seen_of c.self.inside.tables c.self.inside.open in
-    let early = subst (λ v. PassesEarly v.state c.args.session (statement.Delete c.args.text.now)) (sym c.self.view_is) c.requires.early in
-    rw c.requires.name (delete_table d.state c.args.session c.args.text.now early)
 
 pub invariant_of-self : goal.invariant_of-self
 invariant_of-self g c =

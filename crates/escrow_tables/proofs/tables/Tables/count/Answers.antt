@@ -1,24 +1,24 @@
-use Rattle.std.proofs.Common.{◌≡◌, ◌∙◌, List, None, Some, ap, length, subst}
+use Rattle.std.proofs.Common.{◌≡◌, ◌<◌, arith, ◌∙◌, ap, length}
 use Rattle.escrow_num.proofs.Items.{all_has}
 use Rattle.escrow_machine.specs.Rows.{rows_of}
 use Rattle.escrow_rows.specs.View.{rows_in}
-use Rattle.escrow_verify.specs.declared.counted.Counted.{Counted}
 use Rattle.sqlite.specs.Held.{state}
-use Rattle.escrow_tables.specs.Inside.{HasCount, stored_of}
-use Rattle.escrow_tables.proofs.Named.{counted_named, is_named, some_named}
+use Rattle.escrow_tables.specs.Inside.{HasCount, catalog_of, stored_of}
+use Rattle.escrow_tables.proofs.Placed.{is_placed, length_kept}
 use Rattle.escrow_tables.proofs.tables.Tables.count.Goals as goal
 
-pub returns-in-Some : goal.returns-in-Some
-returns-in-Some g c =
+pub index-requires : goal.index-requires
+index-requires g c =
     let tables = c.self.inside.tables.items in
-    let counted = c.in-Some.counted.now in
-    let found = subst (λ (ts : List Counted). Some counted ≡ counted_named ts c.args.name) c.deref.ensures.value c.in-Some.ensures in
-    let named = is_named tables c.args.name counted found in
-    let rows = rows_in (stored_of tables) (state g.S.Store c.self.inside.last.value).now in
-    rw (← c.self.view_is) (λ clean. all_has (HasCount rows) tables (c.self.invariant.held clean).counts counted named.has ∙ ap (λ n. length (rows_of rows n)) named.name_is)
+    let within : c.args.place < length (catalog_of tables) = rw (← c.self.view_is) at c.requires in
+    let kept = length_kept tables c.args.place within in
+    omega (arith, kept, c.self.inside.tables.ok.0)
 
-pub returns-in-None : goal.returns-in-None
-returns-in-None g c =
+pub returns : goal.returns
+returns g c =
     let tables = c.self.inside.tables.items in
-    let none = subst (λ (ts : List Counted). None ≡ counted_named ts c.args.name) c.deref.ensures.value c.in-None.ensures in
-    absurd (some_named tables c.args.name (rw (← c.self.view_is) at c.requires) none)
+    let counted = c.index.result.now in
+    let rows = rows_in (stored_of tables) (state g.S.Store c.self.inside.last.value).now in
+    rw (← c.self.view_is) (λ clean name at.
+    let named = (is_placed tables name c.args.place counted at c.index.ensures).named in
+    all_has (HasCount rows) tables (c.self.invariant.held clean).counts counted named.has ∙ ap (λ n. length (rows_of rows n)) named.name_is)

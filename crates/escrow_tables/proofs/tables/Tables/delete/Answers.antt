@@ -1,4 +1,4 @@
-use Rattle.std.proofs.Common.{◌-◌, ◌≡◌, ℕ, Bool, true, false, ap, refl, subst₂, sym}
+use Rattle.std.proofs.Common.{arith, Some, ◌-◌, ◌≡◌, ℕ, Bool, true, false, ap, refl, subst, subst₂, sym}
 use Rattle.std.specs.Prelude.{IsSome, is_ok}
 use Rattle.std.proofs.lemmas.Bool.{false≢true}
 use Rattle.std.proofs.lemmas.Result.{err_from_is_err_and}
@@ -9,9 +9,10 @@ use Rattle.escrow_machine.specs.Rows.{row_named, without_row}
 use Rattle.escrow_cells.specs.Calls.{Writes as StoreWrites}
 use Rattle.escrow_rows.specs.Changes.{TurnsRows}
 use Rattle.escrow_rows.specs.View.{rows_in}
+use Rattle.escrow_schema.specs.Catalog.{place_named}
 use Rattle.escrow_tables.specs.Calls.{Writes}
 use Rattle.escrow_tables.specs.Inside.{Keeps, catalog_of, stored_of}
-use Rattle.escrow_tables.proofs.Placed.{IsPlaced, is_placed, recounted}
+use Rattle.escrow_tables.proofs.Placed.{IsPlaced, is_placed, kept_within, recounted}
 use Rattle.escrow_tables.proofs.Reading.{name_of}
 use Rattle.escrow_tables.proofs.RowWrites.{Turned, delete_turns, row_keeps, row_writes}
 use Rattle.escrow_tables.proofs.Writing.{seen}
@@ -19,12 +20,12 @@ use Rattle.escrow_tables.proofs.tables.Tables.delete.Given as given
 use Rattle.escrow_tables.proofs.tables.Tables.delete.Goals as goal
 use Rattle.escrow_tables.proofs.tables.Tables.delete.Goals.{After-delete}
 
-placed : (g : given.Over) (c : After-delete g) → IsPlaced c.self.inside.tables.items c.args.name.now.table c.in-Some.place c.index_mut-counted.result.now
+placed : (g : given.Over) (c : After-delete g) → IsPlaced c.self.inside.tables.items c.args.name.now.table c.args.place c.index_mut-counted.result.now
 placed g c =
-    is_placed c.self.inside.tables.items c.deref.result.now c.args.name.now.table c.in-Some.place c.index_mut-counted.result.now c.deref.ensures.value c.in-Some.ensures c.index_mut-counted.ensures.value
+    is_placed c.self.inside.tables.items c.args.name.now.table c.args.place c.index_mut-counted.result.now (rw (← c.self.view_is) at c.requires.place) c.index_mut-counted.ensures.value
 
 turned : (g : given.Over) (c : After-delete g) → HasCleanDisk (state g.S.Store c.self.inside.store)
-    → Turned c.self.inside.tables.items c.in-Some.place c.index_mut-counted.result.now (c.index_mut-counted.result.now.rows - 1)
+    → Turned c.self.inside.tables.items c.args.place c.index_mut-counted.result.now (c.index_mut-counted.result.now.rows - 1)
     (without_row c.args.name.now (rows_in (stored_of c.self.inside.tables.items) (state g.S.Store c.self.inside.last.value).now))
 turned g c clean =
     let tables = c.self.inside.tables.items in
@@ -32,14 +33,14 @@ turned g c clean =
     let rows = rows_in (stored_of tables) (state g.S.Store c.self.inside.last.value).now in
     let held = c.self.invariant.held clean in
     let has : IsSome (row_named rows c.args.name.now) = (rw (← c.self.view_is) at c.requires.row) clean in
-    delete_turns tables c.in-Some.place counted c.args.name.now (counted.rows - 1) (placed g c) c.self.invariant.are_tables rows held.are_rows held.counts has refl
+    delete_turns tables c.args.place counted c.args.name.now (counted.rows - 1) (placed g c) c.self.invariant.are_tables rows held.are_rows held.counts has refl
 
 -- the call writes, and the fields keep what they hold
 written : (g : given.Over) (c : After-delete g) (is_done : Bool) (count : ℕ) (later : Held g.row.S.Denot) → is_ok c.delete.result ≡ is_done
     → (is_done ≡ true → (count ≡ c.index_mut-counted.result.now.rows - 1) × (later ≡ c.delete.new.self)) → (is_done ≡ false → (count ≡ c.index_mut-counted.result.now.rows) × (later ≡ c.self.inside.last.value))
-    → Writes g.S.Store (seen g.S.Store c.self.inside.store c.self.inside.last.value c.self.inside.tables.items) (seen g.S.Store c.delete.new.self later (recounted c.self.inside.tables.items c.in-Some.place c.index_mut-counted.result.now count)) is_done
+    → Writes g.S.Store (seen g.S.Store c.self.inside.store c.self.inside.last.value c.self.inside.tables.items) (seen g.S.Store c.delete.new.self later (recounted c.self.inside.tables.items c.args.place c.index_mut-counted.result.now count)) is_done
     (catalog_of c.self.inside.tables.items) (without_row c.args.name.now (rows_in (stored_of c.self.inside.tables.items) (state g.S.Store c.self.inside.last.value).now))
-    × Keeps (state g.S.Store c.delete.new.self) (state g.S.Store later) (recounted c.self.inside.tables.items c.in-Some.place c.index_mut-counted.result.now count)
+    × Keeps (state g.S.Store c.delete.new.self) (state g.S.Store later) (recounted c.self.inside.tables.items c.args.place c.index_mut-counted.result.now count)
 written g c is_done count later ok if_done if_not =
     let tables = c.self.inside.tables.items in
     let name = c.args.name.now in
@@ -49,8 +50,8 @@ written g c is_done count later ok if_done if_not =
     let at = placed g c in
     let it = subst₂ (λ b (n : RowName). StoreWrites (state g.S.Store old) (state g.S.Store new) b (TurnsRows counted.stored (without_row n))) ok (name_of tables name.table counted at.named name.key) c.delete.ensures in
     let n = counted.rows - 1 in (
-      row_writes g.S.Store old new c.self.inside.last.value later tables name.table c.in-Some.place counted at (without_row name) n c.self.invariant (turned g c) is_done it count if_done if_not,
-      row_keeps g.S.Store old new c.self.inside.last.value later tables name.table c.in-Some.place counted at (without_row name) n c.self.invariant (turned g c) is_done it count if_done if_not,
+      row_writes g.S.Store old new c.self.inside.last.value later tables name.table c.args.place counted at (without_row name) n c.self.invariant (turned g c) is_done it count if_done if_not,
+      row_keeps g.S.Store old new c.self.inside.last.value later tables name.table c.args.place counted at (without_row name) n c.self.invariant (turned g c) is_done it count if_done if_not,
     )
 
 pub invariant_of-self : goal.invariant_of-self
@@ -71,3 +72,9 @@ invariant_of-self-2 g c =
 pub returns : goal.returns
 returns g c =
     rw (← c.self.view_is) ((written g (goal.at.returns g c).After-delete true c.saturating_sub-counted.result c.of.result.value (ap is_ok c.in_ok-delete.was) (λ _. (c.saturating_sub-counted.ensures, c.of.ensures)) (λ e. absurd (false≢true (sym e)))).0)
+
+pub index_mut-counted-requires : goal.index_mut-counted-requires
+index_mut-counted-requires g c =
+    let at : place_named (catalog_of c.self.inside.tables.items) c.args.name.now.table ≡ Some c.args.place = rw (← c.self.view_is) at c.requires.place in
+    let kept = kept_within c.self.inside.tables.items c.args.name.now.table c.args.place at in
+    omega (arith, kept, c.self.inside.tables.ok.0)

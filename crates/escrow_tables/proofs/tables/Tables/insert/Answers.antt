@@ -1,4 +1,4 @@
-use Rattle.std.proofs.Common.{◌≡◌, None, subst, refl, true, ap, sym, ◌<◌, false, min, ◌+◌, arith, length, ℕ, Bool}
+use Rattle.std.proofs.Common.{Some, ◌≡◌, None, subst, refl, true, ap, sym, ◌<◌, false, min, ◌+◌, arith, length, ℕ, Bool}
 use Rattle.std.proofs.lemmas.Bool.{false≢true}
 use Rattle.std.proofs.lemmas.Result.{err_from_is_err_and}
 use Rattle.sqlite.specs.Held.{Held, state}
@@ -9,9 +9,10 @@ use Rattle.escrow_cells.specs.Calls.{Writes as StoreWrites}
 use Rattle.escrow_rows.specs.Changes.{Inserts}
 use Rattle.escrow_rows.specs.View.{rows_in}
 use Rattle.escrow_schema.specs.declared.table.TheConstants.TableDef.{MAX_ROWS}
+use Rattle.escrow_schema.specs.Catalog.{place_named}
 use Rattle.escrow_tables.specs.Calls.{Writes}
 use Rattle.escrow_tables.specs.Inside.{Keeps, catalog_of, stored_of}
-use Rattle.escrow_tables.proofs.Placed.{IsPlaced, is_placed, recounted}
+use Rattle.escrow_tables.proofs.Placed.{IsPlaced, is_placed, kept_within, recounted}
 use Rattle.escrow_tables.proofs.RowWrites.{Turned, insert_turns, row_writes, row_keeps}
 use Rattle.escrow_tables.proofs.Writing.{seen}
 use Rattle.escrow_tables.proofs.tables.Tables.insert.Given as given
@@ -22,12 +23,12 @@ use Rattle.escrow_tables.proofs.tables.Tables.insert.Goals.{After-insert}
 abbrev most : ℕ
 most = 18446744073709551615
 
-placed : (g : given.Over) (c : After-insert g) → IsPlaced c.self.inside.tables.items c.args.row.now.name.table c.in-Some.place c.index_mut-counted.result.now
+placed : (g : given.Over) (c : After-insert g) → IsPlaced c.self.inside.tables.items c.args.row.now.name.table c.args.place c.index_mut-counted.result.now
 placed g c =
-    is_placed c.self.inside.tables.items c.deref.result.now c.args.row.now.name.table c.in-Some.place c.index_mut-counted.result.now c.deref.ensures.value c.in-Some.ensures c.index_mut-counted.ensures.value
+    is_placed c.self.inside.tables.items c.args.row.now.name.table c.args.place c.index_mut-counted.result.now (rw (← c.self.view_is) at c.requires.place) c.index_mut-counted.ensures.value
 
 turned : (g : given.Over) (c : After-insert g) → HasCleanDisk (state g.S.Store c.self.inside.store)
-    → Turned c.self.inside.tables.items c.in-Some.place c.index_mut-counted.result.now (min (c.index_mut-counted.result.now.rows + 1) most)
+    → Turned c.self.inside.tables.items c.args.place c.index_mut-counted.result.now (min (c.index_mut-counted.result.now.rows + 1) most)
     (with_row c.args.row.now (rows_in (stored_of c.self.inside.tables.items) (state g.S.Store c.self.inside.last.value).now))
 turned g c clean =
     let tables = c.self.inside.tables.items in
@@ -38,14 +39,14 @@ turned g c clean =
     let fits : HasTable (catalog_of tables) row = (rw (← c.self.view_is) at c.requires.fits) in
     let new : row_named rows row.name ≡ None = (rw (← c.self.view_is) at c.requires.new) clean in
     let room : length (rows_of rows row.name.table) < MAX_ROWS = (rw (← c.self.view_is) at c.requires.room) clean in
-    insert_turns tables c.in-Some.place counted row (min (counted.rows + 1) most) most (placed g c) c.self.invariant.are_tables rows held.are_rows held.counts fits new room (omega arith) refl
+    insert_turns tables c.args.place counted row (min (counted.rows + 1) most) most (placed g c) c.self.invariant.are_tables rows held.are_rows held.counts fits new room (omega arith) refl
 
 -- the call writes, and the fields keep what they hold
 written : (g : given.Over) (c : After-insert g) (is_done : Bool) (count : ℕ) (later : Held g.row.S.Denot) → is_ok c.insert.result ≡ is_done
     → (is_done ≡ true → (count ≡ min (c.index_mut-counted.result.now.rows + 1) most) × (later ≡ c.insert.new.self)) → (is_done ≡ false → (count ≡ c.index_mut-counted.result.now.rows) × (later ≡ c.self.inside.last.value))
-    → Writes g.S.Store (seen g.S.Store c.self.inside.store c.self.inside.last.value c.self.inside.tables.items) (seen g.S.Store c.insert.new.self later (recounted c.self.inside.tables.items c.in-Some.place c.index_mut-counted.result.now count)) is_done
+    → Writes g.S.Store (seen g.S.Store c.self.inside.store c.self.inside.last.value c.self.inside.tables.items) (seen g.S.Store c.insert.new.self later (recounted c.self.inside.tables.items c.args.place c.index_mut-counted.result.now count)) is_done
     (catalog_of c.self.inside.tables.items) (with_row c.args.row.now (rows_in (stored_of c.self.inside.tables.items) (state g.S.Store c.self.inside.last.value).now))
-    × Keeps (state g.S.Store c.insert.new.self) (state g.S.Store later) (recounted c.self.inside.tables.items c.in-Some.place c.index_mut-counted.result.now count)
+    × Keeps (state g.S.Store c.insert.new.self) (state g.S.Store later) (recounted c.self.inside.tables.items c.args.place c.index_mut-counted.result.now count)
 written g c is_done count later ok if_done if_not =
     let tables = c.self.inside.tables.items in
     let row = c.args.row.now in
@@ -55,13 +56,13 @@ written g c is_done count later ok if_done if_not =
     let it = subst (λ b. StoreWrites (state g.S.Store old) (state g.S.Store new) b (Inserts counted.stored row)) ok c.insert.ensures in
     let name = row.name.table in
     let n = min (counted.rows + 1) most in (
-      row_writes g.S.Store old new c.self.inside.last.value later tables name c.in-Some.place counted (placed g c) (with_row row) n c.self.invariant (turned g c) is_done it count if_done if_not,
-      row_keeps g.S.Store old new c.self.inside.last.value later tables name c.in-Some.place counted (placed g c) (with_row row) n c.self.invariant (turned g c) is_done it count if_done if_not,
+      row_writes g.S.Store old new c.self.inside.last.value later tables name c.args.place counted (placed g c) (with_row row) n c.self.invariant (turned g c) is_done it count if_done if_not,
+      row_keeps g.S.Store old new c.self.inside.last.value later tables name c.args.place counted (placed g c) (with_row row) n c.self.invariant (turned g c) is_done it count if_done if_not,
     )
 
 pub insert-requires : goal.insert-requires
 insert-requires g c =
-    let at = is_placed c.self.inside.tables.items c.deref.result.now c.args.row.now.name.table c.in-Some.place c.index_mut-counted.result.now c.deref.ensures.value c.in-Some.ensures c.index_mut-counted.ensures.value in
+    let at = is_placed c.self.inside.tables.items c.args.row.now.name.table c.args.place c.index_mut-counted.result.now (rw (← c.self.view_is) at c.requires.place) c.index_mut-counted.ensures.value in
     sym at.named.name_is
 
 pub invariant_of-self : goal.invariant_of-self
@@ -82,3 +83,9 @@ invariant_of-self-2 g c =
 pub returns : goal.returns
 returns g c =
     rw (← c.self.view_is) ((written g (goal.at.returns g c).After-insert true c.saturating_add-counted.result c.of.result.value (ap is_ok c.in_ok-insert.was) (λ _. (c.saturating_add-counted.ensures, c.of.ensures)) (λ e. absurd (false≢true (sym e)))).0)
+
+pub index_mut-counted-requires : goal.index_mut-counted-requires
+index_mut-counted-requires g c =
+    let at : place_named (catalog_of c.self.inside.tables.items) c.args.row.now.name.table ≡ Some c.args.place = rw (← c.self.view_is) at c.requires.place in
+    let kept = kept_within c.self.inside.tables.items c.args.row.now.name.table c.args.place at in
+    omega (arith, kept, c.self.inside.tables.ok.0)

@@ -1,6 +1,22 @@
-use Rattle.std.proofs.Common.{sym, ◌∙◌}
-use Rattle.escrow_tables.proofs.AtPlace.{kept_place}
+use Rattle.std.proofs.Common.{◌≡◌, ℕ, Option, sym, subst, bytes_eq, position, ap, List, ◌∙◌}
+use Rattle.std.specs.Prelude.{is_some}
+use Rattle.escrow_schema.specs.declared.table.TableDef.{TableDef}
+use Rattle.escrow_schema.specs.Catalog.{place_named}
+use Rattle.escrow_tables.specs.Inside.{catalog_of}
+use Rattle.escrow_verify.specs.declared.counted.Counted.{Counted}
+use Rattle.escrow_tables.proofs.Placed.{has_place, kept_place}
 use Rattle.escrow_tables.proofs.tables.Tables.place.Goals as goal
 
-pub returns : goal.returns
-returns g c = rw (← c.self.view_is) (rw c.deref.ensures.value at c.place_named.ensures ∙ sym (kept_place c.self.inside.tables.items c.args.name))
+found : (g : _) (c : goal.After-place_named g) → c.place_named.result ≡ place_named (catalog_of c.self.inside.tables.items) c.args.name
+found g c =
+    let name = c.args.name in
+    let kept = subst (λ (ts : List Counted). c.place_named.result ≡ position (λ (k : Counted). bytes_eq k.stored.table.name name) ts) c.deref.ensures.value c.place_named.ensures in
+    kept ∙ sym (kept_place c.self.inside.tables.items name)
+
+pub returns-clause-place : goal.returns-clause-place
+returns-clause-place g c = rw (← c.self.view_is) (found g c)
+
+pub returns-clause-there : goal.returns-clause-there
+returns-clause-there g c =
+    let name = c.args.name in
+    rw (← c.self.view_is) (ap (λ (o : Option ℕ). is_some o) (found g c) ∙ has_place (λ (t : TableDef). bytes_eq t.name name) (catalog_of c.self.inside.tables.items))

@@ -1,4 +1,4 @@
-use Rattle.std.proofs.Common.{◌≡◌, Bool, List, true, false, ap, refl, subst, subst₂, sym}
+use Rattle.std.proofs.Common.{arith, Some, ◌≡◌, Bool, List, true, false, ap, refl, subst, subst₂, sym}
 use Rattle.std.proofs.lemmas.Bool.{false≢true}
 use Rattle.std.proofs.lemmas.Result.{err_from_is_err_and}
 use Rattle.std.specs.Prelude.{is_ok}
@@ -11,9 +11,10 @@ use Rattle.escrow_rows.specs.Changes.{TurnsRows}
 use Rattle.escrow_machine.specs.Rows.{with_plain, HasTable}
 use Rattle.escrow_rows.specs.View.{rows_in}
 use Rattle.escrow_verify.specs.declared.counted.Counted.{Counted}
+use Rattle.escrow_schema.specs.Catalog.{place_named}
 use Rattle.escrow_tables.specs.Calls.{Writes}
 use Rattle.escrow_tables.specs.Inside.{Keeps, catalog_of, stored_of}
-use Rattle.escrow_tables.proofs.Placed.{IsPlaced, is_placed, recounted_itself}
+use Rattle.escrow_tables.proofs.Placed.{IsPlaced, is_placed, kept_within, recounted_itself}
 use Rattle.escrow_tables.proofs.Reading.{name_of}
 use Rattle.escrow_tables.proofs.RowWrites.{Turned, plain_turns, row_keeps, row_writes}
 use Rattle.escrow_tables.proofs.Writing.{seen}
@@ -21,12 +22,12 @@ use Rattle.escrow_tables.proofs.tables.Tables.set_plain.Given as given
 use Rattle.escrow_tables.proofs.tables.Tables.set_plain.Goals as goal
 use Rattle.escrow_tables.proofs.tables.Tables.set_plain.Goals.{After-set_plain}
 
-placed : (g : given.Over) (c : After-set_plain g) → IsPlaced c.self.inside.tables.items c.args.name.now.table c.in-Some.place c.index.result.now
+placed : (g : given.Over) (c : After-set_plain g) → IsPlaced c.self.inside.tables.items c.args.name.now.table c.args.place c.index.result.now
 placed g c =
-    is_placed c.self.inside.tables.items c.deref.result.now c.args.name.now.table c.in-Some.place c.index.result.now c.deref.ensures.value c.in-Some.ensures c.index.ensures
+    is_placed c.self.inside.tables.items c.args.name.now.table c.args.place c.index.result.now (rw (← c.self.view_is) at c.requires.place) c.index.ensures
 
 turned : (g : given.Over) (c : After-set_plain g) → HasCleanDisk (state g.S.Store c.self.inside.store)
-    → Turned c.self.inside.tables.items c.in-Some.place c.index.result.now c.index.result.now.rows
+    → Turned c.self.inside.tables.items c.args.place c.index.result.now c.index.result.now.rows
     (with_plain c.args.name.now c.args.values.now (rows_in (stored_of c.self.inside.tables.items) (state g.S.Store c.self.inside.last.value).now))
 turned g c clean =
     let tables = c.self.inside.tables.items in
@@ -35,7 +36,7 @@ turned g c clean =
     let rows = rows_in (stored_of tables) (state g.S.Store c.self.inside.last.value).now in
     let held = c.self.invariant.held clean in
     let fits : AllByRecursion (HasTable (catalog_of tables)) (with_plain name values rows) = (rw (← c.self.view_is) at c.requires.fits) clean in
-    plain_turns tables c.in-Some.place c.index.result.now name values (placed g c) rows held.are_rows held.counts fits
+    plain_turns tables c.args.place c.index.result.now name values (placed g c) rows held.are_rows held.counts fits
 
 -- the call writes, and the fields keep what they hold
 written : (g : given.Over) (c : After-set_plain g) (is_done : Bool) (later : Held g.row.S.Denot) → is_ok c.set_plain.result ≡ is_done
@@ -54,12 +55,12 @@ written g c is_done later ok if_done if_not =
     let at = placed g c in
     let rows = with_plain name values (rows_in (stored_of tables) (state g.S.Store was).now) in
     let it = subst₂ (λ b (n : RowName). StoreWrites (state g.S.Store old) (state g.S.Store new) b (TurnsRows counted.stored (with_plain n values))) ok (name_of tables name.table counted at.named name.key) c.set_plain.ensures in
-    let stays = recounted_itself tables name.table c.in-Some.place counted at in (
+    let stays = recounted_itself tables name.table c.args.place counted at in (
       subst (λ (ts : List Counted). Writes g.S.Store (seen g.S.Store old was tables) (seen g.S.Store new later ts) is_done (catalog_of tables) rows) stays
-          (row_writes g.S.Store old new was later tables name.table c.in-Some.place counted at (with_plain name values) counted.rows c.self.invariant (turned g c)
+          (row_writes g.S.Store old new was later tables name.table c.args.place counted at (with_plain name values) counted.rows c.self.invariant (turned g c)
           is_done it counted.rows (λ e. (refl, if_done e)) (λ e. (refl, if_not e))),
       subst (λ (ts : List Counted). Keeps (state g.S.Store new) (state g.S.Store later) ts) stays
-          (row_keeps g.S.Store old new was later tables name.table c.in-Some.place counted at (with_plain name values) counted.rows c.self.invariant (turned g c)
+          (row_keeps g.S.Store old new was later tables name.table c.args.place counted at (with_plain name values) counted.rows c.self.invariant (turned g c)
           is_done it counted.rows (λ e. (refl, if_done e)) (λ e. (refl, if_not e))),
     )
 
@@ -80,3 +81,9 @@ invariant_of-self-2 g c =
 pub returns : goal.returns
 returns g c =
     rw (← c.self.view_is) ((written g (goal.at.returns g c).After-set_plain true c.of.result.value (ap is_ok c.in_ok-set_plain.was) (λ _. c.of.ensures) (λ e. absurd (false≢true (sym e)))).0)
+
+pub index-requires : goal.index-requires
+index-requires g c =
+    let at : place_named (catalog_of c.self.inside.tables.items) c.args.name.now.table ≡ Some c.args.place = rw (← c.self.view_is) at c.requires.place in
+    let kept = kept_within c.self.inside.tables.items c.args.name.now.table c.args.place at in
+    omega (arith, kept, c.self.inside.tables.ok.0)
