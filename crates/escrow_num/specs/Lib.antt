@@ -1,5 +1,6 @@
 pub mod Amount
 pub mod Ascending
+pub mod Equal
 pub mod Laws
 pub mod Name
 pub mod Order

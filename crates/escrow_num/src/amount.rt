@@ -6,7 +6,7 @@ use std::marker::Model;
 
 /// A whole number of magnitude at most 999,999,999,999,999 (15 digits): a value of a numeric
 /// column, a change of one, or a limit that a statement writes.
-#[derive(Clone, Copy, Debug, PartialEq, Eq, PartialOrd, Ord)]
+#[derive(Clone, Copy, Debug, PartialEq, Eq, PartialOrd, Ord, Hash)]
 pub struct Amount {
     value: i64,
 }

@@ -1,12 +1,16 @@
 ghost use Rattle.std.specs.Prelude.{◌≡◌, SomeIff, Some, refl, bytes_eq};
+ghost use Rattle.std.proofs.Common.{rules};
+ghost use Rattle.std.specs.Hash as fed;
 ghost use Rattle.std.specs.Ordering.{nat_cmp};
 ghost use Rattle.std.specs.Cmp.{partial_equiv_from_equiv};
+ghost use Rattle.std.specs.Cmp.Rules.{hashing};
 ghost use Rattle.std.specs.Cmp.Lexicographic.{slice_cmp, nat_list_eq_equiv, nat_list_cmp_total, texts_ties, texts_po};
 ghost use Rattle.std.specs.List.{list_all};
 ghost use Rattle.escrow_num.specs.Name.{IsName, is_name_byte, spells_name};
 
 use std::cmp::Ordering;
 use std::fmt;
+use std::hash::{Hash, Hasher};
 use std::marker::Model;
 
 /// A name of a table, a column or a check, in upper case: a letter A to Z, then letters A to Z,
@@ -129,6 +133,17 @@ impl PartialEq for Name {
 
 impl Eq for Name {
     ghost laws = { nat_list_eq_equiv };
+}
+
+/// A name is hashed as its text.
+impl Hash for Name {
+    ghost hash_input = { fed.str };
+
+    ghost respects_eq = { Prim.search (hashing, rules) };
+
+    fn hash<H: Hasher>(&self, state: &mut H) {
+        self.as_str().hash(state);
+    }
 }
 
 /// Names are ordered by their bytes.

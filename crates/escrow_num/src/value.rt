@@ -1,4 +1,7 @@
 ghost use Rattle.std.specs.Prelude.{◌≡◌, ◌↔◌, IsTrue, IsOk, IfOk, false};
+ghost use Rattle.std.specs.Cmp.{partial_equiv_from_equiv};
+ghost use Rattle.escrow_num.specs.Equal.{value_eq_equiv, same_row_equiv};
+ghost use Rattle.escrow_num.specs.Order.{value_eq, same_row};
 
 use crate::amount::Amount;
 use crate::name::Name;
@@ -8,7 +11,7 @@ use std::cmp::Ordering;
 use std::default::MadeWith;
 
 /// A value that a column can hold.
-#[derive(Debug, Drop)]
+#[derive(Debug, Hash, Drop)]
 pub enum Value {
     /// A whole number.
     Number(Amount),
@@ -17,7 +20,7 @@ pub enum Value {
 }
 
 impl Value {
-    ghost use Rattle.escrow_num.specs.Order.{value_eq, value_cmp};
+    ghost use Rattle.escrow_num.specs.Order.{value_cmp};
     ghost use Rattle.escrow_num.specs.Value.{holds_memory};
 
     /// A copy of the value. Only a text takes memory.
@@ -57,8 +60,22 @@ impl Value {
     }
 }
 
+impl PartialEq for Value {
+    ghost eq = { value_eq };
+
+    ghost laws = { partial_equiv_from_equiv value_eq_equiv };
+
+    fn eq(&self, other: &Self) -> bool {
+        self.is_same(other)
+    }
+}
+
+impl Eq for Value {
+    ghost laws = { value_eq_equiv };
+}
+
 /// The name of a row: its table and its key.
-#[derive(Debug, Drop)]
+#[derive(Debug, Hash, Drop)]
 pub struct RowName {
     /// The table's name.
     pub table: Name,
@@ -77,7 +94,7 @@ impl MadeWith<Global> for RowName {
 }
 
 impl RowName {
-    ghost use Rattle.escrow_num.specs.Order.{same_row, row_cmp};
+    ghost use Rattle.escrow_num.specs.Order.{row_cmp};
     ghost use Rattle.escrow_num.specs.Value.{holds_memory};
 
     /// A copy of the row's name. Only a key that is a text takes memory.
@@ -107,4 +124,18 @@ impl RowName {
             .cmp(&other.table)
             .then(self.key.compare(&other.key))
     }
+}
+
+impl PartialEq for RowName {
+    ghost eq = { same_row };
+
+    ghost laws = { partial_equiv_from_equiv same_row_equiv };
+
+    fn eq(&self, other: &Self) -> bool {
+        self.is_same(other)
+    }
+}
+
+impl Eq for RowName {
+    ghost laws = { same_row_equiv };
 }

@@ -1,0 +1,110 @@
+-- The forms of a place, when one more reservation is counted, or one less.
+use Rattle.std.proofs.Common.{◌≡◌, ℕ, zero, suc, ◌+◌, ℤ, ◌<◌, true, false, Option, Some, None, List, [], ◌∷◌, ◌++◌, length, get_or, drop, refl, sym, ap, ap₂, subst, arith, add-one, drop-cons}
+use Rattle.std.specs.List.{AllByRecursion}
+use Rattle.std.specs.Prelude.{is_some, slice_get}
+use Rattle.escrow_num.specs.declared.refusal.Breach.{Breach}
+use Rattle.escrow_num.proofs.Items.{all_at}
+use Rattle.escrow_checks.specs.declared.check.Check.{Check}
+use Rattle.escrow_checks.specs.Form.{IsCovered}
+use Rattle.escrow_checks.specs.Grant.{broken_by, broken}
+use Rattle.escrow_checks.specs.Spread.{IsSpread}
+use Rattle.escrow_bounds.specs.declared.tracked.Tracked.{Tracked}
+use Rattle.escrow_bounds.specs.Counts.{HaveSums}
+use Rattle.escrow_bounds.specs.Kept.{checks_of}
+use Rattle.escrow_bounds.proofs.Steps.{AllStepped}
+
+-- ---- one form
+
+-- the same check, with one more reservation counted
+abbrev pub StepIn : List ℤ → Tracked → Tracked → Type 0
+StepIn changes old new =
+    (new.check ≡ old.check)
+    × ((before after : List (List ℤ)) → IsSpread old.check.coeffs (before ++ after) old.spread → IsSpread old.check.coeffs (before ++ changes ∷ after) new.spread)
+
+-- the same check, with one of its reservations counted no more
+abbrev pub StepOut : List ℤ → Tracked → Tracked → Type 0
+StepOut changes old new =
+    (new.check ≡ old.check)
+    × ((before after : List (List ℤ)) → IsSpread old.check.coeffs (before ++ changes ∷ after) old.spread → IsSpread old.check.coeffs (before ++ after) new.spread)
+
+-- what all forms have, the one at a place has
+pub sums_at : (forms : List Tracked) (reservations : List (List ℤ)) (place : ℕ) (form : Tracked) → place < length forms → form ≡ get_or forms place form → HaveSums forms reservations
+    → IsSpread form.check.coeffs reservations form.spread
+sums_at forms reservations place form below at sums =
+    all_at (λ (other : Tracked). IsSpread other.check.coeffs reservations other.spread) forms place form below at sums
+
+-- ---- all forms
+
+abbrev Same : Tracked → Tracked → Type 0
+Same old new = new.check ≡ old.check
+
+checks_same : (Step : Tracked → Tracked → Type 0) → ((x y : Tracked) → Step x y → y.check ≡ x.check) → (old new : List Tracked) → AllStepped Step old new → checks_of new ≡ checks_of old
+checks_same Step is [] [] all = refl
+checks_same Step is [] (y ∷ ys) all = absurd all
+checks_same Step is (x ∷ xs) [] all = absurd all
+checks_same Step is (x ∷ xs) (y ∷ ys) all = ap₂ (λ (c : Check) (cs : List Check). c ∷ cs) (is x y all.0) (checks_same Step is xs ys all.1)
+
+sums_after : (Step : Tracked → Tracked → Type 0) (reservations after : List (List ℤ))
+    → ((x y : Tracked) → Step x y → IsSpread x.check.coeffs reservations x.spread → IsSpread y.check.coeffs after y.spread)
+    → (old new : List Tracked) → AllStepped Step old new → HaveSums old reservations → HaveSums new after
+sums_after Step reservations after is [] [] all sums = tt
+sums_after Step reservations after is [] (y ∷ ys) all sums = absurd all
+sums_after Step reservations after is (x ∷ xs) [] all sums = absurd all
+sums_after Step reservations after is (x ∷ xs) (y ∷ ys) all sums = (is x y all.0 sums.0, sums_after Step reservations after is xs ys all.1 sums.1)
+
+pub in_checks : (changes : List ℤ) (old new : List Tracked) → AllStepped (StepIn changes) old new → checks_of new ≡ checks_of old
+in_checks changes old new all = checks_same (StepIn changes) (λ x y step. step.0) old new all
+
+pub out_checks : (changes : List ℤ) (old new : List Tracked) → AllStepped (StepOut changes) old new → checks_of new ≡ checks_of old
+out_checks changes old new all = checks_same (StepOut changes) (λ x y step. step.0) old new all
+
+pub in_sums : (changes : List ℤ) (old new : List Tracked) (before after : List (List ℤ)) → AllStepped (StepIn changes) old new → HaveSums old (before ++ after) → HaveSums new (before ++ changes ∷ after)
+in_sums changes old new before after all sums =
+    sums_after (StepIn changes) (before ++ after) (before ++ changes ∷ after)
+    (λ x y step known. subst (λ (check : Check). IsSpread check.coeffs (before ++ changes ∷ after) y.spread) (sym step.0) (step.1 before after known)) old new all sums
+
+pub out_sums : (changes : List ℤ) (old new : List Tracked) (before after : List (List ℤ)) → AllStepped (StepOut changes) old new → HaveSums old (before ++ changes ∷ after) → HaveSums new (before ++ after)
+out_sums changes old new before after all sums =
+    sums_after (StepOut changes) (before ++ changes ∷ after) (before ++ after)
+    (λ x y step known. subst (λ (check : Check). IsSpread check.coeffs (before ++ after) y.spread) (sym step.0) (step.1 before after known)) old new all sums
+
+-- ---- one more form
+
+pub sums_push : (forms : List Tracked) (reservations : List (List ℤ)) (form : Tracked) → HaveSums forms reservations → IsSpread form.check.coeffs reservations form.spread
+    → HaveSums (forms ++ form ∷ []) reservations
+sums_push [] reservations form sums is = (is, tt)
+sums_push (first ∷ forms) reservations form sums is = (sums.0, sums_push forms reservations form sums.1 is)
+
+pub checks_push : (forms : List Tracked) (form : Tracked) → checks_of (forms ++ form ∷ []) ≡ checks_of forms ++ form.check ∷ []
+checks_push [] form = refl
+checks_push (first ∷ forms) form = ap (λ (checks : List Check). first.check ∷ checks) (checks_push forms form)
+
+-- ---- the check of the form at a place
+
+pub check_at : (forms : List Tracked) (place : ℕ) (form : Tracked) → place < length forms → form ≡ get_or forms place form → slice_get (checks_of forms) place ≡ Some form.check
+check_at [] place form below at = absurd (omega arith)
+check_at (first ∷ forms) zero form below at = ap (λ (f : Tracked). Some f.check) (sym at)
+check_at (first ∷ forms) (suc place) form below at = check_at forms place form (omega arith) at
+
+pub covered_at : (forms : List Tracked) (amounts : List ℤ) (place : ℕ) (form : Tracked) → place < length forms → form ≡ get_or forms place form
+    → AllByRecursion (λ (check : Check). IsCovered check.coeffs amounts) (checks_of forms) → IsCovered form.check.coeffs amounts
+covered_at [] amounts place form below at all = absurd (omega arith)
+covered_at (first ∷ forms) amounts zero form below at all = subst (λ (f : Tracked). IsCovered f.check.coeffs amounts) (sym at) all.0
+covered_at (first ∷ forms) amounts (suc place) form below at all = covered_at forms amounts place form (omega arith) at all.1
+
+-- ---- the verdict, form by form
+
+-- the first of the checks from a place on that is broken is the one there, or is behind it
+pub broken_here : (forms : List Tracked) (place : ℕ) (form : Tracked) (amounts changes : List ℤ) (reservations : List (List ℤ)) (found : Option Breach)
+    → place < length forms → form ≡ get_or forms place form → found ≡ broken_by form.check amounts changes reservations → is_some found ≡ true
+    → found ≡ broken (checks_of (drop place forms)) amounts changes reservations
+broken_here forms place form amounts changes reservations None below at is some = absurd (cc)
+broken_here forms place form amounts changes reservations (Some breach) below at is some =
+    rw (drop-cons forms place form, ← at, ← is) refl
+
+pub broken_past : (forms : List Tracked) (place : ℕ) (form : Tracked) (amounts changes : List ℤ) (reservations : List (List ℤ)) (found : Option Breach)
+    → place < length forms → form ≡ get_or forms place form → found ≡ broken_by form.check amounts changes reservations → is_some found ≡ false
+    → broken (checks_of (drop (place + 1) forms)) amounts changes reservations ≡ broken (checks_of (drop place forms)) amounts changes reservations
+broken_past forms place form amounts changes reservations (Some breach) below at is none = absurd (cc)
+broken_past forms place form amounts changes reservations None below at is none =
+    rw (drop-cons forms place form, ← at, ← is, add-one) refl

@@ -1,0 +1,154 @@
+-- What is kept of a row, when one more reservation is counted, or one less.
+use Rattle.std.proofs.Common.{◌≡◌, ℕ, zero, suc, ◌+◌, ◌-◌, ℤ, pos, ◌<◌, List, [], ◌∷◌, ◌++◌, length, get_or, refl, sym, ap, ◌∙◌, subst, arith, length-append}
+use Rattle.std.specs.List.{AllByRecursion}
+use Rattle.std.specs.Prelude.{Some, slice_get, replicate}
+use Rattle.std.proofs.lemmas.List.{length-map, length-replicate, length-set}
+use Rattle.std.proofs.lemmas.Option.{slice_get_within, get_or_from_slice_get}
+use Rattle.escrow_num.specs.declared.session.End.{End}
+use Rattle.escrow_num.specs.declared.session.End.TheVariants as ends
+use Rattle.escrow_checks.specs.declared.check.Check.{Check}
+use Rattle.escrow_checks.specs.Extremes.{least, greatest}
+use Rattle.escrow_checks.specs.Form.{IsCovered}
+use Rattle.escrow_checks.specs.Spread.{IsSpread}
+use Rattle.escrow_bounds.specs.declared.tracked.Tracked.{Tracked}
+use Rattle.escrow_bounds.specs.Columns.{unit_form, column_check, column_checks}
+use Rattle.escrow_bounds.specs.Counts.{HaveSums, Counts, TakesIn, GivesBack}
+use Rattle.escrow_bounds.specs.Inside.{IsPlace}
+use Rattle.escrow_bounds.specs.Kept.{Kept, checks_of}
+use Rattle.escrow_bounds.specs.Moved.{amounts_after}
+use Rattle.escrow_bounds.proofs.Moving.{length-all_moved}
+use Rattle.escrow_bounds.proofs.Forms.{sums_at, check_at, covered_at}
+
+-- ---- what was lent
+
+-- what holds of items that were lent and of what they became holds of the items before and after
+pub lent : {X : Type 0} (R : List X → List X → Type 0) (held shown new filled : List X) → shown ≡ held → filled ≡ new → R shown new → R held filled
+lent {X} R held shown new filled is fits holds = subst (λ (xs : List X). R held xs) (sym fits) (subst (λ (xs : List X). R xs new) is holds)
+
+-- ---- counting
+
+-- the same checks, with one more reservation counted
+abbrev pub TakesForms : List ℤ → List Tracked → List Tracked → Type 0
+TakesForms changes old new = (checks_of new ≡ checks_of old) × ((before after : List (List ℤ)) → HaveSums old (before ++ after) → HaveSums new (before ++ changes ∷ after))
+
+-- the same checks, with one of their reservations counted no more
+abbrev pub GivesForms : List ℤ → List Tracked → List Tracked → Type 0
+GivesForms changes old new = (checks_of new ≡ checks_of old) × ((before after : List (List ℤ)) → HaveSums old (before ++ changes ∷ after) → HaveSums new (before ++ after))
+
+-- one more stands among others
+length-put : (before after : List (List ℤ)) (changes : List ℤ) → length (before ++ changes ∷ after) ≡ length (before ++ after) + 1
+length-put before after changes = omega (arith, length-append before (changes ∷ after), length-append before after)
+
+pub takes_in : (changes : List ℤ) (old new : Kept) → new.amounts ≡ old.amounts → new.count ≡ old.count + 1 → TakesForms changes old.checks new.checks → TakesForms changes old.columns new.columns
+    → TakesIn changes old new
+takes_in changes old new amounts count checks columns = record {
+  amounts = amounts;
+  checks = checks.0;
+  counts = λ before after known. (omega (arith, length-put before after changes, known.0, count), checks.1 before after known.1, columns.1 before after known.2);
+}
+
+pub gives_back : (end : End) (changes : List ℤ) (old new : Kept) → new.amounts ≡ amounts_after end old.amounts changes → new.count ≡ old.count - 1
+    → GivesForms changes old.checks new.checks → GivesForms changes old.columns new.columns → GivesBack end changes old new
+gives_back end changes old new amounts count checks columns = record {
+  amounts = amounts;
+  checks = checks.0;
+  counts = λ before after known. (omega (arith, length-put before after changes, known.0, count), checks.1 before after known.1, columns.1 before after known.2);
+}
+
+-- ---- what a place keeps
+
+covered_same : (checks : List Check) (old new : List ℤ) → length new ≡ length old → AllByRecursion (λ (check : Check). IsCovered check.coeffs old) checks → AllByRecursion (λ (check : Check). IsCovered check.coeffs new) checks
+covered_same [] old new same all = tt
+covered_same (check ∷ checks) old new same all = (omega (arith, same, all.0), covered_same checks old new same all.1)
+
+-- a place that has as many amounts as before, and the checks, is a place
+pub place_kept : (old new : Kept) (reservations : List (List ℤ)) → IsPlace old → length new.amounts ≡ length old.amounts → checks_of new.checks ≡ checks_of old.checks → checks_of new.columns ≡ checks_of old.columns
+    → Counts new reservations → IsPlace new
+place_kept old new reservations place amounts checks columns counts = record {
+  covered = covered_same (checks_of new.checks) old.amounts new.amounts amounts (subst (λ (cs : List Check). AllByRecursion (λ (check : Check). IsCovered check.coeffs old.amounts) cs) (sym checks) place.covered);
+  columns = columns ∙ place.columns ∙ ap (λ (n : ℕ). column_checks n n) (sym amounts);
+  reservations = reservations;
+  counts = counts;
+}
+
+length-after : (end : End) (amounts changes : List ℤ) → length (amounts_after end amounts changes) ≡ length amounts
+length-after ends.Commit amounts changes = length-all_moved amounts changes
+length-after ends.Rollback amounts changes = refl
+
+pub place_takes : (changes : List ℤ) (old new : Kept) → IsPlace old → new.amounts ≡ old.amounts → new.count ≡ old.count + 1 → TakesForms changes old.checks new.checks → TakesForms changes old.columns new.columns
+    → IsPlace new
+place_takes changes old new place amounts count checks columns =
+    let taken = takes_in changes old new amounts count checks columns in
+    place_kept old new (changes ∷ place.reservations) place (ap length amounts) checks.0 columns.0 (taken.counts [] place.reservations place.counts)
+
+pub place_gives : (end : End) (changes : List ℤ) (before after : List (List ℤ)) (old new : Kept) → IsPlace old → Counts old (before ++ changes ∷ after) → new.amounts ≡ amounts_after end old.amounts changes → new.count ≡ old.count - 1
+    → GivesForms changes old.checks new.checks → GivesForms changes old.columns new.columns → IsPlace new
+place_gives end changes before after old new place counted amounts count checks columns =
+    let given = gives_back end changes old new amounts count checks columns in
+    place_kept old new (before ++ after) place (ap length amounts ∙ length-after end old.amounts changes) checks.0 columns.0 (given.counts before after counted)
+
+-- ---- columns
+
+length-column_checks : (columns n : ℕ) → length (column_checks columns n) ≡ n
+length-column_checks columns zero = refl
+length-column_checks columns (suc n) = omega (arith, length-append (column_checks columns n) (column_check columns n ∷ []), length-column_checks columns n)
+
+-- there is a form for each column
+pub columns_fit : (place : Kept) → IsPlace place → length place.columns ≡ length place.amounts
+columns_fit place is =
+    sym (length-map place.columns (λ (form : Tracked). form.check)) ∙ ap length is.columns ∙ length-column_checks (length place.amounts) (length place.amounts)
+
+-- what each place of a list has, and one more
+pushed : {A : Type 0} (xs : List A) (x : A) (i n : ℕ) (f : ℕ → A) → length xs ≡ n → x ≡ f n → ((k : ℕ) → k < n → slice_get xs k ≡ Some (f k)) → i < suc n → slice_get (xs ++ x ∷ []) i ≡ Some (f i)
+pushed [] x zero n f len is each below = let none : n ≡ 0 = omega (arith, len) in ap Some (is ∙ ap f none)
+pushed [] x (suc i) n f len is each below = absurd (omega (arith, len, below))
+pushed (y ∷ ys) x zero n f len is each below = each 0 (omega (arith, len))
+pushed (y ∷ ys) x (suc i) zero f len is each below = absurd (omega (arith, len))
+pushed (y ∷ ys) x (suc i) (suc n) f len is each below = pushed ys x i n (λ k. f (suc k)) (omega (arith, len)) is (λ k h. each (suc k) (omega (arith, h))) (omega (arith, below))
+
+column_at : (columns n i : ℕ) → i < n → slice_get (column_checks columns n) i ≡ Some (column_check columns i)
+column_at columns zero i below = absurd (omega (arith, below))
+column_at columns (suc n) i below = pushed (column_checks columns n) (column_check columns n) i n (column_check columns) (length-column_checks columns n) refl (column_at columns n) below
+
+unit_covered : (columns place : ℕ) (amounts : List ℤ) → length amounts ≡ columns → IsCovered (unit_form columns place) amounts
+unit_covered columns place amounts many =
+    omega (arith, many, length-set (replicate columns (pos 0)) place (pos 1), length-replicate columns (pos 0))
+
+-- ---- the extremes of a form
+
+-- the extremes of the form that is read are those of the check at that place
+pub worst_is : (kept : Kept) (check : ℕ) (read form : Tracked) (amounts : List ℤ) (reservations : List (List ℤ)) (low high : ℤ) → IsPlace kept
+    → read ≡ get_or kept.checks check read → amounts ≡ kept.amounts → slice_get kept.checks check ≡ Some form → Counts kept reservations
+    → ((rs : List (List ℤ)) → IsCovered read.check.coeffs amounts → IsSpread read.check.coeffs rs read.spread → low ≡ least read.check.coeffs amounts rs)
+    → ((rs : List (List ℤ)) → IsCovered read.check.coeffs amounts → IsSpread read.check.coeffs rs read.spread → high ≡ greatest read.check.coeffs amounts rs)
+    → (low ≡ least form.check.coeffs kept.amounts reservations) × (high ≡ greatest form.check.coeffs kept.amounts reservations)
+worst_is kept check read form amounts reservations low high place is shown at counts lowest highest =
+    let same : read ≡ form = is ∙ get_or_from_slice_get kept.checks check form read at in
+    let below = slice_get_within kept.checks check form at in
+    let covered = covered_at kept.checks kept.amounts check read below is place.covered in
+    let spread = sums_at kept.checks reservations check read below is counts.1 in
+    let fits = subst (λ (held : List ℤ). IsCovered read.check.coeffs held) (sym shown) covered in
+    let low_is = subst (λ (held : List ℤ). low ≡ least read.check.coeffs held reservations) shown (lowest reservations fits spread) in
+    let high_is = subst (λ (held : List ℤ). high ≡ greatest read.check.coeffs held reservations) shown (highest reservations fits spread) in
+    (subst (λ (f : Tracked). low ≡ least f.check.coeffs kept.amounts reservations) same low_is, subst (λ (f : Tracked). high ≡ greatest f.check.coeffs kept.amounts reservations) same high_is)
+
+-- the extremes of a column's form are those of the column
+pub inf_sup_is : (kept : Kept) (column : ℕ) (read : Tracked) (amounts : List ℤ) (reservations : List (List ℤ)) (low high : ℤ) → IsPlace kept
+    → column < length kept.amounts → read ≡ get_or kept.columns column read → amounts ≡ kept.amounts → Counts kept reservations
+    → ((rs : List (List ℤ)) → IsCovered read.check.coeffs amounts → IsSpread read.check.coeffs rs read.spread → low ≡ least read.check.coeffs amounts rs)
+    → ((rs : List (List ℤ)) → IsCovered read.check.coeffs amounts → IsSpread read.check.coeffs rs read.spread → high ≡ greatest read.check.coeffs amounts rs)
+    → (low ≡ least (unit_form (length kept.amounts) column) kept.amounts reservations) × (high ≡ greatest (unit_form (length kept.amounts) column) kept.amounts reservations)
+inf_sup_is kept column read amounts reservations low high place within is shown counts lowest highest =
+    let n = length kept.amounts in
+    let fit = columns_fit kept place in
+    let below : column < length kept.columns = omega (arith, fit, within) in
+    let found : Some read.check ≡ Some (column_check n column) =
+    sym (check_at kept.columns column read below is) ∙ ap (λ (checks : List Check). slice_get checks column) place.columns ∙ column_at n n column within in
+    let same : read.check ≡ column_check n column = cc in
+    let coeffs : read.check.coeffs ≡ unit_form n column = ap (λ (check : Check). check.coeffs) same in
+    let covered = subst (λ (cs : List ℤ). IsCovered cs kept.amounts) (sym coeffs) (unit_covered n column kept.amounts refl) in
+    let spread = sums_at kept.columns reservations column read below is counts.2 in
+    let fits = subst (λ (held : List ℤ). IsCovered read.check.coeffs held) (sym shown) covered in
+    let low_is = subst (λ (held : List ℤ). low ≡ least read.check.coeffs held reservations) shown (lowest reservations fits spread) in
+    let high_is = subst (λ (held : List ℤ). high ≡ greatest read.check.coeffs held reservations) shown (highest reservations fits spread) in
+    (subst (λ (cs : List ℤ). low ≡ least cs kept.amounts reservations) coeffs low_is, subst (λ (cs : List ℤ). high ≡ greatest cs kept.amounts reservations) coeffs high_is)

@@ -1,0 +1,20 @@
+-- Believed: a row's committed amounts when a reservation ends.
+use Rattle.std.specs.Prelude.{ℤ, ◌+ℤ◌, if◌then◌else◌, List, [], ◌∷◌}
+use Rattle.escrow_num.specs.Amount.{is_amount}
+use Rattle.escrow_num.specs.declared.session.End.{End}
+use Rattle.escrow_num.specs.declared.session.End.TheVariants as end
+
+-- an amount with a change added; one that would be no amount any more stays
+abbrev pub moved : ℤ → ℤ → ℤ
+moved amount change = if is_amount (amount +ℤ change) then amount +ℤ change else amount
+
+-- amounts with changes added so, column by column; a change that isn't listed is zero
+abbrev pub all_moved : List ℤ → List ℤ → List ℤ
+all_moved [] changes = []
+all_moved (a ∷ rest) [] = a ∷ rest
+all_moved (a ∷ rest) (c ∷ changes) = moved a c ∷ all_moved rest changes
+
+-- the committed amounts after an end: COMMIT adds the changes, ROLLBACK doesn't
+abbrev pub amounts_after : End → List ℤ → List ℤ → List ℤ
+amounts_after end.Commit amounts changes = all_moved amounts changes
+amounts_after end.Rollback amounts changes = amounts

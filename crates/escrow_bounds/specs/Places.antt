@@ -1,0 +1,22 @@
+-- Believed: the places of rows.
+use Rattle.std.specs.Prelude.{◌≡◌, false, Option, Some, List}
+use Rattle.std.specs.Map.{lookup}
+use Rattle.escrow_num.specs.Order.{same_row}
+use Rattle.escrow_num.specs.declared.value.RowName.{RowName}
+use Rattle.escrow_bounds.specs.Kept.{Kept}
+
+-- places, each with the name of its row, in any order
+abbrev pub Places : Type 0
+Places = List (RowName × Kept)
+
+-- the place of a row, where it has one
+abbrev pub place_at : Places → RowName → Option Kept
+place_at places row = lookup (same_row row) places
+
+-- each other row has the place that it had, or has none as before
+abbrev pub OthersStay : RowName → Places → Places → Type 0
+OthersStay row old new = (other : RowName) → same_row row other ≡ false → place_at new other ≡ place_at old other
+
+-- where there was a place there still is one, which comes of the old one so
+abbrev pub Becomes : (Kept → Kept → Type 0) → Option Kept → Option Kept → Type 0
+Becomes Step before after = (old : Kept) → before ≡ Some old → (new : Kept) × (after ≡ Some new) × Step old new

@@ -1,0 +1,189 @@
+ghost use Rattle.std.specs.Prelude.{◌≡◌, ℤ, List, [], ◌∷◌, ◌++◌, ◌<◌, ◌≤◌, true, false, OnOk, OnErr, IsSome, Some, None, is_some, length, option_copied, option_map, slice_get};
+ghost use Rattle.std.specs.List.{AllByRecursion};
+ghost use Rattle.escrow_checks.specs.Extremes.{least, greatest};
+ghost use Rattle.escrow_checks.specs.Form.{IsCovered};
+ghost use Rattle.escrow_checks.specs.Grant.{broken};
+ghost use Rattle.escrow_checks.specs.declared.coefficients.TheConstants.Coefficients.{MAX_LEN};
+ghost use Rattle.escrow_checks.specs.declared.spread.TheConstants.Spread.{MAX_OPEN};
+ghost use Rattle.escrow_bounds.specs.Columns.{unit_form};
+ghost use Rattle.escrow_bounds.specs.Counts.{Counts, is_counting, IsNew, TakesIn, GivesBack};
+ghost use Rattle.escrow_bounds.specs.Kept.{Kept, checks_of};
+ghost use Rattle.escrow_bounds.specs.Places.{place_at, OthersStay, Becomes};
+ghost use Rattle.escrow_bounds.specs.declared.tracked.Tracked.{Tracked};
+
+use crate::place::Place;
+use escrow_checks::Check;
+use escrow_num::{Amount, Breach, End, RowName, Wide};
+use indexmap::IndexMap;
+use std::alloc::{AllocError, Global};
+use std::marker::Model;
+
+/// Places of rows, each with the row's committed amounts, the number of its open reservations, and
+/// their worst-case sums under each check and each RESERVABLE column: sums and a number, no list.
+/// A place counts a list of reservations, in any order, where its sums and its number are theirs.
+/// A row without an open reservation needs no place. Only [`Bounds::reserve`] takes memory.
+#[derive(Debug, Drop)]
+pub struct Bounds {
+    places: IndexMap<RowName, Place>,
+}
+
+impl Model for Bounds {
+    ghost use Rattle.escrow_bounds.specs.Places.{Places};
+
+    ghost Value = { Places };
+
+    ghost view = { λ b. b.places.entries };
+}
+
+impl Bounds {
+    /// No places. Takes no memory.
+    pub fn new(alloc: Global) -> Self
+        ensures { result ≡ [] }
+    {
+        Bounds {
+            places: IndexMap::new(alloc),
+        }
+    }
+
+    /// Makes a place for a row with its committed amounts and the checks of its table, which counts
+    /// nothing; or finds the place that there is, and leaves it. Want of memory is the only error, and
+    /// leaves all places. There is an amount for each RESERVABLE column, at most 10, and a check has no
+    /// more coefficients.
+    pub fn reserve(
+        &mut self,
+        row: &RowName,
+        amounts: &[Amount],
+        checks: &[Check],
+    ) -> Result<(), AllocError>
+        requires covered { AllByRecursion (λ check. IsCovered check.coeffs amounts.now) checks.now }
+        requires few { length amounts.now ≤ MAX_LEN }
+        ensures found { OnOk result (IsSome (place_at self.old row.now) → self.new ≡ self.old) }
+        ensures made { OnOk result (place_at self.old row.now ≡ None
+            → (place : Kept) × (place_at self.new row.now ≡ Some place) × IsNew amounts.now checks.now place) }
+        ensures others { OthersStay row.now self.old self.new }
+        ensures err { OnErr result (self.new ≡ self.old) }
+    {
+        if self.has_place(row) {
+            return Ok(());
+        }
+        let alloc = *self.places.allocator();
+        let place = Place::new(alloc, amounts, checks)?;
+        self.places.insert(row.copy(alloc)?, place)?;
+        Ok(())
+    }
+
+    /// Drops the place of a row where it counts nothing.
+    pub fn release(&mut self, row: &RowName)
+        ensures empty { is_counting (place_at self.old row.now) ≡ false → place_at self.new row.now ≡ None }
+        ensures counting { is_counting (place_at self.old row.now) ≡ true → self.new ≡ self.old }
+        ensures others { OthersStay row.now self.old self.new }
+    {
+        if !self.is_reserved(row) {
+            self.places.swap_remove(row);
+        }
+    }
+
+    /// Drops all places, whatever they count.
+    pub fn clear(&mut self)
+        ensures { self.new ≡ [] }
+    {
+        self.places.clear();
+    }
+
+    /// Whether a row has a place.
+    pub fn has_place(&self, row: &RowName) -> bool
+        ensures { result ≡ is_some (place_at self.now row.now) }
+    {
+        self.places.contains_key(row)
+    }
+
+    /// Whether a row has a place that counts a reservation.
+    pub fn is_reserved(&self, row: &RowName) -> bool
+        ensures { result ≡ is_counting (place_at self.now row.now) }
+    {
+        match self.places.get(row) {
+            Some(place) => place.count() != 0,
+            None => false,
+        }
+    }
+
+    /// The committed amounts of a row that has a place.
+    pub fn amounts(&self, row: &RowName) -> Option<&[Amount]>
+        ensures { option_copied result ≡ option_map (λ place. place.amounts) (place_at self.now row.now) }
+    {
+        match self.places.get(row) {
+            Some(place) => Some(place.amounts()),
+            None => None,
+        }
+    }
+
+    /// The least and the greatest value to which any choice of the reservations that the row's place
+    /// counts brings the form of a check, which is given by its index among the checks of the place.
+    pub fn worst(&self, row: &RowName, check: usize) -> (Wide, Wide)
+        requires placed { IsSome (place_at self.now row.now) }
+        requires check { (place : Kept) → place_at self.now row.now ≡ Some place → check < length place.checks }
+        ensures { (place : Kept) (form : Tracked) (reservations : List (List ℤ))
+            → place_at self.now row.now ≡ Some place → slice_get place.checks check ≡ Some form → Counts place reservations
+            → (result.0 ≡ least form.check.coeffs place.amounts reservations) × (result.1 ≡ greatest form.check.coeffs place.amounts reservations) }
+    {
+        self.place(row).worst(check)
+    }
+
+    /// O'Neil's `inf` and `sup` (1986) of a column: the least and the greatest value to which any
+    /// choice of the reservations that the row's place counts brings it.
+    pub fn inf_sup(&self, row: &RowName, column: usize) -> (Wide, Wide)
+        requires placed { IsSome (place_at self.now row.now) }
+        requires column { (place : Kept) → place_at self.now row.now ≡ Some place → column < length place.amounts }
+        ensures { (place : Kept) (reservations : List (List ℤ))
+            → place_at self.now row.now ≡ Some place → Counts place reservations
+            → (result.0 ≡ least (unit_form (length place.amounts) column) place.amounts reservations)
+            × (result.1 ≡ greatest (unit_form (length place.amounts) column) place.amounts reservations) }
+    {
+        self.place(row).inf_sup(column)
+    }
+
+    /// The grant rule: what changes of a row would break of the first check, in the table's order,
+    /// that they can break, over every choice of the reservations that the row's place counts which
+    /// holds them. `None` where they are granted.
+    pub fn verdict(&self, row: &RowName, changes: &[Amount]) -> Option<Breach>
+        requires { IsSome (place_at self.now row.now) }
+        ensures { (place : Kept) (reservations : List (List ℤ)) → place_at self.now row.now ≡ Some place → Counts place reservations
+            → result ≡ broken (checks_of place.checks) place.amounts changes.now reservations }
+    {
+        self.place(row).verdict(changes)
+    }
+
+    /// Counts a new reservation of a row, whose place counts fewer than 16,384.
+    pub fn add(&mut self, row: &RowName, changes: &[Amount])
+        requires placed { IsSome (place_at self.old row.now) }
+        requires room { (place : Kept) → place_at self.old row.now ≡ Some place → place.count < MAX_OPEN }
+        ensures takes { Becomes (TakesIn changes.now) (place_at self.old row.now) (place_at self.new row.now) }
+        ensures others { OthersStay row.now self.old self.new }
+    {
+        if let Some(place) = self.places.get_mut(row) {
+            place.take_in(changes);
+        }
+    }
+
+    /// Counts a reservation of a row no more, since its transaction has ended: one that the row's place
+    /// counts. A commit moves its changes into the committed amounts, of which one stays where the
+    /// sum would be no amount.
+    pub fn remove(&mut self, row: &RowName, changes: &[Amount], end: End)
+        requires { (place : Kept) × (before after : List (List ℤ))
+            × (place_at self.old row.now ≡ Some place) × Counts place (before ++ changes.now ∷ after) }
+        ensures gives { Becomes (GivesBack end changes.now) (place_at self.old row.now) (place_at self.new row.now) }
+        ensures others { OthersStay row.now self.old self.new }
+    {
+        if let Some(place) = self.places.get_mut(row) {
+            place.give_back(changes, end);
+        }
+    }
+
+    /// The place of a row.
+    fn place(&self, row: &RowName) -> &Place
+        requires { IsSome (place_at self.now row.now) }
+        ensures { Some result.now ≡ place_at self.now row.now }
+    {
+        self.places.get(row).unwrap()
+    }
+}

@@ -1,0 +1,12 @@
+//! Worst-case sums for each row and check, kept between calls: what the open reservations of a row
+//! can do to its checks is looked up, and no reservation is walked.
+//!
+//! Its one contract: the verdict on a new reservation is that of the grant rule, over every choice
+//! of the reservations that the row's place counts ([`Bounds::verdict`]).
+#![tactic(auto)]
+
+mod bounds;
+mod place;
+mod tracked;
+
+pub use bounds::Bounds;

@@ -1,0 +1,188 @@
+ghost use Rattle.std.specs.Prelude.{◌≡◌, ℤ, List, [], ◌∷◌, ◌++◌, ◌<◌, ◌≤◌, IfOk, OnOk, Some, length, pos, slice_get, slice_index_or};
+ghost use Rattle.std.specs.List.{AllByRecursion};
+ghost use Rattle.escrow_checks.specs.Extremes.{least, greatest};
+ghost use Rattle.escrow_checks.specs.Form.{IsCovered};
+ghost use Rattle.escrow_checks.specs.Grant.{broken};
+ghost use Rattle.escrow_checks.specs.declared.coefficients.TheConstants.Coefficients.{MAX_LEN};
+ghost use Rattle.escrow_checks.specs.declared.spread.TheConstants.Spread.{MAX_OPEN};
+ghost use Rattle.escrow_bounds.specs.Columns.{unit_form, column_check, column_checks};
+ghost use Rattle.escrow_bounds.specs.Counts.{HaveSums, Counts, IsNew, TakesIn, GivesBack};
+ghost use Rattle.escrow_bounds.specs.Kept.{checks_of};
+ghost use Rattle.escrow_bounds.specs.Moved.{moved, all_moved};
+ghost use Rattle.escrow_bounds.specs.declared.tracked.Tracked.{Tracked};
+
+use crate::tracked::{Tracked, first_breach, give_back, push_check, take_in};
+use escrow_checks::{Check, Coefficients};
+use escrow_num::{Amount, Breach, End, Name, Span, Wide};
+use std::alloc::{AllocError, Global};
+use std::marker::Model;
+
+/// What is kept of a row: its committed amounts, the number of its open reservations, and their
+/// spread under each check and under each RESERVABLE column.
+#[derive(Debug, Drop)]
+pub struct Place {
+    amounts: Vec<Amount>,
+    count: usize,
+    checks: Vec<Tracked>,
+    columns: Vec<Tracked>,
+}
+
+impl Model for Place {
+    ghost use Rattle.escrow_bounds.specs.Inside.{kept_of, IsPlace};
+    ghost use Rattle.escrow_bounds.specs.Kept.{Kept};
+
+    ghost Value = { Kept };
+
+    ghost view = { λ p. kept_of p };
+
+    ghost invariant = { λ p. IsPlace (kept_of p) };
+}
+
+impl Place {
+    /// The place of a row of which no reservation is open.
+    pub(crate) fn new(
+        alloc: Global,
+        amounts: &[Amount],
+        checks: &[Check],
+    ) -> Result<Place, AllocError>
+        requires covered { AllByRecursion (λ check. IsCovered check.coeffs amounts.now) checks.now }
+        requires few { length amounts.now ≤ MAX_LEN }
+        ensures { IfOk result (λ place. IsNew amounts.now checks.now place) }
+    {
+        Ok(Place {
+            amounts: Vec::from_slice(alloc, amounts)?,
+            count: 0,
+            checks: all_forms(alloc, checks)?,
+            columns: all_columns(alloc, amounts.len())?,
+        })
+    }
+
+    /// The committed amounts.
+    pub(crate) fn amounts(&self) -> &[Amount]
+        ensures { result.now ≡ self.now.amounts }
+    {
+        &self.amounts
+    }
+
+    /// How many reservations are counted.
+    pub(crate) fn count(&self) -> usize
+        ensures { result ≡ self.now.count }
+    {
+        self.count
+    }
+
+    /// The least and the greatest value of the form of the check at an index.
+    pub(crate) fn worst(&self, check: usize) -> (Wide, Wide)
+        requires { check < length self.now.checks }
+        ensures { (form : Tracked) (reservations : List (List ℤ)) → slice_get self.now.checks check ≡ Some form → Counts self.now reservations
+            → (result.0 ≡ least form.check.coeffs self.now.amounts reservations) × (result.1 ≡ greatest form.check.coeffs self.now.amounts reservations) }
+    {
+        let form = &self.checks[check];
+        form.check.extremes(&self.amounts, &form.spread)
+    }
+
+    /// The least and the greatest value of a column.
+    pub(crate) fn inf_sup(&self, column: usize) -> (Wide, Wide)
+        requires { column < length self.now.amounts }
+        ensures { (reservations : List (List ℤ)) → Counts self.now reservations
+            → (result.0 ≡ least (unit_form (length self.now.amounts) column) self.now.amounts reservations)
+            × (result.1 ≡ greatest (unit_form (length self.now.amounts) column) self.now.amounts reservations) }
+    {
+        let form = &self.columns[column];
+        form.check.extremes(&self.amounts, &form.spread)
+    }
+
+    /// What changes would break of the first check that they can break, or `None`.
+    pub(crate) fn verdict(&self, changes: &[Amount]) -> Option<Breach>
+        ensures { (reservations : List (List ℤ)) → Counts self.now reservations
+            → result ≡ broken (checks_of self.now.checks) self.now.amounts changes.now reservations }
+    {
+        first_breach(&self.checks, &self.amounts, changes)
+    }
+
+    /// Counts one more reservation.
+    pub(crate) fn take_in(&mut self, changes: &[Amount])
+        requires { self.old.count < MAX_OPEN }
+        ensures { TakesIn changes.now self.old self.new }
+    {
+        take_in(&mut self.checks, changes);
+        take_in(&mut self.columns, changes);
+        self.count += 1;
+    }
+
+    /// Counts one of its reservations no more, and moves its changes into the committed amounts
+    /// where it is committed.
+    pub(crate) fn give_back(&mut self, changes: &[Amount], end: End)
+        requires { (before after : List (List ℤ)) × Counts self.old (before ++ changes.now ∷ after) }
+        ensures { GivesBack end changes.now self.old self.new }
+    {
+        give_back(&mut self.checks, changes);
+        give_back(&mut self.columns, changes);
+        self.count -= 1;
+        match end {
+            End::Commit => move_all(&mut self.amounts, changes),
+            End::Rollback => {}
+        }
+    }
+}
+
+/// The forms of checks, with no reservation counted.
+fn all_forms(alloc: Global, checks: &[Check]) -> Result<Vec<Tracked>, AllocError>
+    ensures checks { IfOk result (λ forms. checks_of forms.items ≡ checks.now) }
+    ensures sums { IfOk result (λ forms. HaveSums forms.items []) }
+{
+    let mut forms = Vec::new(alloc);
+    for check in checks {
+        push_check(&mut forms, *check)?;
+    }
+    Ok(forms)
+}
+
+/// The forms of columns, with no reservation counted.
+fn all_columns(alloc: Global, columns: usize) -> Result<Vec<Tracked>, AllocError>
+    requires { columns ≤ MAX_LEN }
+    ensures checks { IfOk result (λ forms. checks_of forms.items ≡ column_checks columns columns) }
+    ensures sums { IfOk result (λ forms. HaveSums forms.items []) }
+{
+    let mut forms = Vec::new(alloc);
+    for place in 0..columns {
+        push_check(&mut forms, column_check(columns, place))?;
+    }
+    Ok(forms)
+}
+
+/// A check without limits, whose form is a column.
+fn column_check(columns: usize, place: usize) -> Check
+    requires within { place < columns }
+    requires few { columns ≤ MAX_LEN }
+    ensures { result ≡ column_check columns place }
+{
+    Check {
+        name: Name::new(b"COLUMN").unwrap(),
+        coeffs: Coefficients::unit(columns, place),
+        span: Span { lo: None, hi: None },
+    }
+}
+
+/// Adds changes to amounts, column by column. An amount stays where the sum would be none.
+fn move_all(amounts: &mut [Amount], changes: &[Amount])
+    ensures { amounts.new ≡ all_moved amounts.old changes.now }
+{
+    for (i, amount) in amounts.iter_mut().enumerate() {
+        *amount = moved(*amount, change_at(changes, i));
+    }
+}
+
+/// The change of the column at an index, which is zero where it isn't listed.
+fn change_at(changes: &[Amount], index: usize) -> Amount
+    ensures { result ≡ slice_index_or changes.now index (pos 0) }
+{
+    changes.get(index).copied().unwrap_or(Amount::ZERO)
+}
+
+/// An amount with a change added, or the amount where the sum is none.
+fn moved(amount: Amount, change: Amount) -> Amount
+    ensures { result ≡ moved amount change }
+{
+    Amount::new(amount.get() + change.get()).unwrap_or(amount)
+}
