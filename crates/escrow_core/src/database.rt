@@ -1,3 +1,6 @@
+ghost use Rattle.std.specs.Prelude.{◌≡◌};
+ghost use Rattle.escrow_core.specs.Serving.{answer_of};
+
 mod bounds;
 mod create;
 mod delete;
@@ -158,5 +161,15 @@ impl<S: Alter> Database<S> {
                 None => Reply::Refused(Refusal::NoSuchSavepoint),
             },
         }
+    }
+}
+
+/// The reply that answers a statement: what it was granted, or the refusal.
+fn reply_of(served: Result<Reply, Refusal>) -> Reply
+    ensures { result ≡ answer_of served }
+{
+    match served {
+        Ok(reply) => reply,
+        Err(refusal) => Reply::Refused(refusal),
     }
 }

@@ -1,14 +1,15 @@
 use crate::database::Database;
-use escrow_num::{Failure, Name, Row, RowName, Seq, Value};
+use escrow_num::{Amount, Failure, Name, Row, RowName, Seq, Value};
 use sqlite::Alter;
 use std::alloc::Global;
 
 impl<S: Alter> Database<S> {
-    ghost use Rattle.std.specs.Prelude.{◌≡◌, Some, IsSome, IsSomeAnd, IsTrue, IfOk, IfSome, OnOk, map, option_map};
+    ghost use Rattle.std.specs.Prelude.{◌≡◌, Some, IsSome, IsSomeAnd, IsTrue, IfOk, IfSome, OnOk, is_some, length, map, option_map};
     ghost use Rattle.sqlite.specs.Held.{state};
     ghost use Rattle.sqlite.specs.State.{HasCleanDisk};
     ghost use Rattle.escrow_num.specs.Ascending.{IsAscending};
     ghost use Rattle.escrow_schema.specs.Catalog.{place_named, table_named};
+    ghost use Rattle.escrow_schema.specs.Column.{reservables};
     ghost use Rattle.escrow_schema.specs.Fit.{values_of};
     ghost use Rattle.escrow_core.specs.Serving.{Looks};
     ghost use Rattle.escrow_machine.specs.Rows.{row_named, rows_of, HasTable, row_before};
@@ -23,6 +24,40 @@ impl<S: Alter> Database<S> {
         ensures open { HasCleanDisk (state S.Store self.new.store) → OnOk result (IsTrue (state S.Store self.new.store).is_open) }
     {
         self.tables.row(alloc, name)
+    }
+
+    /// The amounts of the committed row of a name, one for each RESERVABLE column in column order, if there is
+    /// such a row; all rows are in order. The place is that of its table.
+    pub(crate) fn amounts(
+        &mut self,
+        alloc: Global,
+        place: usize,
+        name: &RowName,
+    ) -> Result<Option<Seq<Amount>>, Failure>
+        requires { place_named self.old.state.catalog name.now.table ≡ Some place }
+        ensures told { HasCleanDisk (state S.Store self.new.store) → IfOk result (λ found. found ≡ option_map (λ row. row.amounts) (row_named self.old.state.rows name.now)) }
+        ensures many { IfOk result (λ found. IfSome found (λ amounts. IsSomeAnd (table_named self.old.state.catalog name.now.table) (λ table. length amounts ≡ length (reservables table.columns)))) }
+        ensures order { HasCleanDisk (state S.Store self.new.store) → IsAscending row_before self.old.state.rows }
+        ensures looks { Looks S.Store self.old self.new }
+        ensures open { HasCleanDisk (state S.Store self.new.store) → OnOk result (IsTrue (state S.Store self.new.store).is_open) }
+    {
+        self.tables.amounts(alloc, place, name)
+    }
+
+    /// Whether the committed row of a name stands; all rows are in order. The place is that of its table.
+    pub(crate) fn stands(
+        &mut self,
+        alloc: Global,
+        place: usize,
+        name: &RowName,
+    ) -> Result<bool, Failure>
+        requires { place_named self.old.state.catalog name.now.table ≡ Some place }
+        ensures told { HasCleanDisk (state S.Store self.new.store) → IfOk result (λ stands. stands ≡ is_some (row_named self.old.state.rows name.now)) }
+        ensures order { HasCleanDisk (state S.Store self.new.store) → IsAscending row_before self.old.state.rows }
+        ensures looks { Looks S.Store self.old self.new }
+        ensures open { HasCleanDisk (state S.Store self.new.store) → OnOk result (IsTrue (state S.Store self.new.store).is_open) }
+    {
+        Ok(self.amounts(alloc, place, name)?.is_some())
     }
 
     /// The values of the committed row of a name, in column order, if there is one; all rows are in order. The
