@@ -9,6 +9,7 @@ pub mod Reply
 pub mod Rows
 pub mod Settle
 pub mod State
+pub mod StateCode
 pub mod Step
 pub mod Turn
 pub mod Valid

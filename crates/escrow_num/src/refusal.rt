@@ -5,7 +5,7 @@ use crate::failure::Failure;
 use crate::name::Name;
 use crate::span::Side;
 use crate::wide::Wide;
-use std::alloc::AllocError;
+use std::alloc::{AllocError, AllocFailed};
 
 /// The limit of a check that a change could break: the check's name, the side, the worst value on
 /// that side, and the limit beyond which it lies.
@@ -141,6 +141,17 @@ impl From<AllocError> for Refusal {
     ghost from_gives = { λ _ r. r ≡ refusal.Memory };
 
     fn from(_: AllocError) -> Refusal {
+        Refusal::Memory
+    }
+}
+
+impl<T: Drop> From<AllocFailed<T>> for Refusal {
+    ghost use Rattle.std.specs.Prelude.{◌≡◌};
+    ghost use Rattle.escrow_num.specs.declared.refusal.Refusal.TheVariants as refusal;
+
+    ghost from_gives = { λ _ r. r ≡ refusal.Memory };
+
+    fn from(_: AllocFailed<T>) -> Refusal {
         Refusal::Memory
     }
 }
