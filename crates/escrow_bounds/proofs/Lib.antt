@@ -1,4 +1,5 @@
 pub mod Forms
 pub mod Kept
+pub mod LawLemmas
 pub mod Moving
 pub mod Steps

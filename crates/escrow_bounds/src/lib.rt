@@ -6,6 +6,7 @@
 #![tactic(auto)]
 
 mod bounds;
+pub mod laws;
 mod place;
 mod tracked;
 

@@ -1,0 +1,71 @@
+-- Believed: the statements of the laws in src/laws.rt.
+use Rattle.std.specs.Prelude.{◌≡◌, ℤ, if◌then◌else◌, true, false, Some, None, IsSome, List, [], ◌∷◌, ◌++◌, map}
+use Rattle.std.specs.List.{AllByRecursion}
+use Rattle.escrow_num.specs.declared.reservation.Reservation.{Reservation}
+use Rattle.escrow_num.specs.declared.session.End.{End}
+use Rattle.escrow_num.specs.declared.value.RowName.{RowName}
+use Rattle.escrow_num.specs.Order.{same_row}
+use Rattle.escrow_num.specs.Reservation.{counted}
+use Rattle.escrow_checks.specs.declared.check.Check.{Check}
+use Rattle.escrow_checks.specs.Extremes.{least, greatest}
+use Rattle.escrow_checks.specs.Form.{IsCovered}
+use Rattle.escrow_checks.specs.Grant.{broken}
+use Rattle.escrow_bounds.specs.Counts.{is_counting, IsNew, TakesIn, GivesBack}
+use Rattle.escrow_bounds.specs.Held.{of_row, CountsAll}
+use Rattle.escrow_bounds.specs.Kept.{Kept}
+use Rattle.escrow_bounds.specs.Places.{Places, place_at, OthersStay, Becomes}
+
+-- ---- what a place counts is enough
+
+-- what an open reservation changes of a row, column by column: nothing where it is of another row
+abbrev pub changes_at : RowName → Reservation → List ℤ
+changes_at row r = if same_row row r.row then counted r.changes else []
+
+-- the grant rule over all open reservations is that over those of the row
+abbrev pub SameGrantRule : Type 0
+SameGrantRule =
+    (checks : List Check) (amounts changes : List ℤ) (row : RowName) (held : List Reservation) → AllByRecursion (λ (check : Check). IsCovered check.coeffs amounts) checks
+    → broken checks amounts changes (map (changes_at row) held) ≡ broken checks amounts changes (of_row row held)
+
+-- and so are the extremes of a form
+abbrev pub SameExtremes : Type 0
+SameExtremes =
+    (coeffs amounts : List ℤ) (row : RowName) (held : List Reservation) → IsCovered coeffs amounts
+    → (least coeffs amounts (map (changes_at row) held) ≡ least coeffs amounts (of_row row held))
+    × (greatest coeffs amounts (map (changes_at row) held) ≡ greatest coeffs amounts (of_row row held))
+
+-- ---- every list of calls: places count just what is open, by the clauses of each call
+
+-- without places nothing is open
+abbrev pub NothingCounts : Type 0
+NothingCounts = CountsAll [] []
+
+-- `reserve` makes a place of what isn't open
+abbrev pub ReserveCounts : Type 0
+ReserveCounts =
+    (old new : Places) (row : RowName) (amounts : List ℤ) (checks : List Check) (held : List Reservation) → CountsAll old held
+    → (IsSome (place_at old row) → new ≡ old)
+    → (place_at old row ≡ None → (place : Kept) × (place_at new row ≡ Some place) × IsNew amounts checks place)
+    → OthersStay row old new → CountsAll new held
+
+-- `add` counts one more, wherever it stands among the others
+abbrev pub AddCounts : Type 0
+AddCounts =
+    (old new : Places) (r : Reservation) (before after : List Reservation) → CountsAll old (before ++ after) → IsSome (place_at old r.row)
+    → Becomes (TakesIn (counted r.changes)) (place_at old r.row) (place_at new r.row)
+    → OthersStay r.row old new → CountsAll new (before ++ r ∷ after)
+
+-- `remove` counts one less, in any order of ends
+abbrev pub RemoveCounts : Type 0
+RemoveCounts =
+    (end : End) (old new : Places) (r : Reservation) (before after : List Reservation) → CountsAll old (before ++ r ∷ after)
+    → Becomes (GivesBack end (counted r.changes)) (place_at old r.row) (place_at new r.row)
+    → OthersStay r.row old new → CountsAll new (before ++ after)
+
+-- `release` drops no place that counts
+abbrev pub ReleaseCounts : Type 0
+ReleaseCounts =
+    (old new : Places) (row : RowName) (held : List Reservation) → CountsAll old held
+    → (is_counting (place_at old row) ≡ false → place_at new row ≡ None)
+    → (is_counting (place_at old row) ≡ true → new ≡ old)
+    → OthersStay row old new → CountsAll new held

@@ -1,0 +1,40 @@
+//! Laws of places: facts about their definitions, each the contract of a function that does nothing.
+//! Those on calls speak by the clauses that the calls promise, so that whatever list of calls is made,
+//! each place counts just the open reservations of its row.
+
+ghost use Rattle.escrow_bounds.specs.Laws.{SameGrantRule, SameExtremes, NothingCounts, ReserveCounts, AddCounts, RemoveCounts, ReleaseCounts};
+
+/// The grant rule over all open reservations is that over those of the row, which its place counts.
+pub fn same_grant_rule()
+    ensures { SameGrantRule }
+{}
+
+/// The extremes of a form over all open reservations are those over the reservations of the row.
+pub fn same_extremes()
+    ensures { SameExtremes }
+{}
+
+/// Where there are no places nothing is counted.
+pub fn nothing_counts()
+    ensures { NothingCounts }
+{}
+
+/// `Bounds::reserve` leaves what is counted.
+pub fn reserve_counts()
+    ensures { ReserveCounts }
+{}
+
+/// After `Bounds::add` one reservation more is counted, wherever it stands among the others.
+pub fn add_counts()
+    ensures { AddCounts }
+{}
+
+/// After `Bounds::remove` one reservation less is counted, whichever of them it was.
+pub fn remove_counts()
+    ensures { RemoveCounts }
+{}
+
+/// `Bounds::release` leaves what is counted.
+pub fn release_counts()
+    ensures { ReleaseCounts }
+{}
