@@ -12,7 +12,7 @@ use Rattle.escrow_journal.specs.Reservations.{own}
 use Rattle.escrow_tables.specs.Calls.{Writes}
 use Rattle.escrow_tables.specs.Committed.{Committed}
 use Rattle.escrow_num.specs.Refusal.{told}
-use Rattle.escrow_txn.specs.Open.{Open, ended}
+use Rattle.escrow_journal.specs.Open.{Open, ended}
 use Rattle.escrow_machine.specs.declared.reply.Reply.{Reply}
 use Rattle.escrow_machine.specs.declared.reply.Reply.TheVariants as reply
 use Rattle.escrow_core.specs.Inside.{seen_of}

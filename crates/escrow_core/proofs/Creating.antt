@@ -15,7 +15,7 @@ use Rattle.escrow_schema.specs.Definition.{definition_of}
 use Rattle.escrow_schema.proofs.LawLemmas.{name_of_table}
 use Rattle.escrow_tables.specs.Calls.{Writes}
 use Rattle.escrow_tables.specs.Committed.{Committed}
-use Rattle.escrow_txn.specs.Open.{Open}
+use Rattle.escrow_journal.specs.Open.{Open}
 use Rattle.escrow_machine.specs.declared.reply.Reply.TheVariants as reply
 use Rattle.escrow_core.specs.Inside.{seen_of}
 use Rattle.escrow_core.specs.Seen.{IsKept}

@@ -24,7 +24,7 @@ use Rattle.escrow_num.specs.declared.failure.Failure.{Failure}
 use Rattle.escrow_schema.specs.declared.table.TheConstants.TableDef.{MAX_ROWS}
 use Rattle.escrow_tables.specs.Calls.{Writes}
 use Rattle.escrow_tables.specs.Committed.{Committed}
-use Rattle.escrow_txn.specs.Open.{Open}
+use Rattle.escrow_journal.specs.Open.{Open}
 use Rattle.escrow_machine.specs.declared.reply.Reply.TheVariants as reply
 use Rattle.escrow_machine.specs.Asked.{row_of, insert_breach}
 use Rattle.escrow_core.specs.Inside.{seen_of}

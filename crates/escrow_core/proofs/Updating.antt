@@ -1,5 +1,5 @@
 -- UPDATE: what its call makes of a database, by its plan.
-use Rattle.std.specs.Prelude.{◌≡◌, ◌<◌, ◌≤◌, ◌+◌, ℕ, ℤ, Bool, true, false, is_none, nat_le, nat_lt, option_map, unwrap_or, Option, Some, None, IsSome, List, [], ◌∷◌, ◌++◌, length}
+use Rattle.std.specs.Prelude.{◌≡◌, ◌<◌, ◌≤◌, ◌+◌, ℕ, ℤ, Bool, true, false, is_none, option_map, unwrap_or, Option, Some, None, IsSome, List, [], ◌∷◌, ◌++◌, length}
 use Rattle.std.specs.List.{AllByRecursion}
 use Rattle.std.proofs.Common.{refl, sym, ap, subst, ◌∙◌}
 use Rattle.std.proofs.lemmas.Bool.{false≢true}
@@ -19,10 +19,11 @@ use Rattle.escrow_sql.specs.declared.statement.Statement.TheVariants as statemen
 use Rattle.escrow_schema.specs.declared.plan.Plan.{Plan}
 use Rattle.escrow_schema.specs.declared.plan.Plan.TheVariants as plan
 use Rattle.escrow_schema.proofs.PlanLemmas.{plans_of_whole_row}
+use Rattle.escrow_journal.proofs.Free.{is_free}
 use Rattle.escrow_journal.specs.declared.journal.TheConstants.Journal.{MAX_RESERVATIONS}
 use Rattle.escrow_journal.specs.Reservations.{own}
-use Rattle.escrow_txn.specs.Open.{Open, grant_refusal}
-use Rattle.escrow_txn.specs.Open as txn
+use Rattle.escrow_journal.specs.Open.{Open, grant_refusal}
+use Rattle.escrow_journal.specs.Open as txn
 use Rattle.escrow_num.specs.declared.failure.Failure.{Failure}
 use Rattle.escrow_num.specs.declared.failure.Failure.TheVariants as failure
 use Rattle.escrow_tables.specs.Calls.{Writes}
@@ -34,12 +35,11 @@ use Rattle.escrow_core.specs.Inside.{seen_of}
 use Rattle.escrow_core.specs.Seen.{Seen, IsKept}
 use Rattle.escrow_core.specs.Serves.{Serves}
 use Rattle.escrow_machine.specs.Accepted.{IsAccepted, IsRefusal}
-use Rattle.escrow_machine.specs.State.{State, is_open}
+use Rattle.escrow_machine.specs.State.{State, is_open, open_in, with_open}
 use Rattle.escrow_machine.specs.Step.{step, StepOrRefusal}
-use Rattle.escrow_machine.specs.Turn.{turn_of, granted, update_refusals, update_reply, after_update}
+use Rattle.escrow_machine.specs.Turn.{turn_of, update_refusals, update_reply, after_update}
 use Rattle.escrow_machine.specs.Valid.{IsOrderly, IsValid}
 use Rattle.escrow_core.proofs.Planned.{planned_in, plan_refused, plan_accepted, planned_early}
-use Rattle.escrow_machine.proofs.Refusals.{passed, failed, below, not_above}
 use Rattle.escrow_core.proofs.Served.{update_serves}
 use Rattle.escrow_core.proofs.Serving.{accepted_step, fails, late_refused, served, survives_itself, wrote, wrote_keeps, write_failed}
 use Rattle.escrow_machine.proofs.Shapes.{HasOrder}
@@ -156,22 +156,6 @@ reserved_orderly s session text key changes orderly of_session is room more_ids 
     granted_orderly s table (reservation_from s session (row_name text.table key) changes) orderly named of_session refl more_ids
     (plans_of_whole_row table text key changes at) room)
 
--- what the table of transactions looks at
-record IsFree (session : ℕ) (o : Open) : Type 0 where
-  room : length (own session o.reservations) < MAX_RESERVATIONS
-  more_ids : o.next_id ≤ MAX_ID
-
-is_free : (session : ℕ) (o : Open) → grant_refusal session o ≡ None → IsFree session o
-is_free session o none =
-    let held = length (own session o.reservations) in
-    let many = refuse_if (nat_le MAX_RESERVATIONS held) refusal.TooManyReservations in
-    let ids = refuse_if (nat_lt MAX_ID o.next_id) refusal.NoMoreIds in
-    let first = passed many (ids ∷ []) none in
-    record {
-      room = below MAX_RESERVATIONS held (failed (nat_le MAX_RESERVATIONS held) refusal.TooManyReservations first.first);
-      more_ids = not_above MAX_ID o.next_id (failed (nat_lt MAX_ID o.next_id) refusal.NoMoreIds (passed ids [] first.others).first);
-    }
-
 -- and that no refusal stands against
 pub record IsUnrefused {S : Type 0} (g : Ghosts S) (d : Seen S) (session : ℕ) (text : UpdateText) (row : Row) (name : RowName) (changes : List (Option ℤ)) : Type 0 where
   pub may : MayReserve g d text row name changes
@@ -201,10 +185,10 @@ module _ {S : Type 0} (g : Ghosts S) (session : ℕ) (text : UpdateText) (row : 
   unrefused d may first = record { may = may; left = reserve_refusals d None may first }
 
   module _ (t : Committed S) (o : Open) (is : IsUnrefused g (seen_of t o) session text row name changes) where
-    after_grant : granted (seen_of t o).state (reservation_from (seen_of t o).state session (row_name text.table name.key) changes) ≡ (seen_of t (txn.granted session name changes o)).state
+    after_grant : with_open (seen_of t o).state (txn.granted session (row_name text.table name.key) changes (open_in (seen_of t o).state)) ≡ (seen_of t (txn.granted session name changes o)).state
     after_grant =
         let s : State = (seen_of t o).state in
-        ap (λ (n : RowName). granted s (reservation_from s session n changes)) (named_so text.table name is.may.table)
+        ap (λ (n : RowName). with_open s (txn.granted session n changes (open_in s))) (named_so text.table name is.may.table)
 
     reserve_accepted : HasCleanDisk (state g t.store) → IsAccepted (seen_of t o).state session (statement.Update text)
     reserve_accepted u = plan_accepted (seen_of t o).state session text (plan.Reserve name.key changes) is.may.planned (is.left u)

@@ -1,5 +1,6 @@
 pub mod Cutting
 pub mod Filters
+pub mod Free
 pub mod Kept
 pub mod LawLemmas
 pub mod Named

@@ -1,4 +1,4 @@
-use crate::lists::{count_others, first_from, make_room, place_of};
+use crate::lists::{count_others, first_from, make_room, place_of_name};
 use escrow_num::{Name, Refusal, Reservation, Savepoint, Session};
 use smallvec::SmallVec;
 use std::alloc::{AllocError, Global};
@@ -118,7 +118,7 @@ impl Journal {
     pub fn after(&self, name: Name) -> Option<&[Reservation]>
         ensures { option_copied result ≡ later name self.now }
     {
-        let place = place_of(&self.savepoints, name)?;
+        let place = place_of_name(&self.savepoints, name)?;
         let savepoint = self.savepoints[place];
         let first = first_from(&self.reservations, savepoint.id);
         Some(&self.reservations[first..])
@@ -133,7 +133,7 @@ impl Journal {
         ensures cut { self.new ≡ cut_log name self.old }
         ensures valid { IsLog self.new }
     {
-        let place = place_of(&self.savepoints, name)?;
+        let place = place_of_name(&self.savepoints, name)?;
         let savepoint = self.savepoints[place];
         let first = first_from(&self.reservations, savepoint.id);
         let count = self.reservations.len() - first;

@@ -23,7 +23,7 @@ fn place_from(reservations: &[Reservation], id: u64) -> Option<usize>
 }
 
 /// The place of the savepoint of a name.
-pub(crate) fn place_of(savepoints: &[Savepoint], name: Name) -> Option<usize>
+pub(crate) fn place_of_name(savepoints: &[Savepoint], name: Name) -> Option<usize>
     ensures { result ≡ position (λ p. bytes_eq p.name name) savepoints.now }
 {
     savepoints.iter().position(|p| p.name == name)

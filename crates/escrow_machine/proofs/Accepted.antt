@@ -1,5 +1,5 @@
 -- What holds where a statement is accepted, by the name of what was tested.
-use Rattle.std.specs.Prelude.{◌≡◌, ℕ, ◌<◌, ◌≤◌, ℤ, false, unwrap_or, is_some, is_none, nat_le, nat_lt, option_map, option_and_then, Option, Some, None, List, [], ◌∷◌, length, map, Result, Ok, Err}
+use Rattle.std.specs.Prelude.{◌≡◌, ℕ, ◌<◌, ℤ, false, unwrap_or, is_some, is_none, nat_le, option_map, option_and_then, Option, Some, None, List, [], ◌∷◌, length, map, Result, Ok, Err}
 use Rattle.std.specs.Result.{result_ok, result_err}
 use Rattle.std.proofs.Common.{refl, sym, ap, subst, ◌∙◌}
 use Rattle.escrow_num.specs.declared.refusal.Refusal.{Refusal}
@@ -22,18 +22,19 @@ use Rattle.escrow_schema.specs.Catalog.{table_named}
 use Rattle.escrow_schema.specs.Definition.{definition_of}
 use Rattle.escrow_schema.specs.Fit.{inserted_row}
 use Rattle.escrow_schema.specs.Plan.{planned}
-use Rattle.escrow_num.specs.declared.reservation.TheConstants.Reservation.{MAX_ID}
 use Rattle.escrow_schema.specs.declared.catalog.TheConstants.Catalog.{MAX_TABLES}
 use Rattle.escrow_schema.specs.declared.table.TheConstants.TableDef.{MAX_ROWS}
-use Rattle.escrow_journal.specs.declared.journal.TheConstants.Journal.{MAX_RESERVATIONS, MAX_SAVEPOINTS}
-use Rattle.escrow_journal.specs.Reservations.{own, own_savepoints}
+use Rattle.escrow_journal.specs.declared.journal.TheConstants.Journal.{MAX_SAVEPOINTS}
+use Rattle.escrow_journal.specs.Open.{grant_refusal}
+use Rattle.escrow_journal.specs.Reservations.{own_savepoints}
 use Rattle.escrow_journal.specs.Savepoints.{without_savepoint}
 use Rattle.escrow_machine.specs.Accepted.{IsAccepted}
-use Rattle.escrow_machine.specs.State.{State, is_open, is_reserved, is_table_reserved}
+use Rattle.escrow_machine.specs.State.{State, open_in, is_open, is_reserved, is_table_reserved}
 use Rattle.escrow_machine.specs.Rows.{row_named, rows_of, changes_to}
 use Rattle.escrow_machine.specs.Turn.{turn_of, update_refusals}
 use Rattle.escrow_machine.specs.Asked.{row_of, insert_breach, plan_of, plan_refusal_of, row_name, reservation_from, breach_of, named_by, key_refusal_of}
-use Rattle.escrow_machine.proofs.Refusals.{passed, failed, unbroken, none_there, some_there, below, not_above}
+use Rattle.escrow_journal.proofs.Free.{IsFree, is_free}
+use Rattle.escrow_machine.proofs.Refusals.{passed, failed, unbroken, none_there, some_there, below}
 
 -- a table that is created
 pub record CreateStands (s : State) (session : ℕ) (text : CreateText) : Type 0 where
@@ -203,8 +204,7 @@ pub record ReserveStands (s : State) (session : ℕ) (text : UpdateText) (key : 
   pub planned : planned table text ≡ Ok (plan.Reserve key changes)
   pub row : Row
   pub found : row_named s.rows (row_name text.table key) ≡ Some row
-  pub room : length (own session s.reservations) < MAX_RESERVATIONS
-  pub more_ids : s.next_id ≤ MAX_ID
+  pub free : IsFree session (open_in s)
   pub safe : broken table.checks row.amounts (counted changes) (map (changes_to row) s.reservations) ≡ None
 
 -- the plan that stands is the one that is named
@@ -221,13 +221,11 @@ reserve_stands s session text key changes is accepted =
     let r : Reservation = reservation_from s session name changes in
     let p = update_plan s session text accepted in
     let no_row = refuse_if (is_none (row_named s.rows name)) refusal.NoSuchRow in
-    let many = refuse_if (nat_le MAX_RESERVATIONS (length (own session s.reservations))) refusal.TooManyReservations in
-    let no_ids = refuse_if (nat_lt MAX_ID s.next_id) refusal.NoMoreIds in
+    let not_free = grant_refusal session (open_in s) in
     let breach = option_map refusal.Check (breach_of s r) in
-    let stands = passed no_row (many ∷ no_ids ∷ breach ∷ []) (late_passed s session text (plan.Reserve key changes) is accepted) in
-    let room = passed many (no_ids ∷ breach ∷ []) stands.others in
-    let ids = passed no_ids (breach ∷ []) room.others in
-    let kept = passed breach [] ids.others in
+    let stands = passed no_row (not_free ∷ breach ∷ []) (late_passed s session text (plan.Reserve key changes) is accepted) in
+    let free = passed not_free (breach ∷ []) stands.others in
+    let kept = passed breach [] free.others in
     let row = some_there (row_named s.rows name) (failed (is_none (row_named s.rows name)) refusal.NoSuchRow stands.first) in
     let none_broken : breach_of s r ≡ None = unbroken (breach_of s r) kept.first in
     let in_table : option_and_then (λ (x : Row). broken p.table.checks x.amounts (counted changes) (map (changes_to x) s.reservations)) (row_named s.rows name) ≡ None =
@@ -239,8 +237,7 @@ reserve_stands s session text key changes is accepted =
       planned = same_plan s text (plan.Reserve key changes) p is;
       row = row.0;
       found = row.1;
-      room = below MAX_RESERVATIONS (length (own session s.reservations)) (failed (nat_le MAX_RESERVATIONS (length (own session s.reservations))) refusal.TooManyReservations room.first);
-      more_ids = not_above MAX_ID s.next_id (failed (nat_lt MAX_ID s.next_id) refusal.NoMoreIds ids.first);
+      free = is_free session (open_in s) free.first;
       safe = subst (λ (o : Option Row). option_and_then (λ (x : Row). broken p.table.checks x.amounts (counted changes) (map (changes_to x) s.reservations)) o ≡ None) row.1 in_table;
     }
 

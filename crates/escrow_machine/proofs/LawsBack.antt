@@ -1,13 +1,12 @@
 -- Going back to a savepoint: at once, and what would be granted before it.
-use Rattle.std.specs.Prelude.{◌≡◌, ℕ, ℤ, ◌<◌, ◌≤◌, ◌==◌, Bool, false, not, is_none, nat_le, nat_lt, option_map, unwrap_or, Option, Some, None, List, [], ◌∷◌, length, map, filter}
+use Rattle.std.specs.Prelude.{◌≡◌, ℕ, ℤ, ◌<◌, ◌==◌, Bool, false, not, is_none, nat_le, option_map, unwrap_or, Option, Some, None, List, [], ◌∷◌, length, map, filter}
 use Rattle.std.specs.List.{AllByRecursion}
 use Rattle.std.proofs.Common.{refl, sym, ap, ap₂, ◌∙◌, subst, arith}
-use Rattle.std.proofs.lemmas.Bool.{and_right, not_from_false, false_from_ne_true, leb-true, ltb-true}
+use Rattle.std.proofs.lemmas.Bool.{and_right, not_from_false, false_from_ne_true, leb-true}
 use Rattle.escrow_num.specs.declared.refusal.Refusal.{Refusal}
 use Rattle.escrow_num.specs.declared.refusal.Refusal.TheVariants as refusal
 use Rattle.escrow_num.specs.declared.reservation.Reservation.{Reservation}
 use Rattle.escrow_num.specs.declared.reservation.Savepoint.{Savepoint}
-use Rattle.escrow_num.specs.declared.reservation.TheConstants.Reservation.{MAX_ID}
 use Rattle.escrow_num.specs.declared.row.Row.{Row}
 use Rattle.escrow_num.specs.declared.value.Value.{Value}
 use Rattle.escrow_num.specs.Refusal.{refuse_if, first_refusal}
@@ -29,10 +28,10 @@ use Rattle.escrow_machine.specs.declared.reply.Reply.TheVariants as reply
 use Rattle.escrow_machine.specs.Asked.{plan_of, plan_refusal_of, row_name, reservation_from, breach_of}
 use Rattle.escrow_machine.specs.Laws.{BackAtOnceChangesNothing, BackRefusesNothing}
 use Rattle.escrow_machine.specs.Accepted.{IsAccepted}
-use Rattle.escrow_machine.specs.State.{State}
+use Rattle.escrow_machine.specs.State.{State, open_in}
 use Rattle.escrow_machine.specs.Rows.{changes_to}
 use Rattle.escrow_machine.specs.Step.{step}
-use Rattle.escrow_machine.specs.Turn.{turn_of, after_savepoint, returned_to, after_rollback_to, update_refusals, update_reply}
+use Rattle.escrow_machine.specs.Turn.{turn_of, after_savepoint, after_rollback_to, update_refusals, update_reply}
 use Rattle.escrow_machine.specs.Valid.{IsValid, IsReservationIn}
 use Rattle.escrow_machine.proofs.Accepted.{reserve_stands}
 use Rattle.escrow_machine.proofs.Choices.{IsChoice, choice_filter, choice_map}
@@ -41,9 +40,10 @@ use Rattle.escrow_machine.proofs.Granted.{fewer_grant}
 use Rattle.escrow_machine.proofs.LawsGrants.{choice_of_image, granted_none, granted_plan}
 use Rattle.escrow_machine.proofs.LawsSteps.{step_has}
 use Rattle.escrow_machine.proofs.Lengths.{length-filter_filter}
+use Rattle.escrow_journal.proofs.Free.{unrefused}
 use Rattle.escrow_machine.proofs.Refusals.{passed}
 use Rattle.escrow_machine.proofs.SavepointNames.{none_named, found_put, through_put}
-use Rattle.escrow_machine.proofs.ValidEnds.{back_has}
+use Rattle.escrow_machine.proofs.ValidEnds.{returned_to, back_has}
 
 -- the step of a ROLLBACK TO a savepoint that there is
 pub back_step : (s : State) (session : ℕ) (name : List ℕ) (p : Savepoint) → savepoint_of session name s.savepoints ≡ Some p
@@ -123,26 +123,16 @@ late_beside : (s : State) (keep : Reservation → Bool) (savepoints : List Savep
 late_beside s keep savepoints session text key changes is accepted =
     let stands = reserve_stands s session text key changes is accepted in
     let name = row_name text.table key in
-    let count = length (own session (filter keep s.reservations)) in
-    let room : count < MAX_RESERVATIONS = fewer_own stands.room in
-    let unbroken : breach_of (fewer s keep savepoints) (reservation_from s session name changes) ≡ None =
+    let left = fewer s keep savepoints in
+    let unbroken : breach_of left (reservation_from s session name changes) ≡ None =
     rw (stands.named, stands.found) (fewer_break keep s.reservations stands.table stands.row (counted changes) stands.safe) in (
       rw stands.found refl,
       (
-        ap (λ (b : Bool). refuse_if b refusal.TooManyReservations) (below_limit MAX_RESERVATIONS count room),
-        (
-          ap (λ (b : Bool). refuse_if b refusal.NoMoreIds) (up_to_limit MAX_ID s.next_id stands.more_ids),
-          (ap (option_map refusal.Check) unbroken, tt),
-        ),
+        unrefused session (open_in left) (record { room = fewer_own stands.free.room; more_ids = stands.free.more_ids }),
+        (ap (option_map refusal.Check) unbroken, tt),
       ),
     )
   where
-    below_limit : (limit n : ℕ) → n < limit → nat_le limit n ≡ false
-    below_limit limit n lower = false_from_ne_true (nat_le limit n) (λ t. let up_to = leb-true limit n t in absurd (omega arith))
-
-    up_to_limit : (limit n : ℕ) → n ≤ limit → nat_lt limit n ≡ false
-    up_to_limit limit n up_to = false_from_ne_true (nat_lt limit n) (λ t. let lower = ltb-true limit n t in absurd (omega arith))
-
     fewer_own : length (own session s.reservations) < MAX_RESERVATIONS → length (own session (filter keep s.reservations)) < MAX_RESERVATIONS
     fewer_own room = let few = length-filter_filter (λ (r : Reservation). r.session == session) keep s.reservations in omega arith
 

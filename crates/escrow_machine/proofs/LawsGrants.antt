@@ -1,5 +1,5 @@
 -- What an UPDATE that is granted, or refused by a check, says of the choices of the open reservations.
-use Rattle.std.specs.Prelude.{◌≡◌, ℕ, ℤ, ◌==◌, true, not, nat_le, nat_lt, is_none, option_map, option_and_then, unwrap_or, List, [], ◌∷◌, ◌++◌, map, length, Contains, Option, Some, None}
+use Rattle.std.specs.Prelude.{◌≡◌, ℕ, ℤ, ◌==◌, true, not, is_none, option_map, option_and_then, unwrap_or, List, [], ◌∷◌, ◌++◌, map, Contains, Option, Some, None}
 use Rattle.std.specs.List.{AllByRecursion}
 use Rattle.std.proofs.Common.{inl, inr, refl, sym, ap, ◌∙◌, subst}
 use Rattle.std.proofs.lemmas.List.{map_push}
@@ -27,15 +27,14 @@ use Rattle.escrow_schema.specs.declared.plan.Plan.{Plan}
 use Rattle.escrow_schema.specs.declared.plan.Plan.TheVariants as plan
 use Rattle.escrow_schema.specs.declared.table.TableDef.{TableDef}
 use Rattle.escrow_schema.specs.Catalog.{table_named}
-use Rattle.escrow_num.specs.declared.reservation.TheConstants.Reservation.{MAX_ID}
-use Rattle.escrow_journal.specs.declared.journal.TheConstants.Journal.{MAX_RESERVATIONS}
 use Rattle.escrow_machine.specs.declared.reply.Reply.{Reply}
 use Rattle.escrow_machine.specs.declared.reply.Reply.TheVariants as reply
 use Rattle.escrow_machine.specs.Laws.{IsAsked, MeetsWith, IsReachedBreach}
-use Rattle.escrow_journal.specs.Reservations.{own, others}
+use Rattle.escrow_journal.specs.Open.{grant_refusal}
+use Rattle.escrow_journal.specs.Reservations.{others}
 use Rattle.escrow_machine.specs.Accepted.{IsAccepted}
 use Rattle.escrow_machine.specs.Asked.{plan_of, plan_refusal_of, reservation_from, row_name, reserved_by, reservation_of, breach_of}
-use Rattle.escrow_machine.specs.State.{State, is_open}
+use Rattle.escrow_machine.specs.State.{State, open_in, is_open}
 use Rattle.escrow_machine.specs.Rows.{row_named, changes_to, row_after}
 use Rattle.escrow_machine.specs.Step.{refusals, step}
 use Rattle.escrow_machine.specs.Turn.{turn_of, update_refusals, update_reply}
@@ -46,6 +45,7 @@ use Rattle.escrow_machine.proofs.Choices.{IsChoice, all_choices, choices_all, ch
 use Rattle.escrow_machine.proofs.Granted.{granted_meets}
 use Rattle.escrow_num.proofs.Items.{Has, has_all, find_has}
 use Rattle.escrow_machine.proofs.LawsSteps.{step_has}
+use Rattle.escrow_journal.proofs.Free.{grant_among}
 use Rattle.escrow_machine.proofs.Refusals.{if_among, passed_over}
 use Rattle.escrow_machine.proofs.Plans.{plan_among}
 use Rattle.escrow_machine.proofs.Turns.{is_turn}
@@ -175,15 +175,13 @@ late_breach s session text (Some (plan.Reserve key changes)) breach first =
     let P : Refusal → Type 0 = λ other. ¬ (other ≡ refusal.Check breach) in
     let name = row_name text.table key in
     let no_row = refuse_if (is_none (row_named s.rows name)) refusal.NoSuchRow in
-    let many = refuse_if (nat_le MAX_RESERVATIONS (length (own session s.reservations))) refusal.TooManyReservations in
-    let no_ids = refuse_if (nat_lt MAX_ID s.next_id) refusal.NoMoreIds in
+    let not_free = grant_refusal session (open_in s) in
     let o = breach_of s (reservation_from s session name changes) in
     let last = option_map refusal.Check o in
     let here = refusal.Check breach in
-    let past_row = passed_over no_row (many ∷ no_ids ∷ last ∷ []) here (if_among P _ _ (λ q. absurd (cc))) first in
-    let past_room = passed_over many (no_ids ∷ last ∷ []) here (if_among P _ _ (λ q. absurd (cc))) past_row in
-    let past_ids = passed_over no_ids (last ∷ []) here (if_among P _ _ (λ q. absurd (cc))) past_room in
-    last_breach o breach past_ids
+    let past_row = passed_over no_row (not_free ∷ last ∷ []) here (if_among P _ _ (λ q. absurd (cc))) first in
+    let past_free = passed_over not_free (last ∷ []) here (grant_among P session (open_in s) (λ q. absurd (cc)) (λ q. absurd (cc))) past_row in
+    last_breach o breach past_free
 late_breach s session text (Some (plan.Plain key values)) breach first =
     let P : Refusal → Type 0 = λ other. ¬ (other ≡ refusal.Check breach) in
     let is_open = refuse_if (is_open session s) refusal.TransactionOpen in

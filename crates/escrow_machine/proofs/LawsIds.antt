@@ -25,13 +25,14 @@ use Rattle.escrow_machine.specs.Laws.{BackDropsWhatCameAfter, IdsAreUsedOnce, Id
 use Rattle.escrow_machine.specs.Reply.{failure_of}
 use Rattle.escrow_machine.specs.State.{State}
 use Rattle.escrow_machine.specs.Step.{step, may_fail, IsStep, IsRun, StepOrRefusal}
-use Rattle.escrow_machine.specs.Turn.{turn_of, after_savepoint, returned_to}
+use Rattle.escrow_machine.specs.Turn.{turn_of, after_savepoint}
 use Rattle.escrow_machine.specs.Valid.{IsValid, IsReservationIn, IsSavepointIn}
 use Rattle.escrow_machine.proofs.Filters.{filter_none, filter_within, filters_commute}
 use Rattle.escrow_machine.proofs.LawsBack.{back_step, made_in}
 use Rattle.escrow_machine.proofs.LawsGrants.{has_contains}
 use Rattle.escrow_machine.proofs.LawsShown.{contains_has}
 use Rattle.escrow_machine.proofs.LawsSteps.{ids_never_fall, reserved_takes_the_next_id, step_has}
+use Rattle.escrow_machine.proofs.ValidEnds.{returned_to}
 use Rattle.escrow_machine.proofs.SavepointNames.{named_is}
 use Rattle.escrow_machine.proofs.Savepoints.{before_parts, sessions_rise}
 

@@ -13,6 +13,7 @@ use Rattle.escrow_sql.specs.declared.statement.Statement.TheVariants as statemen
 use Rattle.escrow_sql.specs.declared.statement.UpdateText.{UpdateText}
 use Rattle.escrow_schema.specs.declared.plan.Plan.{Plan}
 use Rattle.escrow_schema.specs.declared.plan.Plan.TheVariants as plan
+use Rattle.escrow_journal.specs.Open as journal
 use Rattle.escrow_journal.specs.Reservations.{own, others, other_savepoints}
 use Rattle.escrow_journal.specs.Savepoints.{is_named, savepoint_of, without_savepoint, through, is_after, not_after}
 use Rattle.escrow_machine.specs.declared.event.Event.{Event}
@@ -24,9 +25,9 @@ use Rattle.escrow_machine.specs.Asked.{plan_of}
 use Rattle.escrow_machine.specs.Event.{HasSession}
 use Rattle.escrow_machine.specs.Laws.{BackLeavesWhatWas, MakesNone}
 use Rattle.escrow_machine.specs.Reply.{failure_of}
-use Rattle.escrow_machine.specs.State.{State}
+use Rattle.escrow_machine.specs.State.{State, open_in, with_open}
 use Rattle.escrow_machine.specs.Step.{step, may_fail, IsServed, IsStep, IsRun}
-use Rattle.escrow_machine.specs.Turn.{turn_of, after_update, after_commit, after_rollback, after_savepoint, returned_to}
+use Rattle.escrow_machine.specs.Turn.{turn_of, after_update, after_commit, after_rollback, after_savepoint}
 use Rattle.escrow_machine.specs.Valid.{IsValid, IsSavepointIn}
 use Rattle.escrow_machine.proofs.Filters.{filters_commute, filter_within, filter_within_items, filter_none}
 use Rattle.escrow_machine.proofs.Kept.{find_filter}
@@ -34,6 +35,7 @@ use Rattle.escrow_machine.proofs.LawsBack.{back_step, made_in, made_found, all_s
 use Rattle.escrow_machine.proofs.LawsSteps.{step_has, event_keeps_valid, restart_keeps_valid}
 use Rattle.escrow_machine.proofs.SavepointNames.{IsBehind, named_is, found_beside, found_of_other, found_of_own, found_through_other, found_through_own}
 use Rattle.escrow_machine.proofs.Accepted.{savepoint_room}
+use Rattle.escrow_machine.proofs.ValidEnds.{returned_to}
 use Rattle.escrow_machine.proofs.ValidSavepoint.{savepoint_valid}
 
 -- THE RESERVATIONS BEFORE A SAVEPOINT
@@ -164,7 +166,7 @@ kept_by_back_to p q s valid found =
         ]
 
 kept_by_back : (p : Savepoint) (s : State) (session : ℕ) (name : List ℕ) (o : Option Savepoint) → IsValid s → savepoint_of session name s.savepoints ≡ o
-    → Keeps p s (unwrap_or (option_map (returned_to s) o) s)
+    → Keeps p s (with_open s (unwrap_or (option_map (journal.returned_to (open_in s)) o) (open_in s)))
 kept_by_back p s session name None valid found = inr (refl, λ _. refl)
 kept_by_back p s session name (Some q) valid found =
     let named = named_is session name q (find_has (is_named session name) s.savepoints q found).1 in

@@ -4,11 +4,11 @@ use Rattle.std.proofs.Common.{refl, le_refl}
 use Rattle.escrow_sql.specs.declared.statement.Statement.TheVariants as statement
 use Rattle.escrow_machine.specs.Laws.{ShowsJust}
 use Rattle.escrow_machine.specs.State.{State}
-use Rattle.escrow_machine.specs.Turn.{turn_of, after_savepoint, returned_to}
+use Rattle.escrow_machine.specs.Turn.{turn_of, after_savepoint}
 use Rattle.escrow_machine.proofs.Accepted.{savepoint_room}
 use Rattle.escrow_machine.proofs.Queries.{shows_just}
 use Rattle.escrow_machine.proofs.Refusals.{if_among}
-use Rattle.escrow_machine.proofs.ValidEnds.{back_has, back_valid}
+use Rattle.escrow_machine.proofs.ValidEnds.{returned_to, back_has, back_valid}
 use Rattle.escrow_machine.proofs.ValidSavepoint.{savepoint_valid}
 use Rattle.escrow_machine.proofs.TurnWords.{IsJudged, IsTurn}
 

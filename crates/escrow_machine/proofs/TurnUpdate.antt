@@ -14,11 +14,12 @@ use Rattle.escrow_schema.specs.Catalog.{table_named}
 use Rattle.escrow_machine.specs.declared.reply.Reply.TheVariants as reply
 use Rattle.escrow_machine.specs.Asked.{plan_of, plan_refusal_of, row_name, reservation_from, breach_of}
 use Rattle.escrow_machine.specs.Accepted.{IsAccepted}
-use Rattle.escrow_machine.specs.State.{State}
+use Rattle.escrow_machine.specs.State.{State, open_in}
 use Rattle.escrow_machine.specs.Rows.{with_plain}
 use Rattle.escrow_machine.specs.Step.{refusals}
-use Rattle.escrow_machine.specs.Turn.{Turn, turn_of, granted, update_refusals, update_reply, after_update}
+use Rattle.escrow_machine.specs.Turn.{Turn, turn_of, update_refusals, update_reply, after_update}
 use Rattle.escrow_machine.specs.Valid.{IsValid}
+use Rattle.escrow_journal.proofs.Free.{grant_among}
 use Rattle.escrow_machine.proofs.Accepted.{plan_there, reserve_stands, plain_stands}
 use Rattle.escrow_machine.proofs.Plans.{plan_among}
 use Rattle.escrow_machine.proofs.Queries.{shows_just}
@@ -40,11 +41,11 @@ update_by s session text o = record {
 -- a reservation that is granted leaves the state valid
 pub reserved_valid : (s : State) (session : ℕ) (text : UpdateText) (key : Value) (changes : List (Option ℤ)) → IsValid s → IsSession session
     → plan_of s text ≡ Some (plan.Reserve key changes) → IsAccepted s session (statement.Update text)
-    → IsValid (granted s (reservation_from s session (row_name text.table key) changes))
+    → IsValid (after_update s session text.table (plan.Reserve key changes))
 reserved_valid s session text key changes valid of_session is accepted =
     let stands = reserve_stands s session text key changes is accepted in
-    update_valid s stands.table stands.row (reservation_from s session (row_name text.table key) changes) valid stands.named stands.found of_session refl stands.more_ids
-    (plans_of_whole_row stands.table text key changes stands.planned) stands.room stands.safe
+    update_valid s stands.table stands.row (reservation_from s session (row_name text.table key) changes) valid stands.named stands.found of_session refl stands.free.more_ids
+    (plans_of_whole_row stands.table text key changes stands.planned) stands.free.room stands.safe
 
 -- and so do plain values that are replaced
 pub replaced_valid : (s : State) (session : ℕ) (text : UpdateText) (key : Value) (values : List (Option Value)) → IsValid s
@@ -85,8 +86,8 @@ update_turn_by s session text (Some (plan.Reserve key changes)) is accepts = rec
       (
         if_among IsJudged _ _ refl,
         (
-          if_among IsJudged _ _ refl,
-          (if_among IsJudged _ _ refl, (check_among IsJudged (breach_of s (reservation_from s session (row_name text.table key) changes)) (λ _. refl), tt)),
+          grant_among IsJudged session (open_in s) refl refl,
+          (check_among IsJudged (breach_of s (reservation_from s session (row_name text.table key) changes)) (λ _. refl), tt),
         ),
       ),
     ),
@@ -94,14 +95,11 @@ update_turn_by s session text (Some (plan.Reserve key changes)) is accepts = rec
   late = (
     if_among (NeedsMore (statement.Update text)) _ _ refl,
     (
-      if_among (NeedsMore (statement.Update text)) _ _ refl,
-      (
-        if_among (NeedsMore (statement.Update text)) _ _ refl,
-        (check_among (NeedsMore (statement.Update text)) (breach_of s (reservation_from s session (row_name text.table key) changes)) (λ _. refl), tt),
-      ),
+      grant_among (NeedsMore (statement.Update text)) session (open_in s) refl refl,
+      (check_among (NeedsMore (statement.Update text)) (breach_of s (reservation_from s session (row_name text.table key) changes)) (λ _. refl), tt),
     ),
   );
-  seen = λ _. (plan.Reserve key changes, is, shows_just (granted s (reservation_from s session (row_name text.table key) changes)) s.catalog s.rows refl refl);
+  seen = λ _. (plan.Reserve key changes, is, shows_just (after_update s session text.table (plan.Reserve key changes)) s.catalog s.rows refl refl);
   ids = λ _. more s.next_id;
   next = λ _ id answered. let same : id ≡ s.next_id = cc in (same, refl);
   valid = λ accepted valid of_session. reserved_valid s session text key changes valid of_session is (accepts accepted);

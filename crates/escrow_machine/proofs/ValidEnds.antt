@@ -14,11 +14,12 @@ use Rattle.escrow_checks.proofs.FormLemmas.{length-all_changed}
 use Rattle.escrow_schema.specs.declared.table.TheConstants.TableDef.{MAX_ROWS}
 use Rattle.escrow_num.specs.Ascending.{IsAscending}
 use Rattle.escrow_journal.specs.declared.journal.TheConstants.Journal.{MAX_SAVEPOINTS}
+use Rattle.escrow_journal.specs.Open as journal
 use Rattle.escrow_journal.specs.Reservations.{own, others, own_savepoints, other_savepoints, reservation_before, savepoint_before}
 use Rattle.escrow_journal.specs.Savepoints.{savepoint_of, through, is_after}
-use Rattle.escrow_machine.specs.State.{State}
+use Rattle.escrow_machine.specs.State.{State, open_in, with_open}
 use Rattle.escrow_machine.specs.Rows.{row_named, changes_to, row_after, applied, HasTable, MeetsChecks, row_before}
-use Rattle.escrow_machine.specs.Turn.{after_commit, after_rollback, returned_to, after_rollback_to}
+use Rattle.escrow_machine.specs.Turn.{after_commit, after_rollback, after_rollback_to}
 use Rattle.escrow_machine.specs.Valid.{IsValid, IsOrderly, AreSafeRows, IsReservationIn, IsSavepointIn, HasRow}
 use Rattle.escrow_num.proofs.Items.{Has, all_has, has_all, has_filter, has_map, all_filter}
 use Rattle.escrow_machine.proofs.Choices.{IsChoice, all_choices, choices_all, choice_filter, map_all}
@@ -78,6 +79,10 @@ rollback_valid s session valid = record {
   safe_rows = fewer_safe s (λ r. not (r.session == session)) valid;
 }
 
+-- a state returned to a savepoint
+abbrev pub returned_to : State → Savepoint → State
+returned_to s p = with_open s (journal.returned_to (open_in s) p)
+
 -- ROLLBACK TO too
 returned_orderly : (s : State) (p : Savepoint) → IsOrderly s.catalog s.reservations s.savepoints s.next_id
     → let after = returned_to s p in IsOrderly after.catalog after.reservations after.savepoints after.next_id
@@ -96,7 +101,7 @@ returned_valid s p valid = record {
 }
 
 -- what holds of a state and of it returned to each savepoint holds after a ROLLBACK TO
-returned_has : (P : State → Type 0) (s : State) (o : Option Savepoint) → P s → ((p : Savepoint) → P (returned_to s p)) → P (unwrap_or (option_map (returned_to s) o) s)
+returned_has : (P : State → Type 0) (s : State) (o : Option Savepoint) → P s → ((p : Savepoint) → P (returned_to s p)) → P (with_open s (unwrap_or (option_map (journal.returned_to (open_in s)) o) (open_in s)))
 returned_has P s None same returned = same
 returned_has P s (Some p) same returned = returned p
 

@@ -22,7 +22,6 @@ use Rattle.escrow_journal.specs.declared.journal.TheConstants.Journal.{MAX_RESER
 use Rattle.escrow_journal.specs.Reservations.{own, reservation_before}
 use Rattle.escrow_machine.specs.State.{State}
 use Rattle.escrow_machine.specs.Rows.{row_named, changes_to, row_after, applied, MeetsChecks}
-use Rattle.escrow_machine.specs.Turn.{granted}
 use Rattle.escrow_machine.specs.Valid.{IsValid, IsOrderly, IsReservationIn, IsSavepointIn, HasRow}
 use Rattle.escrow_num.proofs.Items.{Has, all_has, has_all, has_push, find_has}
 use Rattle.escrow_machine.proofs.Choices.{IsChoice, all_choices, choices_all, choice_push, choice_map}
@@ -135,13 +134,17 @@ granted_orderly s table r orderly named of_session next more_ids long room =
       last_id = omega arith;
     }
 
+-- the state with one more reservation, which takes the next id
+abbrev with_reservation : State → Reservation → State
+with_reservation s r = record s { reservations = s.reservations ++ r ∷ []; next_id = s.next_id + 1 }
+
 -- a granted reservation keeps a valid state valid
 pub update_valid : (s : State) (table : TableDef) (row : Row) (r : Reservation) → IsValid s
     → table_named s.catalog r.row.table ≡ Some table → row_named s.rows r.row ≡ Some row
     → IsSession r.session → r.id ≡ s.next_id → s.next_id ≤ MAX_ID
     → length r.changes ≡ length (reservables table.columns) → length (own r.session s.reservations) < MAX_RESERVATIONS
     → broken table.checks row.amounts (counted r.changes) (map (changes_to row) s.reservations) ≡ None
-    → IsValid (granted s r)
+    → IsValid (with_reservation s r)
 update_valid s table row r valid named found of_session next more_ids long room safe =
     let Safe : List Reservation → Type 0 = λ c. AllByRecursion (MeetsChecks s.catalog) (applied s.rows c) in
     let stands : HasRow s.rows r = subst (λ (o : Option Row). IsSome o) (sym found) refl in

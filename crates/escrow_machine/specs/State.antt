@@ -1,5 +1,5 @@
 -- Believed: the state of a database, and what is read from it.
-use Rattle.std.specs.Prelude.{ℕ, Bool, ◌||◌, nat_lt, List, [], length, bytes_eq}
+use Rattle.std.specs.Prelude.{ℕ, Bool, List, [], bytes_eq}
 use Rattle.std.specs.List.{list_any}
 use Rattle.escrow_num.specs.declared.value.RowName.{RowName}
 use Rattle.escrow_num.specs.declared.row.Row.{Row}
@@ -7,7 +7,8 @@ use Rattle.escrow_num.specs.declared.reservation.Reservation.{Reservation}
 use Rattle.escrow_num.specs.declared.reservation.Savepoint.{Savepoint}
 use Rattle.escrow_num.specs.Order.{same_row}
 use Rattle.escrow_schema.specs.declared.table.TableDef.{TableDef}
-use Rattle.escrow_journal.specs.Reservations.{own, own_savepoints}
+use Rattle.escrow_journal.specs.Open.{Open}
+use Rattle.escrow_journal.specs.Open as journal
 
 -- The state of a database: the catalog in order of the tables' names; the committed rows in order of
 -- table and key; ONE list of the open reservations of all sessions, in order of grant; the savepoints
@@ -28,9 +29,17 @@ opened catalog rows = record { catalog = catalog; rows = rows; reservations = []
 abbrev pub empty : State
 empty = opened [] []
 
--- a session's transaction is open: it holds a reservation or a savepoint
+-- what is open in a state
+abbrev pub open_in : State → Open
+open_in s = record { reservations = s.reservations; savepoints = s.savepoints; next_id = s.next_id }
+
+-- the state with this open in it
+abbrev pub with_open : State → Open → State
+with_open s o = record s { reservations = o.reservations; savepoints = o.savepoints; next_id = o.next_id }
+
+-- a session's transaction is open in a state
 abbrev pub is_open : ℕ → State → Bool
-is_open session s = nat_lt 0 (length (own session s.reservations)) || nat_lt 0 (length (own_savepoints session s.savepoints))
+is_open session s = journal.is_open session (open_in s)
 
 -- an open reservation, of any session, is of the row
 abbrev pub is_reserved : State → RowName → Bool

@@ -1,31 +1,28 @@
 -- Believed: the table of statements.
-use Rattle.std.specs.Prelude.{ℕ, ◌+◌, nat_lt, nat_le, Option, is_some, is_none, option_map, option_and_then, unwrap_or, List, [], ◌∷◌, ◌++◌, length}
+use Rattle.std.specs.Prelude.{ℕ, nat_le, Option, is_some, is_none, option_map, option_and_then, unwrap_or, List, [], ◌∷◌, length}
 use Rattle.escrow_num.specs.declared.refusal.Refusal.{Refusal}
 use Rattle.escrow_num.specs.declared.refusal.Refusal.TheVariants as refusal
-use Rattle.escrow_num.specs.declared.reservation.Reservation.{Reservation}
-use Rattle.escrow_num.specs.declared.reservation.Savepoint.{Savepoint}
-use Rattle.escrow_num.specs.declared.reservation.TheConstants.Reservation.{MAX_ID}
 use Rattle.escrow_num.specs.Refusal.{refuse_if}
 use Rattle.escrow_sql.specs.declared.statement.Statement.{Statement}
 use Rattle.escrow_sql.specs.declared.statement.Statement.TheVariants as statement
 use Rattle.escrow_sql.specs.declared.statement.CreateText.{CreateText}
 use Rattle.escrow_sql.specs.declared.statement.InsertText.{InsertText}
 use Rattle.escrow_sql.specs.declared.statement.RowText.{RowText}
-use Rattle.escrow_journal.specs.Reservations.{own, others, own_savepoints, other_savepoints}
-use Rattle.escrow_journal.specs.Savepoints.{savepoint_of, without_savepoint, put_savepoint, through, after, not_after}
+use Rattle.escrow_journal.specs.Open.{grant_refusal, granted, savepoint_refusal, saved, released, cut_back, ended}
+use Rattle.escrow_journal.specs.Reservations.{own}
+use Rattle.escrow_journal.specs.Savepoints.{savepoint_of}
 use Rattle.escrow_schema.specs.declared.catalog.TheConstants.Catalog.{MAX_TABLES}
 use Rattle.escrow_schema.specs.declared.plan.Plan.{Plan}
 use Rattle.escrow_schema.specs.declared.plan.Plan.TheVariants as plan
 use Rattle.escrow_schema.specs.Catalog.{table_named, with_table, without_table}
 use Rattle.escrow_schema.specs.Definition.{definition_of}
 use Rattle.escrow_schema.specs.declared.table.TheConstants.TableDef.{MAX_ROWS}
-use Rattle.escrow_journal.specs.declared.journal.TheConstants.Journal.{MAX_RESERVATIONS, MAX_SAVEPOINTS}
 use Rattle.escrow_machine.specs.declared.reply.Reply.{Reply}
 use Rattle.escrow_machine.specs.declared.reply.Reply.TheVariants as reply
 use Rattle.escrow_machine.specs.Asked.{row_of, insert_breach, plan_of, plan_refusal_of, row_name, reservation_from, breach_of, named_by, key_refusal_of, select_refusal_of, select_reply, show_reply}
 use Rattle.escrow_machine.specs.Bounds.{bounds_reply}
 use Rattle.escrow_machine.specs.Journal.{journal_reply}
-use Rattle.escrow_machine.specs.State.{State, is_open, is_reserved, is_table_reserved}
+use Rattle.escrow_machine.specs.State.{State, open_in, with_open, is_open, is_reserved, is_table_reserved}
 use Rattle.escrow_machine.specs.Rows.{row_named, rows_of, applied, with_row, without_row, without_rows_of, with_plain}
 
 -- How the machine takes a statement of a session: its refusals in their order, first those that are
@@ -52,16 +49,11 @@ after_insert s text = record s { rows = unwrap_or (option_map (λ row. with_row 
 abbrev pub after_delete : State → RowText → State
 after_delete s text = record s { rows = without_row (named_by text.table text.row) s.rows }
 
--- the state with one more reservation, which is the last of the open ones and takes the next id
-abbrev pub granted : State → Reservation → State
-granted s r = record s { reservations = s.reservations ++ r ∷ []; next_id = s.next_id + 1 }
-
 -- the late refusals of an UPDATE, by its plan: to reserve changes, or to replace plain values
 abbrev pub update_refusals : State → ℕ → List ℕ → Plan → List (Option Refusal)
 update_refusals s session table (plan.Reserve key changes) =
     refuse_if (is_none (row_named s.rows (row_name table key))) refusal.NoSuchRow
-    ∷ refuse_if (nat_le MAX_RESERVATIONS (length (own session s.reservations))) refusal.TooManyReservations
-    ∷ refuse_if (nat_lt MAX_ID s.next_id) refusal.NoMoreIds
+    ∷ grant_refusal session (open_in s)
     ∷ option_map refusal.Check (breach_of s (reservation_from s session (row_name table key) changes))
     ∷ []
 update_refusals s session table (plan.Plain key values) =
@@ -76,39 +68,24 @@ update_reply s (plan.Plain key values) = reply.Updated
 
 -- the state after an UPDATE, by its plan: with a reservation more, or with other plain values in the row
 abbrev pub after_update : State → ℕ → List ℕ → Plan → State
-after_update s session table (plan.Reserve key changes) = granted s (reservation_from s session (row_name table key) changes)
+after_update s session table (plan.Reserve key changes) = with_open s (granted session (row_name table key) changes (open_in s))
 after_update s session table (plan.Plain key values) = record s { rows = with_plain (row_name table key) values s.rows }
 
 -- the session's reservations are applied to the committed rows, and its transaction is over
 abbrev pub after_commit : State → ℕ → State
-after_commit s session = record s {
-  rows = applied s.rows (own session s.reservations);
-  reservations = others session s.reservations;
-  savepoints = other_savepoints session s.savepoints;
-}
+after_commit s session = record (with_open s (ended session (open_in s))) { rows = applied s.rows (own session s.reservations) }
 
 -- the session's reservations are dropped, and its transaction is over
 abbrev pub after_rollback : State → ℕ → State
-after_rollback s session = record s { reservations = others session s.reservations; savepoints = other_savepoints session s.savepoints }
+after_rollback s session = with_open s (ended session (open_in s))
 
--- the state with a savepoint of a session, the last of its own, in the place of an earlier one of that
--- name; it has the id that the next reservation takes
+-- the session has a savepoint of a name, the last of its own
 abbrev pub after_savepoint : State → ℕ → List ℕ → State
-after_savepoint s session name = record s {
-  savepoints = put_savepoint (record { session = session; name = name; id = s.next_id }) (without_savepoint session name s.savepoints);
-}
-
--- the reservations after a savepoint are dropped, and so are the savepoints that its session made after it
-abbrev pub returned_to : State → Savepoint → State
-returned_to s p = record s { reservations = not_after p s.reservations; savepoints = through p.session p.name s.savepoints }
+after_savepoint s session name = with_open s (saved session name (open_in s))
 
 -- the session has gone back to its savepoint of a name
 abbrev pub after_rollback_to : State → ℕ → List ℕ → State
-after_rollback_to s session name = unwrap_or (option_map (returned_to s) (savepoint_of session name s.savepoints)) s
-
--- how many reservations came after the session's savepoint of a name, if there is one
-abbrev pub released : State → ℕ → List ℕ → Option ℕ
-released s session name = option_map (λ p. length (after p s.reservations)) (savepoint_of session name s.savepoints)
+after_rollback_to s session name = with_open s (cut_back session name (open_in s))
 
 -- THE TABLE OF STATEMENTS: the turn of each
 unfoldable pub turn_of : State → ℕ → Statement → Turn
@@ -195,7 +172,7 @@ turn_of s session (statement.ShowJournal table) = record {
   next = s;
 }
 turn_of s session (statement.Savepoint name) = record {
-  early = refuse_if (nat_le MAX_SAVEPOINTS (length (own_savepoints session (without_savepoint session name s.savepoints)))) refusal.TooManySavepoints
+  early = savepoint_refusal session name (open_in s)
       ∷ [];
   late = [];
   reply = reply.Savepoint name;
@@ -217,6 +194,6 @@ turn_of s session (statement.RollbackTo name) = record {
   early = refuse_if (is_none (savepoint_of session name s.savepoints)) refusal.NoSuchSavepoint
       ∷ [];
   late = [];
-  reply = reply.RolledBackTo name (unwrap_or (released s session name) 0);
+  reply = reply.RolledBackTo name (unwrap_or (released session name (open_in s)) 0);
   next = after_rollback_to s session name;
 }

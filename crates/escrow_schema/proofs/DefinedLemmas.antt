@@ -15,7 +15,7 @@ use Rattle.escrow_schema.specs.declared.column.Column.{Column}
 use Rattle.escrow_schema.specs.declared.table.TableDef.{TableDef}
 use Rattle.escrow_schema.specs.declared.table.TheConstants.TableDef.{MIN_COLUMNS, MAX_COLUMNS}
 use Rattle.escrow_schema.specs.Column.{is_numeric, reservables, names_of}
-use Rattle.escrow_schema.specs.Definition.{are_columns, are_distinct, check_names, checks_in, definition_of, is_plain_at, key_place, only_one, place_of, range_checks, table_of, table_with}
+use Rattle.escrow_schema.specs.Definition.{are_columns, are_distinct, check_names, checks_in, definition_of, is_plain_at, key_place, only_one, place_of_column, range_checks, table_of, table_with}
 use Rattle.escrow_schema.specs.Rules.{FollowsRules}
 use Rattle.escrow_schema.proofs.DistinctLemmas.{distinct_back, first_apart, same_name}
 use Rattle.escrow_schema.proofs.UnitLemmas.{at_apart}
@@ -29,7 +29,7 @@ earlier_apart (column ∷ columns) (suc i) zero d apart before within = at_apart
 earlier_apart (column ∷ columns) (suc i) (suc k) d apart before within =
     earlier_apart columns i k d (first_apart column.name (names_of columns) apart).1 (omega arith) (omega arith)
 
-place_found : (columns : List Column) (i : ℕ) (column : Column) → are_distinct (names_of columns) ≡ true → slice_get columns i ≡ Some column → place_of columns column.name ≡ Some i
+place_found : (columns : List Column) (i : ℕ) (column : Column) → are_distinct (names_of columns) ≡ true → slice_get columns i ≡ Some column → place_of_column columns column.name ≡ Some i
 place_found columns i column apart found =
     let within : i < length columns = slice_get_within columns i column found in
     let here : get_or columns i column ≡ column = get_or_from_slice_get columns i column column found in
@@ -76,6 +76,6 @@ pub defined : (text : CreateText) (table : TableDef) → FollowsRules text table
 defined text table h =
     let apart : are_distinct (names_of table.columns) ≡ true = distinct_back (names_of table.columns) h.distinct_columns in
     let key : key_place text.items table.columns ≡ Some table.key =
-    subst (λ (names : List (List ℕ)). option_and_then (place_of table.columns) (only_one names) ≡ Some table.key) (sym h.one_key) (place_found table.columns table.key h.key apart h.key_there) in
+    subst (λ (names : List (List ℕ)). option_and_then (place_of_column table.columns) (only_one names) ≡ Some table.key) (sym h.one_key) (place_found table.columns table.key h.key apart h.key_there) in
     subst (λ o. option_and_then (λ columns. option_and_then (table_of text columns) (key_place text.items columns)) o ≡ Some table) (sym h.columns)
     (subst (λ o. option_and_then (table_of text table.columns) o ≡ Some table) (sym key) (with_key text table h))

@@ -18,7 +18,7 @@ use Rattle.escrow_schema.specs.declared.column.Column.{Column}
 use Rattle.escrow_schema.specs.declared.table.TableDef.{TableDef}
 use Rattle.escrow_schema.specs.declared.table.TheConstants.TableDef.{MIN_COLUMNS, MAX_COLUMNS}
 use Rattle.escrow_schema.specs.Column.{is_numeric, reservables, names_of}
-use Rattle.escrow_schema.specs.Definition.{IsTable, check_names, checks_in, column_texts, columns_of, definition_of, are_columns, are_distinct, is_plain_at, key_names, key_place, only_one, place_of}
+use Rattle.escrow_schema.specs.Definition.{IsTable, check_names, checks_in, column_texts, columns_of, definition_of, are_columns, are_distinct, is_plain_at, key_names, key_place, only_one, place_of_column}
 use Rattle.escrow_schema.specs.Rules.{FollowsRules}
 use Rattle.escrow_schema.specs.Typed.{CanRange, TypedColumns}
 use Rattle.escrow_schema.proofs.ColumnsLemmas.{HasType, written_columns, reservables_distinct, reservables_written}
@@ -107,7 +107,7 @@ plain_column (Some column) e = (column, refl, not-true column.reservable e)
 pub key_written : (items : List Item) (columns : List Column) (key : ℕ) (column : Column) → key_place items columns ≡ Some key → slice_get columns key ≡ Some column
     → key_names items ≡ column.name ∷ []
 key_written items columns key column e found =
-    option_and_then_some (place_of columns) (only_one (key_names items)) key e
+    option_and_then_some (place_of_column columns) (only_one (key_names items)) key e
     (λ name one at.
     let there = (position-Some (λ (c : Column). bytes_eq c.name name) columns key column at).1 in
     let same : bytes_eq column.name name ≡ true = subst (λ (c : Column). bytes_eq c.name name ≡ true) (get_or_from_slice_get columns key column column found) there in

@@ -76,12 +76,12 @@ only_one (x ∷ []) = Some x
 only_one (x ∷ y ∷ xs) = None
 
 -- the place of the column of a name
-abbrev pub place_of : List Column → List ℕ → Option ℕ
-place_of columns name = position (λ column. bytes_eq column.name name) columns
+abbrev pub place_of_column : List Column → List ℕ → Option ℕ
+place_of_column columns name = position (λ column. bytes_eq column.name name) columns
 
 -- the place of the key: exactly one name is written as key, and a column has it
 abbrev pub key_place : List Item → List Column → Option ℕ
-key_place items columns = option_and_then (place_of columns) (only_one (key_names items))
+key_place items columns = option_and_then (place_of_column columns) (only_one (key_names items))
 
 -- the column that a text writes, where its type is one
 abbrev pub column_of : ColumnText → Option Column

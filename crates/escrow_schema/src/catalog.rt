@@ -1,8 +1,8 @@
-ghost use Rattle.std.specs.Prelude.{◌≡◌, ◌⊎◌, ◌↔◌, ◌≤◌, None, Some, Ok, Err, OnOk, OnErr, IfOk, IfErr, IfSome, IsErr, IsErrOf, length, insert, position, remove, option_copied, bytes_eq};
+ghost use Rattle.std.specs.Prelude.{◌≡◌, ◌⊎◌, ◌↔◌, ◌≤◌, None, Some, Ok, Err, OnOk, OnErr, IfOk, IfErr, IfSome, IsErr, IsErrOf, length, insert, position, remove, option_copied};
 ghost use Rattle.std.specs.Ordering.{nat_cmp, is_lt};
 ghost use Rattle.std.specs.Cmp.Lexicographic.{slice_cmp};
 ghost use Rattle.escrow_schema.specs.declared.table.TableDef.{TableDef};
-ghost use Rattle.escrow_schema.specs.Catalog.{table_named, with_table};
+ghost use Rattle.escrow_schema.specs.Catalog.{place_named, table_named, with_table};
 
 use crate::table::TableDef;
 use escrow_num::{Name, Refusal};
@@ -94,7 +94,7 @@ impl Catalog {
         ensures refused { IsErr result ↔ (table_named self.old name ≡ None) }
         ensures only { IfErr result (λ e. e ≡ Refusal.NoSuchTable) }
     {
-        match place_of(&self.tables, name) {
+        match place_named(&self.tables, name) {
             Some(place) => Ok(self.tables.remove(place)),
             None => Err(Refusal::NoSuchTable),
         }
@@ -109,8 +109,8 @@ fn find_table(catalog: &[TableDef], name: Name) -> Option<&TableDef>
 }
 
 /// The place of the table of a name.
-fn place_of(catalog: &[TableDef], name: Name) -> Option<usize>
-    ensures { result ≡ position (λ table. bytes_eq table.name name) catalog.now }
+fn place_named(catalog: &[TableDef], name: Name) -> Option<usize>
+    ensures { result ≡ place_named catalog.now name }
 {
     catalog.iter().position(|table| table.name == name)
 }

@@ -7,7 +7,9 @@ ghost use Rattle.escrow_schema.specs.Typed.{CanRange, TypedColumns};
 use crate::column::Column;
 use crate::items::{checks_in, columns_of, key_name};
 use crate::ranges::push_ranges;
-use crate::rules::{are_columns, are_distinct, check_names, names_of, place_of, reservables};
+use crate::rules::{
+    are_columns, are_distinct, check_names, names_of, place_of_column, reservables,
+};
 use crate::table::TableDef;
 use escrow_checks::{Check, CheckFault, is_written_name, normalise};
 use escrow_num::{Name, Refusal, Seq};
@@ -46,7 +48,7 @@ fn definition_of(alloc: Global, text: &CreateText) -> Result<Option<TableDef>, A
 fn key_place(items: &[Item], columns: &[Column]) -> Option<usize>
     ensures { result ≡ key_place items.now columns.now }
 {
-    place_of(columns, &key_name(items)?)
+    place_of_column(columns, &key_name(items)?)
 }
 
 /// The table of these columns and this key, or `None` where its name, they or the CHECKs break a

@@ -3,7 +3,7 @@ ghost use Rattle.std.specs.Prelude.{◌≡◌, ◌&&◌, IfOk, bytes_eq, positio
 ghost use Rattle.std.specs.List.{list_any, list_all};
 ghost use Rattle.escrow_checks.specs.WrittenName.{is_written_name};
 ghost use Rattle.escrow_schema.specs.Column.{is_numeric, reservables, names_of};
-ghost use Rattle.escrow_schema.specs.Definition.{are_columns, are_distinct, check_names, is_plain_at, place_of};
+ghost use Rattle.escrow_schema.specs.Definition.{are_columns, are_distinct, check_names, is_plain_at, place_of_column};
 
 use crate::column::Column;
 use crate::table::TableDef;
@@ -75,8 +75,8 @@ fn is_among(name: &Name, others: &[Name]) -> bool
 }
 
 /// The place of the column of a name.
-pub(crate) fn place_of(columns: &[Column], name: &Name) -> Option<usize>
-    ensures { result ≡ place_of columns.now name.now }
+pub(crate) fn place_of_column(columns: &[Column], name: &Name) -> Option<usize>
+    ensures { result ≡ place_of_column columns.now name.now }
 {
     columns.iter().position(|column| column.name == *name)
 }

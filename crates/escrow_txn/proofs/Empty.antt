@@ -7,7 +7,7 @@ use Rattle.escrow_num.specs.Session.{IsSession}
 use Rattle.escrow_num.specs.declared.session.TheConstants.Session.{MAX}
 use Rattle.escrow_journal.specs.Log.{Log, IsLog, empty_log}
 use Rattle.escrow_txn.specs.Joined.{AreEmpty, AreJournals, AreNumbered, IsBelow, by_id, opened}
-use Rattle.escrow_txn.specs.Open.{nothing_open}
+use Rattle.escrow_journal.specs.Open.{nothing_open}
 use Rattle.escrow_txn.proofs.Places.{all_append}
 use Rattle.escrow_txn.proofs.Sessions.{reservations_of, savepoints_of, open_with}
 

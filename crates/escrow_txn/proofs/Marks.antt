@@ -10,7 +10,7 @@ use Rattle.escrow_journal.specs.Reservations.{own_savepoints}
 use Rattle.escrow_journal.specs.Savepoints.{is_named, savepoint_of, without_savepoint, put_savepoint, through, is_after, after, not_after}
 use Rattle.escrow_journal.proofs.Filters.{filter_all}
 use Rattle.escrow_txn.specs.Joined.{by_id, opened}
-use Rattle.escrow_txn.specs.Open.{Open, saved, released, returned_to, cut_back}
+use Rattle.escrow_journal.specs.Open.{Open, saved, released, returned_to, cut_back}
 use Rattle.escrow_txn.proofs.Parts.{put_savepoint_is, through_is, all_as, filter_part}
 use Rattle.escrow_txn.proofs.Places.{IsAt}
 use Rattle.escrow_txn.proofs.Sessions.{reservations_of, savepoints_of, open_with, are_others, reservations_split, reservations_now, savepoints_split, savepoints_now, savepoints_kept, only_own, others_kept, savepoint_of_is}

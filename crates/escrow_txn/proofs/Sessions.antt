@@ -15,7 +15,7 @@ use Rattle.escrow_journal.specs.Reservations.{reservation_before, own, others, o
 use Rattle.escrow_journal.specs.Savepoints.{is_named, savepoint_of}
 use Rattle.escrow_journal.proofs.Filters.{filter_all}
 use Rattle.escrow_txn.specs.Joined.{by_id, opened, IsBelow}
-use Rattle.escrow_txn.specs.Open.{Open, granted, ended}
+use Rattle.escrow_journal.specs.Open.{Open, granted, ended}
 use Rattle.escrow_txn.proofs.ById.{by_id_rising, by_id_last, filter_by_id}
 use Rattle.escrow_txn.proofs.Parts.{filter_none, filter_part, filter_beside, find_part, all_as}
 use Rattle.escrow_txn.proofs.Places.{IsAt, all_append, all_flat, all_take, all_drop}

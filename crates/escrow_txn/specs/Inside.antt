@@ -1,7 +1,7 @@
 -- Helps: what the fields of a table of transactions hold.
 use Rattle.escrow_txn.specs.declared.table.TxnTable.TheInside.{Inside}
 use Rattle.escrow_txn.specs.Joined.{opened}
-use Rattle.escrow_txn.specs.Open.{Open}
+use Rattle.escrow_journal.specs.Open.{Open}
 
 -- what is open in the journals that the fields hold
 abbrev pub open_of : Inside → Open

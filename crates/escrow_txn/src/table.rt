@@ -23,7 +23,7 @@ pub struct TxnTable {
 impl Model for TxnTable {
     ghost use Rattle.escrow_txn.specs.Inside.{open_of};
     ghost use Rattle.escrow_txn.specs.Joined.{AreJournals};
-    ghost use Rattle.escrow_txn.specs.Open.{Open};
+    ghost use Rattle.escrow_journal.specs.Open.{Open};
 
     ghost Value = { Open };
 
@@ -35,7 +35,7 @@ impl Model for TxnTable {
 impl TxnTable {
     ghost use Rattle.std.specs.Prelude.{◌≡◌, ◌⊎◌, IfOk, IfErr, IfSome, IsErrOf, OnOk, OnErr, Err, Some, None, length, map};
     ghost use Rattle.escrow_journal.specs.Reservations.{own, own_savepoints};
-    ghost use Rattle.escrow_txn.specs.Open.{nothing_open, is_open, id_left, grant_refusal, granted, savepoint_refusal, saved, released, cut_back, ended};
+    ghost use Rattle.escrow_journal.specs.Open.{nothing_open, is_open, id_left, grant_refusal, granted, savepoint_refusal, saved, released, cut_back, ended};
 
     /// A table in which nothing is open and the next id is 1. Out of memory is the only error.
     pub fn new(alloc: Global) -> Result<Self, AllocError>
@@ -61,7 +61,7 @@ impl TxnTable {
         ensures reservations { result.now.reservations ≡ own session self.now.reservations }
         ensures savepoints { result.now.savepoints ≡ own_savepoints session self.now.savepoints }
     {
-        &self.journals[place_of(session)]
+        &self.journals[place_of_session(session)]
     }
 
     /// The id that the next reservation takes, or `None` where there are no more ids.
@@ -104,7 +104,7 @@ impl TxnTable {
         ensures unchanged { OnErr result (self.new ≡ self.old) }
     {
         let id = self.next_id;
-        self.journals[place_of(session)].push(Reservation {
+        self.journals[place_of_session(session)].push(Reservation {
             id,
             session,
             row,
@@ -124,7 +124,7 @@ impl TxnTable {
         ensures only { IfErr result (λ e. (savepoint_refusal session name self.old ≡ Some e) ⊎ (e ≡ Refusal.Memory)) }
     {
         let id = self.next_id;
-        self.journals[place_of(session)].mark(name, id)
+        self.journals[place_of_session(session)].mark(name, id)
     }
 
     /// Takes a session back to its savepoint of a name: what it reserved after it is dropped, and so
@@ -134,7 +134,7 @@ impl TxnTable {
         ensures count { result ≡ released session name self.old }
         ensures cut { self.new ≡ cut_back session name self.old }
     {
-        self.journals[place_of(session)].cut(name)
+        self.journals[place_of_session(session)].cut(name)
     }
 
     /// Ends a session's transaction: hands out its reservations, in order of grant, and leaves
@@ -143,7 +143,7 @@ impl TxnTable {
         ensures all { result.items ≡ own session self.old.reservations }
         ensures ended { self.new ≡ ended session self.old }
     {
-        self.journals[place_of(session)].take_all()
+        self.journals[place_of_session(session)].take_all()
     }
 
     /// Drops all reservations and savepoints; the next id is 1. Takes no memory.
@@ -164,7 +164,7 @@ impl TxnTable {
 }
 
 /// The place of a session's journal among all.
-fn place_of(session: Session) -> usize
+fn place_of_session(session: Session) -> usize
     ensures place { result + 1 ≡ session }
     ensures within { IsSession session }
 {

@@ -1,7 +1,7 @@
 ghost use Rattle.std.specs.Prelude.{◌≡◌, ◌≤◌, length};
 ghost use Rattle.escrow_journal.specs.declared.journal.TheConstants.Journal.{MAX_RESERVATIONS};
 ghost use Rattle.escrow_journal.specs.Reservations.{own};
-ghost use Rattle.escrow_txn.specs.Open.{ended};
+ghost use Rattle.escrow_journal.specs.Open.{ended};
 
 use crate::database::Database;
 use escrow_machine::Reply;

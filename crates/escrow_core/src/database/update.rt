@@ -17,11 +17,10 @@ impl<S: Alter> Database<S> {
     ghost use Rattle.escrow_machine.specs.Asked.{plan_of, row_name};
     ghost use Rattle.escrow_schema.specs.Catalog.{place_named};
     ghost use Rattle.escrow_core.specs.Serves.{Serves};
-    ghost use Rattle.escrow_core.specs.Serving.{open_in};
-    ghost use Rattle.escrow_txn.specs.Open.{grant_refusal};
+    ghost use Rattle.escrow_journal.specs.Open.{grant_refusal};
     ghost use Rattle.escrow_machine.specs.Accepted.{IsRefusal};
     ghost use Rattle.escrow_machine.specs.Rows.{row_named, HasTable};
-    ghost use Rattle.escrow_machine.specs.State.{is_open};
+    ghost use Rattle.escrow_machine.specs.State.{is_open, open_in};
     ghost use Rattle.escrow_machine.specs.Turn.{update_refusals};
 
     /// UPDATE, of RESERVABLE columns or of plain ones, by its plan.

@@ -1,12 +1,11 @@
 use Rattle.std.proofs.Common.{◌≡◌, None, Some, refl, sym, subst}
 use Rattle.escrow_schema.specs.declared.plan.Plan.TheVariants as plan
-use Rattle.escrow_txn.specs.Open.{grant_refusal}
+use Rattle.escrow_journal.specs.Open.{grant_refusal}
 use Rattle.escrow_machine.specs.Asked.{plan_of}
 use Rattle.escrow_core.specs.Inside.{seen_of}
 use Rattle.escrow_core.specs.Seen.{Seen}
-use Rattle.escrow_machine.specs.State.{State}
+use Rattle.escrow_machine.specs.State.{State, open_in}
 use Rattle.escrow_core.proofs.Planned.{short_plan}
-use Rattle.escrow_core.specs.Serving.{open_in}
 use Rattle.escrow_core.proofs.Updating.{MayReserve, IsUnrefused, reserve_refused, unrefused, grant_serves, grant_keeps, grant_fails}
 use Rattle.escrow_core.proofs.database.Database.grant.Goals as goal
 use Rattle.escrow_core.proofs.database.Database.grant.Goals.{in-Ok, in-Err}

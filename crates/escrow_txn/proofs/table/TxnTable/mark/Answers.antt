@@ -5,19 +5,19 @@ use Rattle.escrow_num.specs.declared.refusal.Refusal.TheVariants as refusal
 use Rattle.escrow_num.specs.Refusal.{refuse_if}
 use Rattle.escrow_journal.specs.Log.{Log, is_full_beside, marked}
 use Rattle.escrow_txn.specs.Joined.{opened}
-use Rattle.escrow_txn.specs.Open.{Open, saved, savepoint_refusal}
+use Rattle.escrow_journal.specs.Open.{Open, saved, savepoint_refusal}
 use Rattle.escrow_txn.proofs.Kept.{below_at, mark_kept, journals_kept}
 use Rattle.escrow_txn.proofs.Marks.{saved_is}
 use Rattle.escrow_txn.proofs.Places.{IsAt, place_is}
 use Rattle.escrow_txn.proofs.Refusals.{refused_if, only_if, savepoint_refusal_is}
 use Rattle.escrow_txn.proofs.table.TxnTable.mark.Goals as goal
 
-at : (c : goal.After-self-1) → IsAt c.args.session c.self.inside.journals.items c.place_of.result c.index_mut.result.now
-at c = place_is c.self.inside.journals.items c.self.inside.next_id c.args.session c.place_of.result c.index_mut.result.now c.self.invariant c.place_of.ensures.within c.place_of.ensures.place c.index_mut.ensures.value
+at : (c : goal.After-self-1) → IsAt c.args.session c.self.inside.journals.items c.place_of_session.result c.index_mut.result.now
+at c = place_is c.self.inside.journals.items c.self.inside.next_id c.args.session c.place_of_session.result c.index_mut.result.now c.self.invariant c.place_of_session.ensures.within c.place_of_session.ensures.place c.index_mut.ensures.value
 
 refusal_is : (c : goal.After-self-1) → refuse_if (is_full_beside c.args.name c.index_mut.result.now) refusal.TooManySavepoints ≡ savepoint_refusal c.args.session c.args.name c.args.self.now
 refusal_is c =
-    savepoint_refusal_is c.args.session c.self.inside.next_id c.args.name c.self.inside.journals.items c.place_of.result c.index_mut.result.now (at c)
+    savepoint_refusal_is c.args.session c.self.inside.next_id c.args.name c.self.inside.journals.items c.place_of_session.result c.index_mut.result.now (at c)
     ∙ ap (λ (o : Open). savepoint_refusal c.args.session c.args.name o) c.self.view_is
 
 pub invariant_of-self : goal.invariant_of-self
@@ -26,19 +26,19 @@ invariant_of-self c =
     let next = c.self.inside.next_id in
     let log = c.index_mut.result.now in
     let new = c.mark.new.self in
-    let below = below_at logs next c.args.session c.place_of.result log c.self.invariant (at c) in
-    journals_kept logs next next c.args.session c.place_of.result new log c.self.invariant (at c) c.mark.ensures.valid
+    let below = below_at logs next c.args.session c.place_of_session.result log c.self.invariant (at c) in
+    journals_kept logs next next c.args.session c.place_of_session.result new log c.self.invariant (at c) c.mark.ensures.valid
     (mark_kept next c.args.name c.mark.result new log below c.mark.ensures.marked c.mark.ensures.unchanged) (le_refl next) c.self.invariant.last_id
 
 pub returns-clause-saved : goal.returns-clause-saved
 returns-clause-saved c =
     let next = c.self.inside.next_id in
-    let after : Log → Open = λ log. opened (set c.self.inside.journals.items c.place_of.result log) next in
+    let after : Log → Open = λ log. opened (set c.self.inside.journals.items c.place_of_session.result log) next in
     let old = c.index_mut.result.now in
     on_ok_weaker {P = c.mark.new.self ≡ marked c.args.name next old} {Q = after c.mark.new.self ≡ saved c.args.session c.args.name c.args.self.now} c.mark.result
     (λ is.
     ap after is
-    ∙ saved_is c.args.session next c.args.name c.self.inside.journals.items c.place_of.result old (at c)
+    ∙ saved_is c.args.session next c.args.name c.self.inside.journals.items c.place_of_session.result old (at c)
     ∙ ap (λ (o : Open). saved c.args.session c.args.name o) c.self.view_is)
     c.mark.ensures.marked
 

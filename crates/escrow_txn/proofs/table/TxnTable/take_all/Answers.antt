@@ -2,30 +2,30 @@ use Rattle.std.proofs.Common.{ap, sym, ◌∙◌, set, le_refl}
 use Rattle.escrow_journal.specs.Log.{Log}
 use Rattle.escrow_journal.specs.Reservations.{own}
 use Rattle.escrow_txn.specs.Joined.{opened}
-use Rattle.escrow_txn.specs.Open.{Open, ended}
+use Rattle.escrow_journal.specs.Open.{Open, ended}
 use Rattle.escrow_txn.proofs.Kept.{empty_kept, journals_kept}
 use Rattle.escrow_txn.proofs.Places.{IsAt, place_is}
 use Rattle.escrow_txn.proofs.Sessions.{own_is, ended_is}
 use Rattle.escrow_txn.proofs.table.TxnTable.take_all.Goals as goal
 
-at : (c : goal.After-self-1) → IsAt c.args.session c.self.inside.journals.items c.place_of.result c.index_mut.result.now
-at c = place_is c.self.inside.journals.items c.self.inside.next_id c.args.session c.place_of.result c.index_mut.result.now c.self.invariant c.place_of.ensures.within c.place_of.ensures.place c.index_mut.ensures.value
+at : (c : goal.After-self-1) → IsAt c.args.session c.self.inside.journals.items c.place_of_session.result c.index_mut.result.now
+at c = place_is c.self.inside.journals.items c.self.inside.next_id c.args.session c.place_of_session.result c.index_mut.result.now c.self.invariant c.place_of_session.ensures.within c.place_of_session.ensures.place c.index_mut.ensures.value
 
 pub invariant_of-self : goal.invariant_of-self
 invariant_of-self c =
     let next = c.self.inside.next_id in
     let log = c.index_mut.result.now in
-    journals_kept c.self.inside.journals.items next next c.args.session c.place_of.result c.take_all.new.self log c.self.invariant (at c) c.take_all.ensures.valid
+    journals_kept c.self.inside.journals.items next next c.args.session c.place_of_session.result c.take_all.new.self log c.self.invariant (at c) c.take_all.ensures.valid
     (empty_kept next c.take_all.new.self log c.take_all.ensures.none) (le_refl next) c.self.invariant.last_id
 
 pub returns-clause-all : goal.returns-clause-all
 returns-clause-all c =
     c.take_all.ensures.all
-    ∙ sym (own_is c.args.session c.self.inside.journals.items c.place_of.result c.index_mut.result.now (at c))
+    ∙ sym (own_is c.args.session c.self.inside.journals.items c.place_of_session.result c.index_mut.result.now (at c))
     ∙ ap (λ (o : Open). own c.args.session o.reservations) c.self.view_is
 
 pub returns-clause-ended : goal.returns-clause-ended
 returns-clause-ended c =
-    ap (λ (log : Log). opened (set c.self.inside.journals.items c.place_of.result log) c.self.inside.next_id) c.take_all.ensures.none
-    ∙ ended_is c.args.session c.self.inside.next_id c.self.inside.journals.items c.place_of.result c.index_mut.result.now (at c)
+    ap (λ (log : Log). opened (set c.self.inside.journals.items c.place_of_session.result log) c.self.inside.next_id) c.take_all.ensures.none
+    ∙ ended_is c.args.session c.self.inside.next_id c.self.inside.journals.items c.place_of_session.result c.index_mut.result.now (at c)
     ∙ ap (λ (o : Open). ended c.args.session o) c.self.view_is

@@ -1,4 +1,4 @@
--- Believed: what is open in a database, and what the calls of the table of transactions make of it.
+-- Believed: what is open in a database, and what is made of it.
 use Rattle.std.specs.Prelude.{ℕ, ◌+◌, ℤ, Bool, ◌||◌, nat_lt, nat_le, if◌then◌else◌, Option, Some, None, option_map, unwrap_or, List, [], ◌∷◌, ◌++◌, length}
 use Rattle.escrow_num.specs.declared.refusal.Refusal.{Refusal}
 use Rattle.escrow_num.specs.declared.refusal.Refusal.TheVariants as refusal
@@ -49,7 +49,8 @@ granted session row changes o = record o {
 abbrev pub savepoint_refusal : ℕ → List ℕ → Open → Option Refusal
 savepoint_refusal session name o = refuse_if (nat_le MAX_SAVEPOINTS (length (own_savepoints session (without_savepoint session name o.savepoints)))) refusal.TooManySavepoints
 
--- a savepoint of a session, the last of its own, in the place of an earlier one of that name
+-- a savepoint of a session, the last of its own, in the place of an earlier one of that name; it has the
+-- id that the next reservation takes
 abbrev pub saved : ℕ → List ℕ → Open → Open
 saved session name o = record o {
   savepoints = put_savepoint (record { session = session; name = name; id = o.next_id }) (without_savepoint session name o.savepoints);
