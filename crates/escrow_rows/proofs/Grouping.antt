@@ -6,7 +6,7 @@ use Rattle.std.proofs.lemmas.List.{flat_map_more, map-append, take_all, take_mor
 use Rattle.std.proofs.lemmas.List.Sorted.{IsPermutation-map, IsPermutation-trans}
 use Rattle.sqlite_value.specs.declared.value.Value.TheVariants as sql
 use Rattle.sqlite_value.specs.Order.{Row as SqlRow, column}
-use Rattle.sqlite_trees.proofs.ListLemmas.{all-append, all-map, all_weaker, flat_map-map, IsPermutation-filter, map-flat_map}
+use Rattle.sqlite_trees.proofs.ListLemmas.{all-append, all-map, all_weaker, IsPermutation-filter}
 use Rattle.sqlite_trees.specs.declared.store.Store.{Ghosts}
 use Rattle.sqlite_keyed.proofs.SortLemmas.{sorted_unique}
 use Rattle.sqlite.specs.Effect.{Database}
@@ -28,14 +28,13 @@ use Rattle.escrow_rows.specs.declared.all_values.Grouped.{Grouped}
 use Rattle.escrow_rows.specs.declared.stored.StoredTable.{StoredTable}
 use Rattle.escrow_rows.specs.Answers.{TellsAllValues}
 use Rattle.escrow_rows.specs.Changes.{Stands}
-use Rattle.escrow_rows.specs.Gathered.{gathered_cells, keyed}
 use Rattle.escrow_rows.specs.Grouped.{unkeyed, HasValues, HasGrouped, GoesOn}
 use Rattle.escrow_rows.specs.Image.{stored, cells_of, AreTables, AreRows}
-use Rattle.escrow_rows.specs.Placed.{placed}
+use Rattle.escrow_rows.specs.Placed.{placed, keyed, keyed_cells}
 use Rattle.escrow_machine.specs.Rows.{row_before, rows_of}
-use Rattle.escrow_rows.proofs.KeyedCells.{cell_cmp, cell_cmp_total, gathered_rise, with_key}
+use Rattle.escrow_rows.proofs.KeyedCells.{cell_cmp, cell_cmp_total, rows_rise, with_key}
 use Rattle.escrow_rows.proofs.PlacedCells.{placed-push, stored_same}
-use Rattle.escrow_rows.proofs.TableRead.{keys_rise, own_cells, own_rows, same_pieces, values_in}
+use Rattle.escrow_rows.proofs.TableRead.{keys_rise, own_cells, own_rows}
 
 -- the last of the rows, put back with one value more
 pub goes_on : (rows : List (List Value)) (n : ℕ) (cell : Cell) (last new : List Value) → n ≡ length rows → 0 < n → last ≡ slice_index_or rows (n - 1) last
@@ -130,10 +129,10 @@ keyed_placed : (key : Value) (place : ℕ) (vs : List Value) → map unkeyed (ke
 keyed_placed key place [] = refl
 keyed_placed key place (v ∷ vs) = ap (λ (cells : List SqlRow). (sql.Int (pos place) ∷ stored v ∷ []) ∷ cells) (keyed_placed key (place + 1) vs)
 
-rows_placed : (table : TableDef) (rows : List Row) → map unkeyed (flat_map gathered_cells (map (values_in table) rows)) ≡ flat_map (placed 1) (map (values_of table) rows)
+rows_placed : (table : TableDef) (rows : List Row) → map unkeyed (flat_map (keyed_cells table) rows) ≡ flat_map (placed 1) (map (values_of table) rows)
 rows_placed table [] = refl
 rows_placed table (row ∷ rows) =
-    map-append unkeyed (keyed row.name.key 1 (values_of table row)) (flat_map gathered_cells (map (values_in table) rows))
+    map-append unkeyed (keyed_cells table row) (flat_map (keyed_cells table) rows)
     ∙ ap₂ (λ (xs ys : List SqlRow). xs ++ ys) (keyed_placed row.name.key 1 (values_of table row)) (rows_placed table rows)
 
 -- each row of a table has values
@@ -144,15 +143,15 @@ rows_have table rows is_table fit =
 -- the cells of a table of an image are those of its rows, in their order
 table_read : (tables : List StoredTable) (rows : List Row) (s : StoredTable) (db : Database) (answer : List SqlRow) → AreTables tables → AreRows tables rows → Stands tables s
     → IsPermutation (flat_map (cells_of tables) rows) (cells db) → AreOfTable (sql.Int s.id) (cells db) answer
-    → answer ≡ flat_map gathered_cells (map (values_in s.table) (rows_of rows s.table.name))
+    → answer ≡ flat_map (keyed_cells s.table) (rows_of rows s.table.name)
 table_read tables rows s db answer are of stands coded read =
     let mine = rows_of rows s.table.name in
     let test = is_in (sql.Int s.id) in
     let held = IsPermutation-map with_key (filter test (flat_map (cells_of tables) rows)) (filter test (cells db)) (IsPermutation-filter test (flat_map (cells_of tables) rows) (cells db) coded) in
     let same = IsPermutation-trans (map with_key (filter test (flat_map (cells_of tables) rows))) (map with_key (filter test (cells db))) answer held read.same_cells in
     let named = all_weaker _ (λ row. row.name.table ≡ s.table.name) (λ row h. h.0) mine (own_rows tables rows s of stands) in
-    let rise = gathered_rise (map (values_in s.table) mine) (keys_rise s.table mine named (ascending_filter row_before (λ row. bytes_eq row.name.table s.table.name) rows of.row_order)) in
-    sorted_unique cell_cmp cell_cmp_total (flat_map gathered_cells (map (values_in s.table) mine)) answer rise
+    let rise = rows_rise s.table mine (keys_rise s.table mine named (ascending_filter row_before (λ row. bytes_eq row.name.table s.table.name) rows of.row_order)) in
+    sorted_unique cell_cmp cell_cmp_total (flat_map (keyed_cells s.table) mine) answer rise
     (subst (λ (cs : List SqlRow). IsPermutation cs answer) (own_cells tables rows s are of stands) same) read.in_order
 
 -- what is grouped of them are the values of its rows

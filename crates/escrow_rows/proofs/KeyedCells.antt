@@ -1,22 +1,25 @@
--- The cells of rows, each by its key, its place and its value: they rise, and they tell the rows' values.
-use Rattle.std.proofs.Common.{◌≡◌, ℕ, ℤ, pos, ◌+◌, ◌<◌, ◌≤◌, List, [], ◌∷◌, ◌++◌, map, flat_map, length, Ordering, Less, int_cmp, refl, sym, ap, ap₂, ◌∙◌, subst, arith}
+-- The cells of rows, each by its key, its place and its value: they rise.
+use Rattle.std.proofs.Common.{◌≡◌, ℕ, ℤ, pos, ◌+◌, ◌<◌, ◌≤◌, List, [], ◌∷◌, ◌++◌, map, flat_map, length, Ordering, Less, int_cmp, refl, sym, ap, ◌∙◌, arith}
 use Rattle.std.specs.List.{AllByRecursion}
 use Rattle.std.specs.Ordering.{on, then_cmp, ordering_then}
 use Rattle.std.specs.Cmp.{IsTotalOrder, int_cmp_is}
 use Rattle.std.proofs.lemmas.Cmp.{on_total, then_total, tied_itself}
 use Rattle.std.proofs.lemmas.Int.{ints}
+use Rattle.std.proofs.lemmas.List.{map-append}
 use Rattle.sqlite_value.specs.declared.value.Value.TheVariants as sql
 use Rattle.sqlite_value.specs.Order.{Row as SqlRow, column, value_cmp}
 use Rattle.sqlite_value.proofs.OrderLemmas.{value_cmp-Int, value_cmp-Text, value_cmp-apart, value_cmp_total}
 use Rattle.sqlite_trees.specs.Tree.{IsAscending as Rises}
 use Rattle.sqlite_trees.proofs.ListLemmas.{all-flat_map, all_weaker, ascending-append}
+use Rattle.escrow_num.specs.declared.row.Row.{Row}
 use Rattle.escrow_num.specs.declared.value.Value.{Value}
 use Rattle.escrow_num.specs.declared.value.Value.TheVariants.{Number, Text}
 use Rattle.escrow_num.specs.Order.{value_cmp as key_cmp}
-use Rattle.escrow_rows.specs.declared.gathered.RowValues.{RowValues}
-use Rattle.escrow_rows.specs.Gathered.{keyed, gathered_cells}
+use Rattle.escrow_schema.specs.declared.table.TableDef.{TableDef}
+use Rattle.escrow_schema.specs.Fit.{values_of}
 use Rattle.escrow_rows.specs.Image.{stored, cells_from}
-use Rattle.escrow_rows.proofs.PlacedCells.{stored_same}
+use Rattle.escrow_rows.specs.Placed.{placed, keyed, keyed_cells}
+use Rattle.escrow_rows.proofs.PlacedCells.{placed-push}
 
 -- a cell by its key, its place and its value
 abbrev pub with_key : SqlRow → SqlRow
@@ -26,6 +29,10 @@ with_key c = column c 1 ∷ column c 2 ∷ column c 3 ∷ []
 pub cells_keyed : (id : ℤ) (key : Value) (place : ℕ) (vs : List Value) → map with_key (cells_from id key (pos place) vs) ≡ keyed key place vs
 cells_keyed id key place [] = refl
 cells_keyed id key place (v ∷ vs) = ap (λ cells. (stored key ∷ sql.Int (pos place) ∷ stored v ∷ []) ∷ cells) (cells_keyed id key (place + 1) vs)
+
+-- one more value at the end
+pub keyed-push : (key : Value) (place : ℕ) (vs : List Value) (v : Value) → keyed key place (vs ++ v ∷ []) ≡ keyed key place vs ++ (stored key ∷ sql.Int (pos (place + length vs)) ∷ stored v ∷ []) ∷ []
+keyed-push key place vs v = ap (map (λ cell. stored key ∷ cell)) (placed-push place vs v) ∙ map-append (λ cell. stored key ∷ cell) (placed place vs) _
 
 -- the order of cells: by key and place
 abbrev pub cell_cmp : SqlRow → SqlRow → Ordering
@@ -67,8 +74,8 @@ keyed_rise key place (v ∷ vs) = (
 )
 
 -- the keys of rows rise
-abbrev pub KeysRise : List RowValues → Type 0
-KeysRise = Rises (λ a b. key_cmp a.key b.key ≡ Less)
+abbrev pub KeysRise : List Row → Type 0
+KeysRise = Rises (λ a b. key_cmp a.name.key b.name.key ≡ Less)
 
 -- so each cell of a row stands before those of a row of a later key
 key_below : (a b : Value) (m : ℕ) (v : Value) (cells : List Value) → key_cmp a b ≡ Less → AllByRecursion (Below (stored a ∷ sql.Int (pos m) ∷ stored v ∷ [])) (keyed b 1 cells)
@@ -77,77 +84,12 @@ key_below a b m v cells h =
     (λ n w k. ap (λ o. ordering_then o (value_cmp (sql.Int (pos m)) (sql.Int (pos n)))) (stored_cmp a b ∙ h)) cells (omega arith)
 
 -- and so do all cells
-pub gathered_rise : (rows : List RowValues) → KeysRise rows → Rises Below (flat_map gathered_cells rows)
-gathered_rise [] up = tt
-gathered_rise (row ∷ rows) up =
-    ascending-append Below (gathered_cells row) (flat_map gathered_cells rows) (keyed_rise row.key 1 row.values) (gathered_rise rows up.1)
-    (keyed_all (λ cell. AllByRecursion (Below cell) (flat_map gathered_cells rows)) row.key 1 1
-    (λ n v h. all-flat_map (Below (stored row.key ∷ sql.Int (pos n) ∷ stored v ∷ [])) gathered_cells rows
-    (all_weaker (λ (b : RowValues). key_cmp row.key b.key ≡ Less) (λ b. AllByRecursion (Below (stored row.key ∷ sql.Int (pos n) ∷ stored v ∷ [])) (gathered_cells b)) (λ b k. key_below row.key b.key n v b.values k) rows up.0))
-    row.values (omega arith))
-
--- cells begin, where there are any, with the first cell of a row
-abbrev Begins : List SqlRow → Type 0
-Begins [] = Unit {0}
-Begins (cell ∷ cells) = column cell 1 ≡ sql.Int (pos 1)
-
--- a row has values
-abbrev pub HasValues : RowValues → Type 0
-HasValues row = 0 < length row.values
-
-begins : (rows : List RowValues) → AllByRecursion HasValues rows → Begins (flat_map gathered_cells rows)
-begins [] h = tt
-begins (row ∷ rows) h = first row.key row.values (flat_map gathered_cells rows) h.0
-  where
-    first : (key : Value) (vs : List Value) (behind : List SqlRow) → 0 < length vs → Begins (keyed key 1 vs ++ behind)
-    first key [] behind long = absurd (omega arith)
-    first key (v ∷ vs) behind long = refl
-
--- no further cell of a row is the first of the next
-no_first : (place : ℕ) (key v : Value) (cells behind : List SqlRow) → 1 < place → Begins behind → behind ≡ (stored key ∷ sql.Int (pos place) ∷ stored v ∷ []) ∷ cells → ⊥
-no_first place key v cells behind h begin e =
-    let one : sql.Int (pos place) ≡ sql.Int (pos 1) = subst Begins e begin in
-    let same : place ≡ 1 = cc in
-    omega arith
-
--- further cells of two rows, each before those of other rows, are the same only where both parts are
-further_same : (a b : Value) (place : ℕ) (vs ws : List Value) (behind others : List SqlRow) → 1 < place → Begins behind → Begins others
-    → keyed a place vs ++ behind ≡ keyed b place ws ++ others → (vs ≡ ws) × (behind ≡ others)
-further_same a b place [] [] behind others h begin start e = (refl, e)
-further_same a b place [] (w ∷ ws) behind others h begin start e = absurd (no_first place b w _ behind h begin e)
-further_same a b place (v ∷ vs) [] behind others h begin start e = absurd (no_first place a v _ others h start (sym e))
-further_same a b place (v ∷ vs) (w ∷ ws) behind others h begin start e =
-    let value : stored v ≡ stored w = cc in
-    let later : keyed a (place + 1) vs ++ behind ≡ keyed b (place + 1) ws ++ others = cc in
-    let rest = further_same a b (place + 1) vs ws behind others (omega arith) begin start later in
-    (ap₂ (λ (x : Value) (xs : List Value). x ∷ xs) (stored_same v w value) rest.0, rest.1)
-
--- so are the cells of two rows
-row_same : (a b : Value) (vs ws : List Value) (behind others : List SqlRow) → 0 < length vs → 0 < length ws → Begins behind → Begins others
-    → keyed a 1 vs ++ behind ≡ keyed b 1 ws ++ others → (a ≡ b) × (vs ≡ ws) × (behind ≡ others)
-row_same a b [] ws behind others h k begin start e = absurd (omega arith)
-row_same a b (v ∷ vs) [] behind others h k begin start e = absurd (omega arith)
-row_same a b (v ∷ vs) (w ∷ ws) behind others h k begin start e =
-    let key : stored a ≡ stored b = cc in
-    let value : stored v ≡ stored w = cc in
-    let later : keyed a 2 vs ++ behind ≡ keyed b 2 ws ++ others = cc in
-    let rest = further_same a b 2 vs ws behind others (omega arith) begin start later in
-    (stored_same a b key, ap₂ (λ (x : Value) (xs : List Value). x ∷ xs) (stored_same v w value) rest.0, rest.1)
-
--- a row with values has cells
-none_are : (row : RowValues) (behind : List SqlRow) → HasValues row → gathered_cells row ++ behind ≡ [] → ⊥
-none_are row behind = at row.key row.values
-  where
-    at : (key : Value) (vs : List Value) → 0 < length vs → keyed key 1 vs ++ behind ≡ [] → ⊥
-    at key [] long e = omega arith
-    at key (v ∷ vs) long e = cc
-
--- rows of values are told by their cells
-pub gathered_same : (rows others : List RowValues) → AllByRecursion HasValues rows → AllByRecursion HasValues others → flat_map gathered_cells rows ≡ flat_map gathered_cells others → rows ≡ others
-gathered_same [] [] h k e = refl
-gathered_same [] (other ∷ others) h k e = absurd (none_are other (flat_map gathered_cells others) k.0 (sym e))
-gathered_same (row ∷ rows) [] h k e = absurd (none_are row (flat_map gathered_cells rows) h.0 e)
-gathered_same (row ∷ rows) (other ∷ others) h k e =
-    let same = row_same row.key other.key row.values other.values (flat_map gathered_cells rows) (flat_map gathered_cells others) h.0 k.0 (begins rows h.1) (begins others k.1) e in
-    ap₂ (λ (x : RowValues) (xs : List RowValues). x ∷ xs) (ap₂ (λ (key : Value) (values : List Value). record { key = key; values = values }) same.0 same.1)
-    (gathered_same rows others h.1 k.1 same.2)
+pub rows_rise : (table : TableDef) (rows : List Row) → KeysRise rows → Rises Below (flat_map (keyed_cells table) rows)
+rows_rise table [] up = tt
+rows_rise table (row ∷ rows) up =
+    let key = row.name.key in
+    ascending-append Below (keyed_cells table row) (flat_map (keyed_cells table) rows) (keyed_rise key 1 (values_of table row)) (rows_rise table rows up.1)
+    (keyed_all (λ cell. AllByRecursion (Below cell) (flat_map (keyed_cells table) rows)) key 1 1
+    (λ n v h. all-flat_map (Below (stored key ∷ sql.Int (pos n) ∷ stored v ∷ [])) (keyed_cells table) rows
+    (all_weaker (λ (b : Row). key_cmp key b.name.key ≡ Less) (λ b. AllByRecursion (Below (stored key ∷ sql.Int (pos n) ∷ stored v ∷ [])) (keyed_cells table b)) (λ b k. key_below key b.name.key n v (values_of table b) k) rows up.0))
+    (values_of table row) (omega arith))

@@ -1,7 +1,6 @@
 pub mod Cells
 pub mod Counts
 pub mod Found
-pub mod Gathering
 pub mod Grouping
 pub mod ImageDelete
 pub mod ImageInsert

@@ -23,10 +23,6 @@ Tells s of db answer = (tables : List StoredTable) (rows : List Row) → AreTabl
 abbrev pub TellsRow : StoredTable → Value → Database → Option Row → Type 0
 TellsRow s key = Tells s (λ rows. row_named rows (name_in s key))
 
--- the rows of a table, in order of key
-abbrev pub TellsRows : StoredTable → Database → List Row → Type 0
-TellsRows s = Tells s (λ rows. rows_of rows s.table.name)
-
 -- the amounts of the row of a key in a table, if it is there
 abbrev pub TellsAmounts : StoredTable → Value → Database → Option (List ℤ) → Type 0
 TellsAmounts s key = Tells s (λ rows. option_map (λ row. row.amounts) (row_named rows (name_in s key)))

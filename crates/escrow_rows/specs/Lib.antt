@@ -1,6 +1,5 @@
 pub mod Answers
 pub mod Changes
-pub mod Gathered
 pub mod Grouped
 pub mod Image
 pub mod Inside

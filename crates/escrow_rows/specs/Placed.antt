@@ -1,5 +1,5 @@
 -- Helps: what private contracts say of cells that are read. Nothing that callers see rests on it.
-use Rattle.std.specs.Prelude.{◌≡◌, ◌≢◌, ℕ, pos, ◌+◌, Option, Some, None, option_map, List, [], ◌∷◌}
+use Rattle.std.specs.Prelude.{◌≡◌, ◌≢◌, ℕ, pos, ◌+◌, Option, Some, None, option_map, List, [], ◌∷◌, map}
 use Rattle.sqlite_value.specs.declared.value.Value.TheVariants as sql
 use Rattle.sqlite_value.specs.Order.{Row as SqlRow}
 use Rattle.escrow_num.specs.declared.row.Row.{Row}
@@ -17,6 +17,14 @@ use Rattle.escrow_rows.specs.Image.{stored}
 abbrev pub placed : ℕ → List Value → List SqlRow
 placed place [] = []
 placed place (v ∷ vs) = (sql.Int (pos place) ∷ stored v ∷ []) ∷ placed (place + 1) vs
+
+-- so each of them by the key of its row, too
+abbrev pub keyed : Value → ℕ → List Value → List SqlRow
+keyed key place values = map (λ cell. stored key ∷ cell) (placed place values)
+
+-- the cells of a row of a table, each by its key, its place and its value
+abbrev pub keyed_cells : TableDef → Row → List SqlRow
+keyed_cells table row = keyed row.name.key 1 (values_of table row)
 
 -- cells are those of the row of a key in a table, each by its place and its value
 pub record AreCellsOf (table : TableDef) (key : Value) (cells : List SqlRow) (row : Row) : Type 0 where

@@ -2,11 +2,12 @@
 use Rattle.std.proofs.Common.{◌≡◌, ℕ, ℤ, zero, suc, Option, None, Some, unwrap_or, pos, ◌+◌, ◌<◌, ◌≤◌, ◌+ℤ◌, List, [], ◌∷◌, ◌++◌, map, length, min, take, get_or, set, refl, ap, sym, ◌∙◌, subst, subst₂, true, false, arith, add-one}
 use Rattle.std.proofs.lemmas.List.{length-map, length-take-le, map_more, take_all, take_more, take-map, get_or-map, length_push}
 use Rattle.escrow_num.specs.declared.reservation.Reservation.{Reservation}
-use Rattle.escrow_num.specs.declared.row.Row.{Row}
+use Rattle.escrow_num.specs.declared.value.RowName.{RowName}
 use Rattle.escrow_num.specs.Order.{same_row}
 use Rattle.escrow_num.specs.Reservation.{counted}
 use Rattle.escrow_checks.specs.Form.{changed, all_changed}
-use Rattle.escrow_machine.specs.Rows.{replaced, changes_to}
+use Rattle.escrow_machine.specs.Rows.{replaced}
+use Rattle.escrow_tables.specs.Puts.{changes_for, changed_by}
 
 -- no changes change nothing
 pub changed_nil : (amounts : List ℤ) → changed amounts [] ≡ amounts
@@ -56,17 +57,17 @@ all_changed_push amounts [] changes = refl
 all_changed_push amounts (first ∷ before) changes = all_changed_push (changed amounts first) before changes
 
 -- one more reservation: of the row, and of another
-pub changes_more : (row : Row) (reservations : List Reservation) (i : ℕ) (r : Reservation) → i < length reservations → r ≡ get_or reservations i r
-    → all_changed row.amounts (map (changes_to row) (take (i + 1) reservations)) ≡ changed (all_changed row.amounts (map (changes_to row) (take i reservations))) (changes_to row r)
-changes_more row reservations i r below at =
-    ap (all_changed row.amounts) (map_more (changes_to row) reservations i r below ∙ ap (λ x. map (changes_to row) (take i reservations) ++ changes_to row x ∷ []) (sym at))
-    ∙ all_changed_push row.amounts (map (changes_to row) (take i reservations)) (changes_to row r)
+pub changes_more : (name : RowName) (before : List ℤ) (reservations : List Reservation) (i : ℕ) (r : Reservation) → i < length reservations → r ≡ get_or reservations i r
+    → changed_by (take (i + 1) reservations) name before ≡ changed (changed_by (take i reservations) name before) (changes_for name r)
+changes_more name before reservations i r below at =
+    ap (all_changed before) (map_more (changes_for name) reservations i r below ∙ ap (λ x. map (changes_for name) (take i reservations) ++ changes_for name x ∷ []) (sym at))
+    ∙ all_changed_push before (map (changes_for name) (take i reservations)) (changes_for name r)
 
-pub changes_own : (row : Row) (r : Reservation) → same_row row.name r.row ≡ true → changes_to row r ≡ counted r.changes
-changes_own row r same = rw same refl
+pub changes_own : (name : RowName) (r : Reservation) → same_row name r.row ≡ true → changes_for name r ≡ counted r.changes
+changes_own name r same = rw same refl
 
-pub changes_other : (row : Row) (r : Reservation) → same_row row.name r.row ≡ false → changes_to row r ≡ []
-changes_other row r other = rw other refl
+pub changes_other : (name : RowName) (r : Reservation) → same_row name r.row ≡ false → changes_for name r ≡ []
+changes_other name r other = rw other refl
 
 -- one more item replaced, or kept
 replaced_push : {A : Type 0} (news : List (Option A)) (new : Option A) (xs : List A) (x : A) → length news ≡ length xs

@@ -84,7 +84,7 @@ no_changes : (row : Row) (reservations : List Reservation) (amounts : List ℤ) 
     → all_changed amounts (map (changes_to row) reservations) ≡ amounts
 no_changes row [] amounts none = refl
 no_changes row (r ∷ reservations) amounts none =
-    ap (λ zs. all_changed zs (map (changes_to row) reservations)) (ap (changed amounts) (changes_other row r none.0) ∙ changed_nil amounts)
+    ap (λ zs. all_changed zs (map (changes_to row) reservations)) (ap (changed amounts) (changes_other row.name r none.0) ∙ changed_nil amounts)
     ∙ no_changes row reservations amounts none.1
 
 -- functions that make the same of each item make the same of a list

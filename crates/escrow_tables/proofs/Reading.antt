@@ -1,11 +1,9 @@
 -- What the store answers of its image, said of the rows that are read.
 use Rattle.std.proofs.Common.{◌≡◌, ℕ, List, Option, Some, None, Result, ap, arith, subst, ◌∙◌}
 use Rattle.std.specs.Prelude.{IfOk, IfSome, IsTrue}
-use Rattle.std.specs.List.{AllByRecursion}
 use Rattle.std.proofs.lemmas.Result.{IfOk-weaker}
 use Rattle.sqlite.specs.Effect.{Database}
 use Rattle.sqlite.specs.State.{State, HasCleanDisk, Survives}
-use Rattle.sqlite_trees.proofs.ListLemmas.{all_weaker}
 use Rattle.escrow_num.specs.declared.row.Row.{Row}
 use Rattle.escrow_num.specs.declared.value.RowName.{RowName}
 use Rattle.escrow_num.specs.declared.value.Value.{Value}
@@ -55,9 +53,3 @@ module _ (tables : List Counted) (name : List ℕ) (c : Counted) (named : IsName
   pub row_fits : {E : Type 0} (r : Result (Option Row) E) (key : Value) → IfOk r (λ o. IfSome o (λ row. IsRowOf c.stored.table row × (row.name ≡ name_in c.stored key)))
       → IfOk r (λ o. IfSome o (λ row. HasTable (catalog_of tables) row × (row.name ≡ record { table = name; key = key })))
   row_fits r key = IfOk-weaker r _ _ (λ o. some_fits o key)
-
-  -- and so are rows of it
-  pub rows_fit : {X E : Type 0} (r : Result X E) (items : X → List Row) → IfOk r (λ x. AllByRecursion (λ row. IsRowOf c.stored.table row × (row.name.table ≡ c.stored.table.name)) (items x))
-      → IfOk r (λ x. AllByRecursion (HasTable (catalog_of tables)) (items x))
-  rows_fit r items = IfOk-weaker r _ _ (λ x. all_weaker (λ row. IsRowOf c.stored.table row × (row.name.table ≡ c.stored.table.name)) (HasTable (catalog_of tables))
-      (λ row h. named_has tables name c row named (h.1 ∙ named.name_is) h.0) (items x))

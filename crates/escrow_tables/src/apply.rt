@@ -7,13 +7,13 @@ ghost use Rattle.escrow_num.specs.Reservation.{counted};
 ghost use Rattle.escrow_checks.specs.Form.{changed};
 ghost use Rattle.escrow_rows.specs.Answers.{IsUsable, Looks};
 ghost use Rattle.escrow_rows.specs.Changes.{Stands};
-ghost use Rattle.escrow_machine.specs.Rows.{replaced, row_after};
+ghost use Rattle.escrow_machine.specs.Rows.{replaced};
 ghost use Rattle.escrow_rows.specs.Image.{AreTables};
 ghost use Rattle.escrow_tables.specs.Inside.{stored_of};
-ghost use Rattle.escrow_tables.specs.Puts.{ArePuts, TellsPut, put_by, put_of, row_put};
+ghost use Rattle.escrow_tables.specs.Puts.{ArePuts, TellsPut, changed_by, put_by, put_of, row_put};
 
 use crate::tables::{Tables, find_counted};
-use escrow_num::{Amount, Failure, Reservation, Row, RowName, Seq, Value};
+use escrow_num::{Amount, Failure, Reservation, RowName, Seq, Value};
 use escrow_rows::{NewAmounts, RowStore, StoredTable};
 use escrow_verify::Counted;
 use sqlite::Alter;
@@ -34,8 +34,8 @@ impl<S: Alter> Tables<S> {
     ghost use Rattle.escrow_machine.specs.Rows.{applied};
     ghost use Rattle.escrow_tables.specs.Calls.{Writes};
 
-    /// COMMIT: adds the changes of reservations to the amounts of their rows, in one transaction. Each row
-    /// is read once, and each amount that changes is written once.
+    /// COMMIT: adds the changes of reservations to the amounts of their rows, in one transaction. The amounts
+    /// of each row are read once, and each amount that changes is written once.
     pub fn apply(&mut self, alloc: Global, reservations: &[Reservation]) -> Result<(), Failure>
         ensures { Writes S.Store self.old self.new (is_ok result) self.old.catalog (applied self.old.rows reservations.now) }
     {
@@ -89,13 +89,13 @@ fn change_of<'a, S: Alter>(
     let Some(counted) = find_counted(tables, name.table) else {
         return Err(Failure::Store);
     };
-    let Some(row) = store.row(alloc, &counted.stored, &name.key)? else {
+    let Some(before) = store.amounts(alloc, &counted.stored, &name.key)? else {
         return Err(Failure::Store);
     };
     Ok(Change {
         table: &counted.stored,
         key: &name.key,
-        amounts: new_amounts(alloc, &row, reservations)?,
+        amounts: new_amounts(alloc, name, before.as_slice(), reservations)?,
     })
 }
 
@@ -128,21 +128,22 @@ fn is_named(reservations: &[Reservation], row: &RowName) -> bool
     reservations.iter().any(|r| r.row.is_same(row))
 }
 
-/// The new amounts that reservations give to a row, none where one stays.
+/// The new amounts that reservations give to the row of a name, which has these; none where one stays.
 fn new_amounts(
     alloc: Global,
-    row: &Row,
+    name: &RowName,
+    before: &[Amount],
     reservations: &[Reservation],
 ) -> Result<Seq<Option<Amount>>, Failure>
-    ensures { IfOk result (λ news. replaced news row.now.amounts ≡ (row_after reservations.now row.now).amounts) }
+    ensures { IfOk result (λ news. replaced news before.now ≡ changed_by reservations.now name.now before.now) }
 {
-    let mut amounts = copied(alloc, row.amounts.as_slice())?;
+    let mut after = copied(alloc, before)?;
     for r in reservations {
-        if row.name.is_same(&r.row) {
-            add_changes(&mut amounts, r.changes.as_slice())?;
+        if name.is_same(&r.row) {
+            add_changes(&mut after, r.changes.as_slice())?;
         }
     }
-    Ok(differing(alloc, row.amounts.as_slice(), amounts.as_slice())?)
+    Ok(differing(alloc, before, after.as_slice())?)
 }
 
 /// A copy of amounts.

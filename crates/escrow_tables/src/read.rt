@@ -5,7 +5,6 @@ use std::alloc::Global;
 
 impl<S: Alter> Tables<S> {
     ghost use Rattle.std.specs.Prelude.{◌≡◌, Some, IsSome, IsSomeAnd, IfOk, OnOk, IfSome, IsTrue, length, map, option_map};
-    ghost use Rattle.std.specs.List.{AllByRecursion};
     ghost use Rattle.sqlite.specs.Held.{state};
     ghost use Rattle.sqlite.specs.State.{HasCleanDisk};
     ghost use Rattle.escrow_schema.specs.Catalog.{place_named, table_named};
@@ -26,20 +25,6 @@ impl<S: Alter> Tables<S> {
             return Err(Failure::Store);
         };
         self.store.row(alloc, &counted.stored, &name.key)
-    }
-
-    /// The committed rows of a table, in order of key.
-    pub fn rows(&mut self, alloc: Global, table: Name) -> Result<Vec<Row>, Failure>
-        requires { IsSome (table_named self.old.catalog table) }
-        ensures told { HasCleanDisk (state S.Store self.new.store) → IfOk result (λ rows. rows.items ≡ rows_of self.old.rows table) }
-        ensures fits { IfOk result (λ rows. AllByRecursion (HasTable self.old.catalog) rows.items) }
-        ensures reads { Reads S.Store self.old self.new }
-        ensures open { HasCleanDisk (state S.Store self.new.store) → OnOk result (IsTrue (state S.Store self.new.store).is_open) }
-    {
-        let Some(counted) = find_counted(&self.tables, table) else {
-            return Err(Failure::Store);
-        };
-        self.store.rows(alloc, &counted.stored)
     }
 
     /// The amounts of the committed row of a name, one for each RESERVABLE column in column order, or `None`

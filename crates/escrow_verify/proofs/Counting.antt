@@ -11,14 +11,14 @@ use Rattle.escrow_schema.specs.Fit.{values_of}
 use Rattle.escrow_schema.proofs.BackLemmas.{length-values_of}
 use Rattle.escrow_schema.proofs.RuleLemmas.{key_stands}
 use Rattle.escrow_schema.specs.declared.table.TheConstants.TableDef.{MAX_ROWS}
-use Rattle.escrow_rows.specs.Gathered.{keyed}
+use Rattle.escrow_rows.specs.Placed.{keyed, keyed_cells}
 use Rattle.escrow_rows.specs.Image.{stored, CanBeHeld}
-use Rattle.escrow_rows.proofs.Gathering.{keyed-push}
+use Rattle.escrow_rows.proofs.KeyedCells.{keyed-push}
 use Rattle.escrow_rows.proofs.PlacedCells.{stored_same}
 use Rattle.escrow_verify.specs.declared.rows.cell.Cell.{Cell}
 use Rattle.escrow_verify.specs.declared.rows.counter.RowCounter.{RowCounter}
 use Rattle.escrow_verify.specs.Counting.{BeginNoRows, HasCounted, HasGathered, HasTaken, IsCellOf, IsNext, IsNextOf, IsRowWith, cell_row}
-use Rattle.escrow_verify.specs.Inside.{IsSoundRow, keyed_cells}
+use Rattle.escrow_verify.specs.Inside.{IsSoundRow}
 use Rattle.escrow_verify.proofs.Fronts.{behind, key_held, later_rows}
 
 -- no cells end with a cell

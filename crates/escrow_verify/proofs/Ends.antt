@@ -17,13 +17,13 @@ use Rattle.escrow_cells.specs.Read.{AreOfTable, Takes}
 use Rattle.escrow_cells.specs.Step.{is_in}
 use Rattle.escrow_cells.specs.Store.{cells}
 use Rattle.escrow_rows.specs.declared.stored.StoredTable.{StoredTable}
-use Rattle.escrow_rows.specs.Gathered.{keyed}
+use Rattle.escrow_rows.specs.Placed.{keyed, keyed_cells}
 use Rattle.escrow_rows.specs.Image.{CanBeHeld}
 use Rattle.escrow_verify.specs.declared.rows.counter.RowCounter.{RowCounter}
 use Rattle.escrow_verify.specs.declared.unverified.PartFault.{PartFault}
 use Rattle.escrow_verify.specs.declared.unverified.PartFault.TheVariants.{Foreign}
 use Rattle.escrow_verify.specs.Counting.{AreSoundRows, HasCounted, HasTaken}
-use Rattle.escrow_verify.specs.Inside.{AreRowsIn, IsSoundRow, keyed_cells}
+use Rattle.escrow_verify.specs.Inside.{AreRowsIn, IsSoundRow}
 use Rattle.escrow_verify.proofs.Fronts.{later_rows, length-cells, length-keyed}
 use Rattle.escrow_verify.proofs.RowOrder.{answer_is, in_order}
 

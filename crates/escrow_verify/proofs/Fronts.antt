@@ -12,11 +12,11 @@ use Rattle.escrow_schema.specs.Definition.{IsTable}
 use Rattle.escrow_schema.specs.Fit.{amounts_of, plain_of, row_with, values_of}
 use Rattle.escrow_schema.proofs.BackLemmas.{length-values_of, row_with_values_of}
 use Rattle.escrow_schema.proofs.RuleLemmas.{key_stands}
-use Rattle.escrow_rows.specs.Gathered.{keyed}
+use Rattle.escrow_rows.specs.Placed.{keyed, keyed_cells}
 use Rattle.escrow_rows.specs.Image.{stored, CanBeHeld}
 use Rattle.escrow_rows.proofs.PlacedCells.{stored_same}
 use Rattle.escrow_verify.specs.Counting.{cell_row}
-use Rattle.escrow_verify.specs.Inside.{IsSoundRow, keyed_cells}
+use Rattle.escrow_verify.specs.Inside.{IsSoundRow}
 
 -- two lists that begin one list have the same behind them where they are as long
 same_behind : {A : Type 0} (xs ys more others : List A) → length xs ≡ length ys → xs ++ more ≡ ys ++ others → more ≡ others

@@ -1,5 +1,5 @@
 -- Sorted cells of sound rows: their rows are in order of key, and they are the only ones in any order.
-use Rattle.std.proofs.Common.{◌≡◌, pos, ◌<◌, false, List, [], ◌∷◌, ◌++◌, map, flat_map, length, refl, sym, ap, ◌∙◌, subst, arith, Ordering, Less, Equal, Greater, is_lt, is_gt, IsTrue, IsSorted}
+use Rattle.std.proofs.Common.{◌≡◌, pos, ◌<◌, false, List, [], ◌∷◌, ◌++◌, flat_map, length, refl, sym, ap, ◌∙◌, arith, Ordering, Less, Equal, Greater, is_lt, is_gt, IsTrue, IsSorted}
 use Rattle.std.specs.List.{AllByRecursion}
 use Rattle.std.specs.Ordering.{nat_cmp, ordering_then}
 use Rattle.std.specs.Cmp.Lexicographic.{slice_cmp}
@@ -9,7 +9,7 @@ use Rattle.sqlite_value.specs.declared.value.Value.TheVariants as sql
 use Rattle.sqlite_value.specs.Order.{Row as SqlRow, value_cmp}
 use Rattle.sqlite_value.proofs.OrderLemmas.{value_cmp-Int}
 use Rattle.sqlite_trees.specs.Tree.{IsAscending as Rises}
-use Rattle.sqlite_trees.proofs.ListLemmas.{all_weaker, all_both, flat_map-map}
+use Rattle.sqlite_trees.proofs.ListLemmas.{all_weaker, all_both}
 use Rattle.sqlite_keyed.proofs.SortLemmas.{sorted_unique}
 use Rattle.sqlite.specs.Effect.{Database}
 use Rattle.escrow_num.specs.declared.row.Row.{Row}
@@ -24,13 +24,13 @@ use Rattle.escrow_schema.proofs.RuleLemmas.{rules_of}
 use Rattle.escrow_cells.specs.Read.{AreOfTable}
 use Rattle.escrow_cells.specs.Store.{cells}
 use Rattle.escrow_rows.specs.declared.stored.StoredTable.{StoredTable}
-use Rattle.escrow_rows.specs.Gathered.{gathered_cells, keyed}
+use Rattle.escrow_rows.specs.Placed.{keyed, keyed_cells}
 use Rattle.escrow_machine.specs.Rows.{row_before}
-use Rattle.escrow_rows.proofs.KeyedCells.{Below, cell_cmp, cell_cmp_total, gathered_rise, stored_cmp}
+use Rattle.escrow_rows.proofs.KeyedCells.{cell_cmp, cell_cmp_total, rows_rise, stored_cmp}
 use Rattle.escrow_cells.proofs.Rising.{AtMost, ascending_from_sorted}
-use Rattle.escrow_rows.proofs.TableRead.{keys_rise, values_in}
+use Rattle.escrow_rows.proofs.TableRead.{keys_rise}
 use Rattle.escrow_verify.specs.Counting.{cell_row}
-use Rattle.escrow_verify.specs.Inside.{AreRowsIn, IsSoundRow, keyed_cells}
+use Rattle.escrow_verify.specs.Inside.{AreRowsIn, IsSoundRow}
 
 module _ {A : Type 0} (P : A → Type 0) (R : A → A → Type 0) where
   -- what holds of all items holds of those behind others
@@ -109,5 +109,5 @@ pub answer_is : (s : StoredTable) (db : Database) (rows : List Row) (answer : Li
     → answer ≡ flat_map (keyed_cells s.table) rows
 answer_is s db rows answer are of =
     let named = all_weaker (IsSoundRow s.table) (λ row. row.name.table ≡ s.table.name) (λ row sound. sound.is_row.table_name) rows are.sound in
-    let rise = subst (Rises Below) (flat_map-map gathered_cells (values_in s.table) rows) (gathered_rise (map (values_in s.table) rows) (keys_rise s.table rows named are.row_order)) in
+    let rise = rows_rise s.table rows (keys_rise s.table rows named are.row_order) in
     sorted_unique cell_cmp cell_cmp_total (flat_map (keyed_cells s.table) rows) answer rise (IsPermutation-trans (flat_map (keyed_cells s.table) rows) _ answer are.cells_are of.same_cells) of.in_order

@@ -17,12 +17,12 @@ use Rattle.escrow_schema.specs.Fit.{values_of}
 use Rattle.escrow_cells.specs.Step.{same, is_in}
 use Rattle.escrow_cells.specs.Store.{cells}
 use Rattle.escrow_rows.specs.declared.stored.StoredTable.{StoredTable}
-use Rattle.escrow_rows.specs.Gathered.{keyed}
+use Rattle.escrow_rows.specs.Placed.{keyed, keyed_cells}
 use Rattle.escrow_rows.specs.Image.{stored, cells_from, cells_in}
 use Rattle.escrow_rows.proofs.ImageTables.{pieces_same}
 use Rattle.escrow_rows.proofs.KeyedCells.{with_key}
 use Rattle.escrow_rows.proofs.Same.{same_numbers}
-use Rattle.escrow_verify.specs.Inside.{IsNumberOf, AreOfTables, AreRowsIn, keyed_cells, is_number_of}
+use Rattle.escrow_verify.specs.Inside.{IsNumberOf, AreOfTables, AreRowsIn, is_number_of}
 
 -- a cell is of one of the tables
 abbrev pub IsOfOne : List StoredTable → SqlRow → Type 0

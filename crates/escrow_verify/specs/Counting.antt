@@ -10,11 +10,11 @@ use Rattle.escrow_schema.specs.declared.table.TableDef.{TableDef}
 use Rattle.escrow_schema.specs.Definition.{IsTable}
 use Rattle.escrow_schema.specs.Fit.{IsRowOf, values_of}
 use Rattle.escrow_schema.specs.declared.table.TheConstants.TableDef.{MAX_ROWS}
-use Rattle.escrow_rows.specs.Gathered.{keyed}
+use Rattle.escrow_rows.specs.Placed.{keyed, keyed_cells}
 use Rattle.escrow_rows.specs.Image.{stored, CanBeHeld}
 use Rattle.escrow_verify.specs.declared.rows.cell.Cell.{Cell}
 use Rattle.escrow_verify.specs.declared.rows.counter.RowCounter.{RowCounter}
-use Rattle.escrow_verify.specs.Inside.{IsSoundRow, keyed_cells}
+use Rattle.escrow_verify.specs.Inside.{IsSoundRow}
 
 -- a cell as an answer gives it: its key, its place and its value
 abbrev pub cell_row : Value → ℕ → Value → SqlRow

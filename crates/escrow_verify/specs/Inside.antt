@@ -4,7 +4,7 @@ use Rattle.std.specs.List.{AllByRecursion, flat_map, list_any}
 use Rattle.std.specs.Ordering.{int_eq}
 use Rattle.sqlite_value.specs.declared.value.Value.{Value as Sql}
 use Rattle.sqlite_value.specs.declared.value.Value.TheVariants.{Int}
-use Rattle.sqlite_value.specs.Order.{Row as SqlRow, column}
+use Rattle.sqlite_value.specs.Order.{column}
 use Rattle.sqlite.specs.Effect.{Database}
 use Rattle.escrow_num.specs.declared.row.Row.{Row}
 use Rattle.escrow_num.specs.Ascending.{IsAscending}
@@ -15,7 +15,7 @@ use Rattle.escrow_cells.specs.Step.{is_in}
 use Rattle.escrow_cells.specs.Store.{IsStore, format, cells, metas, tabs}
 use Rattle.escrow_rows.specs.declared.stored.StoredTable.{StoredTable}
 use Rattle.escrow_schema.specs.declared.table.TheConstants.TableDef.{MAX_ROWS}
-use Rattle.escrow_rows.specs.Gathered.{keyed}
+use Rattle.escrow_rows.specs.Placed.{keyed_cells}
 use Rattle.escrow_rows.specs.Image.{AreTables, CanBeHeld, tab_row}
 use Rattle.escrow_machine.specs.Rows.{row_before}
 use Rattle.escrow_verify.specs.declared.counted.Counted.{Counted}
@@ -34,10 +34,6 @@ pub record IsSoundRow (table : TableDef) (row : Row) : Type 0 where
   pub is_row : IsRowOf table row
   pub meets : AllByRecursion (λ check. Meets check row.amounts) table.checks
   pub held : AllByRecursion CanBeHeld (values_of table row)
-
--- the cells of a row, each by the key, its place and its value
-abbrev pub keyed_cells : TableDef → Row → List SqlRow
-keyed_cells table row = keyed row.name.key 1 (values_of table row)
 
 -- the rows of a table of a store, in order of key
 pub record AreRowsIn (s : StoredTable) (rows : List Row) (db : Database) : Type 0 where
