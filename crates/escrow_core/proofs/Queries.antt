@@ -6,7 +6,7 @@ use Rattle.escrow_num.specs.declared.row.Row.{Row}
 use Rattle.escrow_num.specs.declared.value.RowName.{RowName}
 use Rattle.escrow_num.specs.Ascending.{IsAscending}
 use Rattle.escrow_num.specs.Order.{same_row}
-use Rattle.escrow_num.specs.Refusal.{refuse_if, told}
+use Rattle.escrow_num.specs.Refusal.{refuse_if, refusal_for}
 use Rattle.escrow_sql.specs.declared.statement.RowText.{RowText}
 use Rattle.escrow_sql.specs.declared.statement.SelectText.{SelectText}
 use Rattle.escrow_sql.specs.declared.statement.Statement.TheVariants as statement
@@ -49,7 +49,7 @@ unfolding turn_of
 select_answers s session text answer early is =
     subst (λ (r : Reply). StepOrRefusal s session (statement.Select text) r s) (sym is) (select_serves s session text (none_applies s session (statement.Select text) early refl))
 
-pub select_fails : (s : State) (session : ℕ) (text : SelectText) (f : Failure) → PassesEarly s session (statement.Select text) → IsRefusal s session (statement.Select text) (told f)
+pub select_fails : (s : State) (session : ℕ) (text : SelectText) (f : Failure) → PassesEarly s session (statement.Select text) → IsRefusal s session (statement.Select text) (refusal_for f)
 unfolding turn_of
 select_fails s session text f early = fails s session (statement.Select text) f early refl
 
@@ -77,7 +77,7 @@ bounds_lack s session text name is early none =
     late_applies s session (statement.ShowBounds text) refusal.NoSuchRow early
     (lacking (row_named s.rows (named_by text.table text.row)) refusal.NoSuchRow [] (ap (row_named s.rows) (sym is) ∙ sym none))
 
-pub bounds_fails : (s : State) (session : ℕ) (text : RowText) (f : Failure) → PassesEarly s session (statement.ShowBounds text) → IsRefusal s session (statement.ShowBounds text) (told f)
+pub bounds_fails : (s : State) (session : ℕ) (text : RowText) (f : Failure) → PassesEarly s session (statement.ShowBounds text) → IsRefusal s session (statement.ShowBounds text) (refusal_for f)
 unfolding turn_of
 bounds_fails s session text f early = fails s session (statement.ShowBounds text) f early refl
 

@@ -12,7 +12,7 @@ use Rattle.escrow_num.specs.declared.reservation.TheConstants.Reservation.{MAX_I
 use Rattle.escrow_num.specs.declared.row.Row.{Row}
 use Rattle.escrow_num.specs.declared.value.RowName.{RowName}
 use Rattle.escrow_num.specs.declared.value.Value.{Value}
-use Rattle.escrow_num.specs.Refusal.{refuse_if, first_refusal, told}
+use Rattle.escrow_num.specs.Refusal.{refuse_if, first_refusal, refusal_for}
 use Rattle.escrow_num.specs.Session.{IsSession}
 use Rattle.escrow_sql.specs.declared.statement.UpdateText.{UpdateText}
 use Rattle.escrow_sql.specs.declared.statement.Statement.TheVariants as statement
@@ -132,7 +132,7 @@ module _ {S : Type 0} (g : Ghosts S) (session : ℕ) (text : UpdateText) (name :
 
     -- they could not be
     pub replace_fails : (f : Failure) → Writes g t new false t.catalog (with_plain name values t.rows)
-        → Serves g session (statement.Update text) (seen_of t o) (reply.Refused (told f)) (seen_of new o)
+        → Serves g session (statement.Update text) (seen_of t o) (reply.Refused (refusal_for f)) (seen_of new o)
     replace_fails f writes =
         let s : State = (seen_of t o).state in
         write_failed g session (statement.Update text) t new o f reply.Updated (record s { rows = with_plain name values t.rows }) refl

@@ -1,7 +1,3 @@
-ghost use Rattle.std.specs.Prelude.{◌≡◌};
-ghost use Rattle.escrow_num.specs.Refusal.{told};
-
-use crate::refusal::Refusal;
 use std::alloc::{AllocError, AllocFailed};
 
 /// Why a call fails that takes memory or asks a store.
@@ -11,16 +7,6 @@ pub enum Failure {
     Memory,
     /// The store refused a call.
     Store,
-}
-
-/// The refusal that a failure is answered as: 51 for want of memory, 60 for the store.
-pub fn refusal_of(failure: Failure) -> Refusal
-    ensures { result ≡ told failure }
-{
-    match failure {
-        Failure::Memory => Refusal::Memory,
-        Failure::Store => Refusal::Store,
-    }
 }
 
 impl From<AllocError> for Failure {

@@ -25,7 +25,7 @@ mod wide;
 pub use amount::Amount;
 pub use changes::Changes;
 pub use copied::{Copied, are_same, copy_all};
-pub use failure::{Failure, refusal_of};
+pub use failure::Failure;
 pub use name::Name;
 pub use refusal::{Breach, Refusal};
 pub use reservation::{Reservation, Savepoint};

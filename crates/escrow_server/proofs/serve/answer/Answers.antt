@@ -13,4 +13,4 @@ returns-in-Ok-clause-served g c = λ used.
 pub returns-in-Err-clause-served : goal.returns-in-Err-clause-served
 returns-in-Err-clause-served g c = λ used.
     let bad = c.in-Err.ensures in
-    inr (c.in-Err.fault, bad.fault, ap Refused c.refusal_of.ensures, refl)
+    inr (c.in-Err.fault, bad.fault, ap Refused c.fault_refusal.ensures, refl)

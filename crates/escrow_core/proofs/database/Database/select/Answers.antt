@@ -1,6 +1,6 @@
 use Rattle.std.proofs.Common.{ap, refl, sym, ◌∙◌}
 use Rattle.escrow_sql.specs.declared.statement.Statement.TheVariants as statement
-use Rattle.escrow_num.specs.Refusal.{told}
+use Rattle.escrow_num.specs.Refusal.{refusal_for}
 use Rattle.escrow_machine.specs.Asked.{select_reply}
 use Rattle.escrow_machine.specs.State.{State}
 use Rattle.escrow_core.proofs.Queries.{select_answers, select_fails}
@@ -25,5 +25,5 @@ returns-in-Ok g c =
 pub returns-in-Err-selected : goal.returns-in-Err-selected
 returns-in-Err-selected g c =
     rw c.refusal_of.ensures
-    (look_refused g.S.Store c.args.session (statement.Select c.args.text.now) c.args.self.now c.selected.new.self (told c.in-Err-selected.failure) c.selected.ensures.looks refl (sym c.in_default.ensures) (λ _.
+    (look_refused g.S.Store c.args.session (statement.Select c.args.text.now) c.args.self.now c.selected.new.self (refusal_for c.in-Err-selected.failure) c.selected.ensures.looks refl (sym c.in_default.ensures) (λ _.
     select_fails c.args.self.now.state c.args.session c.args.text.now c.in-Err-selected.failure (sym c.in_default.ensures)))
