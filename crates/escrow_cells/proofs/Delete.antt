@@ -19,7 +19,7 @@ use Rattle.escrow_cells.specs.declared.datum.Datum.{Datum}
 use Rattle.escrow_cells.specs.declared.step.Step.TheVariants as step
 use Rattle.escrow_cells.specs.Tables.{tab, cell, tab_tree, cell_tree}
 use Rattle.escrow_cells.specs.Store.{IsStore, AreNumbered, tabs, cells}
-use Rattle.escrow_cells.specs.Step.{kept, same, is_in, is_of, Does, Holds}
+use Rattle.escrow_cells.specs.Step.{kept, same, is_in, is_of, Does, HoldsContents}
 use Rattle.escrow_cells.proofs.Inside.{Edits, IsStatement, deletes, wrote_by}
 use Rattle.escrow_cells.proofs.Makes.{left_is}
 use Rattle.escrow_cells.proofs.Leaves.{cell_of, tab_of, holds_cells, holds_tabs}
@@ -87,7 +87,7 @@ shown_left f p q told rows left is =
 
 -- a DELETE of cells
 cells_deleted : (old new : Database) (store : IsStore old) (tests : List Term) (params : Row) (is : Row → Bool) → ((r : Row) → passes tests params r ≡ is (cell_of r)) → (rows : List Row)
-    → AreFound tests params (old.trees cell_tree) rows → gone_by rows old cell new → Holds (record { cells = filter (λ c. not (is c)) (cells old); tabs = tabs old }) old new
+    → AreFound tests params (old.trees cell_tree) rows → gone_by rows old cell new → HoldsContents (record { cells = filter (λ c. not (is c)) (cells old); tabs = tabs old }) old new
 cells_deleted old new store tests params is told rows found gone =
     holds_cells old new _ store gone refl _ (shown_left cell_of (passes tests params) is told (old.trees cell_tree) (new.trees cell_tree) (rows_left old new cell tests params rows store.cells_numbered found gone))
 

@@ -21,7 +21,7 @@ use Rattle.escrow_cells.specs.declared.datum.Datum.{Datum}
 use Rattle.escrow_cells.specs.declared.step.Step.TheVariants as step
 use Rattle.escrow_cells.specs.Tables.{tab, cell}
 use Rattle.escrow_cells.specs.Store.{IsStore, tabs, cells}
-use Rattle.escrow_cells.specs.Step.{kept, Holds, Does}
+use Rattle.escrow_cells.specs.Step.{kept, HoldsContents, Does}
 use Rattle.escrow_cells.proofs.Inside.{Edits, IsStatement, inserts, wrote_by}
 use Rattle.escrow_cells.proofs.Columns.{cast_held}
 use Rattle.escrow_cells.proofs.Leaves.{cell_of, tab_of, holds_cells, holds_tabs}
@@ -82,7 +82,7 @@ inserts_cell old new table place key value count h it =
     holds_cells old.now new.now _ it edits refl (params ∷ cells old.now) (subst (λ r. IsPermutation (r ∷ cells old.now) (cells new.now)) made_is more)
 
 pub inserts_tab : (old new : State) (id : ℤ) (name ddl : List ℕ) (count : ℕ) → Executes tab_insert (Int id ∷ Text name ∷ Text ddl ∷ []) old new (Ok count)
-    → IsStore old.now → Holds (record { cells = cells old.now; tabs = (Int id ∷ Text name ∷ Text ddl ∷ []) ∷ tabs old.now }) old.now new.now
+    → IsStore old.now → HoldsContents (record { cells = cells old.now; tabs = (Int id ∷ Text name ∷ Text ddl ∷ []) ∷ tabs old.now }) old.now new.now
 inserts_tab old new id name ddl count h it =
     let has = it.tables.is in
     let params = Int id ∷ Text name ∷ Text ddl ∷ [] in

@@ -10,7 +10,7 @@ use Rattle.sqlite_rules.specs.Edit.{Edit}
 use Rattle.sqlite.specs.Effect.{Database}
 use Rattle.escrow_cells.specs.Tables.{meta_tree, tab_tree, cell_tree}
 use Rattle.escrow_cells.specs.Store.{IsStore, HasTables, AreNumbered, metas, tabs, cells}
-use Rattle.escrow_cells.specs.Step.{Holds}
+use Rattle.escrow_cells.specs.Step.{HoldsContents}
 use Rattle.escrow_cells.proofs.Inside.{Edits}
 use Rattle.escrow_cells.proofs.Makes.{numbered_edited}
 
@@ -49,7 +49,7 @@ module _ (old new : Database) (edit : Edit) (store : IsStore old) (made : Edits 
   same_metas e = ap (map (λ r. column r 1 ∷ column r 2 ∷ [])) e
 
   -- an edit of CELL
-  pub holds_cells : edit.table.tree ≡ cell_tree → (after : List Row) → IsPermutation after (cells new) → Holds (record { cells = after; tabs = tabs old }) old new
+  pub holds_cells : edit.table.tree ≡ cell_tree → (after : List Row) → IsPermutation after (cells new) → HoldsContents (record { cells = after; tabs = tabs old }) old new
   holds_cells on after same =
       let others = spared store.tables in
       let meta_is = others.0 (λ e. omega (arith, on, e)) in
@@ -62,7 +62,7 @@ module _ (old new : Database) (edit : Edit) (store : IsStore old) (made : Edits 
       }
 
   -- an edit of TAB
-  pub holds_tabs : edit.table.tree ≡ tab_tree → (after : List Row) → IsPermutation after (tabs new) → Holds (record { cells = cells old; tabs = after }) old new
+  pub holds_tabs : edit.table.tree ≡ tab_tree → (after : List Row) → IsPermutation after (tabs new) → HoldsContents (record { cells = cells old; tabs = after }) old new
   holds_tabs on after same =
       let others = spared store.tables in
       let meta_is = others.0 (λ e. omega (arith, on, e)) in

@@ -1,5 +1,5 @@
 -- A query that only reads leaves the store as it was, whether it answers or fails.
-use Rattle.std.proofs.Common.{◌≡◌, ◌⊎◌, inl, inr, ℕ, false, List, [], Result, Ok, Err, refl, IsTrue, sym, subst, ◌∙◌}
+use Rattle.std.proofs.Common.{◌≡◌, ◌⊎◌, inl, inr, ℕ, false, List, [], Result, Ok, Err, refl, IsTrue, sym, subst, ◌∙◌, arith}
 use Rattle.sqlite_value.specs.Order.{Row}
 use Rattle.sqlite_trees.specs.declared.store.Store.{Ghosts}
 use Rattle.sqlite_resolve.specs.declared.compiled.Compiled.{Compiled}
@@ -10,7 +10,7 @@ use Rattle.sqlite.specs.Effect.{Database}
 use Rattle.sqlite.specs.Given.{HasGiven, HasBegun, IsRefused, Returns}
 use Rattle.sqlite.specs.Held.{Held, state}
 use Rattle.sqlite.specs.Listing.{understood, reads_listing, IsSourceOf}
-use Rattle.sqlite.specs.State.{State, HasCleanDisk, Survives, IsUnchanged, IsRolledBack, IsNotRun, FailsToShow, FailsToQuery, ShowsRows, Shown, CommitsShowing}
+use Rattle.sqlite.specs.State.{State, HasCleanDisk, Survives, Fails, IsUnchanged, IsRolledBack, IsNotRun, FailsToShow, FailsToQuery, ShowsRows, Shown, CommitsShowing}
 use Rattle.sqlite.proofs.StateLemmas.{survives_weaker}
 use Rattle.sqlite.proofs.Callers.{unchanged_then}
 use Rattle.escrow_cells.specs.Query.{OnlyReads}
@@ -43,6 +43,11 @@ module _ (sql : List ℕ) (params : Row) (old new : State) (only : OnlyReads sql
       let it = subst (FailsToShow old new sql h.0 (timed params h.0.formats h.1.now) e) (only _ h.0 h.1.is) h.2 in
       inl it.3
 
+-- a query that fails between two of its rows
+pub moved_kept : (old new : State) (e : Error) → Fails old new ⊥ e ⊎ IsUnchanged old new → IsKept old new
+moved_kept old new e (inl failed) = inr failed.3
+moved_kept old new e (inr same) = inl same
+
 -- an answer after a call that changed nothing is an answer from before it
 pub shown_from : (sql : List ℕ) (params : Row) (first old new : State) (rows : List Row) → OnlyReads sql → IsUnchanged first old → Shown sql params old new rows → Shown sql params first new rows
 unfolding Shown
@@ -70,9 +75,11 @@ pub rests_from : {S : Type 0} (g : Ghosts S) (old new : Held S) → (IsTrue (sta
     → Survives (state g old) (state g new) (λ _. ⊥) → (HasCleanDisk (state g new) → IsKept (state g old) (state g new)) → Rests g old new
 rests_from g old new settled outside survives kept = record {
   outside = outside;
-  same = λ clean opened. same (kept clean) opened;
-  was_open = λ clean opened. was_open (kept clean) opened;
-  survives = survives;
+  looks = record {
+    same = λ usable. same (kept usable.0) usable.1;
+    usable = λ usable. (omega (arith, survives.clean, usable.0), was_open (kept usable.0) usable.1);
+    survives = survives;
+  };
 }
   where
     was_open : IsKept (state g old) (state g new) → IsTrue (state g new).is_open → IsTrue (state g old).is_open

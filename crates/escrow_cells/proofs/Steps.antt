@@ -7,7 +7,7 @@ use Rattle.sqlite_trees.proofs.ListLemmas.{IsPermutation-filter}
 use Rattle.sqlite.specs.Effect.{Database}
 use Rattle.escrow_cells.specs.declared.step.Step.{Step}
 use Rattle.escrow_cells.specs.declared.step.Step.TheVariants as step
-use Rattle.escrow_cells.specs.Step.{Contents, contents, done, Holds, Does}
+use Rattle.escrow_cells.specs.Step.{Contents, contents, done, HoldsContents, Does}
 
 -- the same cells and the same tables, in any order
 record AreAlike (c d : Contents) : Type 0 where
@@ -33,10 +33,10 @@ does_more steps s old mid new before one h =
     let first = before h in
     let last = one first.store in
     let same = done_alike (fold done (contents old) steps) (contents mid) s (record { cells = first.cells_are; tabs = first.tabs_are }) in
-    let whole : Holds (done (fold done (contents old) steps) s) old new = record {
+    let whole : HoldsContents (done (fold done (contents old) steps) s) old new = record {
       store = last.store;
       cells_are = IsPermutation-trans _ _ _ same.cells last.cells_are;
       tabs_are = IsPermutation-trans _ _ _ same.tabs last.tabs_are;
       metas_are = last.metas_are ∙ first.metas_are;
     } in
-    subst (λ c. Holds c old new) (sym (fold-append done (contents old) steps (s ∷ []))) whole
+    subst (λ c. HoldsContents c old new) (sym (fold-append done (contents old) steps (s ∷ []))) whole

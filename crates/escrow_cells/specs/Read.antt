@@ -1,11 +1,11 @@
 -- Believed: what is read of a store.
-use Rattle.std.specs.Prelude.{◌≡◌, false, List, [], ◌∷◌, ◌++◌, map, filter, ◌&&◌, IsPermutation, IsSorted, IsTrue}
+use Rattle.std.specs.Prelude.{◌≡◌, false, List, [], ◌∷◌, ◌++◌, map, filter, ◌&&◌, IsPermutation, IsSorted}
 use Rattle.std.specs.Ordering.{on, then_cmp}
 use Rattle.sqlite_value.specs.declared.value.Value.{Value}
 use Rattle.sqlite_value.specs.Order.{Row, column, value_cmp}
 use Rattle.sqlite_trees.specs.declared.store.Store.{Ghosts}
 use Rattle.sqlite.specs.Held.{Held, state}
-use Rattle.sqlite.specs.State.{HasCleanDisk, Survives}
+use Rattle.escrow_cells.specs.Calls.{Looks}
 use Rattle.escrow_cells.specs.Step.{same, is_in, is_of}
 
 -- the cells of the row of a key, each by its place and its value, in order of place
@@ -31,12 +31,10 @@ pub record AreTabs (tabs : List Row) (answer : List Row) : Type 0 where
   pub same_tabs : IsPermutation tabs answer
   pub in_order : IsSorted (on (λ r. column r 0) value_cmp) answer
 
--- a call that only reads leaves a connection outside a transaction, and the store as it was
+-- a call that only reads leaves a connection outside a transaction, and its store as it was
 pub record Rests {S : Type 0} (g : Ghosts S) (old new : Held S) : Type 0 where
   pub outside : new.in_transaction ≡ false
-  pub same : HasCleanDisk (state g new) → IsTrue (state g new).is_open → (state g new).now ≡ (state g old).now
-  pub was_open : HasCleanDisk (state g new) → IsTrue (state g new).is_open → IsTrue (state g old).is_open
-  pub survives : Survives (state g old) (state g new) (λ _. ⊥)
+  pub looks : Looks (state g old) (state g new)
 
 -- a sink that had taken some rows, from when it was a first one on, has then taken those of an answer too
 abbrev pub Takes : {K : Type 0} → (K → K → List Row → Type 0) → (List Row → Type 0) → K → K → Type 0

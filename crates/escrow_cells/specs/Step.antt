@@ -57,7 +57,7 @@ done c (step.InsertTab id name text) = record c { tabs = (Int id ∷ Text name.n
 done c (step.DeleteTab id) = record c { tabs = filter (λ tab. not (same (column tab 0) (Int id))) c.tabs }
 
 -- a database holds these contents, in any order, and the META of another
-pub record Holds (c : Contents) (old new : Database) : Type 0 where
+pub record HoldsContents (c : Contents) (old new : Database) : Type 0 where
   pub store : IsStore new
   pub cells_are : IsPermutation c.cells (cells new)
   pub tabs_are : IsPermutation c.tabs (tabs new)
@@ -65,4 +65,4 @@ pub record Holds (c : Contents) (old new : Database) : Type 0 where
 
 -- the steps, one after another, are done to a store
 abbrev pub Does : List Step → Database → Database → Type 0
-Does steps old new = IsStore old → Holds (fold done (contents old) steps) old new
+Does steps old new = IsStore old → HoldsContents (fold done (contents old) steps) old new

@@ -1,7 +1,7 @@
 //! A new store.
 ghost use Rattle.std.specs.Prelude.{◌≡◌, false, is_ok, IsTrue};
 ghost use Rattle.sqlite.specs.Held.{state};
-ghost use Rattle.escrow_cells.specs.Calls.{Writes};
+ghost use Rattle.escrow_cells.specs.Calls.{Alters};
 ghost use Rattle.escrow_cells.specs.Tables.{no_schema};
 ghost use Rattle.escrow_cells.specs.Store.{MakesStore};
 ghost use Rattle.escrow_cells.specs.Inside.{Acts};
@@ -41,7 +41,7 @@ fn create_cell<S: Alter>(tx: &mut Transaction<'_, S>) -> Result<usize, Error>
     )
 }
 
-/// Writes down that the store has the format 1.
+/// Alters down that the store has the format 1.
 fn insert_format<S: Alter>(tx: &mut Transaction<'_, S>) -> Result<usize, Error>
     ensures same_reference { tx.new.conn.ghost_name ≡ tx.old.conn.ghost_name }
     ensures acts { Acts (state S.Store tx.old.conn.now) (state S.Store tx.new.conn.now) (is_ok result) (Fills with_cell) }
@@ -63,7 +63,7 @@ fn make_tables<S: Alter>(tx: &mut Transaction<'_, S>) -> Result<usize, Error>
 /// Makes an empty store of a database without objects, in one transaction: all of it, or nothing. A
 /// connection that is inside a transaction is refused.
 pub fn create<S: Alter>(conn: &mut Connection<S>) -> Result<(), Failure>
-    ensures writes { Writes (state S.Store conn.old) (state S.Store conn.new) (is_ok result) MakesStore }
+    ensures writes { Alters (state S.Store conn.old) (state S.Store conn.new) (is_ok result) MakesStore }
     ensures mode { conn.old.in_transaction ≡ false → conn.new.in_transaction ≡ false }
 {
     if !conn.is_autocommit() {
@@ -76,7 +76,7 @@ pub fn create<S: Alter>(conn: &mut Connection<S>) -> Result<(), Failure>
 fn create_outside<S: Alter>(conn: &mut Connection<S>) -> Result<(), Error>
     requires outside { conn.old.in_transaction ≡ false }
     requires settled { IsTrue (state S.Store conn.old).is_open → (state S.Store conn.old).now ≡ (state S.Store conn.old).committed }
-    ensures writes { Writes (state S.Store conn.old) (state S.Store conn.new) (is_ok result) MakesStore }
+    ensures writes { Alters (state S.Store conn.old) (state S.Store conn.new) (is_ok result) MakesStore }
     ensures mode { conn.new.in_transaction ≡ false }
 {
     let mut tx = conn.transaction();

@@ -20,7 +20,7 @@ use Rattle.escrow_num.proofs.Orders.{name_same}
 use Rattle.escrow_schema.specs.Fit.{IsRowOf, values_of}
 use Rattle.escrow_cells.specs.Step.{same, is_in, is_of}
 use Rattle.escrow_rows.specs.declared.stored.StoredTable.{StoredTable}
-use Rattle.escrow_rows.specs.Image.{stored, cells_from, cells_in, cells_of, stored_named, AreTables, HasTable}
+use Rattle.escrow_rows.specs.Image.{stored, cells_from, cells_in, cells_of, stored_named, AreTables, IsOfTables}
 use Rattle.escrow_rows.specs.Changes.{Stands, name_in}
 use Rattle.escrow_rows.proofs.Same.{same_numbers, same_stored}
 
@@ -83,7 +83,7 @@ pub record IsRowIn (tables : List StoredTable) (row : Row) (t : StoredTable) : T
   pub cells : cells_of tables row ≡ cells_in t row
 
 -- the table of a row, where it has one
-pub row_in : (tables : List StoredTable) (row : Row) → HasTable tables row → (t : StoredTable) × IsRowIn tables row t
+pub row_in : (tables : List StoredTable) (row : Row) → IsOfTables tables row → (t : StoredTable) × IsRowIn tables row t
 row_in tables row = go (stored_named tables row.name.table) refl
   where
     go : (o : Option StoredTable) → stored_named tables row.name.table ≡ o → IsSomeAnd o (λ s. IsRowOf s.table row) → (t : StoredTable) × IsRowIn tables row t
@@ -101,7 +101,7 @@ row_in tables row = go (stored_named tables row.name.table) refl
         )
 
 -- a row of the name of a table that stands is one of that table, with its cells
-pub row_of_stored : (tables : List StoredTable) (s : StoredTable) (row : Row) → Stands tables s → HasTable tables row → row.name.table ≡ s.table.name
+pub row_of_stored : (tables : List StoredTable) (s : StoredTable) (row : Row) → Stands tables s → IsOfTables tables row → row.name.table ≡ s.table.name
     → IsRowOf s.table row × (cells_of tables row ≡ cells_in s row)
 row_of_stored tables s row stands of named =
     let found = row_in tables row of in
@@ -111,7 +111,7 @@ row_of_stored tables s row stands of named =
     )
 
 -- whether a row's cells are of a table, or of the row of a key in it
-pub is_in_row : (tables : List StoredTable) (s : StoredTable) (row : Row) → AreTables tables → Has tables s → HasTable tables row
+pub is_in_row : (tables : List StoredTable) (s : StoredTable) (row : Row) → AreTables tables → Has tables s → IsOfTables tables row
     → AllByRecursion (λ cell. is_in (sql.Int s.id) cell ≡ bytes_eq row.name.table s.table.name) (cells_of tables row)
 is_in_row tables s row h has of =
     let found = row_in tables row of in
@@ -121,7 +121,7 @@ is_in_row tables s row h has of =
     subst (AllByRecursion (λ cell. is_in (sql.Int s.id) cell ≡ bytes_eq row.name.table s.table.name)) (sym found.1.cells)
     (all_weaker (IsCell t.id row.name.key) _ (λ cell k. is_in_cell s.id t.id row.name.key cell k ∙ numbers) (cells_in t row) (cells_name t.id row.name.key (pos 1) (values_of t.table row)))
 
-pub is_of_row : (tables : List StoredTable) (s : StoredTable) (key : Value) (row : Row) → AreTables tables → Has tables s → HasTable tables row
+pub is_of_row : (tables : List StoredTable) (s : StoredTable) (key : Value) (row : Row) → AreTables tables → Has tables s → IsOfTables tables row
     → AllByRecursion (λ cell. is_of (sql.Int s.id) (stored key) cell ≡ same_row row.name (name_in s key)) (cells_of tables row)
 is_of_row tables s key row h has of =
     let found = row_in tables row of in

@@ -22,7 +22,7 @@ use Rattle.escrow_cells.specs.Step.{same, is_in}
 use Rattle.escrow_cells.specs.Store.{IsStore, cells}
 use Rattle.escrow_rows.specs.declared.stored.StoredTable.{StoredTable}
 use Rattle.escrow_rows.specs.Answers.{TellsCount}
-use Rattle.escrow_rows.specs.Image.{stored, cells_from, cells_of, AreTables, AreRows, HasTable}
+use Rattle.escrow_rows.specs.Image.{stored, cells_from, cells_of, AreTables, AreRows, IsOfTables}
 use Rattle.escrow_machine.specs.Rows.{rows_of}
 use Rattle.escrow_rows.specs.Changes.{Stands}
 use Rattle.escrow_rows.proofs.Cells.{filter_pieces, is_in_row, row_in, stands_has}
@@ -43,7 +43,7 @@ first_cells id key (v ∷ values) h =
     rw (same_itself (pos 1)) (ap (λ (others : List SqlRow). length (first ∷ others)) (filter_none is_first rest behind))
 
 -- a row of tables has one first cell
-one_first : (tables : List StoredTable) (row : Row) → AreTables tables → HasTable tables row → length (filter is_first (cells_of tables row)) ≡ 1
+one_first : (tables : List StoredTable) (row : Row) → AreTables tables → IsOfTables tables row → length (filter is_first (cells_of tables row)) ≡ 1
 one_first tables row are of =
     let found = row_in tables row of in
     let t = found.0 in
@@ -66,8 +66,8 @@ cells_count : (tables : List StoredTable) (rows : List Row) (s : StoredTable) �
     → length (filter (λ c. is_in (sql.Int s.id) c && is_first c) (flat_map (cells_of tables) rows)) ≡ length (rows_of rows s.table.name)
 cells_count tables rows s are of stands =
     let mine = rows_of rows s.table.name in
-    let tests = all_weaker (HasTable tables) _ (λ row has. is_in_row tables s row are (stands_has tables s stands) has) rows of.of_tables in
-    let firsts = all_weaker (HasTable tables) (λ row. length (filter is_first (cells_of tables row)) ≡ 1) (λ row has. one_first tables row are has) rows of.of_tables in
+    let tests = all_weaker (IsOfTables tables) _ (λ row has. is_in_row tables s row are (stands_has tables s stands) has) rows of.of_tables in
+    let firsts = all_weaker (IsOfTables tables) (λ row. length (filter is_first (cells_of tables row)) ≡ 1) (λ row has. one_first tables row are has) rows of.of_tables in
     ap length (filter_twice (is_in (sql.Int s.id)) is_first (flat_map (cells_of tables) rows)
     ∙ ap (filter is_first) (filter_pieces (cells_of tables) (is_in (sql.Int s.id)) (λ row. bytes_eq row.name.table s.table.name) rows tests))
     ∙ pieces_counted (cells_of tables) is_first mine (all_filter _ (λ row. bytes_eq row.name.table s.table.name) rows firsts)

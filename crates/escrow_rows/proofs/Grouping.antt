@@ -28,7 +28,7 @@ use Rattle.escrow_rows.specs.declared.all_values.Grouped.{Grouped}
 use Rattle.escrow_rows.specs.declared.stored.StoredTable.{StoredTable}
 use Rattle.escrow_rows.specs.Answers.{TellsAllValues}
 use Rattle.escrow_rows.specs.Changes.{Stands}
-use Rattle.escrow_rows.specs.Grouped.{unkeyed, HasValues, HasGrouped, GoesOn}
+use Rattle.escrow_rows.specs.Grouped.{unkeyed, HasValues, HasGrouped, GrowsBy}
 use Rattle.escrow_rows.specs.Image.{stored, cells_of, AreTables, AreRows}
 use Rattle.escrow_rows.specs.Placed.{placed, keyed, keyed_cells}
 use Rattle.escrow_machine.specs.Rows.{row_before, rows_of}
@@ -38,7 +38,7 @@ use Rattle.escrow_rows.proofs.TableRead.{keys_rise, own_cells, own_rows}
 
 -- the last of the rows, put back with one value more
 pub goes_on : (rows : List (List Value)) (n : ℕ) (cell : Cell) (last new : List Value) → n ≡ length rows → 0 < n → last ≡ slice_index_or rows (n - 1) last
-    → (cell.place ≡ length last + 1) × (new ≡ last ++ cell.value ∷ []) → GoesOn rows cell (slice_set rows (n - 1) new)
+    → (cell.place ≡ length last + 1) × (new ≡ last ++ cell.value ∷ []) → GrowsBy rows cell (slice_set rows (n - 1) new)
 goes_on rows n cell last new many some at next =
     let within : n - 1 < length rows = omega arith in
     let end : take ((n - 1) + 1) rows ≡ rows = take_all ((n - 1) + 1) rows (omega arith) in
@@ -52,7 +52,7 @@ goes_on rows n cell last new many some at next =
     }
 
 -- one more cell of the last row
-pub grouped_more : (old new : List (List Value)) (cell : Cell) (cells : List SqlRow) (row : SqlRow) → GoesOn old cell new → unkeyed row ≡ sql.Int (pos cell.place) ∷ stored cell.value ∷ []
+pub grouped_more : (old new : List (List Value)) (cell : Cell) (cells : List SqlRow) (row : SqlRow) → GrowsBy old cell new → unkeyed row ≡ sql.Int (pos cell.place) ∷ stored cell.value ∷ []
     → HasGrouped cells old → HasGrouped (cells ++ row ∷ []) new
 grouped_more old new cell cells row more is so_far =
     let last = more.last in

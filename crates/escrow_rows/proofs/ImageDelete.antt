@@ -10,7 +10,7 @@ use Rattle.escrow_cells.specs.declared.datum.Datum.{Datum}
 use Rattle.escrow_cells.specs.declared.step.Step.TheVariants as step
 use Rattle.escrow_cells.specs.Step.{Does, kept, is_of}
 use Rattle.escrow_rows.specs.declared.stored.StoredTable.{StoredTable}
-use Rattle.escrow_rows.specs.Image.{stored, cells_of, AreTables, AreRows, HasTable}
+use Rattle.escrow_rows.specs.Image.{stored, cells_of, AreTables, AreRows, IsOfTables}
 use Rattle.escrow_rows.specs.Changes.{Stands, Deletes, name_in}
 use Rattle.escrow_machine.specs.Rows.{without_row}
 use Rattle.escrow_rows.proofs.Cells.{filter_pieces, is_of_row, stands_has}
@@ -21,7 +21,7 @@ cells_without : (tables : List StoredTable) (rows : List Row) (s : StoredTable) 
     → filter (λ cell. not (is_of (sql.Int s.id) (stored key) cell)) (flat_map (cells_of tables) rows) ≡ flat_map (cells_of tables) (without_row (name_in s key) rows)
 cells_without tables rows s key are of stands =
     filter_pieces (cells_of tables) (λ cell. not (is_of (sql.Int s.id) (stored key) cell)) (λ row. not (same_row row.name (name_in s key))) rows
-    (all_weaker (HasTable tables) _ (λ row has. all_weaker _ _ (λ cell e. ap not e) (cells_of tables row) (is_of_row tables s key row are (stands_has tables s stands) has))
+    (all_weaker (IsOfTables tables) _ (λ row has. all_weaker _ _ (λ cell e. ap not e) (cells_of tables row) (is_of_row tables s key row are (stands_has tables s stands) has))
     rows of.of_tables)
 
 -- the step of DELETE takes the row out

@@ -20,7 +20,7 @@ use Rattle.escrow_cells.specs.declared.step.Step.{Step}
 use Rattle.escrow_cells.specs.Step.{Contents, Does, done, is_of}
 use Rattle.escrow_rows.specs.declared.amounts.NewAmounts.{NewAmounts}
 use Rattle.escrow_rows.specs.declared.stored.StoredTable.{StoredTable}
-use Rattle.escrow_rows.specs.Image.{stored, cells_from, cells_in, cells_of, stored_named, AreTables, HasTable}
+use Rattle.escrow_rows.specs.Image.{stored, cells_from, cells_in, cells_of, stored_named, AreTables, IsOfTables}
 use Rattle.escrow_rows.specs.Changes.{Stands, SetsPlain, PutsAmounts, name_in, with_new_amounts, with_amounts, put_all}
 use Rattle.escrow_machine.specs.Rows.{replaced, with_values, with_plain}
 use Rattle.escrow_rows.specs.Inside.{Change, on_cells, put_values, new_plain, new_amounts, plain_on, amounts_on, all_on}
@@ -49,7 +49,7 @@ cells_named tables s key row stands named =
     ∙ ap (λ (n : RowName). cells_from s.id n.key (pos 1) (values_of s.table row)) named
 
 -- a row of a name in a table that stands fits that table
-fits_named : (tables : List StoredTable) (s : StoredTable) (key : Value) (row : Row) → Stands tables s → HasTable tables row → row.name ≡ name_in s key → IsRowOf s.table row
+fits_named : (tables : List StoredTable) (s : StoredTable) (key : Value) (row : Row) → Stands tables s → IsOfTables tables row → row.name ≡ name_in s key → IsRowOf s.table row
 fits_named tables s key row stands of named =
     let found = row_in tables row of in
     let one : found.0 ≡ s = same_Some found.0 s (sym found.1.found ∙ ap (λ (n : RowName). stored_named tables n.table) named ∙ stands) in
@@ -57,7 +57,7 @@ fits_named tables s key row stands of named =
 
 -- a row's cells, where another row stands in its place if it is the one of a key, with the same name and
 -- with values replaced: new values are put into them
-cells_change : (tables : List StoredTable) (s : StoredTable) (key : Value) (news : List (Option Value)) (row other : Row) → AreTables tables → Stands tables s → HasTable tables row
+cells_change : (tables : List StoredTable) (s : StoredTable) (key : Value) (news : List (Option Value)) (row other : Row) → AreTables tables → Stands tables s → IsOfTables tables row
     → other.name ≡ row.name → (IsRowOf s.table row → values_of s.table other ≡ replaced news (values_of s.table row))
     → cells_of tables (if same_row row.name (name_in s key) then other else row) ≡ map (put_values s.id (stored key) (pos 1) news) (cells_of tables row)
 cells_change tables s key news row other are stands of named values =
@@ -76,7 +76,7 @@ cells_change tables s key news row other are stands of named values =
     ]
 
 -- UPDATE of plain columns: the cells of a row with plain values replaced
-plain_cells : (tables : List StoredTable) (s : StoredTable) (key : Value) (news : List (Option Value)) (row : Row) → AreTables tables → Stands tables s → HasTable tables row
+plain_cells : (tables : List StoredTable) (s : StoredTable) (key : Value) (news : List (Option Value)) (row : Row) → AreTables tables → Stands tables s → IsOfTables tables row
     → cells_of tables (with_values (name_in s key) news row) ≡ map (plain_on s key news) (cells_of tables row)
 plain_cells tables s key news row are stands of =
     cells_change tables s key (new_plain s.table.columns 0 s.table.key news) row (record row { plain = replaced news row.plain }) are stands of refl
@@ -87,12 +87,12 @@ sets_plain s key news steps change old new does =
     rows_after steps s (with_plain (name_in s key) news) old new does (λ tables rows are of stands c coded. rw (change c) (record {
       tabs_are = coded.tabs_are;
       cells_are = rw (pieces_change (cells_of tables) (with_values (name_in s key) news) (plain_on s key news) rows
-          (all_weaker (HasTable tables) _ (λ row has. plain_cells tables s key news row are stands has) rows of.of_tables))
+          (all_weaker (IsOfTables tables) _ (λ row has. plain_cells tables s key news row are stands has) rows of.of_tables))
           (IsPermutation-map (plain_on s key news) (flat_map (cells_of tables) rows) c.cells coded.cells_are);
     }))
 
 -- COMMIT: the cells of a row with amounts replaced
-amount_cells : (tables : List StoredTable) (new : NewAmounts) (row : Row) → AreTables tables → Stands tables new.table.now → HasTable tables row
+amount_cells : (tables : List StoredTable) (new : NewAmounts) (row : Row) → AreTables tables → Stands tables new.table.now → IsOfTables tables row
     → cells_of tables (with_new_amounts (name_in new.table.now new.key.now) new.amounts.now row) ≡ map (amounts_on new) (cells_of tables row)
 amount_cells tables new row are stands of =
     let s = new.table.now in
@@ -101,7 +101,7 @@ amount_cells tables new row are stands of =
     (λ fits. amounts_replaced s.table.columns 0 s.table.key row.name.key row.amounts row.plain news fits.amounts (AllZip-long _ _ row.plain fits.plain))
 
 -- a row with amounts replaced is one of its table
-amounts_fit : (tables : List StoredTable) (name : RowName) (news : List (Option ℤ)) (row : Row) → HasTable tables row → HasTable tables (with_new_amounts name news row)
+amounts_fit : (tables : List StoredTable) (name : RowName) (news : List (Option ℤ)) (row : Row) → IsOfTables tables row → IsOfTables tables (with_new_amounts name news row)
 amounts_fit tables name news row of =
     elim (cases_Bool (same_row row.name name)) [ inl t ↦ rw t (go (stored_named tables row.name.table) of) | inr n ↦ rw n of ]
   where
@@ -111,20 +111,20 @@ amounts_fit tables name news row of =
 
 -- new amounts, one after another
 all_encode : (tables : List StoredTable) (news : List NewAmounts) (rows : List Row) (c : Contents) → AreTables tables
-    → AllByRecursion (λ (n : NewAmounts). Stands tables n.table.now) news → AllByRecursion (HasTable tables) rows
+    → AllByRecursion (λ (n : NewAmounts). Stands tables n.table.now) news → AllByRecursion (IsOfTables tables) rows
     → Encodes tables rows c → Encodes tables (put_all news rows) (all_on news c)
 all_encode tables [] rows c are stand of coded = coded
 all_encode tables (new ∷ news) rows c are stand of coded =
     let name = name_in new.table.now new.key.now in
     let amounts = new.amounts.now in
     let here = pieces_change (cells_of tables) (with_new_amounts name amounts) (amounts_on new) rows
-    (all_weaker (HasTable tables) _ (λ row has. amount_cells tables new row are stand.0 has) rows of) in
+    (all_weaker (IsOfTables tables) _ (λ row has. amount_cells tables new row are stand.0 has) rows of) in
     all_encode tables news (with_amounts name amounts rows) (on_cells (amounts_on new) c) are stand.1 (fit rows of) (record {
       tabs_are = coded.tabs_are;
       cells_are = rw here (IsPermutation-map (amounts_on new) (flat_map (cells_of tables) rows) c.cells coded.cells_are);
     })
   where
-    fit : (rows : List Row) → AllByRecursion (HasTable tables) rows → AllByRecursion (HasTable tables) (with_amounts (name_in new.table.now new.key.now) new.amounts.now rows)
+    fit : (rows : List Row) → AllByRecursion (IsOfTables tables) rows → AllByRecursion (IsOfTables tables) (with_amounts (name_in new.table.now new.key.now) new.amounts.now rows)
     fit [] h = h
     fit (row ∷ rows) h = (amounts_fit tables (name_in new.table.now new.key.now) new.amounts.now row h.0, fit rows h.1)
 

@@ -16,7 +16,7 @@ use Rattle.escrow_schema.specs.Print.{canonical}
 use Rattle.escrow_cells.specs.declared.step.Step.TheVariants as step
 use Rattle.escrow_cells.specs.Step.{Does, same, is_in}
 use Rattle.escrow_rows.specs.declared.stored.StoredTable.{StoredTable}
-use Rattle.escrow_rows.specs.Image.{cells_in, cells_of, stored_named, tab_row, AreTables, AreRows, HasTable}
+use Rattle.escrow_rows.specs.Image.{cells_in, cells_of, stored_named, tab_row, AreTables, AreRows, IsOfTables}
 use Rattle.escrow_rows.specs.Changes.{Creates, Drops, without_stored}
 use Rattle.escrow_machine.specs.Rows.{without_rows_of}
 use Rattle.escrow_rows.proofs.Cells.{filter_pieces, is_in_row, numbers_tell, one_name, row_in, stands_has}
@@ -49,7 +49,7 @@ same_cells : (tables after : List StoredTable) (rows : List Row) → AreTables a
     → flat_map (cells_of tables) rows ≡ flat_map (cells_of after) rows
 same_cells tables after rows are more of =
     pieces_same (cells_of tables) (cells_of after) rows
-    (all_weaker (HasTable tables) _ (λ row has.
+    (all_weaker (IsOfTables tables) _ (λ row has.
     let found = (row_in tables row has).1.found in
     ap (λ o. unwrap_or (option_map (λ s. cells_in s row) o) []) (found ∙ sym (still_found tables after row.name.table _ are more found))) rows of.of_tables)
 
@@ -93,7 +93,7 @@ cells_left : (tables : List StoredTable) (rows : List Row) (s : StoredTable) →
     → filter (λ cell. not (is_in (sql.Int s.id) cell)) (flat_map (cells_of tables) rows) ≡ flat_map (cells_of tables) (without_rows_of s.table.name rows)
 cells_left tables rows s are of has =
     filter_pieces (cells_of tables) (λ cell. not (is_in (sql.Int s.id) cell)) (λ row. not (bytes_eq row.name.table s.table.name)) rows
-    (all_weaker (HasTable tables) _ (λ row k. all_weaker _ _ (λ cell e. ap not e) (cells_of tables row) (is_in_row tables s row are has k)) rows of.of_tables)
+    (all_weaker (IsOfTables tables) _ (λ row k. all_weaker _ _ (λ cell e. ap not e) (cells_of tables row) (is_in_row tables s row are has k)) rows of.of_tables)
 
 -- the rows of TAB that haven't a number are those of the other tables
 tabs_left : (tables : List StoredTable) (s : StoredTable) → AreTables tables → Has tables s

@@ -9,7 +9,7 @@ use Rattle.escrow_num.specs.Ascending.{IsAscending}
 use Rattle.escrow_num.proofs.Orders.{by_row, row_total, before_trans, before_itself}
 use Rattle.escrow_num.proofs.Put.{put}
 use Rattle.escrow_machine.specs.Rows.{row_before, with_row}
-use Rattle.escrow_rows.specs.View.{in_order}
+use Rattle.escrow_rows.specs.View.{sorted_rows}
 
 module _ {A : Type 0} (before : A → A → Bool) (trans : (x y z : A) → before x y ≡ true → before y z ≡ true → before x z ≡ true) (itself : (x : A) → before x x ≡ false) where
   -- the items put in order, each among those behind it
@@ -111,10 +111,10 @@ rows_trans = before_trans by_row row_total
 rows_itself : (x : Row) → row_before x x ≡ false
 rows_itself = before_itself by_row row_total
 
-in_order_sorted : (rows : List Row) → in_order rows ≡ sorted row_before rows_trans rows_itself rows
+in_order_sorted : (rows : List Row) → sorted_rows rows ≡ sorted row_before rows_trans rows_itself rows
 in_order_sorted [] = refl
-in_order_sorted (row ∷ rows) = with_row_put row (in_order rows) ∙ ap (put row_before row) (in_order_sorted rows)
+in_order_sorted (row ∷ rows) = with_row_put row (sorted_rows rows) ∙ ap (put row_before row) (in_order_sorted rows)
 
 -- rows in any order, put in order
-pub in_order_permutation : (rows others : List Row) → IsAscending row_before rows → IsPermutation rows others → in_order others ≡ rows
+pub in_order_permutation : (rows others : List Row) → IsAscending row_before rows → IsPermutation rows others → sorted_rows others ≡ rows
 in_order_permutation rows others h same = in_order_sorted others ∙ sorted_permutation row_before rows_trans rows_itself rows others h same

@@ -15,7 +15,7 @@ use Rattle.escrow_num.specs.declared.value.Value.TheVariants.{Number, Text}
 use Rattle.escrow_schema.specs.declared.column.Column.{Column}
 use Rattle.escrow_cells.specs.Step.{same, is_at}
 use Rattle.escrow_rows.specs.Image.{stored, cells_from}
-use Rattle.escrow_rows.specs.View.{value_in, values_at}
+use Rattle.escrow_rows.specs.View.{value_kept, kept_from}
 use Rattle.escrow_rows.proofs.Same.{same_numbers}
 
 -- a number is the same as itself, and as no other
@@ -68,17 +68,17 @@ one_cell id key place (v ∷ values) =
         → filter (λ other. same (column other 2) (column cell 2)) rest ≡ cell ∷ [] → filter (λ other. same (column other 2) (column cell 2)) (first ∷ rest) ≡ cell ∷ []
     later_cell first rest cell passed only = rw passed only
 
-value_back : (v : Value) → value_in (stored v) ≡ v
+value_back : (v : Value) → value_kept (stored v) ≡ v
 value_back (Number z) = refl
 value_back (Text t) = refl
 
 -- where each cell of a row is found, the values of its columns are read
 pub values_read : (all : List SqlRow) (id : ℤ) (key : Value) (place : ℤ) (columns : List Column) (values : List Value) → length values ≡ length columns
     → AllByRecursion (λ cell. find (is_at (sql.Int id) (stored key) (column cell 2)) all ≡ Some cell) (cells_from id key place values)
-    → values_at all id (stored key) place columns ≡ values
+    → kept_from all id (stored key) place columns ≡ values
 values_read all id key place [] [] long found = refl
 values_read all id key place [] (v ∷ values) long found = absurd (omega arith)
 values_read all id key place (c ∷ columns) [] long found = absurd (omega arith)
 values_read all id key place (c ∷ columns) (v ∷ values) long found =
-    ap₂ ◌∷◌ (ap (λ o. unwrap_or (option_map (λ cell. value_in (column cell 3)) o) (Number (pos 0))) found.0 ∙ value_back v)
+    ap₂ ◌∷◌ (ap (λ o. unwrap_or (option_map (λ cell. value_kept (column cell 3)) o) (Number (pos 0))) found.0 ∙ value_back v)
     (values_read all id key (place +ℤ pos 1) columns values (omega arith) found.1)

@@ -28,7 +28,7 @@ use Rattle.escrow_cells.specs.Store.{IsStore, cells}
 use Rattle.escrow_rows.specs.declared.stored.StoredTable.{StoredTable}
 use Rattle.escrow_machine.specs.Rows.{row_named}
 use Rattle.escrow_rows.specs.Answers.{TellsRow}
-use Rattle.escrow_rows.specs.Image.{stored, cells_in, cells_of, AreTables, AreRows, HasTable}
+use Rattle.escrow_rows.specs.Image.{stored, cells_in, cells_of, AreTables, AreRows, IsOfTables}
 use Rattle.escrow_rows.specs.Changes.{Stands, name_in}
 use Rattle.escrow_rows.specs.Placed.{placed, IsFound}
 use Rattle.escrow_rows.proofs.Cells.{filter_pieces, is_of_row, row_of_stored, stands_has}
@@ -40,7 +40,7 @@ named_cells : (tables : List StoredTable) (rows : List Row) (s : StoredTable) (k
     → filter (is_of (sql.Int s.id) (stored key)) (flat_map (cells_of tables) rows) ≡ flat_map (cells_of tables) (option_to_list (row_named rows (name_in s key)))
 named_cells tables rows s key are of stands =
     filter_pieces (cells_of tables) (is_of (sql.Int s.id) (stored key)) (λ row. same_row row.name (name_in s key)) rows
-    (all_weaker (HasTable tables) _ (λ row has. is_of_row tables s key row are (stands_has tables s stands) has) rows of.of_tables)
+    (all_weaker (IsOfTables tables) _ (λ row has. is_of_row tables s key row are (stands_has tables s stands) has) rows of.of_tables)
     ∙ ap (flat_map (cells_of tables)) (rows_named rows (name_in s key) of.row_order)
 
 -- cells that are read, each by its place and its value, are those of the row of a name
@@ -58,7 +58,7 @@ pub row_there : (tables : List StoredTable) (rows : List Row) (s : StoredTable) 
     → IsRowOf s.table row × (cells_of tables row ≡ cells_in s row)
 row_there tables rows s key row of stands e =
     let found = find_has (λ (r : Row). same_row r.name (name_in s key)) rows row e in
-    row_of_stored tables s row stands (all_has (HasTable tables) rows of.of_tables row found.0) (ap (λ n. n.table) (row_same row.name (name_in s key) found.1))
+    row_of_stored tables s row stands (all_has (IsOfTables tables) rows of.of_tables row found.0) (ap (λ n. n.table) (row_same row.name (name_in s key) found.1))
 
 -- no values make no row
 pub no_row : (table : TableDef) (row : Row) → row_with table [] ≡ Some row → ⊥

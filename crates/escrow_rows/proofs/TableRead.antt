@@ -17,7 +17,7 @@ use Rattle.escrow_schema.specs.Fit.{IsRowOf, values_of}
 use Rattle.escrow_cells.specs.Step.{is_in}
 use Rattle.escrow_rows.specs.declared.stored.StoredTable.{StoredTable}
 use Rattle.escrow_rows.specs.Changes.{Stands}
-use Rattle.escrow_rows.specs.Image.{cells_of, AreTables, AreRows, HasTable}
+use Rattle.escrow_rows.specs.Image.{cells_of, AreTables, AreRows, IsOfTables}
 use Rattle.escrow_rows.specs.Placed.{keyed_cells}
 use Rattle.escrow_machine.specs.Rows.{row_before, rows_of}
 use Rattle.escrow_rows.proofs.Cells.{filter_pieces, is_in_row, row_of_stored, stands_has}
@@ -35,7 +35,7 @@ own_rows tables rows s of stands =
     has_all (λ row. (row.name.table ≡ s.table.name) × IsRowOf s.table row × (map with_key (cells_of tables row) ≡ keyed_cells s.table row)) (rows_of rows s.table.name) (λ row has.
     let found = has_filter (λ (r : Row). bytes_eq r.name.table s.table.name) rows row has in
     let named = name_same row.name.table s.table.name found.1 in
-    let own = row_of_stored tables s row stands (all_has (HasTable tables) rows of.of_tables row found.0) named in
+    let own = row_of_stored tables s row stands (all_has (IsOfTables tables) rows of.of_tables row found.0) named in
     (named, own.0, ap (map with_key) own.1 ∙ cells_keyed s.id row.name.key 1 (values_of s.table row)))
 
 -- among the cells of an image, those of a table are those of its rows
@@ -43,7 +43,7 @@ pub own_cells : (tables : List StoredTable) (rows : List Row) (s : StoredTable) 
     → map with_key (filter (is_in (sql.Int s.id)) (flat_map (cells_of tables) rows)) ≡ flat_map (keyed_cells s.table) (rows_of rows s.table.name)
 own_cells tables rows s are of stands =
     let mine = rows_of rows s.table.name in
-    let tests = all_weaker (HasTable tables) _ (λ row has. is_in_row tables s row are (stands_has tables s stands) has) rows of.of_tables in
+    let tests = all_weaker (IsOfTables tables) _ (λ row has. is_in_row tables s row are (stands_has tables s stands) has) rows of.of_tables in
     ap (map with_key) (filter_pieces (cells_of tables) (is_in (sql.Int s.id)) (λ row. bytes_eq row.name.table s.table.name) rows tests)
     ∙ map-flat_map with_key (cells_of tables) mine
     ∙ same_pieces (λ row. map with_key (cells_of tables row)) (λ row. keyed_cells s.table row) mine (all_weaker _ (λ row. map with_key (cells_of tables row) ≡ keyed_cells s.table row) (λ row own. own.2) mine (own_rows tables rows s of stands))

@@ -19,9 +19,9 @@ use Rattle.escrow_schema.proofs.RuleLemmas.{key_stands}
 use Rattle.escrow_cells.specs.Step.{same, is_of, is_at}
 use Rattle.escrow_cells.specs.Store.{cells}
 use Rattle.escrow_rows.specs.declared.stored.StoredTable.{StoredTable}
-use Rattle.escrow_rows.specs.Image.{stored, cells_from, cells_in, cells_of, AreTables, AreRows, HasTable}
+use Rattle.escrow_rows.specs.Image.{stored, cells_from, cells_in, cells_of, AreTables, AreRows, IsOfTables}
 use Rattle.escrow_rows.specs.Changes.{name_in}
-use Rattle.escrow_rows.specs.View.{values_at, stored_numbered, row_at, rows_in}
+use Rattle.escrow_rows.specs.View.{kept_from, stored_numbered, row_at, rows_in}
 use Rattle.escrow_rows.proofs.Cells.{IsRowIn, row_in, is_of_row, filter_pieces, one_number}
 use Rattle.escrow_rows.proofs.Found.{find_permutation, filter_twice, flat_map_nothing, flat_map_back, one_row}
 use Rattle.escrow_rows.proofs.Order.{in_order_permutation}
@@ -40,16 +40,16 @@ none_later tables all cell h = rw h refl
 
 -- the row that the first of a row's cells stands for
 row_of_first : (tables : List StoredTable) (all : List SqlRow) (t : StoredTable) (key v : Value) (row : Row) → stored_numbered tables (sql.Int t.id) ≡ Some t
-    → row_with t.table (values_at all t.id (stored key) (pos 1) t.table.columns) ≡ Some row
+    → row_with t.table (kept_from all t.id (stored key) (pos 1) t.table.columns) ≡ Some row
     → row_at tables all (sql.Int t.id ∷ stored key ∷ sql.Int (pos 1) ∷ stored v ∷ []) ≡ row ∷ []
 row_of_first tables all t key v row found is =
-    let make : StoredTable → Option Row = λ s. row_with s.table (values_at all s.id (stored key) (pos 1) s.table.columns) in
+    let make : StoredTable → Option Row = λ s. row_with s.table (kept_from all s.id (stored key) (pos 1) s.table.columns) in
     ap (λ b. cond b (option_to_list (option_and_then make (stored_numbered tables (sql.Int t.id)))) []) (same_itself (pos 1))
     ∙ ap (λ o. option_to_list (option_and_then make o)) found ∙ ap option_to_list is
 
 -- the rows that a row's cells stand for
 rows_of_cells : (tables : List StoredTable) (all : List SqlRow) (t : StoredTable) (key : Value) (values : List Value) (row : Row) → 0 < length values
-    → stored_numbered tables (sql.Int t.id) ≡ Some t → row_with t.table (values_at all t.id (stored key) (pos 1) t.table.columns) ≡ Some row
+    → stored_numbered tables (sql.Int t.id) ≡ Some t → row_with t.table (kept_from all t.id (stored key) (pos 1) t.table.columns) ≡ Some row
     → flat_map (row_at tables all) (cells_from t.id key (pos 1) values) ≡ row ∷ []
 rows_of_cells tables all t key [] row long found is = absurd (omega arith)
 rows_of_cells tables all t key (v ∷ values) row long found is =
@@ -65,7 +65,7 @@ module _ (tables : List StoredTable) (rows : List Row) (all : List SqlRow) (are 
       → filter (is_of (sql.Int t.id) (stored row.name.key)) (flat_map (cells_of tables) rows) ≡ cells_in t row
   own_cells row t has is =
       let name : name_in t row.name.key ≡ row.name = ap (λ (table : List ℕ). record { table = table; key = row.name.key }) is.table_name in
-      let tests = all_weaker (HasTable tables) (λ other. AllByRecursion (λ cell. is_of (sql.Int t.id) (stored row.name.key) cell ≡ same_row other.name row.name) (cells_of tables other))
+      let tests = all_weaker (IsOfTables tables) (λ other. AllByRecursion (λ cell. is_of (sql.Int t.id) (stored row.name.key) cell ≡ same_row other.name row.name) (cells_of tables other))
       (λ other h. subst (λ n. AllByRecursion (λ cell. is_of (sql.Int t.id) (stored row.name.key) cell ≡ same_row other.name n) (cells_of tables other)) name
       (is_of_row tables t row.name.key other are is.has h)) rows of.of_tables in
       filter_pieces (cells_of tables) (is_of (sql.Int t.id) (stored row.name.key)) (λ other. same_row other.name row.name) rows tests
@@ -84,7 +84,7 @@ module _ (tables : List StoredTable) (rows : List Row) (all : List SqlRow) (are 
   -- a row's cells stand for it alone
   row_back : (row : Row) → Has rows row → flat_map (row_at tables all) (cells_of tables row) ≡ row ∷ []
   row_back row has =
-      let found = row_in tables row (all_has (HasTable tables) rows of.of_tables row has) in
+      let found = row_in tables row (all_has (IsOfTables tables) rows of.of_tables row has) in
       let t = found.0 in
       let is = found.1 in
       let table = all_has (λ (s : StoredTable). IsTable s.table) tables are.defined t is.has in

@@ -20,7 +20,7 @@ pub record HasGrouped (cells : List SqlRow) (rows : List (List Value)) : Type 0 
   pub have_values : AllByRecursion HasValues rows
 
 -- the last of the rows has one value more, that of its next cell
-pub record GoesOn (old : List (List Value)) (cell : Cell) (new : List (List Value)) : Type 0 where
+pub record GrowsBy (old : List (List Value)) (cell : Cell) (new : List (List Value)) : Type 0 where
   pub before : List (List Value)
   pub last : List Value
   pub was : old ≡ before ++ last ∷ []

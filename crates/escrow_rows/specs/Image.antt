@@ -69,11 +69,11 @@ pub record AreTables (tables : List StoredTable) : Type 0 where
   pub few : length tables ≤ MAX_TABLES
 
 -- a row is one of the tables
-abbrev pub HasTable : List StoredTable → Row → Type 0
-HasTable tables row = IsSomeAnd (stored_named tables row.name.table) (λ s. IsRowOf s.table row)
+abbrev pub IsOfTables : List StoredTable → Row → Type 0
+IsOfTables tables row = IsSomeAnd (stored_named tables row.name.table) (λ s. IsRowOf s.table row)
 
 -- rows of tables, in order; at most 65,536 of one table
 pub record AreRows (tables : List StoredTable) (rows : List Row) : Type 0 where
-  pub of_tables : AllByRecursion (HasTable tables) rows
+  pub of_tables : AllByRecursion (IsOfTables tables) rows
   pub row_order : IsAscending row_before rows
   pub few_rows : (table : List ℕ) → length (rows_of rows table) ≤ MAX_ROWS

@@ -17,19 +17,19 @@ use Rattle.escrow_rows.specs.declared.stored.StoredTable.{StoredTable}
 use Rattle.escrow_machine.specs.Rows.{with_row}
 
 -- the value that SQLite keeps; what a column can't hold reads as zero
-abbrev pub value_in : Sql → Value
-value_in (sql.Int z) = Number z
-value_in (sql.Text t) = Text t
-value_in _ = Number (pos 0)
+abbrev pub value_kept : Sql → Value
+value_kept (sql.Int z) = Number z
+value_kept (sql.Text t) = Text t
+value_kept _ = Number (pos 0)
 
 -- the value in the cell at a place of the row of a key; where there is none, zero
-abbrev pub value_at : List SqlRow → ℤ → Sql → ℤ → Value
-value_at all id key place = unwrap_or (option_map (λ cell. value_in (column cell 3)) (find (is_at (sql.Int id) key (sql.Int place)) all)) (Number (pos 0))
+abbrev pub kept_at : List SqlRow → ℤ → Sql → ℤ → Value
+kept_at all id key place = unwrap_or (option_map (λ cell. value_kept (column cell 3)) (find (is_at (sql.Int id) key (sql.Int place)) all)) (Number (pos 0))
 
 -- the values of columns, of which the first stands at a place, in the row of a key
-abbrev pub values_at : List SqlRow → ℤ → Sql → ℤ → List Column → List Value
-values_at all id key place [] = []
-values_at all id key place (c ∷ cs) = value_at all id key place ∷ values_at all id key (place +ℤ pos 1) cs
+abbrev pub kept_from : List SqlRow → ℤ → Sql → ℤ → List Column → List Value
+kept_from all id key place [] = []
+kept_from all id key place (c ∷ cs) = kept_at all id key place ∷ kept_from all id key (place +ℤ pos 1) cs
 
 -- the table of a number
 abbrev pub stored_numbered : List StoredTable → Sql → Option StoredTable
@@ -39,14 +39,14 @@ stored_numbered tables id = find (λ s. same (sql.Int s.id) id) tables
 abbrev pub row_at : List StoredTable → List SqlRow → SqlRow → List Row
 row_at tables all cell =
     if same (column cell 2) (sql.Int (pos 1))
-    then option_to_list (option_and_then (λ s. row_with s.table (values_at all s.id (column cell 1) (pos 1) s.table.columns)) (stored_numbered tables (column cell 0)))
+    then option_to_list (option_and_then (λ s. row_with s.table (kept_from all s.id (column cell 1) (pos 1) s.table.columns)) (stored_numbered tables (column cell 0)))
     else []
 
 -- rows put in order, each among those behind it
-abbrev pub in_order : List Row → List Row
-in_order [] = []
-in_order (row ∷ rows) = with_row row (in_order rows)
+abbrev pub sorted_rows : List Row → List Row
+sorted_rows [] = []
+sorted_rows (row ∷ rows) = with_row row (sorted_rows rows)
 
 -- THE ROWS OF A STORE: a row for each cell at the first place, in order of table and key
 abbrev pub rows_in : List StoredTable → Database → List Row
-rows_in tables db = in_order (flat_map (row_at tables (cells db)) (cells db))
+rows_in tables db = sorted_rows (flat_map (row_at tables (cells db)) (cells db))

@@ -1,7 +1,7 @@
 //! The values of each row of a table, made of its cells as they are read.
 ghost use Rattle.std.specs.Prelude.{◌≡◌, ◌+◌, pos, length, List, [], ◌∷◌, ◌++◌, IfOk, OnOk};
 ghost use Rattle.sqlite_value.specs.declared.value.Value.TheVariants.{Int};
-ghost use Rattle.escrow_rows.specs.Grouped.{unkeyed, GoesOn};
+ghost use Rattle.escrow_rows.specs.Grouped.{unkeyed, GrowsBy};
 ghost use Rattle.escrow_rows.specs.Image.{stored};
 
 use crate::datum::held;
@@ -67,7 +67,7 @@ impl Grouped {
 
     /// Adds a further cell to the last row. A cell that isn't its next one is refused.
     fn go_on(&mut self, cell: Cell) -> Result<(), Failure>
-        ensures { OnOk result (GoesOn self.old.rows.items cell self.new.rows.items) }
+        ensures { OnOk result (GrowsBy self.old.rows.items cell self.new.rows.items) }
     {
         match self.rows.last_mut() {
             Some(values) => add(values, cell),

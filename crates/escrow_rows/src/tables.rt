@@ -16,14 +16,14 @@ impl<S: Alter> RowStore<S> {
     ghost use Rattle.sqlite.specs.Held.{state};
     ghost use Rattle.sqlite.specs.State.{HasCleanDisk};
     ghost use Rattle.escrow_schema.specs.Definition.{IsTable};
-    ghost use Rattle.escrow_cells.specs.Calls.{Looks, Writes};
+    ghost use Rattle.escrow_cells.specs.Calls.{Looks, Alters};
     ghost use Rattle.escrow_rows.specs.Answers.{TellsTables};
     ghost use Rattle.escrow_rows.specs.Changes.{Creates, Drops};
 
     /// Puts a new table, without rows.
     pub fn create_table(&mut self, alloc: Global, table: &StoredTable) -> Result<(), Failure>
         requires { IsTable table.now.table }
-        ensures { Writes (state S.Store self.old) (state S.Store self.new) (is_ok result) (Creates table.now) }
+        ensures { Alters (state S.Store self.old) (state S.Store self.new) (is_ok result) (Creates table.now) }
     {
         let text = print_table(alloc, &table.table)?;
         run(
@@ -38,7 +38,7 @@ impl<S: Alter> RowStore<S> {
 
     /// Takes out a table and its rows. Takes no memory of its own.
     pub fn drop_table(&mut self, table: &StoredTable) -> Result<(), Failure>
-        ensures { Writes (state S.Store self.old) (state S.Store self.new) (is_ok result) (Drops table.now) }
+        ensures { Alters (state S.Store self.old) (state S.Store self.new) (is_ok result) (Drops table.now) }
     {
         run(
             &mut self.conn,

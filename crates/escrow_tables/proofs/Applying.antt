@@ -13,7 +13,7 @@ use Rattle.escrow_rows.specs.declared.amounts.NewAmounts.{NewAmounts}
 use Rattle.escrow_rows.specs.declared.stored.StoredTable.{StoredTable}
 use Rattle.escrow_schema.specs.declared.table.TheConstants.TableDef.{MAX_ROWS}
 use Rattle.escrow_rows.specs.Changes.{Stands, PutsAmounts}
-use Rattle.escrow_rows.specs.Image.{AreTables, AreRows, HasTable, stored_named}
+use Rattle.escrow_rows.specs.Image.{AreTables, AreRows, IsOfTables, stored_named}
 use Rattle.escrow_machine.specs.Rows.{row_before, rows_of, changes_to, row_after, applied}
 use Rattle.escrow_verify.specs.declared.counted.Counted.{Counted}
 use Rattle.escrow_tables.specs.Inside.{stored_of, HasCount, IsHeld}
@@ -27,7 +27,7 @@ module _ (reservations : List Reservation) where
   after_fits row (Some s) h =
       record { table_name = h.table_name; key = h.key; plain = h.plain; amounts = length-all_changed row.amounts (map (changes_to row) reservations) ∙ h.amounts }
 
-  applied_fit : (tables : List StoredTable) (rows : List Row) → AllByRecursion (HasTable tables) rows → AllByRecursion (HasTable tables) (applied rows reservations)
+  applied_fit : (tables : List StoredTable) (rows : List Row) → AllByRecursion (IsOfTables tables) rows → AllByRecursion (IsOfTables tables) (applied rows reservations)
   applied_fit tables [] of = tt
   applied_fit tables (row ∷ rows) of = (after_fits row (stored_named tables row.name.table) of.0, applied_fit tables rows of.1)
 

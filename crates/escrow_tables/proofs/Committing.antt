@@ -8,7 +8,7 @@ use Rattle.sqlite.specs.State.{HasCleanDisk}
 use Rattle.sqlite.proofs.StateLemmas.{survives_then}
 use Rattle.escrow_num.specs.declared.reservation.Reservation.{Reservation}
 use Rattle.escrow_num.specs.declared.row.Row.{Row}
-use Rattle.escrow_cells.specs.Calls.{Writes as StoreWrites}
+use Rattle.escrow_cells.specs.Calls.{Alters}
 use Rattle.escrow_rows.specs.Answers.{IsUsable, Looks}
 use Rattle.escrow_rows.specs.Changes.{PutsAmounts}
 use Rattle.escrow_rows.specs.View.{rows_in}
@@ -25,7 +25,7 @@ module _ {S : Type 0} (g : Ghosts S) (old mid new : Held S) (looks : Looks (stat
     (stays_open : HasCleanDisk (state g mid) → IsTrue (state g old).is_open → IsTrue (state g mid).is_open) where
   -- reads, and a call that makes a change after them, make it together
   changes_after : (D : Database → Database → Type 0) (Makes : Database → Type 0) (is_done : Bool) → (IsUsable (state g mid) → (db : Database) → D (state g mid).now db → Makes db)
-      → StoreWrites (state g mid) (state g new) is_done D → StoreWrites (state g old) (state g new) is_done (λ _ db. IsTrue (state g old).is_open → Makes db)
+      → Alters (state g mid) (state g new) is_done D → Alters (state g old) (state g new) is_done (λ _ db. IsTrue (state g old).is_open → Makes db)
   changes_after D Makes is_done makes it = record {
     done = λ e clean. let made = it.done e clean in (made.0, λ _. makes (it.usable (clean, made.0)) (state g new).now made.1);
     refused = λ e usable. it.refused e usable ∙ looks.same (it.usable usable);
@@ -40,7 +40,7 @@ module _ {S : Type 0} (g : Ghosts S) (old mid new : Held S) (looks : Looks (stat
   module _ (tables : List Counted) (reservations : List Reservation) (news : List NewAmounts) (is_done : Bool) (was later : Held S) (keeps : Keeps (state g old) (state g was) tables)
       (puts : ArePuts (stored_of tables) reservations (map put_by news))
       (told : IsUsable (state g mid) → AllByRecursion (TellsPut (stored_of tables) reservations (state g old).now) (map put_by news))
-      (it : StoreWrites (state g mid) (state g new) is_done (PutsAmounts news)) (if_done : is_done ≡ true → later ≡ new) (if_not : is_done ≡ false → later ≡ was) where
+      (it : Alters (state g mid) (state g new) is_done (PutsAmounts news)) (if_done : is_done ≡ true → later ≡ new) (if_not : is_done ≡ false → later ≡ was) where
     abbrev rows : List Row
     rows = applied (rows_in (stored_of tables) (state g was).now) reservations
 

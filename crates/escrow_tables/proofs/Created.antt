@@ -24,10 +24,10 @@ use Rattle.escrow_schema.specs.Catalog.{IsCatalog, table_before, table_named, wi
 use Rattle.escrow_schema.specs.Definition.{IsTable}
 use Rattle.escrow_schema.specs.Fit.{IsRowOf}
 use Rattle.escrow_schema.proofs.CatalogLemmas.{with_new, with_table_put}
-use Rattle.escrow_cells.specs.Calls.{Writes as StoreWrites}
+use Rattle.escrow_cells.specs.Calls.{Alters}
 use Rattle.escrow_rows.specs.declared.stored.StoredTable.{StoredTable}
 use Rattle.escrow_rows.specs.Changes.{Creates}
-use Rattle.escrow_rows.specs.Image.{AreTables, AreRows, HasTable, stored_named}
+use Rattle.escrow_rows.specs.Image.{AreTables, AreRows, IsOfTables, stored_named}
 use Rattle.escrow_machine.specs.Rows.{rows_of}
 use Rattle.escrow_rows.specs.View.{rows_in}
 use Rattle.escrow_rows.proofs.Cells.{row_in}
@@ -122,7 +122,7 @@ module _ (tables : List Counted) (after : List StoredTable) (s : StoredTable) (a
       }
 
   -- rows of the others are rows of theirs
-  more_has : (row : Row) → HasTable (stored_of tables) row → HasTable after row
+  more_has : (row : Row) → IsOfTables (stored_of tables) row → IsOfTables after row
   more_has row h =
       let found = row_in (stored_of tables) row h in
       let is = still_found (stored_of tables) after row.name.table found.0 more_tables (λ t has. has_permutation (s ∷ stored_of tables) after same t (inr has)) found.1.found in
@@ -130,16 +130,16 @@ module _ (tables : List Counted) (after : List StoredTable) (s : StoredTable) (a
 
   more_rows : (rows : List Row) → AreRows (stored_of tables) rows → AreRows after rows
   more_rows rows of = record {
-    of_tables = all_weaker (HasTable (stored_of tables)) (HasTable after) more_has rows of.of_tables;
+    of_tables = all_weaker (IsOfTables (stored_of tables)) (IsOfTables after) more_has rows of.of_tables;
     row_order = of.row_order;
     few_rows = of.few_rows;
   }
 
 -- no row is of a table that isn't there
-no_rows_of : (tables : List StoredTable) (rows : List Row) (name : List ℕ) → stored_named tables name ≡ None → AllByRecursion (HasTable tables) rows → rows_of rows name ≡ []
+no_rows_of : (tables : List StoredTable) (rows : List Row) (name : List ℕ) → stored_named tables name ≡ None → AllByRecursion (IsOfTables tables) rows → rows_of rows name ≡ []
 no_rows_of tables rows name none of =
     filter_none (λ (row : Row). bytes_eq row.name.table name) rows
-    (all_weaker (HasTable tables) (λ (row : Row). bytes_eq row.name.table name ≡ false)
+    (all_weaker (IsOfTables tables) (λ (row : Row). bytes_eq row.name.table name ≡ false)
     (λ row h. false_from_ne_true (bytes_eq row.name.table name)
     (λ e. subst (λ (o : Option StoredTable). IsSomeAnd o (λ t. IsRowOf t.table row)) (ap (stored_named tables) (name_same row.name.table name e) ∙ none) h)) rows of)
 
@@ -184,7 +184,7 @@ module _ (tables : List Counted) (c : Counted) (none : c.rows ≡ 0) (are : AreT
         counts = all-permutation (HasCount rows) (c ∷ tables) (with_counted c tables) whole (counted, held.counts);
       }
 
-  module _ {S : Type 0} (g : Ghosts S) (old after was later : Held S) (is_done : Bool) (it : StoreWrites (state g old) (state g after) is_done (Creates c.stored)) (fields : List Counted)
+  module _ {S : Type 0} (g : Ghosts S) (old after was later : Held S) (is_done : Bool) (it : Alters (state g old) (state g after) is_done (Creates c.stored)) (fields : List Counted)
       (keeps : Keeps (state g old) (state g was) tables) (if_done : is_done ≡ true → (fields ≡ with_counted c tables) × (later ≡ after)) (if_not : is_done ≡ false → (fields ≡ tables) × (later ≡ was)) where
     pub create_writes : Writes g (seen g old was tables) (seen g after later fields) is_done (with_table c.stored.table (catalog_of tables)) (rows_in (stored_of tables) (state g was).now)
     create_writes =

@@ -17,11 +17,11 @@ use Rattle.escrow_schema.specs.Catalog.{place_named, IsCatalog, without_table}
 use Rattle.escrow_schema.specs.Definition.{IsTable}
 use Rattle.escrow_schema.specs.Fit.{IsRowOf}
 use Rattle.escrow_schema.proofs.CatalogLemmas.{Once, once_named, taken_out, without_one}
-use Rattle.escrow_cells.specs.Calls.{Writes as StoreWrites}
+use Rattle.escrow_cells.specs.Calls.{Alters}
 use Rattle.escrow_rows.specs.declared.stored.StoredTable.{StoredTable}
 use Rattle.escrow_rows.specs.Changes.{Drops, without_stored}
 use Rattle.escrow_machine.specs.Rows.{without_rows_of, rows_of}
-use Rattle.escrow_rows.specs.Image.{AreTables, AreRows, HasTable}
+use Rattle.escrow_rows.specs.Image.{AreTables, AreRows, IsOfTables}
 use Rattle.escrow_rows.specs.View.{rows_in}
 use Rattle.escrow_rows.proofs.ImageTables.{found_without}
 use Rattle.escrow_verify.specs.declared.counted.Counted.{Counted}
@@ -79,12 +79,12 @@ fewer_tables name tables are =
 fewer_rows : (name : List ℕ) (tables : List StoredTable) (rows : List Row) → AreRows tables rows → AreRows (without_stored name tables) (without_rows_of name rows)
 fewer_rows name tables rows of =
     let kept : Row → Bool = λ row. not (bytes_eq row.name.table name) in
-    let has : (row : Row) → Has (without_rows_of name rows) row → HasTable (without_stored name tables) row = λ row k.
+    let has : (row : Row) → Has (without_rows_of name rows) row → IsOfTables (without_stored name tables) row = λ row k.
     let passes = has_filter kept rows row k in
     subst (λ (o : Option StoredTable). IsSomeAnd o (λ s. IsRowOf s.table row)) (sym (found_without tables name row.name.table (not-true (bytes_eq row.name.table name) passes.1)))
-    (all_has (HasTable tables) rows of.of_tables row passes.0) in
+    (all_has (IsOfTables tables) rows of.of_tables row passes.0) in
     record {
-      of_tables = has_all (HasTable (without_stored name tables)) (without_rows_of name rows) has;
+      of_tables = has_all (IsOfTables (without_stored name tables)) (without_rows_of name rows) has;
       row_order = ascending_filter _ kept rows of.row_order;
       few_rows = λ table. omega (arith, of.few_rows table, fewer (λ (row : Row). bytes_eq row.name.table table) kept rows);
     }
@@ -113,7 +113,7 @@ module _ (tables : List Counted) (name : List ℕ) (c : Counted) (named : IsName
         counts = has_all (HasCount (without_rows_of name rows)) (without_counted name tables) count;
       }
 
-  module _ {S : Type 0} (g : Ghosts S) (old new was later : Held S) (is_done : Bool) (it : StoreWrites (state g old) (state g new) is_done (Drops c.stored)) (fields : List Counted)
+  module _ {S : Type 0} (g : Ghosts S) (old new was later : Held S) (is_done : Bool) (it : Alters (state g old) (state g new) is_done (Drops c.stored)) (fields : List Counted)
       (keeps : Keeps (state g old) (state g was) tables) (if_done : is_done ≡ true → (fields ≡ without_counted name tables) × (later ≡ new)) (if_not : is_done ≡ false → (fields ≡ tables) × (later ≡ was)) where
     pub drop_writes : Writes g (seen g old was tables) (seen g new later fields) is_done (without_table name (catalog_of tables)) (without_rows_of name (rows_in (stored_of tables) (state g was).now))
     drop_writes =

@@ -12,7 +12,7 @@ use Rattle.escrow_schema.specs.Definition.{IsTable}
 use Rattle.escrow_schema.specs.Fit.{IsRowOf}
 use Rattle.escrow_rows.specs.declared.stored.StoredTable.{StoredTable}
 use Rattle.escrow_rows.specs.Changes.{Stands}
-use Rattle.escrow_rows.specs.Image.{AreRows, stored_named, HasTable as StoredHas}
+use Rattle.escrow_rows.specs.Image.{AreRows, stored_named, IsOfTables}
 use Rattle.escrow_verify.specs.declared.counted.Counted.{Counted}
 use Rattle.escrow_machine.specs.Rows.{AreRowsOf, HasTable}
 use Rattle.escrow_tables.specs.Inside.{stored_of, catalog_of}
@@ -71,7 +71,7 @@ both_tables : (row : Row) (o : Option Counted) → IsSomeAnd (option_map (λ (c 
 both_tables row None h = h
 both_tables row (Some c) h = h
 
-pub stored_has : (tables : List Counted) (row : Row) → HasTable (catalog_of tables) row → StoredHas (stored_of tables) row
+pub stored_has : (tables : List Counted) (row : Row) → HasTable (catalog_of tables) row → IsOfTables (stored_of tables) row
 stored_has tables row h =
     let in_catalog = subst (λ (o : Option TableDef). IsSomeAnd o (λ t. IsRowOf t row)) (named_table tables row.name.table) h in
     subst (λ (o : Option StoredTable). IsSomeAnd o (λ s. IsRowOf s.table row)) (sym (named_stored tables row.name.table)) (both_tables row (counted_named tables row.name.table) in_catalog)
@@ -80,7 +80,7 @@ both_stored : (row : Row) (o : Option Counted) → IsSomeAnd (option_map (λ (c 
 both_stored row None h = h
 both_stored row (Some c) h = h
 
-pub catalog_has : (tables : List Counted) (row : Row) → StoredHas (stored_of tables) row → HasTable (catalog_of tables) row
+pub catalog_has : (tables : List Counted) (row : Row) → IsOfTables (stored_of tables) row → HasTable (catalog_of tables) row
 catalog_has tables row h =
     let in_store = subst (λ (o : Option StoredTable). IsSomeAnd o (λ s. IsRowOf s.table row)) (named_stored tables row.name.table) h in
     subst (λ (o : Option TableDef). IsSomeAnd o (λ t. IsRowOf t row)) (sym (named_table tables row.name.table)) (both_stored row (counted_named tables row.name.table) in_store)
@@ -88,7 +88,7 @@ catalog_has tables row h =
 -- rows that are held are rows of the catalog
 pub rows_of_catalog : (tables : List Counted) (rows : List Row) → AreRows (stored_of tables) rows → AreRowsOf (catalog_of tables) rows
 rows_of_catalog tables rows are = record {
-  tables = all_weaker (StoredHas (stored_of tables)) (HasTable (catalog_of tables)) (catalog_has tables) rows are.of_tables;
+  tables = all_weaker (IsOfTables (stored_of tables)) (HasTable (catalog_of tables)) (catalog_has tables) rows are.of_tables;
   row_order = are.row_order;
   few_rows = are.few_rows;
 }

@@ -15,7 +15,7 @@ use Rattle.escrow_num.specs.declared.row.Row.{Row}
 use Rattle.escrow_num.specs.declared.value.RowName.{RowName}
 use Rattle.escrow_num.specs.declared.value.Value.{Value}
 use Rattle.escrow_machine.specs.Rows.{row_named, replaced, with_plain, with_row, with_values, without_row, row_before, rows_of}
-use Rattle.escrow_rows.specs.Image.{AreRows, HasTable}
+use Rattle.escrow_rows.specs.Image.{AreRows, IsOfTables}
 use Rattle.escrow_rows.specs.declared.stored.StoredTable.{StoredTable}
 use Rattle.escrow_schema.specs.declared.table.TheConstants.TableDef.{MAX_ROWS}
 use Rattle.escrow_rows.proofs.OneRow.{rows_named}
@@ -70,13 +70,13 @@ few_with row rows table few room =
           omega (arith, count_with row rows table)
     ]
 
-pub are_rows_with : (tables : List StoredTable) (row : Row) (rows : List Row) → AreRows tables rows → HasTable tables row → row_named rows row.name ≡ None
+pub are_rows_with : (tables : List StoredTable) (row : Row) (rows : List Row) → AreRows tables rows → IsOfTables tables row → row_named rows row.name ≡ None
     → length (rows_of rows row.name.table) < MAX_ROWS → AreRows tables (with_row row rows)
 are_rows_with tables row rows are of new room = record {
-  of_tables = has_all (HasTable tables) (with_row row rows)
+  of_tables = has_all (IsOfTables tables) (with_row row rows)
       (λ r h. elim (has_put row_before row rows r (subst (λ (rs : List Row). Has rs r) (with_row_put row rows) h)) [
-        | inl e ↦ subst (HasTable tables) e of
-        | inr k ↦ all_has (HasTable tables) rows are.of_tables r k
+        | inl e ↦ subst (IsOfTables tables) e of
+        | inr k ↦ all_has (IsOfTables tables) rows are.of_tables r k
       ]);
   row_order = in_order row rows new are.row_order;
   few_rows = λ table. few_with row rows table (are.few_rows table) room;
@@ -93,7 +93,7 @@ fewer p q (x ∷ xs) =
 
 pub are_rows_kept : (tables : List StoredTable) (keep : Row → Bool) (rows : List Row) → AreRows tables rows → AreRows tables (filter keep rows)
 are_rows_kept tables keep rows are = record {
-  of_tables = all_filter (HasTable tables) keep rows are.of_tables;
+  of_tables = all_filter (IsOfTables tables) keep rows are.of_tables;
   row_order = ascending_filter row_before keep rows are.row_order;
   few_rows = λ table. let fewer_of = fewer (λ (r : Row). bytes_eq r.name.table table) keep rows in let few = are.few_rows table in omega arith;
 }
@@ -163,7 +163,7 @@ module _ (f : Row → Row) (named : (row : Row) → (f row).name ≡ row.name) w
   same_order : (x y : Row) → row_before (f x) (f y) ≡ row_before x y
   same_order x y = ap (λ (n : RowName). is_lt (row_cmp n (f y).name)) (named x) ∙ ap (λ (n : RowName). is_lt (row_cmp x.name n)) (named y)
 
-  pub are_rows_changed : (tables : List StoredTable) (rows : List Row) → AreRows tables rows → AllByRecursion (HasTable tables) (map f rows) → AreRows tables (map f rows)
+  pub are_rows_changed : (tables : List StoredTable) (rows : List Row) → AreRows tables rows → AllByRecursion (IsOfTables tables) (map f rows) → AreRows tables (map f rows)
   are_rows_changed tables rows are of = record {
     of_tables = of;
     row_order = ascending_map row_before f same_order rows are.row_order;
@@ -174,5 +174,5 @@ pub count_plain : (name : RowName) (values : List (Option Value)) (rows : List R
 count_plain name values = count_changed (with_values name values) (name_stays name values)
 
 pub are_rows_plain : (tables : List StoredTable) (name : RowName) (values : List (Option Value)) (rows : List Row) → AreRows tables rows
-    → AllByRecursion (HasTable tables) (with_plain name values rows) → AreRows tables (with_plain name values rows)
+    → AllByRecursion (IsOfTables tables) (with_plain name values rows) → AreRows tables (with_plain name values rows)
 are_rows_plain tables name values rows = are_rows_changed (with_values name values) (name_stays name values) tables rows

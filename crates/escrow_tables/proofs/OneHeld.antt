@@ -11,7 +11,7 @@ use Rattle.escrow_schema.specs.Catalog.{IsCatalog}
 use Rattle.escrow_cells.specs.Store.{cells, tabs}
 use Rattle.escrow_cells.specs.Tables.{cell_tree, tab_tree}
 use Rattle.escrow_rows.specs.Image.{tab_row}
-use Rattle.escrow_rows.specs.View.{in_order, row_at}
+use Rattle.escrow_rows.specs.View.{sorted_rows, row_at}
 use Rattle.escrow_rows.specs.declared.stored.StoredTable.{StoredTable}
 use Rattle.escrow_rows.proofs.ViewLemmas.{rows_are}
 use Rattle.escrow_machine.specs.Rows.{MeetsChecks}
@@ -32,7 +32,7 @@ one_is_held catalog others rows more trees is_catalog are_catalog one other =
     again.are_tables (subst IsCatalog (sym again.catalog_is) are_catalog) again.image.tabs_are in (
       sym held.catalog_is ∙ ap (map (λ (s : StoredTable). s.table)) tables ∙ again.catalog_is,
       sym (rows_are held.tables rows one.0 held.are_tables held.are_rows held.image.cells_are)
-          ∙ ap₂ (λ (ts : List StoredTable) (cs : List SqlRow). in_order (flat_map (row_at ts cs) cs)) tables cells_same
+          ∙ ap₂ (λ (ts : List StoredTable) (cs : List SqlRow). sorted_rows (flat_map (row_at ts cs) cs)) tables cells_same
           ∙ rows_are again.tables more other.0 again.are_tables again.are_rows again.image.cells_are,
     )
 

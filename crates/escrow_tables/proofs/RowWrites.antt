@@ -13,11 +13,11 @@ use Rattle.escrow_num.specs.declared.value.RowName.{RowName}
 use Rattle.escrow_num.specs.declared.value.Value.{Value}
 use Rattle.escrow_schema.specs.Catalog.{IsCatalog}
 use Rattle.escrow_schema.specs.declared.table.TableDef.{TableDef}
-use Rattle.escrow_cells.specs.Calls.{Writes as StoreWrites}
+use Rattle.escrow_cells.specs.Calls.{Alters}
 use Rattle.escrow_rows.specs.Answers.{IsUsable}
 use Rattle.escrow_machine.specs.Rows.{row_named, with_plain, with_row, without_row, rows_of, HasTable}
 use Rattle.escrow_rows.specs.Changes.{TurnsRows}
-use Rattle.escrow_rows.specs.Image.{AreRows, AreTables, HasTable as StoredHas, IsImage}
+use Rattle.escrow_rows.specs.Image.{AreRows, AreTables, IsOfTables, IsImage}
 use Rattle.escrow_rows.specs.View.{rows_in}
 use Rattle.escrow_rows.specs.declared.stored.StoredTable.{StoredTable}
 use Rattle.escrow_schema.specs.declared.table.TheConstants.TableDef.{MAX_ROWS}
@@ -39,7 +39,7 @@ pub record Turned (tables : List Counted) (place : ℕ) (c : Counted) (n : ℕ) 
 module _ {S : Type 0} (g : Ghosts S) (old new was later : Held S) (tables : List Counted) (name : List ℕ) (place : ℕ) (c : Counted) (placed : IsPlaced tables name place c)
     (after : List Row → List Row) (n : ℕ) (keeps : Keeps (state g old) (state g was) tables)
     (turned : HasCleanDisk (state g old) → Turned tables place c n (after (rows_in (stored_of tables) (state g was).now)))
-    (is_done : Bool) (it : StoreWrites (state g old) (state g new) is_done (TurnsRows c.stored after)) (count : ℕ)
+    (is_done : Bool) (it : Alters (state g old) (state g new) is_done (TurnsRows c.stored after)) (count : ℕ)
     (if_done : is_done ≡ true → (count ≡ n) × (later ≡ new)) (if_not : is_done ≡ false → (count ≡ c.rows) × (later ≡ was)) where
   are_after : AreTables (stored_of (recounted tables place c n))
   are_after = subst AreTables (sym (stored_recounted tables name place c placed n)) keeps.are_tables
@@ -116,7 +116,7 @@ pub plain_turns : (tables : List Counted) (place : ℕ) (c : Counted) (name : Ro
     → (rows : List Row) → AreRows (stored_of tables) rows → AllByRecursion (HasCount rows) tables → AllByRecursion (HasTable (catalog_of tables)) (with_plain name values rows)
     → Turned tables place c c.rows (with_plain name values rows)
 plain_turns tables place c name values placed rows are_rows counts fit = record {
-  are_rows = are_rows_plain (stored_of tables) name values rows are_rows (all_weaker (HasTable (catalog_of tables)) (StoredHas (stored_of tables)) (stored_has tables) (with_plain name values rows) fit);
+  are_rows = are_rows_plain (stored_of tables) name values rows are_rows (all_weaker (HasTable (catalog_of tables)) (IsOfTables (stored_of tables)) (stored_has tables) (with_plain name values rows) fit);
   counts = subst (AllByRecursion (HasCount (with_plain name values rows))) (sym (recounted_itself tables name.table place c placed))
       (counts_same rows (with_plain name values rows) (count_plain name values rows) tables counts);
 }

@@ -19,7 +19,7 @@ use Rattle.escrow_cells.specs.Step.{is_in}
 use Rattle.escrow_cells.specs.Store.{cells}
 use Rattle.escrow_rows.specs.declared.stored.StoredTable.{StoredTable}
 use Rattle.escrow_rows.specs.Changes.{Stands}
-use Rattle.escrow_rows.specs.Image.{CanBeHeld, HasTable, cells_in, cells_of, tab_row}
+use Rattle.escrow_rows.specs.Image.{CanBeHeld, IsOfTables, cells_in, cells_of, tab_row}
 use Rattle.escrow_machine.specs.Rows.{row_before, rows_of, MeetsChecks}
 use Rattle.escrow_rows.proofs.Cells.{cells_name, filter_pieces, is_in_row, row_in, row_of_stored}
 use Rattle.escrow_rows.proofs.ImageTables.{has_permutation, pieces_same}
@@ -49,7 +49,7 @@ store_cells found tables rows db in_store is =
     let same : IsPermutation (map tab_row tables) (map tab_row found) = IsPermutation-trans _ _ _ is.image.tabs_are (IsPermutation-sym _ _ in_store.tabs_are) in
     all-permutation (λ c. IsNumberOf found (column c 0)) (flat_map (cells_of tables) rows) (cells db) is.image.cells_are
     (all-flat_map (λ c. IsNumberOf found (column c 0)) (cells_of tables) rows
-    (all_weaker (HasTable tables) _ (λ row has.
+    (all_weaker (IsOfTables tables) _ (λ row has.
     let table = row_in tables row has in
     let t = table.0 in
     let kept = has_map tab_row found (tab_row t) (has_permutation (map tab_row tables) (map tab_row found) same (tab_row t) (mapped tables t table.1.has)) in
@@ -69,14 +69,14 @@ store_rows tables rows db s has is =
     let stands : Stands tables s = found_named tables is.are_tables s has in
     let named : (row : Row) → Has mine row → Has rows row × (bytes_eq row.name.table s.table.name ≡ true) = λ row. has_filter (λ (r : Row). bytes_eq r.name.table s.table.name) rows row in
     let of_stored : (row : Row) → Has mine row → IsRowOf s.table row × (cells_of tables row ≡ cells_in s row) =
-    λ row k. row_of_stored tables s row stands (all_has (HasTable tables) rows is.are_rows.of_tables row (named row k).0) (name_same _ _ (named row k).1) in
+    λ row k. row_of_stored tables s row stands (all_has (IsOfTables tables) rows is.are_rows.of_tables row (named row k).0) (name_same _ _ (named row k).1) in
     let definition : (row : Row) → Has mine row → table_named (map (λ (t : StoredTable). t.table) tables) row.name.table ≡ Some s.table =
     λ row k. find_mapped (λ (t : TableDef). bytes_eq t.name row.name.table) (λ (t : StoredTable). t.table) tables
     ∙ ap (λ (n : List ℕ). option_map (λ (t : StoredTable). t.table) (find (λ (t : StoredTable). bytes_eq t.table.name n) tables)) (name_same _ _ (named row k).1)
     ∙ ap (option_map (λ (t : StoredTable). t.table)) stands in
     let cells_here : filter (is_in (sql.Int s.id)) (flat_map (cells_of tables) rows) ≡ flat_map (cells_in s) mine =
     filter_pieces (cells_of tables) (is_in (sql.Int s.id)) (λ (row : Row). bytes_eq row.name.table s.table.name) rows
-    (all_weaker (HasTable tables) _ (λ row of. is_in_row tables s row is.are_tables has of) rows is.are_rows.of_tables)
+    (all_weaker (IsOfTables tables) _ (λ row of. is_in_row tables s row is.are_tables has of) rows is.are_rows.of_tables)
     ∙ pieces_same _ _ mine (has_all _ mine (λ row k. (of_stored row k).1)) in
     let keyed : map with_key (flat_map (cells_in s) mine) ≡ flat_map (keyed_cells s.table) mine =
     map-flat_map with_key (cells_in s) mine ∙ flat_map_same_on _ (keyed_cells s.table) (λ row. cells_keyed s.id row.name.key 1 (values_of s.table row)) mine in

@@ -24,7 +24,7 @@ use Rattle.escrow_cells.specs.Step.{is_in}
 use Rattle.escrow_cells.specs.Store.{cells}
 use Rattle.escrow_rows.specs.declared.stored.StoredTable.{StoredTable}
 use Rattle.escrow_schema.specs.declared.table.TheConstants.TableDef.{MAX_ROWS}
-use Rattle.escrow_rows.specs.Image.{AreTables, CanBeHeld, HasTable, cells_in, cells_of, stored_named}
+use Rattle.escrow_rows.specs.Image.{AreTables, CanBeHeld, IsOfTables, cells_in, cells_of, stored_named}
 use Rattle.escrow_machine.specs.Rows.{row_before, rows_of, MeetsChecks}
 use Rattle.escrow_rows.specs.Changes.{Stands}
 use Rattle.escrow_rows.proofs.Cells.{filter_pieces, one_name, row_of_stored}
@@ -210,8 +210,8 @@ module _ (db : Database) (parts : List Part) (whole : Whole db parts) where
       all-flat_map P (λ (p : Part). p.rows) parts (has_all _ parts (λ p has.
       all_weaker (IsSoundRow p.counted.stored.table) P (each p has) p.rows (all_has (IsPart db) parts whole.parts_are p has).0.sound))
 
-  have_tables : AllByRecursion (HasTable (all_tables parts)) (all_rows parts)
-  have_tables = each_row (HasTable (all_tables parts)) (λ p has row sound.
+  have_tables : AllByRecursion (IsOfTables (all_tables parts)) (all_rows parts)
+  have_tables = each_row (IsOfTables (all_tables parts)) (λ p has row sound.
       subst (λ (o : Option StoredTable). IsSomeAnd o (λ s. IsRowOf s.table row)) (sym (found p has row sound.is_row.table_name)) sound.is_row)
 
   definition : (p : Part) → Has parts p → (row : Row) → row.name.table ≡ name_of p → table_named (map (λ s. s.table) (all_tables parts)) row.name.table ≡ Some p.counted.stored.table

@@ -3,7 +3,7 @@ use Rattle.std.proofs.lemmas.Bool.{false≢true}
 use Rattle.std.proofs.lemmas.Result.{err_from_is_err_and}
 use Rattle.sqlite.specs.Held.{Held, state}
 use Rattle.escrow_machine.specs.Rows.{applied}
-use Rattle.escrow_cells.specs.Calls.{Writes as StoreWrites}
+use Rattle.escrow_cells.specs.Calls.{Alters}
 use Rattle.escrow_rows.specs.Changes.{PutsAmounts}
 use Rattle.escrow_rows.specs.View.{rows_in}
 use Rattle.escrow_tables.specs.Calls.{Writes}
@@ -32,7 +32,7 @@ written g c is_done later ok if_done if_not =
     let read = rw c.deref.ensures.value at c.in_ok-changes.ensures in
     let same : map put_of c.in_ok-changes.changes.items ≡ map put_by news =
     sym (ap (map put_by) c.as_slice-2.ensures.value ∙ c.in_ok-news.ensures ∙ ap (map put_of) c.as_slice.ensures.value) in
-    let it = subst (λ b. StoreWrites (state g.S.Store mid) (state g.S.Store new) b (PutsAmounts news)) ok c.put_amounts.ensures in (
+    let it = subst (λ b. Alters (state g.S.Store mid) (state g.S.Store new) b (PutsAmounts news)) ok c.put_amounts.ensures in (
       commits g.S.Store old.store mid new read.looks read.open old.tables.items c.args.reservations.now news is_done old.last.value later c.self.invariant
           (rw same at read.puts) (rw same at read.told) it if_done if_not,
       keeps_committed g.S.Store old.store mid new read.looks read.open old.tables.items c.args.reservations.now news is_done old.last.value later c.self.invariant

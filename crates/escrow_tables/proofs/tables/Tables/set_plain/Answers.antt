@@ -6,7 +6,7 @@ use Rattle.std.specs.List.{AllByRecursion}
 use Rattle.sqlite.specs.Held.{Held, state}
 use Rattle.sqlite.specs.State.{HasCleanDisk}
 use Rattle.escrow_num.specs.declared.value.RowName.{RowName}
-use Rattle.escrow_cells.specs.Calls.{Writes as StoreWrites}
+use Rattle.escrow_cells.specs.Calls.{Alters}
 use Rattle.escrow_rows.specs.Changes.{TurnsRows}
 use Rattle.escrow_machine.specs.Rows.{with_plain, HasTable}
 use Rattle.escrow_rows.specs.View.{rows_in}
@@ -54,7 +54,7 @@ written g c is_done later ok if_done if_not =
     let was = c.self.inside.last.value in
     let at = placed g c in
     let rows = with_plain name values (rows_in (stored_of tables) (state g.S.Store was).now) in
-    let it = subst₂ (λ b (n : RowName). StoreWrites (state g.S.Store old) (state g.S.Store new) b (TurnsRows counted.stored (with_plain n values))) ok (name_of tables name.table counted at.named name.key) c.set_plain.ensures in
+    let it = subst₂ (λ b (n : RowName). Alters (state g.S.Store old) (state g.S.Store new) b (TurnsRows counted.stored (with_plain n values))) ok (name_of tables name.table counted at.named name.key) c.set_plain.ensures in
     let stays = recounted_itself tables name.table c.args.place counted at in (
       subst (λ (ts : List Counted). Writes g.S.Store (seen g.S.Store old was tables) (seen g.S.Store new later ts) is_done (catalog_of tables) rows) stays
           (row_writes g.S.Store old new was later tables name.table c.args.place counted at (with_plain name values) counted.rows c.self.invariant (turned g c)
