@@ -20,7 +20,7 @@ use Rattle.escrow_core.proofs.bounds.row_bounds.Goals as goal
 pub overflow_sub-declared : goal.overflow_sub-declared
 overflow_sub-declared c =
     let s = split c.args.table.now c.args.amounts.now c.requires.table c.requires.amounts in
-    rw (c.as_slice-checks.ensures, c.len.ensures) s.within
+    rw c.as_slice-checks.ensures s.within
 
 pub spreads_over-spreads-requires-clause-few_checks : goal.spreads_over-spreads-requires-clause-few_checks
 spreads_over-spreads-requires-clause-few_checks c = rw c.as_slice-checks.ensures (few_checks c.args.table.now c.requires.table)
@@ -52,9 +52,9 @@ all_column_bounds-requires-clause-ranges c =
     rw c.as_slice-checks.ensures (covered table amounts c.requires.table c.requires.amounts) in
     let is : c.in_ok-bounds.bounds ≡ map (check_bounds amounts reservations) table.checks =
     c.in_ok-bounds.ensures reservations has_all c.spreads_over-spreads.ensures ∙ ap (map (check_bounds amounts reservations)) c.as_slice-checks.ensures in
-    let at : length c.as_slice-checks.result.now - c.len.result ≡ length table.checks - length amounts = rw (c.as_slice-checks.ensures, c.len.ensures) refl in
+    let at : length c.as_slice-checks.result.now - length c.args.amounts.now ≡ length table.checks - length amounts = rw c.as_slice-checks.ensures refl in
     let s = split table amounts c.requires.table c.requires.amounts in
-    let n = length c.as_slice-checks.result.now - c.len.result in
+    let n = length c.as_slice-checks.result.now - length c.args.amounts.now in
     let ranges : length c.split_at.result.1.now ≡ length (reservables table.columns) =
     ap length (c.split_at.ensures.back ∙ ap (drop n) (c.as_slice.ensures ∙ is)) ∙ ranges_shown table amounts reservations n c.requires.amounts s at in
     let names : length c.as_slice-3.result.now ≡ length (reservables table.columns) =
@@ -70,9 +70,9 @@ returns c =
     rw c.as_slice-checks.ensures (covered table amounts c.requires.table c.requires.amounts) in
     let is : c.in_ok-bounds.bounds ≡ map (check_bounds amounts reservations) table.checks =
     c.in_ok-bounds.ensures reservations has_all c.spreads_over-spreads.ensures ∙ ap (map (check_bounds amounts reservations)) c.as_slice-checks.ensures in
-    let at : length c.as_slice-checks.result.now - c.len.result ≡ length table.checks - length amounts = rw (c.as_slice-checks.ensures, c.len.ensures) refl in
+    let at : length c.as_slice-checks.result.now - length c.args.amounts.now ≡ length table.checks - length amounts = rw c.as_slice-checks.ensures refl in
     let s = split table amounts c.requires.table c.requires.amounts in
-    let n = length c.as_slice-checks.result.now - c.len.result in
+    let n = length c.as_slice-checks.result.now - length c.args.amounts.now in
     let names : c.as_slice-3.result.now ≡ names_of (reservables table.columns) =
     c.as_slice-3.ensures.value ∙ c.in_ok-names.ensures ∙ ap (λ (columns : List Column). names_of (reservables columns)) c.as_slice-2.ensures in
     let ranges : c.split_at.result.1.now ≡ drop n (map (check_bounds amounts reservations) table.checks) = c.split_at.ensures.back ∙ ap (drop n) (c.as_slice.ensures ∙ is) in
