@@ -11,8 +11,8 @@ use Rattle.escrow_num.specs.declared.failure.Failure.{Failure}
 use Rattle.escrow_journal.specs.Reservations.{own}
 use Rattle.escrow_tables.specs.Calls.{Writes}
 use Rattle.escrow_tables.specs.Committed.{Committed}
-use Rattle.escrow_num.specs.Refusal.{told}
-use Rattle.escrow_txn.specs.Open.{Open, ended}
+use Rattle.escrow_num.specs.Refusal.{refusal_for}
+use Rattle.escrow_journal.specs.Open.{Open, ended}
 use Rattle.escrow_machine.specs.declared.reply.Reply.{Reply}
 use Rattle.escrow_machine.specs.declared.reply.Reply.TheVariants as reply
 use Rattle.escrow_core.specs.Inside.{seen_of}
@@ -85,7 +85,7 @@ module _ {S : Type 0} (g : Ghosts S) (session : ℕ) (t : Committed S) (o : Open
 
     -- the store refused: the transaction goes on
     pub not_committed : (f : Failure) → nat_lt 0 (length (own session o.reservations)) ≡ true → Writes g t new false t.catalog (applied t.rows (own session o.reservations))
-        → Serves g session statement.Commit (seen_of t o) (reply.Refused (told f)) (seen_of new o)
+        → Serves g session statement.Commit (seen_of t o) (reply.Refused (refusal_for f)) (seen_of new o)
     not_committed f holds writes =
         let s : State = (seen_of t o).state in
         write_failed g session statement.Commit t new o f (done session o) (after_commit s session) holds (passes s session) holds writes (λ _. commit_step s session)

@@ -4,7 +4,7 @@ use Rattle.std.proofs.Common.{refl, ap, ◌∙◌}
 use Rattle.std.proofs.lemmas.Bool.{le-leb, lt-leb}
 use Rattle.sqlite_trees.specs.declared.store.Store.{Ghosts}
 use Rattle.escrow_num.specs.declared.refusal.Refusal.TheVariants as refusal
-use Rattle.escrow_num.specs.Refusal.{refuse_if, told}
+use Rattle.escrow_num.specs.Refusal.{refuse_if, refusal_for}
 use Rattle.escrow_sql.specs.declared.statement.CreateText.{CreateText}
 use Rattle.escrow_sql.specs.declared.statement.Statement.TheVariants as statement
 use Rattle.escrow_num.specs.declared.failure.Failure.{Failure}
@@ -15,7 +15,7 @@ use Rattle.escrow_schema.specs.Definition.{definition_of}
 use Rattle.escrow_schema.proofs.LawLemmas.{name_of_table}
 use Rattle.escrow_tables.specs.Calls.{Writes}
 use Rattle.escrow_tables.specs.Committed.{Committed}
-use Rattle.escrow_txn.specs.Open.{Open}
+use Rattle.escrow_journal.specs.Open.{Open}
 use Rattle.escrow_machine.specs.declared.reply.Reply.TheVariants as reply
 use Rattle.escrow_core.specs.Inside.{seen_of}
 use Rattle.escrow_core.specs.Seen.{IsKept}
@@ -71,7 +71,7 @@ module _ {S : Type 0} (g : Ghosts S) (session : ℕ) (text : CreateText) (t new 
       (create_orderly s text table kept.orderly made free room) (λ valid _. create_valid s text table valid made free room)
 
   -- the store refused
-  pub not_created : (f : Failure) → Writes g t new false (with_table table t.catalog) t.rows → Serves g session (statement.Create text) (seen_of t o) (reply.Refused (told f)) (seen_of new o)
+  pub not_created : (f : Failure) → Writes g t new false (with_table table t.catalog) t.rows → Serves g session (statement.Create text) (seen_of t o) (reply.Refused (refusal_for f)) (seen_of new o)
   not_created f writes =
       let s : State = (seen_of t o).state in
       write_failed g session (statement.Create text) t new o f (reply.Created text.table) (record s { catalog = with_table table s.catalog }) refl early refl writes

@@ -6,14 +6,14 @@ use Rattle.sqlite.specs.State.{HasCleanDisk}
 use Rattle.sqlite_trees.specs.declared.store.Store.{Ghosts}
 use Rattle.escrow_num.specs.declared.refusal.Refusal.TheVariants as refusal
 use Rattle.escrow_num.specs.declared.value.RowName.{RowName}
-use Rattle.escrow_num.specs.Refusal.{refuse_if, told}
+use Rattle.escrow_num.specs.Refusal.{refuse_if, refusal_for}
 use Rattle.escrow_sql.specs.declared.statement.RowText.{RowText}
 use Rattle.escrow_sql.specs.declared.statement.Statement.TheVariants as statement
 use Rattle.escrow_num.specs.declared.failure.Failure.{Failure}
 use Rattle.escrow_schema.specs.Catalog.{table_named}
 use Rattle.escrow_tables.specs.Calls.{Writes}
 use Rattle.escrow_tables.specs.Committed.{Committed}
-use Rattle.escrow_txn.specs.Open.{Open}
+use Rattle.escrow_journal.specs.Open.{Open}
 use Rattle.escrow_machine.specs.declared.reply.Reply.TheVariants as reply
 use Rattle.escrow_machine.specs.Asked.{key_refusal_of, named_by}
 use Rattle.escrow_core.specs.Inside.{seen_of}
@@ -48,7 +48,7 @@ delete_lack s session text name is early none =
     late_applies s session (statement.Delete text) refusal.NoSuchRow early
     (lacking (row_named s.rows named) refusal.NoSuchRow (reserved ∷ []) (ap (row_named s.rows) (sym is) ∙ sym none))
 
-pub delete_fails : (s : State) (session : ℕ) (text : RowText) (f : Failure) → PassesEarly s session (statement.Delete text) → IsRefusal s session (statement.Delete text) (told f)
+pub delete_fails : (s : State) (session : ℕ) (text : RowText) (f : Failure) → PassesEarly s session (statement.Delete text) → IsRefusal s session (statement.Delete text) (refusal_for f)
 unfolding turn_of
 delete_fails s session text f early = fails s session (statement.Delete text) f early refl
 
@@ -91,7 +91,7 @@ module _ {S : Type 0} (g : Ghosts S) (session : ℕ) (text : RowText) (name : Ro
 
   pub delete_failed : (t new : Committed S) (o : Open) (f : Failure) → PassesEarly (seen_of t o).state session (statement.Delete text)
       → (HasCleanDisk (state g t.store) → IsSome (row_named t.rows name)) → is_reserved (seen_of t o).state name ≡ false
-      → Writes g t new false t.catalog (without_row name t.rows) → Serves g session (statement.Delete text) (seen_of t o) (reply.Refused (told f)) (seen_of new o)
+      → Writes g t new false t.catalog (without_row name t.rows) → Serves g session (statement.Delete text) (seen_of t o) (reply.Refused (refusal_for f)) (seen_of new o)
   unfolding turn_of
   delete_failed t new o f early stands free writes =
       write_failed g session (statement.Delete text) t new o f reply.Deleted (record (seen_of t o).state { rows = without_row name t.rows }) refl early refl writes

@@ -5,14 +5,14 @@ use Rattle.std.specs.Option.{option_copied}
 use Rattle.std.proofs.Common.{refl}
 use Rattle.sqlite_trees.specs.declared.store.Store.{Ghosts}
 use Rattle.escrow_num.specs.declared.refusal.Refusal.TheVariants as refusal
-use Rattle.escrow_num.specs.Refusal.{refuse_if, first_refusal, told}
+use Rattle.escrow_num.specs.Refusal.{refuse_if, first_refusal, refusal_for}
 use Rattle.escrow_sql.specs.declared.statement.Statement.TheVariants as statement
 use Rattle.escrow_num.specs.declared.failure.Failure.{Failure}
 use Rattle.escrow_schema.specs.declared.table.TableDef.{TableDef}
 use Rattle.escrow_schema.specs.Catalog.{table_named, without_table}
 use Rattle.escrow_tables.specs.Calls.{Writes}
 use Rattle.escrow_tables.specs.Committed.{Committed}
-use Rattle.escrow_txn.specs.Open.{Open}
+use Rattle.escrow_journal.specs.Open.{Open}
 use Rattle.escrow_machine.specs.declared.reply.Reply.TheVariants as reply
 use Rattle.escrow_core.specs.Inside.{seen_of}
 use Rattle.escrow_core.specs.Seen.{IsKept}
@@ -65,7 +65,7 @@ module _ {S : Type 0} (g : Ghosts S) (session : ℕ) (name : List ℕ) (t new : 
 
   -- the store refused
   pub not_dropped : (f : Failure) → Writes g t new false (without_table name t.catalog) (without_rows_of name t.rows)
-      → Serves g session (statement.Drop name) (seen_of t o) (reply.Refused (told f)) (seen_of new o)
+      → Serves g session (statement.Drop name) (seen_of t o) (reply.Refused (refusal_for f)) (seen_of new o)
   not_dropped f writes =
       let s : State = (seen_of t o).state in
       write_failed g session (statement.Drop name) t new o f (reply.Dropped name) (after_drop s name) refl early refl writes (λ _. dropped_step s session name early)

@@ -10,7 +10,7 @@ use Rattle.escrow_num.specs.declared.refusal.Breach.{Breach}
 use Rattle.escrow_num.specs.declared.refusal.Refusal.{Refusal}
 use Rattle.escrow_num.specs.declared.refusal.Refusal.TheVariants as refusal
 use Rattle.escrow_num.specs.declared.row.Row.{Row}
-use Rattle.escrow_num.specs.Refusal.{refuse_if, first_refusal, told}
+use Rattle.escrow_num.specs.Refusal.{refuse_if, first_refusal, refusal_for}
 use Rattle.escrow_num.proofs.Items.{find_has}
 use Rattle.escrow_num.proofs.Orders.{name_same}
 use Rattle.escrow_sql.specs.declared.statement.InsertText.{InsertText}
@@ -24,9 +24,9 @@ use Rattle.escrow_num.specs.declared.failure.Failure.{Failure}
 use Rattle.escrow_schema.specs.declared.table.TheConstants.TableDef.{MAX_ROWS}
 use Rattle.escrow_tables.specs.Calls.{Writes}
 use Rattle.escrow_tables.specs.Committed.{Committed}
-use Rattle.escrow_txn.specs.Open.{Open}
+use Rattle.escrow_journal.specs.Open.{Open}
 use Rattle.escrow_machine.specs.declared.reply.Reply.TheVariants as reply
-use Rattle.escrow_machine.specs.Asked.{row_of, insert_breach}
+use Rattle.escrow_machine.specs.Asked.{new_row, insert_breach}
 use Rattle.escrow_core.specs.Inside.{seen_of}
 use Rattle.escrow_core.specs.Seen.{Seen, IsKept}
 use Rattle.escrow_core.specs.Serves.{Serves}
@@ -63,12 +63,12 @@ made_in s text row table named made =
       has_table = some_from (λ t. IsRowOf t row) (table_named s.catalog row.name.table) table there itself;
     }
 
-pub is_made : (s : State) (text : InsertText) (row : Row) → row_of s text ≡ Some row → IsMade s text row
+pub is_made : (s : State) (text : InsertText) (row : Row) → new_row s text ≡ Some row → IsMade s text row
 is_made s text row made =
     option_and_then_some (λ (table : TableDef). inserted_row table text) (table_named s.catalog text.table) row made (made_in s text row)
 
 -- what is decided of the row, its table and how many rows that has
-pub decided : (s : State) (text : InsertText) (row : Row) (table : TableDef) (count : ℕ) → table_named s.catalog text.table ≡ Some table → row_of s text ≡ Some row
+pub decided : (s : State) (text : InsertText) (row : Row) (table : TableDef) (count : ℕ) → table_named s.catalog text.table ≡ Some table → new_row s text ≡ Some row
     → count ≡ length (rows_of s.rows text.table)
     → first_refusal (new_refusals s text) ≡ first_refusal (refuse_if (nat_le MAX_ROWS count) refusal.TableFull ∷ option_map refusal.Check (broken table.checks row.amounts [] []) ∷ [])
 decided s text row table count named made is =
@@ -81,12 +81,12 @@ pub unfull : (count : ℕ) (o : Option Breach) (r : Option Refusal) → count < 
 unfull count None r room is = rw (lt-leb MAX_ROWS count room) is
 unfull count (Some breach) r room is = rw (lt-leb MAX_ROWS count room) is
 
-pub made_row : (s : State) (text : InsertText) (row : Row) (table : TableDef) → table_named s.catalog text.table ≡ Some table → row_of s text ≡ Some row → IsRowOf table row
+pub made_row : (s : State) (text : InsertText) (row : Row) (table : TableDef) → table_named s.catalog text.table ≡ Some table → new_row s text ≡ Some row → IsRowOf table row
 made_row s text row table named made = rows_of_table table text row (rw named at made)
 
 -- LATE REFUSALS
 
-late_is : (s : State) (session : ℕ) (text : InsertText) (row : Row) → row_of s text ≡ Some row
+late_is : (s : State) (session : ℕ) (text : InsertText) (row : Row) → new_row s text ≡ Some row
     → first_refusal (turn_of s session (statement.Insert text)).late ≡ first_refusal (refuse_if (is_some (row_named s.rows row.name)) refusal.RowExists ∷ new_refusals s text)
 unfolding turn_of
 late_is s session text row made =
@@ -99,24 +99,24 @@ new_first : (o : Option Row) (rest : List (Option Refusal)) → o ≡ None → f
 new_first o rest new = rw new refl
 
 -- a row of a name that stands is refused
-pub row_exists : (s : State) (session : ℕ) (text : InsertText) (row other : Row) → row_of s text ≡ Some row → PassesEarly s session (statement.Insert text)
+pub row_exists : (s : State) (session : ℕ) (text : InsertText) (row other : Row) → new_row s text ≡ Some row → PassesEarly s session (statement.Insert text)
     → row_named s.rows row.name ≡ Some other → IsRefusal s session (statement.Insert text) refusal.RowExists
 row_exists s session text row other made early stands =
     late_applies s session (statement.Insert text) refusal.RowExists early
     (late_is s session text row made ∙ exists_first (row_named s.rows row.name) other (new_refusals s text) stands)
 
 -- and a new one for its table's room and its checks alone
-new_late : (s : State) (session : ℕ) (text : InsertText) (row : Row) → row_of s text ≡ Some row → row_named s.rows row.name ≡ None
+new_late : (s : State) (session : ℕ) (text : InsertText) (row : Row) → new_row s text ≡ Some row → row_named s.rows row.name ≡ None
     → first_refusal (turn_of s session (statement.Insert text)).late ≡ first_refusal (new_refusals s text)
 new_late s session text row made new =
     late_is s session text row made ∙ new_first (row_named s.rows row.name) (new_refusals s text) new
 
-pub new_refused : (s : State) (session : ℕ) (text : InsertText) (row : Row) (r : Refusal) → row_of s text ≡ Some row → PassesEarly s session (statement.Insert text)
+pub new_refused : (s : State) (session : ℕ) (text : InsertText) (row : Row) (r : Refusal) → new_row s text ≡ Some row → PassesEarly s session (statement.Insert text)
     → row_named s.rows row.name ≡ None → first_refusal (new_refusals s text) ≡ Some r → IsRefusal s session (statement.Insert text) r
 new_refused s session text row r made early new first =
     late_applies s session (statement.Insert text) r early (new_late s session text row made new ∙ first)
 
-pub new_accepted : (s : State) (session : ℕ) (text : InsertText) (row : Row) → row_of s text ≡ Some row → PassesEarly s session (statement.Insert text)
+pub new_accepted : (s : State) (session : ℕ) (text : InsertText) (row : Row) → new_row s text ≡ Some row → PassesEarly s session (statement.Insert text)
     → row_named s.rows row.name ≡ None → first_refusal (new_refusals s text) ≡ None → IsAccepted s session (statement.Insert text)
 new_accepted s session text row made early new none =
     none_applies s session (statement.Insert text) early (new_late s session text row made new ∙ none)
@@ -130,7 +130,7 @@ new_room s text none =
 
 -- THE STEP
 
-pub insert_step : (s : State) (session : ℕ) (text : InsertText) (row : Row) → row_of s text ≡ Some row → IsAccepted s session (statement.Insert text)
+pub insert_step : (s : State) (session : ℕ) (text : InsertText) (row : Row) → new_row s text ≡ Some row → IsAccepted s session (statement.Insert text)
     → step s session (statement.Insert text) ≡ (reply.Inserted, record s { rows = with_row row s.rows })
 unfolding turn_of
 insert_step s session text row made accepted =
@@ -141,7 +141,7 @@ insert_step s session text row made accepted =
 
 -- a row may be put
 pub record IsNew {S : Type 0} (g : Ghosts S) (d : Seen S) (session : ℕ) (text : InsertText) (row : Row) : Type 0 where
-  pub made : row_of d.state text ≡ Some row
+  pub made : new_row d.state text ≡ Some row
   pub early : PassesEarly d.state session (statement.Insert text)
   pub none : HasCleanDisk (state g d.store) → row_named d.state.rows row.name ≡ None
   pub left : HasCleanDisk (state g d.store) → first_refusal (new_refusals d.state text) ≡ None
@@ -164,6 +164,6 @@ module _ {S : Type 0} (g : Ghosts S) (session : ℕ) (text : InsertText) (row : 
       (λ valid u. inserted_valid (seen_of t o).state session text row valid (accepted u) is_new.made)
 
   -- it could not be put
-  pub put_fails : (f : Failure) → Writes g t new false t.catalog (with_row row t.rows) → Serves g session (statement.Insert text) (seen_of t o) (reply.Refused (told f)) (seen_of new o)
+  pub put_fails : (f : Failure) → Writes g t new false t.catalog (with_row row t.rows) → Serves g session (statement.Insert text) (seen_of t o) (reply.Refused (refusal_for f)) (seen_of new o)
   put_fails f writes =
       write_failed g session (statement.Insert text) t new o f reply.Inserted (record (seen_of t o).state { rows = with_row row t.rows }) refl is_new.early refl writes steps

@@ -2,7 +2,7 @@
 use Rattle.sqlite_trees.specs.declared.store.Store.{Ghosts}
 use Rattle.escrow_tables.specs.Calls.{Reads}
 use Rattle.escrow_tables.specs.Committed.{Committed}
-use Rattle.escrow_txn.specs.Open.{Open, nothing_open}
+use Rattle.escrow_journal.specs.Open.{Open, nothing_open}
 use Rattle.escrow_core.specs.Inside.{seen_of}
 use Rattle.escrow_core.specs.Seen.{IsKept}
 use Rattle.escrow_machine.specs.State.{State}

@@ -5,7 +5,7 @@ use Rattle.std.proofs.lemmas.Bool.{and_from}
 use Rattle.escrow_num.specs.declared.refusal.Refusal.{Refusal}
 use Rattle.escrow_num.specs.declared.refusal.Refusal.TheVariants as refusal
 use Rattle.escrow_num.specs.declared.reservation.Savepoint.{Savepoint}
-use Rattle.escrow_num.specs.Refusal.{refuse_if, first_refusal, told}
+use Rattle.escrow_num.specs.Refusal.{refuse_if, first_refusal, refusal_for}
 use Rattle.escrow_sql.specs.declared.statement.Statement.{Statement}
 use Rattle.escrow_sql.specs.declared.statement.Statement.TheVariants as statement
 use Rattle.escrow_sql.specs.declared.statement.UpdateText.{UpdateText}
@@ -16,12 +16,13 @@ use Rattle.escrow_num.specs.declared.failure.Failure.{Failure}
 use Rattle.escrow_num.specs.declared.failure.Failure.TheVariants as failure
 use Rattle.escrow_machine.specs.Reply.{failure_of}
 use Rattle.escrow_machine.specs.Accepted.{IsAccepted, IsRefusal}
+use Rattle.escrow_journal.specs.Open.{released, returned_to}
 use Rattle.escrow_journal.specs.declared.journal.TheConstants.Journal.{MAX_SAVEPOINTS}
 use Rattle.escrow_journal.specs.Reservations.{own, own_savepoints}
 use Rattle.escrow_journal.specs.Savepoints.{savepoint_of, without_savepoint, after}
-use Rattle.escrow_machine.specs.State.{State}
+use Rattle.escrow_machine.specs.State.{State, open_in, with_open}
 use Rattle.escrow_machine.specs.Step.{refusals, step, fails_for, may_fail, IsStep, StepOrRefusal}
-use Rattle.escrow_machine.specs.Turn.{turn_of, update_reply, after_update, after_commit, after_rollback, after_savepoint, returned_to, after_rollback_to, released}
+use Rattle.escrow_machine.specs.Turn.{turn_of, update_reply, after_update, after_commit, after_rollback, after_savepoint, after_rollback_to}
 use Rattle.escrow_machine.specs.Asked.{plan_of}
 use Rattle.escrow_machine.proofs.Refusals.{none_in_front, first_among}
 use Rattle.escrow_machine.proofs.TurnWords.{IsJudged}
@@ -43,7 +44,7 @@ rule_serves s session asked r first =
     (sym (ap (λ (o : Option Refusal). unwrap_or (option_map (λ (q : Refusal). (reply.Refused q, s)) o) (turn.reply, turn.next)) first))
 
 -- a failure that the statement may meet
-told_serves : (s : State) (session : ℕ) (asked : Statement) (f : Failure) → IsTrue (may_fail s session asked f) → StepOrRefusal s session asked (reply.Refused (told f)) s
+told_serves : (s : State) (session : ℕ) (asked : Statement) (f : Failure) → IsTrue (may_fail s session asked f) → StepOrRefusal s session asked (reply.Refused (refusal_for f)) s
 told_serves s session asked failure.Memory may = (may, refl)
 told_serves s session asked failure.Store may = (may, refl)
 
@@ -133,7 +134,7 @@ unfolding turn_of
 back_at s session name None count is e = absurd (cc)
 back_at s session name (Some p) count is e = rw is refl
 
-pub back_serves : (s : State) (session : ℕ) (name : List ℕ) (count : ℕ) → released s session name ≡ Some count
+pub back_serves : (s : State) (session : ℕ) (name : List ℕ) (count : ℕ) → released session name (open_in s) ≡ Some count
     → StepOrRefusal s session (statement.RollbackTo name) (reply.RolledBackTo name count) (after_rollback_to s session name)
 unfolding turn_of
 back_serves s session name count e =
@@ -142,11 +143,11 @@ back_serves s session name count e =
 
 back_none : (s : State) (session : ℕ) (name : List ℕ) (o : Option Savepoint) → savepoint_of session name s.savepoints ≡ o
     → option_map (λ p. length (after p s.reservations)) o ≡ None
-    → StepOrRefusal s session (statement.RollbackTo name) (reply.Refused refusal.NoSuchSavepoint) (unwrap_or (option_map (returned_to s) o) s)
+    → StepOrRefusal s session (statement.RollbackTo name) (reply.Refused refusal.NoSuchSavepoint) (with_open s (unwrap_or (option_map (returned_to (open_in s)) o) (open_in s)))
 unfolding turn_of
 back_none s session name None is e = rule_serves s session (statement.RollbackTo name) refusal.NoSuchSavepoint (rw is refl)
 back_none s session name (Some p) is e = absurd (cc)
 
-pub back_refuses : (s : State) (session : ℕ) (name : List ℕ) → released s session name ≡ None
+pub back_refuses : (s : State) (session : ℕ) (name : List ℕ) → released session name (open_in s) ≡ None
     → StepOrRefusal s session (statement.RollbackTo name) (reply.Refused refusal.NoSuchSavepoint) (after_rollback_to s session name)
 back_refuses s session name e = back_none s session name (savepoint_of session name s.savepoints) refl e

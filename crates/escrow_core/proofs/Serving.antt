@@ -8,12 +8,12 @@ use Rattle.sqlite.proofs.StateLemmas.{survives_then, survives_weaker}
 use Rattle.sqlite_trees.specs.declared.store.Store.{Ghosts}
 use Rattle.sqlite_trees.specs.Tree.{Trees}
 use Rattle.escrow_num.specs.declared.refusal.Refusal.{Refusal}
-use Rattle.escrow_num.specs.Refusal.{first_refusal, told}
+use Rattle.escrow_num.specs.Refusal.{first_refusal, refusal_for}
 use Rattle.escrow_sql.specs.declared.statement.Statement.{Statement}
 use Rattle.escrow_num.specs.declared.failure.Failure.{Failure}
 use Rattle.escrow_tables.specs.Calls.{Writes}
 use Rattle.escrow_tables.specs.Committed.{Committed, AreHeld}
-use Rattle.escrow_txn.specs.Open.{Open}
+use Rattle.escrow_journal.specs.Open.{Open}
 use Rattle.escrow_machine.specs.declared.reply.Reply.{Reply}
 use Rattle.escrow_machine.specs.declared.reply.Reply.TheVariants as reply
 use Rattle.escrow_core.specs.Inside.{seen_of}
@@ -39,7 +39,7 @@ accepted_step s session asked accepted =
     ap (λ (o : Option Refusal). unwrap_or (option_map (λ (q : Refusal). (reply.Refused q, s)) o) (turn.reply, turn.next)) accepted
 
 -- a statement that passes its early refusals may fail for what it takes
-pub fails : (s : State) (session : ℕ) (asked : Statement) (f : Failure) → PassesEarly s session asked → fails_for s session asked f ≡ true → IsRefusal s session asked (told f)
+pub fails : (s : State) (session : ℕ) (asked : Statement) (f : Failure) → PassesEarly s session asked → fails_for s session asked f ≡ true → IsRefusal s session asked (refusal_for f)
 fails s session asked f early takes = inr (f, refl, rw (early, takes) refl)
 
 -- a late refusal applies where no early one does, and where neither does none applies
@@ -226,14 +226,14 @@ module _ {S : Type 0} (g : Ghosts S) (session : ℕ) (asked : Statement) where
       → asks_store (seen_of t o).state session asked ≡ true → PassesEarly (seen_of t o).state session asked → fails_for (seen_of t o).state session asked f ≡ true
       → Writes g t new false next.catalog next.rows
       → (HasCleanDisk (state g t.store) → step (seen_of t o).state session asked ≡ (answer, next))
-      → Serves g session asked (seen_of t o) (reply.Refused (told f)) (seen_of new o)
+      → Serves g session asked (seen_of t o) (reply.Refused (refusal_for f)) (seen_of new o)
   write_failed t new o f answer next asks early takes writes steps =
       let s : State = (seen_of t o).state in
       let same : (seen_of new o).state ≡ s =
       ap (λ (c : _ × _). record s { catalog = c.0; rows = c.1 }) (ap₂ (λ a b. (a, b)) (writes.kept_catalog refl) (writes.kept_rows refl)) in
-      served (seen_of t o) (seen_of new o) (reply.Refused (told f)) asks early
-      (λ _. subst (λ (after : State). StepOrRefusal s session asked (reply.Refused (told f)) after) (sym same) (refused_serves s session asked (told f) (fails s session asked f early takes)))
-      (λ _. same) (crashed t new o answer next false writes steps) (λ e. absurd (no_write (told f) e))
+      served (seen_of t o) (seen_of new o) (reply.Refused (refusal_for f)) asks early
+      (λ _. subst (λ (after : State). StepOrRefusal s session asked (reply.Refused (refusal_for f)) after) (sym same) (refused_serves s session asked (refusal_for f) (fails s session asked f early takes)))
+      (λ _. same) (crashed t new o answer next false writes steps) (λ e. absurd (no_write (refusal_for f) e))
 
   -- what a database keeps after a write that was done, and after one that failed
   pub wrote_keeps : (t new : Committed S) (o after : Open) (next : State) → IsKept g (seen_of t o)

@@ -1,21 +1,14 @@
 -- What the table of transactions answers, beside the machine's turns.
-use Rattle.std.specs.Prelude.{◌≡◌, ℕ, IfSome, Option, Some, None, unwrap_or, option_map, Result, Err, List, [], ◌∷◌}
+use Rattle.std.specs.Prelude.{◌≡◌, ℕ, IfSome, Option, Some, None, Result, Err, List, [], ◌∷◌}
 use Rattle.std.proofs.Common.{refl, sym, ap, ◌∙◌}
 use Rattle.escrow_num.specs.declared.refusal.Refusal.{Refusal}
 use Rattle.escrow_num.specs.declared.reservation.Savepoint.{Savepoint}
 use Rattle.escrow_num.specs.Refusal.{first_refusal}
 use Rattle.escrow_sql.specs.declared.statement.Statement.TheVariants as statement
-use Rattle.escrow_journal.specs.Savepoints.{savepoint_of}
-use Rattle.escrow_txn.specs.Open.{Open, grant_refusal, savepoint_refusal, cut_back}
-use Rattle.escrow_txn.specs.Open as txn
-use Rattle.escrow_core.specs.Serving.{open_in}
+use Rattle.escrow_journal.specs.Open.{savepoint_refusal, cut_back}
 use Rattle.escrow_machine.specs.Accepted.{IsAccepted}
-use Rattle.escrow_machine.specs.State.{State}
-use Rattle.escrow_machine.specs.Turn.{turn_of, after_rollback_to, returned_to}
-
--- a state in which this is open
-abbrev pub with_open : State → Open → State
-with_open s o = record s { reservations = o.reservations; savepoints = o.savepoints; next_id = o.next_id }
+use Rattle.escrow_machine.specs.State.{State, open_in, with_open}
+use Rattle.escrow_machine.specs.Turn.{turn_of, after_rollback_to}
 
 -- ---- SAVEPOINT
 
@@ -30,10 +23,6 @@ savepoint_accepted s session name none = ap (λ (o : Option Refusal). first_refu
 
 -- ---- ROLLBACK TO
 
-back_at : (s : State) (o : Option Savepoint) → unwrap_or (option_map (returned_to s) o) s ≡ with_open s (unwrap_or (option_map (txn.returned_to (open_in s)) o) (open_in s))
-back_at s None = refl
-back_at s (Some p) = refl
-
 -- what is open once the session has gone back
 pub back_is : (s : State) (session : ℕ) (name : List ℕ) → after_rollback_to s session name ≡ with_open s (cut_back session name (open_in s))
-back_is s session name = back_at s (savepoint_of session name s.savepoints)
+back_is s session name = refl

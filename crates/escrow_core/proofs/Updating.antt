@@ -13,7 +13,7 @@ use Rattle.escrow_num.specs.declared.row.Row.{Row}
 use Rattle.escrow_num.specs.declared.value.RowName.{RowName}
 use Rattle.escrow_num.specs.declared.value.Value.{Value}
 use Rattle.escrow_num.specs.Reservation.{counted}
-use Rattle.escrow_num.specs.Refusal.{refuse_if, first_refusal, told}
+use Rattle.escrow_num.specs.Refusal.{refuse_if, first_refusal, refusal_for}
 use Rattle.escrow_num.specs.Session.{IsSession}
 use Rattle.escrow_sql.specs.declared.statement.UpdateText.{UpdateText}
 use Rattle.escrow_sql.specs.declared.statement.Statement.TheVariants as statement
@@ -23,10 +23,11 @@ use Rattle.escrow_schema.specs.declared.plan.Plan.{Plan}
 use Rattle.escrow_schema.specs.declared.plan.Plan.TheVariants as plan
 use Rattle.escrow_schema.specs.declared.table.TableDef.{TableDef}
 use Rattle.escrow_schema.proofs.PlanLemmas.{plans_of_whole_row}
+use Rattle.escrow_journal.proofs.Free.{is_free}
 use Rattle.escrow_journal.specs.declared.journal.TheConstants.Journal.{MAX_RESERVATIONS}
 use Rattle.escrow_journal.specs.Reservations.{own}
-use Rattle.escrow_txn.specs.Open.{Open, grant_refusal}
-use Rattle.escrow_txn.specs.Open as txn
+use Rattle.escrow_journal.specs.Open.{Open, grant_refusal}
+use Rattle.escrow_journal.specs.Open as txn
 use Rattle.escrow_num.specs.declared.failure.Failure.{Failure}
 use Rattle.escrow_num.specs.declared.failure.Failure.TheVariants as failure
 use Rattle.escrow_tables.specs.Calls.{Writes}
@@ -37,14 +38,14 @@ use Rattle.escrow_machine.specs.Asked.{plan_of, row_name, reservation_from}
 use Rattle.escrow_core.specs.Inside.{seen_of}
 use Rattle.escrow_core.specs.Seen.{Seen, IsKept}
 use Rattle.escrow_core.specs.Serves.{Serves}
-use Rattle.escrow_core.specs.Serving.{Looks, open_in}
+use Rattle.escrow_core.specs.Serving.{Looks}
 use Rattle.escrow_machine.specs.Accepted.{IsAccepted, IsRefusal}
-use Rattle.escrow_machine.specs.State.{State, is_open}
+use Rattle.escrow_machine.specs.State.{State, is_open, open_in}
 use Rattle.escrow_machine.specs.Step.{step}
 use Rattle.escrow_machine.specs.Turn.{turn_of, update_refusals, update_reply, after_update}
 use Rattle.escrow_machine.specs.Valid.{IsOrderly, IsValid}
 use Rattle.escrow_core.proofs.Planned.{planned_in, plan_refused, plan_accepted, planned_early}
-use Rattle.escrow_machine.proofs.Refusals.{passed, failed, first_behind, below, not_above}
+use Rattle.escrow_machine.proofs.Refusals.{first_behind}
 use Rattle.escrow_core.proofs.Served.{update_serves}
 use Rattle.escrow_core.proofs.Serving.{accepted_step, after_look, fails, look_refused, served, survives_itself, wrote, wrote_keeps, write_failed}
 use Rattle.escrow_core.proofs.Standing.{amounts_named, no_row, standing}
@@ -132,7 +133,7 @@ module _ {S : Type 0} (g : Ghosts S) (session : ℕ) (text : UpdateText) (name :
 
     -- they could not be
     pub replace_fails : (f : Failure) → Writes g t new false t.catalog (with_plain name values t.rows)
-        → Serves g session (statement.Update text) (seen_of t o) (reply.Refused (told f)) (seen_of new o)
+        → Serves g session (statement.Update text) (seen_of t o) (reply.Refused (refusal_for f)) (seen_of new o)
     replace_fails f writes =
         let s : State = (seen_of t o).state in
         write_failed g session (statement.Update text) t new o f reply.Updated (record s { rows = with_plain name values t.rows }) refl
@@ -148,22 +149,6 @@ reserved_orderly s session text key changes orderly of_session is room more_ids 
     planned_in s text (plan.Reserve key changes) is (λ table named at.
     granted_orderly s table (reservation_from s session (row_name text.table key) changes) orderly named of_session refl more_ids
     (plans_of_whole_row table text key changes at) room)
-
--- what the table of transactions looks at
-record IsFree (session : ℕ) (o : Open) : Type 0 where
-  room : length (own session o.reservations) < MAX_RESERVATIONS
-  more_ids : o.next_id ≤ MAX_ID
-
-is_free : (session : ℕ) (o : Open) → grant_refusal session o ≡ None → IsFree session o
-is_free session o none =
-    let held = length (own session o.reservations) in
-    let many = refuse_if (nat_le MAX_RESERVATIONS held) refusal.TooManyReservations in
-    let ids = refuse_if (nat_lt MAX_ID o.next_id) refusal.NoMoreIds in
-    let first = passed many (ids ∷ []) none in
-    record {
-      room = below MAX_RESERVATIONS held (failed (nat_le MAX_RESERVATIONS held) refusal.TooManyReservations first.first);
-      more_ids = not_above MAX_ID o.next_id (failed (nat_lt MAX_ID o.next_id) refusal.NoMoreIds (passed ids [] first.others).first);
-    }
 
 -- the first of one
 alone : (o : Option Refusal) → first_refusal (o ∷ []) ≡ o
@@ -193,10 +178,10 @@ module _ {S : Type 0} (g : Ghosts S) (session : ℕ) (text : UpdateText) (key : 
       → (HasCleanDisk (state g mid.store) → Some amounts ≡ amounts_named old.state.rows (row_name text.table key))
       → (amounts_named mid.state.rows (row_name text.table key) ≡ Some amounts → found ≡ first_refusal (update_refusals mid.state session text.table (plan.Reserve key changes)))
       → IsJudged found
-  judged found amounts planned looks told first = record {
+  judged found amounts planned looks refusal_for first = record {
     planned = planned;
     looks = looks;
-    first = λ u. first (ap (λ (s : State). amounts_named s.rows (row_name text.table key)) looks.same ∙ sym (told u));
+    first = λ u. first (ap (λ (s : State). amounts_named s.rows (row_name text.table key)) looks.same ∙ sym (refusal_for u));
   }
 
   -- a row that doesn't stand
@@ -206,14 +191,14 @@ module _ {S : Type 0} (g : Ghosts S) (session : ℕ) (text : UpdateText) (key : 
   reserve_lacks planned looks told =
       let asked = plan.Reserve key changes in
       look_refused g session (statement.Update text) old mid refusal.NoSuchRow looks refl (planned_early old.state session text asked planned)
-      (λ u. plan_refused old.state session text asked refusal.NoSuchRow planned (rw (no_row old.state.rows (row_name text.table key) (told u)) refl))
+      (λ u. plan_refused old.state session text asked refusal.NoSuchRow planned (rw (no_row old.state.rows (row_name text.table key) (refusal_for u)) refl))
 
   -- a failure
   pub reserve_fails : (f : Failure) → plan_of old.state text ≡ Some (plan.Reserve key changes) → Looks g old mid
-      → Serves g session (statement.Update text) old (reply.Refused (told f)) mid
+      → Serves g session (statement.Update text) old (reply.Refused (refusal_for f)) mid
   reserve_fails f planned looks =
       let early = planned_early old.state session text (plan.Reserve key changes) planned in
-      look_refused g session (statement.Update text) old mid (told f) looks refl early (λ _. fails old.state session (statement.Update text) f early refl)
+      look_refused g session (statement.Update text) old mid (refusal_for f) looks refl early (λ _. fails old.state session (statement.Update text) f early refl)
 
   -- a reason against it
   pub reserve_refused : (r : Refusal) → IsJudged (Some r) → Serves g session (statement.Update text) old (reply.Refused r) mid

@@ -1,6 +1,6 @@
 -- Helps: what the fields of a database hold.
 use Rattle.escrow_tables.specs.Committed.{Committed}
-use Rattle.escrow_txn.specs.Open.{Open}
+use Rattle.escrow_journal.specs.Open.{Open}
 use Rattle.escrow_core.specs.Seen.{Seen}
 
 -- the store and the state that a database's fields hold

@@ -4,7 +4,6 @@ use Rattle.escrow_schema.specs.Catalog.{table_named}
 use Rattle.sqlite.specs.Held.{state}
 use Rattle.sqlite.specs.State.{Survives}
 use Rattle.sqlite_trees.specs.declared.store.Store.{Ghosts}
-use Rattle.escrow_txn.specs.Open.{Open}
 use Rattle.escrow_core.specs.Seen.{Seen}
 use Rattle.escrow_core.specs.Serves.{AreHeldOf}
 use Rattle.sqlite_trees.specs.Tree.{Trees}
@@ -19,10 +18,6 @@ use Rattle.escrow_machine.specs.State.{State}
 pub record Looks {S : Type 0} (g : Ghosts S) (old new : Seen S) : Type 0 where
   pub same : new.state ≡ old.state
   pub survives : Survives (state g old.store) (state g new.store) (λ _. ⊥)
-
--- what is open in a state
-abbrev pub open_in : State → Open
-open_in s = record { reservations = s.reservations; savepoints = s.savepoints; next_id = s.next_id }
 
 -- the table that a SHOW JOURNAL names is there, if it names one
 abbrev pub is_known : State → Option (List ℕ) → Bool

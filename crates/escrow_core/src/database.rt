@@ -54,7 +54,7 @@ impl<S: Alter> Database<S> {
     ghost use Rattle.sqlite.specs.Held.{state};
     ghost use Rattle.sqlite.specs.State.{HasCleanDisk, Survives};
     ghost use Rattle.sqlite_trees.specs.Tree.{Trees};
-    ghost use Rattle.escrow_txn.specs.Open.{id_left};
+    ghost use Rattle.escrow_journal.specs.Open.{id_left};
     ghost use Rattle.escrow_rows.specs.Answers.{IsUsable};
     ghost use Rattle.escrow_machine.specs.Promised.{asks_store, is_promised};
     ghost use Rattle.escrow_machine.specs.Reply.{is_refused, tells_write};

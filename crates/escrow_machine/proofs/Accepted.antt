@@ -32,7 +32,7 @@ use Rattle.escrow_machine.specs.Accepted.{IsAccepted}
 use Rattle.escrow_machine.specs.State.{State, is_open, is_reserved, is_table_reserved}
 use Rattle.escrow_machine.specs.Rows.{row_named, rows_of, changes_to}
 use Rattle.escrow_machine.specs.Turn.{turn_of, update_refusals}
-use Rattle.escrow_machine.specs.Asked.{row_of, insert_breach, plan_of, plan_refusal_of, row_name, reservation_from, breach_of, named_by, key_refusal_of}
+use Rattle.escrow_machine.specs.Asked.{new_row, insert_breach, plan_of, plan_refusal_of, row_name, reservation_from, breach_of, named_by, key_refusal_of}
 use Rattle.escrow_machine.proofs.Refusals.{passed, failed, unbroken, none_there, some_there, below, not_above}
 
 -- a table that is created
@@ -66,14 +66,14 @@ pub record InsertStands (s : State) (session : ℕ) (text : InsertText) : Type 0
   pub table : TableDef
   pub named : table_named s.catalog text.table ≡ Some table
   pub row : Row
-  pub made : row_of s text ≡ Some row
+  pub made : new_row s text ≡ Some row
   pub fits : inserted_row table text ≡ Some row
   pub new : row_named s.rows row.name ≡ None
   pub room : length (rows_of s.rows text.table) < MAX_ROWS
   pub safe : broken table.checks row.amounts [] [] ≡ None
 
 -- the row is made in its table, and judged by its checks
-fits_in : (s : State) (text : InsertText) (table : TableDef) (row : Row) → table_named s.catalog text.table ≡ Some table → row_of s text ≡ Some row
+fits_in : (s : State) (text : InsertText) (table : TableDef) (row : Row) → table_named s.catalog text.table ≡ Some table → new_row s text ≡ Some row
     → inserted_row table text ≡ Some row
 fits_in s text table row named made = rw named at made
 
@@ -87,8 +87,8 @@ insert_stands s session text accepted =
     let stands : Row → Option Row = λ r. row_named s.rows r.name in
     let is_open = refuse_if (is_open session s) refusal.TransactionOpen in
     let unknown = refuse_if (is_none (table_named s.catalog text.table)) refusal.NoSuchTable in
-    let bad = refuse_if (is_none (row_of s text)) refusal.BadValue in
-    let exists = refuse_if (is_some (option_and_then stands (row_of s text))) refusal.RowExists in
+    let bad = refuse_if (is_none (new_row s text)) refusal.BadValue in
+    let exists = refuse_if (is_some (option_and_then stands (new_row s text))) refusal.RowExists in
     let full = refuse_if (nat_le MAX_ROWS (length (rows_of s.rows text.table))) refusal.TableFull in
     let breach = option_map refusal.Check (insert_breach s text) in
     let closed = passed is_open (unknown ∷ bad ∷ exists ∷ full ∷ breach ∷ []) accepted in
@@ -98,9 +98,9 @@ insert_stands s session text accepted =
     let room = passed full (breach ∷ []) new.others in
     let kept = passed breach [] room.others in
     let table = some_there (table_named s.catalog text.table) (failed (is_none (table_named s.catalog text.table)) refusal.NoSuchTable known.first) in
-    let row = some_there (row_of s text) (failed (is_none (row_of s text)) refusal.BadValue good.first) in
-    let none_stands : option_and_then stands (row_of s text) ≡ None =
-    none_there (option_and_then stands (row_of s text)) (failed (is_some (option_and_then stands (row_of s text))) refusal.RowExists new.first) in
+    let row = some_there (new_row s text) (failed (is_none (new_row s text)) refusal.BadValue good.first) in
+    let none_stands : option_and_then stands (new_row s text) ≡ None =
+    none_there (option_and_then stands (new_row s text)) (failed (is_some (option_and_then stands (new_row s text))) refusal.RowExists new.first) in
     let unbroken_all : insert_breach s text ≡ None = unbroken (insert_breach s text) kept.first in
     let fits = fits_in s text table.0 row.0 table.1 row.1 in
     record {

@@ -18,7 +18,7 @@ use Rattle.escrow_schema.specs.Catalog.{table_named, with_table, without_table}
 use Rattle.escrow_schema.specs.declared.table.TheConstants.TableDef.{MAX_ROWS}
 use Rattle.escrow_machine.specs.declared.reply.Reply.{Reply}
 use Rattle.escrow_machine.specs.declared.reply.Reply.TheVariants as reply
-use Rattle.escrow_machine.specs.Asked.{row_of, insert_breach, named_by, select_reply, show_reply}
+use Rattle.escrow_machine.specs.Asked.{new_row, insert_breach, named_by, select_reply, show_reply}
 use Rattle.escrow_machine.specs.Bounds.{bounds_in, bounds_reply}
 use Rattle.escrow_machine.specs.Reply.{failure_of}
 use Rattle.escrow_machine.specs.Accepted.{IsAccepted}
@@ -79,7 +79,7 @@ some_same e = cc
 
 -- a row that is inserted leaves the state valid
 pub inserted_valid : (s : State) (session : ℕ) (text : InsertText) (row : Row) → IsValid s → IsAccepted s session (statement.Insert text)
-    → row_of s text ≡ Some row → IsValid (record s { rows = with_row row s.rows })
+    → new_row s text ≡ Some row → IsValid (record s { rows = with_row row s.rows })
 inserted_valid s session text row valid accepted made =
     let stands = insert_stands s session text accepted in
     let same : stands.row ≡ row = some_same (sym stands.made ∙ made) in

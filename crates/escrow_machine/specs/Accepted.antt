@@ -2,7 +2,7 @@
 use Rattle.std.specs.Prelude.{◌≡◌, ◌⊎◌, ℕ, None, Some, IsTrue}
 use Rattle.escrow_num.specs.declared.failure.Failure.{Failure}
 use Rattle.escrow_num.specs.declared.refusal.Refusal.{Refusal}
-use Rattle.escrow_num.specs.Refusal.{first_refusal, told}
+use Rattle.escrow_num.specs.Refusal.{first_refusal, refusal_for}
 use Rattle.escrow_sql.specs.declared.statement.Statement.{Statement}
 use Rattle.escrow_machine.specs.State.{State}
 use Rattle.escrow_machine.specs.Step.{refusals, may_fail}
@@ -16,7 +16,7 @@ IsAccepted s session asked = first_refusal (refusals (turn_of s session asked)) 
 abbrev pub IsRefusal : State → ℕ → Statement → Refusal → Type 0
 IsRefusal s session asked r =
     (first_refusal (refusals (turn_of s session asked)) ≡ Some r)
-    ⊎ ((f : Failure) × (r ≡ told f) × IsTrue (may_fail s session asked f))
+    ⊎ ((f : Failure) × (r ≡ refusal_for f) × IsTrue (may_fail s session asked f))
 
 -- no early refusal of a statement applies
 abbrev pub PassesEarly : State → ℕ → Statement → Type 0

@@ -29,13 +29,13 @@ use Rattle.escrow_machine.specs.Rows.{row_named, changes_to}
 -- INSERT
 
 -- the row that an INSERT makes in the table of its name, where its literals fit
-abbrev pub row_of : State → InsertText → Option Row
-row_of s text = option_and_then (λ table. inserted_row table text) (table_named s.catalog text.table)
+abbrev pub new_row : State → InsertText → Option Row
+new_row s text = option_and_then (λ table. inserted_row table text) (table_named s.catalog text.table)
 
 -- what a new row breaks of its table's checks, judged with no open reservation and no change
 abbrev pub insert_breach : State → InsertText → Option Breach
 insert_breach s text =
-    option_and_then (λ table. option_and_then (λ row. broken table.checks row.amounts [] []) (row_of s text)) (table_named s.catalog text.table)
+    option_and_then (λ table. option_and_then (λ row. broken table.checks row.amounts [] []) (new_row s text)) (table_named s.catalog text.table)
 
 -- UPDATE
 

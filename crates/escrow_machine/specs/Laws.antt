@@ -48,7 +48,7 @@ use Rattle.escrow_machine.specs.Reply.{failure_of, is_refused}
 use Rattle.escrow_journal.specs.Reservations.{own, others, own_savepoints}
 use Rattle.escrow_journal.specs.Savepoints.{savepoint_of, without_savepoint}
 use Rattle.escrow_machine.specs.Journal.{entry_of}
-use Rattle.escrow_machine.specs.Asked.{row_of, plan_of, row_name, named_by, reservation_of}
+use Rattle.escrow_machine.specs.Asked.{new_row, plan_of, row_name, named_by, reservation_of}
 use Rattle.escrow_machine.specs.Settle.{end_of, settled, after_end, after_ends}
 use Rattle.escrow_machine.specs.State.{State, empty, opened}
 use Rattle.escrow_machine.specs.Rows.{row_named, rows_of, changes_to, row_after, applied, with_row, without_row, without_rows_of, with_plain, MeetsChecks, row_before}
@@ -137,7 +137,7 @@ ShowsPlanned s table (plan.Plain key values) new = ShowsJust new s.catalog (with
 abbrev pub ShowsAfter : State → ℕ → Statement → State → Type 0
 ShowsAfter s session (statement.Create text) new = (table : TableDef) × (definition_of text ≡ Some table) × ShowsJust new (with_table table s.catalog) s.rows
 ShowsAfter s session (statement.Drop name) new = ShowsJust new (without_table name s.catalog) (without_rows_of name s.rows)
-ShowsAfter s session (statement.Insert text) new = (row : Row) × (row_of s text ≡ Some row) × ShowsJust new s.catalog (with_row row s.rows)
+ShowsAfter s session (statement.Insert text) new = (row : Row) × (new_row s text ≡ Some row) × ShowsJust new s.catalog (with_row row s.rows)
 ShowsAfter s session (statement.Update text) new = (asked : Plan) × (plan_of s text ≡ Some asked) × ShowsPlanned s text.table asked new
 ShowsAfter s session (statement.Delete text) new = ShowsJust new s.catalog (without_row (named_by text.table text.row) s.rows)
 ShowsAfter s session statement.Commit new = ShowsJust new s.catalog (applied s.rows (own session s.reservations))

@@ -22,7 +22,7 @@ use Rattle.escrow_schema.specs.declared.table.TheConstants.TableDef.{MAX_ROWS}
 use Rattle.escrow_journal.specs.declared.journal.TheConstants.Journal.{MAX_RESERVATIONS, MAX_SAVEPOINTS}
 use Rattle.escrow_machine.specs.declared.reply.Reply.{Reply}
 use Rattle.escrow_machine.specs.declared.reply.Reply.TheVariants as reply
-use Rattle.escrow_machine.specs.Asked.{row_of, insert_breach, plan_of, plan_refusal_of, row_name, reservation_from, breach_of, named_by, key_refusal_of, select_refusal_of, select_reply, show_reply}
+use Rattle.escrow_machine.specs.Asked.{new_row, insert_breach, plan_of, plan_refusal_of, row_name, reservation_from, breach_of, named_by, key_refusal_of, select_refusal_of, select_reply, show_reply}
 use Rattle.escrow_machine.specs.Bounds.{bounds_reply}
 use Rattle.escrow_machine.specs.Journal.{journal_reply}
 use Rattle.escrow_machine.specs.State.{State, is_open, is_reserved, is_table_reserved}
@@ -46,7 +46,7 @@ after_drop s name = record s { catalog = without_table name s.catalog; rows = wi
 
 -- the state with the row that an INSERT makes among its rows
 abbrev pub after_insert : State → InsertText → State
-after_insert s text = record s { rows = unwrap_or (option_map (λ row. with_row row s.rows) (row_of s text)) s.rows }
+after_insert s text = record s { rows = unwrap_or (option_map (λ row. with_row row s.rows) (new_row s text)) s.rows }
 
 -- the state without the row that a DELETE names
 abbrev pub after_delete : State → RowText → State
@@ -134,9 +134,9 @@ turn_of s session (statement.Drop name) = record {
 turn_of s session (statement.Insert text) = record {
   early = refuse_if (is_open session s) refusal.TransactionOpen
       ∷ refuse_if (is_none (table_named s.catalog text.table)) refusal.NoSuchTable
-      ∷ refuse_if (is_none (row_of s text)) refusal.BadValue
+      ∷ refuse_if (is_none (new_row s text)) refusal.BadValue
       ∷ [];
-  late = refuse_if (is_some (option_and_then (λ row. row_named s.rows row.name) (row_of s text))) refusal.RowExists
+  late = refuse_if (is_some (option_and_then (λ row. row_named s.rows row.name) (new_row s text))) refusal.RowExists
       ∷ refuse_if (nat_le MAX_ROWS (length (rows_of s.rows text.table))) refusal.TableFull
       ∷ option_map refusal.Check (insert_breach s text)
       ∷ [];

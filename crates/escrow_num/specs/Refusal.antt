@@ -1,4 +1,4 @@
--- Believed: each refusal's number, the refusal that a failure is told as, and the first refusal of several.
+-- Believed: each refusal's number, the refusal that a failure is answered as, and the first refusal of several.
 use Rattle.std.specs.Prelude.{ℕ, Bool, if◌then◌else◌, Option, Some, None, List, [], ◌∷◌}
 use Rattle.escrow_num.specs.Span.{first_of_two}
 use Rattle.escrow_num.specs.declared.failure.Failure.{Failure}
@@ -34,10 +34,10 @@ number_of refusal.Store = 60
 number_of refusal.ForeignStore = 61
 number_of refusal.UnknownVersion = 62
 
--- want of memory is told as 51, and any other failure as 60
-abbrev pub told : Failure → Refusal
-told failure.Memory = refusal.Memory
-told failure.Store = refusal.Store
+-- want of memory is answered as 51, and any other failure as 60
+abbrev pub refusal_for : Failure → Refusal
+refusal_for failure.Memory = refusal.Memory
+refusal_for failure.Store = refusal.Store
 
 -- a refusal where a test holds
 abbrev pub refuse_if : Bool → Refusal → Option Refusal

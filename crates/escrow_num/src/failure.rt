@@ -1,5 +1,5 @@
 ghost use Rattle.std.specs.Prelude.{◌≡◌};
-ghost use Rattle.escrow_num.specs.Refusal.{told};
+ghost use Rattle.escrow_num.specs.Refusal.{refusal_for};
 
 use crate::refusal::Refusal;
 use std::alloc::AllocError;
@@ -15,7 +15,7 @@ pub enum Failure {
 
 /// The refusal that a failure is answered as: 51 for want of memory, 60 for the store.
 pub fn refusal_of(failure: Failure) -> Refusal
-    ensures { result ≡ told failure }
+    ensures { result ≡ refusal_for failure }
 {
     match failure {
         Failure::Memory => Refusal::Memory,

@@ -147,9 +147,9 @@ impl From<AllocError> for Refusal {
 
 impl From<Failure> for Refusal {
     ghost use Rattle.std.specs.Prelude.{◌≡◌};
-    ghost use Rattle.escrow_num.specs.Refusal.{told};
+    ghost use Rattle.escrow_num.specs.Refusal.{refusal_for};
 
-    ghost from_gives = { λ failure r. r ≡ told failure };
+    ghost from_gives = { λ failure r. r ≡ refusal_for failure };
 
     fn from(failure: Failure) -> Refusal {
         match failure {

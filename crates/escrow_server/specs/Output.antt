@@ -38,9 +38,9 @@ abbrev pub HaveCleanDisks : {S : Type 0} → Ghosts S → List (Seen S) → Type
 HaveCleanDisks g databases = AllByRecursion (λ database. HasCleanDisk (state g database.store)) databases
 
 -- the refusal of a text that isn't served: 11 with the column of its first fault, or 51
-abbrev pub refusal_of : ParseFault → Refusal
-refusal_of (fault.Syntax column) = refusal.Syntax column
-refusal_of fault.Memory = refusal.Memory
+abbrev pub fault_refusal : ParseFault → Refusal
+fault_refusal (fault.Syntax column) = refusal.Syntax column
+fault_refusal fault.Memory = refusal.Memory
 
 -- a text is a statement, and its answer is the machine's step or its refusal
 abbrev pub IsServed : State → ℕ → List ℕ → Reply → State → Type 0
@@ -50,7 +50,7 @@ IsServed s session text answer new =
 -- A text is none, and is refused with the column of its first fault; or it is refused for memory, as
 -- any text may be, since reading it takes memory. Nothing changes.
 abbrev pub IsRefused : State → List ℕ → Reply → State → Type 0
-IsRefused s text answer new = (f : ParseFault) × IsFaultIn text f × (answer ≡ reply.Refused (refusal_of f)) × (new ≡ s)
+IsRefused s text answer new = (f : ParseFault) × IsFaultIn text f × (answer ≡ reply.Refused (fault_refusal f)) × (new ≡ s)
 
 -- the answer to a text of a session, and the state after it
 abbrev pub Answers : State → ℕ → List ℕ → Reply → State → Type 0

@@ -4,7 +4,7 @@ ghost use Rattle.sqlite.specs.Held.{state};
 ghost use Rattle.escrow_sql.specs.declared.statement.Statement.{Statement};
 ghost use Rattle.sqlite.specs.State.{HasCleanDisk};
 ghost use Rattle.escrow_machine.specs.Step.{IsServed, StepOrRefusal};
-ghost use Rattle.escrow_server.specs.Output.{refusal_of, states_of, Answers, HaveCleanDisks, ServesBytes, ServesWhole, StopsWithin};
+ghost use Rattle.escrow_server.specs.Output.{fault_refusal, states_of, Answers, HaveCleanDisks, ServesBytes, ServesWhole, StopsWithin};
 
 use crate::fault::ServeFault;
 use crate::limits::MAX_DATABASES;
@@ -136,7 +136,7 @@ fn answer<S: Alter>(
 {
     match parse(alloc, text) {
         Ok(request) => serve_request(alloc, database, session, request),
-        Err(fault) => Reply::Refused(refusal_of(fault)),
+        Err(fault) => Reply::Refused(fault_refusal(fault)),
     }
 }
 
@@ -155,8 +155,8 @@ fn serve_request<S: Alter>(
 }
 
 /// The refusal of a text that isn't served.
-fn refusal_of(fault: ParseFault) -> Refusal
-    ensures { result ≡ refusal_of fault }
+fn fault_refusal(fault: ParseFault) -> Refusal
+    ensures { result ≡ fault_refusal fault }
 {
     match fault {
         ParseFault::Syntax { column } => Refusal::Syntax { column },

@@ -5,7 +5,7 @@ use Rattle.sqlite_value.specs.declared.value.Value.TheVariants.{Int, Text}
 use Rattle.sqlite.specs.Effect.{Database}
 use Rattle.escrow_num.specs.declared.refusal.Refusal.{Refusal}
 use Rattle.escrow_num.specs.declared.refusal.Refusal.TheVariants as refusal
-use Rattle.escrow_num.specs.Refusal.{told}
+use Rattle.escrow_num.specs.Refusal.{refusal_for}
 use Rattle.escrow_num.specs.declared.row.Row.{Row}
 use Rattle.escrow_schema.specs.declared.table.TableDef.{TableDef}
 use Rattle.escrow_schema.specs.Catalog.{table_named}
@@ -45,7 +45,7 @@ pub record HasOtherFormat (db : Database) : Type 0 where
 -- what isn't verified is refused for want of memory (51) or by the store (60), as no store (61), or as one
 -- of another format (62)
 abbrev pub refused_as : Unverified → Refusal
-refused_as (Failed failure) = told failure
+refused_as (Failed failure) = refusal_for failure
 refused_as ForeignStore = refusal.ForeignStore
 refused_as OtherFormat = refusal.UnknownVersion
 

@@ -1,7 +1,7 @@
 ghost use Rattle.std.specs.Prelude.{◌≡◌, ◌≤◌, length};
 ghost use Rattle.escrow_journal.specs.declared.journal.TheConstants.Journal.{MAX_RESERVATIONS};
 ghost use Rattle.escrow_journal.specs.Reservations.{own};
-ghost use Rattle.escrow_txn.specs.Open.{ended};
+ghost use Rattle.escrow_journal.specs.Open.{ended};
 
 use crate::database::Database;
 use escrow_machine::Reply;
@@ -16,7 +16,7 @@ impl<S: Alter> Database<S> {
     ghost use Rattle.sqlite.specs.Held.{state};
     ghost use Rattle.sqlite.specs.State.{HasCleanDisk, Survives};
     ghost use Rattle.escrow_journal.specs.Reservations.{others};
-    ghost use Rattle.escrow_num.specs.Refusal.{told};
+    ghost use Rattle.escrow_num.specs.Refusal.{refusal_for};
     ghost use Rattle.escrow_core.specs.Serves.{Serves};
     ghost use Rattle.escrow_core.specs.Serving.{AreAfterEnd, answer_of};
     ghost use Rattle.escrow_machine.specs.Settle.{after_end};
@@ -57,7 +57,7 @@ impl<S: Alter> Database<S> {
     /// choice of the open ones, so no check is tested here. Where there are none the store isn't asked.
     fn apply(&mut self, alloc: Global, session: Session) -> Result<u32, Failure>
         ensures done { IfOk result (λ count. Serves S.Store session Statement.Commit self.old (Reply.Committed count) self.new) }
-        ensures failed { IfErr result (λ f. Serves S.Store session Statement.Commit self.old (Reply.Refused (told f)) self.new) }
+        ensures failed { IfErr result (λ f. Serves S.Store session Statement.Commit self.old (Reply.Refused (refusal_for f)) self.new) }
         ensures count { IfOk result (λ count. count ≡ length (own session self.old.state.reservations)) }
         ensures left { OnOk result (self.new.state.reservations ≡ others session self.old.state.reservations) }
         ensures held { OnErr result (0 < length (own session self.old.state.reservations)) }

@@ -19,7 +19,7 @@ impl<S: Alter> Database<S> {
     ghost use Rattle.std.specs.Prelude.{◌≡◌, None, Some, IfOk, IfErr};
     ghost use Rattle.sqlite.specs.Held.{state};
     ghost use Rattle.sqlite.specs.State.{HasCleanDisk};
-    ghost use Rattle.escrow_machine.specs.Asked.{row_of};
+    ghost use Rattle.escrow_machine.specs.Asked.{new_row};
     ghost use Rattle.escrow_schema.specs.Catalog.{place_named};
     ghost use Rattle.escrow_core.specs.Serves.{Serves};
     ghost use Rattle.escrow_machine.specs.Accepted.{IsRefusal, PassesEarly};
@@ -45,7 +45,7 @@ impl<S: Alter> Database<S> {
         text: &InsertText,
     ) -> Result<(usize, Row), Refusal>
         ensures place { IfOk result (λ planned. place_named self.now.state.catalog text.now.table ≡ Some planned.0) }
-        ensures row { IfOk result (λ planned. row_of self.now.state text.now ≡ Some planned.1) }
+        ensures row { IfOk result (λ planned. new_row self.now.state text.now ≡ Some planned.1) }
         ensures early { IfOk result (λ _. PassesEarly self.now.state session (Statement.Insert text.now)) }
         ensures refused { IfErr result (IsRefusal self.now.state session (Statement.Insert text.now)) }
     {
@@ -71,7 +71,7 @@ impl<S: Alter> Database<S> {
         row: &Row,
     ) -> Reply
         requires place { place_named self.old.state.catalog text.now.table ≡ Some place }
-        requires row { row_of self.old.state text.now ≡ Some row.now }
+        requires row { new_row self.old.state text.now ≡ Some row.now }
         requires early { PassesEarly self.old.state session (Statement.Insert text.now) }
         ensures { Serves S.Store session (Statement.Insert text.now) self.old result self.new }
     {
@@ -92,7 +92,7 @@ impl<S: Alter> Database<S> {
         row: &Row,
     ) -> Reply
         requires place { place_named self.old.state.catalog text.now.table ≡ Some place }
-        requires row { row_of self.old.state text.now ≡ Some row.now }
+        requires row { new_row self.old.state text.now ≡ Some row.now }
         requires early { PassesEarly self.old.state session (Statement.Insert text.now) }
         requires new { HasCleanDisk (state S.Store self.old.store) → row_named self.old.state.rows row.now.name ≡ None }
         ensures { Serves S.Store session (Statement.Insert text.now) self.old result self.new }

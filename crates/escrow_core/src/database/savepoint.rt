@@ -8,7 +8,9 @@ impl<S: Alter> Database<S> {
     ghost use Rattle.std.specs.Prelude.{◌≡◌};
     ghost use Rattle.escrow_core.specs.Serves.{Serves};
     ghost use Rattle.escrow_core.specs.Serving.{answer_of};
-    ghost use Rattle.escrow_machine.specs.Turn.{after_rollback_to, released};
+    ghost use Rattle.escrow_machine.specs.State.{open_in};
+    ghost use Rattle.escrow_journal.specs.Open.{released};
+    ghost use Rattle.escrow_machine.specs.Turn.{after_rollback_to};
 
     /// SAVEPOINT: makes a savepoint of the session. An earlier one of its name is taken out.
     pub(crate) fn savepoint(&mut self, session: Session, name: Name) -> Result<Reply, Refusal>
@@ -25,7 +27,7 @@ impl<S: Alter> Database<S> {
     /// where there is no such savepoint, and then nothing changes. Takes no memory, and makes no store
     /// call.
     pub fn rollback_to(&mut self, session: Session, name: Name) -> Option<u32>
-        ensures count { result ≡ released self.old.state session name }
+        ensures count { result ≡ released session name (open_in self.old.state) }
         ensures state { self.new.state ≡ after_rollback_to self.old.state session name }
         ensures store { self.new.store ≡ self.old.store }
     {

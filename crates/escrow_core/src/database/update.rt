@@ -17,11 +17,11 @@ impl<S: Alter> Database<S> {
     ghost use Rattle.escrow_schema.specs.Catalog.{place_named, table_named};
     ghost use Rattle.escrow_schema.specs.Column.{reservables};
     ghost use Rattle.escrow_core.specs.Serves.{Serves};
-    ghost use Rattle.escrow_core.specs.Serving.{answer_of, open_in};
-    ghost use Rattle.escrow_txn.specs.Open.{grant_refusal};
+    ghost use Rattle.escrow_core.specs.Serving.{answer_of};
+    ghost use Rattle.escrow_journal.specs.Open.{grant_refusal};
     ghost use Rattle.escrow_machine.specs.Accepted.{IsRefusal};
     ghost use Rattle.escrow_machine.specs.Rows.{row_named};
-    ghost use Rattle.escrow_machine.specs.State.{is_open};
+    ghost use Rattle.escrow_machine.specs.State.{is_open, open_in};
     ghost use Rattle.escrow_machine.specs.Turn.{update_refusals};
 
     /// UPDATE, of RESERVABLE columns or of plain ones, by its plan.

@@ -3,7 +3,7 @@ use Rattle.escrow_sql.specs.declared.statement.Statement.TheVariants as statemen
 use Rattle.escrow_schema.specs.declared.table.TheConstants.TableDef.{MAX_ROWS}
 use Rattle.escrow_schema.specs.Catalog.{place_named}
 use Rattle.escrow_tables.proofs.Placed.{place_within}
-use Rattle.escrow_machine.specs.Asked.{row_of}
+use Rattle.escrow_machine.specs.Asked.{new_row}
 use Rattle.escrow_core.specs.Inside.{seen_of}
 use Rattle.escrow_core.specs.Seen.{Seen}
 use Rattle.escrow_machine.specs.State.{State}
@@ -20,7 +20,7 @@ returns-in-Some g c =
     let text = c.args.text.now in
     let row = c.args.row.now in
     let at : place_named d.state.catalog text.table ≡ Some c.args.place = rw (← c.self.view_is) at c.requires.place in
-    let made : row_of d.state text ≡ Some row = rw (← c.self.view_is) at c.requires.row in
+    let made : new_row d.state text ≡ Some row = rw (← c.self.view_is) at c.requires.row in
     let early = rw (← c.self.view_is) at c.requires.early in
     rw (← c.self.view_is) (late_refused g.S.Store c.args.session (statement.Insert text) d c.in-Some.refusal refl early
     (λ u. new_refused d.state c.args.session text row c.in-Some.refusal made early ((rw (← c.self.view_is) at c.requires.new) u)
@@ -45,7 +45,7 @@ is_new g c none =
     let text = c.args.text.now in
     let row = c.args.row.now in
     let at : place_named d.state.catalog text.table ≡ Some c.args.place = rw (← c.self.view_is) at c.requires.place in
-    let made : row_of d.state text ≡ Some row = rw (← c.self.view_is) at c.requires.row in
+    let made : new_row d.state text ≡ Some row = rw (← c.self.view_is) at c.requires.row in
     record {
       made = made;
       early = rw (← c.self.view_is) at c.requires.early;
@@ -58,7 +58,7 @@ insert-requires-clause-place g c =
     let s : State = (seen_of c.self.inside.tables c.self.inside.open).state in
     let text = c.args.text.now in
     let row = c.args.row.now in
-    let made : row_of s text ≡ Some row = rw (← c.self.view_is) at c.requires.row in
+    let made : new_row s text ≡ Some row = rw (← c.self.view_is) at c.requires.row in
     let at : place_named s.catalog text.table ≡ Some c.args.place = rw (← c.self.view_is) at c.requires.place in
     subst (λ (n : _). place_named s.catalog n ≡ Some c.args.place) (sym (is_made s text row made).table_name) at
 
@@ -67,7 +67,7 @@ insert-requires-clause-fits g c =
     let s : State = (seen_of c.self.inside.tables c.self.inside.open).state in
     let text = c.args.text.now in
     let row = c.args.row.now in
-    let made : row_of s text ≡ Some row = rw (← c.self.view_is) at c.requires.row in
+    let made : new_row s text ≡ Some row = rw (← c.self.view_is) at c.requires.row in
     (is_made s text row made).has_table
 
 pub insert-requires-clause-room : goal.insert-requires-clause-room

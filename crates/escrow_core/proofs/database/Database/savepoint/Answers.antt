@@ -1,7 +1,8 @@
 use Rattle.std.proofs.Common.{◌≡◌, None, refl}
 use Rattle.escrow_num.specs.Session.{IsSession}
 use Rattle.escrow_sql.specs.declared.statement.Statement.TheVariants as statement
-use Rattle.escrow_txn.specs.Open.{savepoint_refusal}
+use Rattle.escrow_machine.specs.State.{open_in}
+use Rattle.escrow_journal.specs.Open.{savepoint_refusal}
 use Rattle.escrow_machine.specs.declared.reply.Reply.TheVariants as reply
 use Rattle.escrow_core.specs.Inside.{seen_of}
 use Rattle.escrow_machine.specs.Turn.{after_savepoint}
@@ -10,7 +11,6 @@ use Rattle.escrow_machine.proofs.Refusals.{no_reason}
 use Rattle.escrow_core.proofs.Served.{savepoint_serves, savepoint_refuses}
 use Rattle.escrow_core.proofs.Serving.{apart_keeps, left_by, served_apart}
 use Rattle.escrow_core.proofs.Txns.{savepoint_accepted, same_reason}
-use Rattle.escrow_core.specs.Serving.{open_in}
 use Rattle.escrow_machine.proofs.ValidSavepoint.{savepoint_orderly, savepoint_valid}
 use Rattle.escrow_core.proofs.database.Database.savepoint.Goals as goal
 

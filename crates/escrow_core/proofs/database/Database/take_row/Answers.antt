@@ -1,7 +1,7 @@
 use Rattle.std.proofs.Common.{refl}
 use Rattle.escrow_num.specs.declared.refusal.Refusal.TheVariants as refusal
 use Rattle.escrow_sql.specs.declared.statement.Statement.TheVariants as statement
-use Rattle.escrow_num.specs.Refusal.{told}
+use Rattle.escrow_num.specs.Refusal.{refusal_for}
 use Rattle.escrow_core.proofs.Deleting.{delete_fails, delete_lack, delete_table}
 use Rattle.escrow_core.proofs.Serving.{after_look, look_refused, still_passes}
 use Rattle.escrow_core.proofs.database.Database.take_row.Goals as goal
@@ -26,5 +26,5 @@ returns-in-Ok-None g c =
 pub returns : goal.returns
 returns g c =
     rw c.refusal_of.ensures
-    (look_refused g.S.Store c.args.session (statement.Delete c.args.text.now) c.args.self.now c.row.new.self (told c.in-Err.failure) c.row.ensures.looks refl c.requires.early (λ _.
+    (look_refused g.S.Store c.args.session (statement.Delete c.args.text.now) c.args.self.now c.row.new.self (refusal_for c.in-Err.failure) c.row.ensures.looks refl c.requires.early (λ _.
     delete_fails c.args.self.now.state c.args.session c.args.text.now c.in-Err.failure c.requires.early))
