@@ -13,6 +13,7 @@ pub mod Running
 pub mod Served
 pub mod Serving
 pub mod Shown
+pub mod Standing
 pub mod SpreadLemmas
 pub mod Txns
 pub mod Updating

@@ -1,7 +1,7 @@
 -- UPDATE: what follows for its turn from the plan, or from why there is none.
-use Rattle.std.specs.Prelude.{◌≡◌, ◌⊎◌, ◌≤◌, ℕ, ℤ, Option, Some, None, Result, Ok, Err, IfErr, IsErrOf, IsOk, List, length}
+use Rattle.std.specs.Prelude.{◌≡◌, ◌⊎◌, ℕ, ℤ, Option, Some, None, Result, Ok, Err, IfErr, IsErrOf, IsOk, IsSomeAnd, List, length}
 use Rattle.std.specs.Result.{result_ok}
-use Rattle.std.proofs.Common.{inl, inr, refl, sym, ap, subst, arith, ◌∙◌}
+use Rattle.std.proofs.Common.{inl, inr, refl, sym, ap, subst, ◌∙◌}
 use Rattle.std.proofs.lemmas.Option.{option_and_then_some}
 use Rattle.escrow_num.specs.declared.refusal.Refusal.{Refusal}
 use Rattle.escrow_num.specs.declared.refusal.Refusal.TheVariants as refusal
@@ -9,11 +9,11 @@ use Rattle.escrow_num.specs.declared.value.Value.{Value}
 use Rattle.escrow_num.specs.Refusal.{first_refusal}
 use Rattle.escrow_sql.specs.declared.statement.UpdateText.{UpdateText}
 use Rattle.escrow_sql.specs.declared.statement.Statement.TheVariants as statement
-use Rattle.escrow_checks.specs.declared.coefficients.TheConstants.Coefficients.{MAX_LEN}
 use Rattle.escrow_schema.specs.declared.plan.Plan.{Plan}
 use Rattle.escrow_schema.specs.declared.plan.Plan.TheVariants as plan
 use Rattle.escrow_schema.specs.declared.table.TableDef.{TableDef}
 use Rattle.escrow_schema.specs.Catalog.{table_named}
+use Rattle.escrow_schema.specs.Column.{reservables}
 use Rattle.escrow_schema.specs.Plan.{planned}
 use Rattle.escrow_num.specs.declared.failure.Failure.TheVariants as failure
 use Rattle.escrow_machine.specs.Asked.{plan_of}
@@ -21,8 +21,7 @@ use Rattle.escrow_machine.specs.Accepted.{IsAccepted, IsRefusal, PassesEarly}
 use Rattle.escrow_machine.specs.State.{State}
 use Rattle.escrow_machine.specs.Step.{refusals}
 use Rattle.escrow_machine.specs.Turn.{turn_of, update_refusals}
-use Rattle.escrow_machine.proofs.Shapes.{HasOrder, is_table_found}
-use Rattle.escrow_schema.proofs.LawLemmas.{few_reservable}
+use Rattle.escrow_machine.proofs.Safe.{some_from}
 use Rattle.escrow_schema.proofs.PlanLemmas.{plans_of_whole_row}
 
 ok_there : {A E : Type 0} (r : Result A E) (x : A) → result_ok r ≡ Some x → r ≡ Ok x
@@ -36,14 +35,12 @@ planned_in s text asked is then =
     option_and_then_some (λ (table : TableDef). result_ok (planned table text)) (table_named s.catalog text.table) asked is
     (λ table named found. then table named (ok_there (planned table text) asked found))
 
--- what is planned has a change for at most as many columns as a check has coefficients
-pub short_plan : (s : State) (text : UpdateText) (key : Value) (changes : List (Option ℤ)) → HasOrder s → plan_of s text ≡ Some (plan.Reserve key changes)
-    → length changes ≤ MAX_LEN
-short_plan s text key changes orderly is =
+-- what is planned may have a change for each RESERVABLE column
+pub whole_plan : (s : State) (text : UpdateText) (key : Value) (changes : List (Option ℤ)) → plan_of s text ≡ Some (plan.Reserve key changes)
+    → IsSomeAnd (table_named s.catalog text.table) (λ table. length changes ≡ length (reservables table.columns))
+whole_plan s text key changes is =
     planned_in s text (plan.Reserve key changes) is (λ table named at.
-    let whole = plans_of_whole_row table text key changes at in
-    let few = (few_reservable table (is_table_found s orderly text.table table named)).1 in
-    omega arith)
+    some_from (λ (t : TableDef). length changes ≡ length (reservables t.columns)) (table_named s.catalog text.table) table named (plans_of_whole_row table text key changes at))
 
 -- where there is a plan its refusals are those of the statement
 late_alone : (s : State) (session : ℕ) (text : UpdateText) (asked : Plan) (table : TableDef) → table_named s.catalog text.table ≡ Some table → planned table text ≡ Ok asked

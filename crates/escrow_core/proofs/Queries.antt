@@ -1,23 +1,21 @@
 -- SELECT, SHOW TABLE, SHOW JOURNAL and SHOW BOUNDS: how a call that served one meets the machine's step.
-use Rattle.std.specs.Prelude.{◌≡◌, ℕ, true, false, Option, Some, None, IsSome, is_none, unwrap_or, option_map, option_to_list, List, [], ◌∷◌, filter}
-use Rattle.std.proofs.Common.{inl, inr, refl, sym, ap, subst, ◌∙◌, true≢false}
+use Rattle.std.specs.Prelude.{◌≡◌, ℕ, ℤ, true, false, Option, Some, None, unwrap_or, option_map, option_to_list, List, [], filter}
+use Rattle.std.proofs.Common.{inl, inr, refl, sym, ap, ap₂, subst, ◌∙◌, true≢false}
 use Rattle.escrow_num.specs.declared.refusal.Refusal.TheVariants as refusal
 use Rattle.escrow_num.specs.declared.row.Row.{Row}
 use Rattle.escrow_num.specs.declared.value.RowName.{RowName}
 use Rattle.escrow_num.specs.Ascending.{IsAscending}
 use Rattle.escrow_num.specs.Order.{same_row}
-use Rattle.escrow_num.specs.Refusal.{refuse_if, refusal_for}
 use Rattle.escrow_sql.specs.declared.statement.RowText.{RowText}
 use Rattle.escrow_sql.specs.declared.statement.SelectText.{SelectText}
 use Rattle.escrow_sql.specs.declared.statement.Statement.TheVariants as statement
 use Rattle.escrow_schema.specs.declared.table.TableDef.{TableDef}
 use Rattle.escrow_schema.specs.Catalog.{table_named}
 use Rattle.escrow_schema.specs.Print.{canonical}
-use Rattle.escrow_num.specs.declared.failure.Failure.{Failure}
 use Rattle.escrow_num.specs.declared.failure.Failure.TheVariants as failure
 use Rattle.escrow_machine.specs.declared.reply.Reply.{Reply}
 use Rattle.escrow_machine.specs.declared.reply.Reply.TheVariants as reply
-use Rattle.escrow_machine.specs.Asked.{key_refusal_of, named_by, select_refusal_of, select_reply}
+use Rattle.escrow_machine.specs.Asked.{named_by, select_reply}
 use Rattle.escrow_machine.specs.Bounds.{bounds_in, bounds_reply}
 use Rattle.escrow_machine.specs.Journal.{journal_reply}
 use Rattle.escrow_machine.specs.Accepted.{IsAccepted, IsRefusal, PassesEarly}
@@ -27,80 +25,52 @@ use Rattle.escrow_machine.specs.Rows.{row_named, row_before}
 use Rattle.escrow_machine.specs.Step.{StepOrRefusal}
 use Rattle.escrow_machine.specs.Turn.{turn_of}
 use Rattle.escrow_rows.proofs.OneRow.{rows_named}
-use Rattle.escrow_machine.proofs.Refusals.{lacking, none_there, passed, some_found, there}
-use Rattle.escrow_core.proofs.Serving.{fails, late_applies, none_applies}
+use Rattle.escrow_machine.proofs.Refusals.{lacking, none_there, some_found}
+use Rattle.escrow_core.proofs.Standing.{amounts_named, no_row, standing}
+use Rattle.escrow_core.proofs.Serving.{late_applies, none_applies}
 use Rattle.escrow_core.proofs.Served.{rule_serves, accepted_serves, memory_serves}
 
-pub select_serves : (s : State) (session : ℕ) (text : SelectText) → IsAccepted s session (statement.Select text)
-    → StepOrRefusal s session (statement.Select text) (select_reply s text) s
-unfolding turn_of
-select_serves s session text accepted = accepted_serves s session (statement.Select text) accepted
-
--- SELECT of a table that isn't refused early: the table is there, and none applies
-pub select_table : (s : State) (session : ℕ) (text : SelectText) → PassesEarly s session (statement.Select text) → IsSome (table_named s.catalog text.table)
-unfolding turn_of
-select_table s session text early =
-    let unknown = refuse_if (is_none (table_named s.catalog text.table)) refusal.NoSuchTable in
-    there (table_named s.catalog text.table) refusal.NoSuchTable (passed unknown (select_refusal_of s text ∷ []) early).first
-
+-- SELECT that isn't refused early: none applies
 pub select_answers : (s : State) (session : ℕ) (text : SelectText) (answer : Reply) → PassesEarly s session (statement.Select text) → answer ≡ select_reply s text
     → StepOrRefusal s session (statement.Select text) answer s
 unfolding turn_of
 select_answers s session text answer early is =
-    subst (λ (r : Reply). StepOrRefusal s session (statement.Select text) r s) (sym is) (select_serves s session text (none_applies s session (statement.Select text) early refl))
-
-pub select_fails : (s : State) (session : ℕ) (text : SelectText) (f : Failure) → PassesEarly s session (statement.Select text) → IsRefusal s session (statement.Select text) (refusal_for f)
-unfolding turn_of
-select_fails s session text f early = fails s session (statement.Select text) f early refl
+    subst (λ (r : Reply). StepOrRefusal s session (statement.Select text) r s) (sym is) (accepted_serves s session (statement.Select text) (none_applies s session (statement.Select text) early refl))
 
 -- the rows of a name are the one that is found by it
 pub selects_one : (rows : List Row) (name : RowName) (found : Option Row) → IsAscending row_before rows → found ≡ row_named rows name
     → option_to_list found ≡ filter (λ row. same_row row.name name) rows
 selects_one rows name found order is = ap option_to_list is ∙ sym (rows_named rows name order)
 
-pub bounds_serves : (s : State) (session : ℕ) (text : RowText) → IsAccepted s session (statement.ShowBounds text)
-    → StepOrRefusal s session (statement.ShowBounds text) (bounds_reply s text) s
+-- SHOW BOUNDS that isn't refused early: only a row that isn't there is refused late
+pub bounds_lack : (s : State) (session : ℕ) (text : RowText) → PassesEarly s session (statement.ShowBounds text)
+    → None ≡ amounts_named s.rows (named_by text.table text.row) → IsRefusal s session (statement.ShowBounds text) refusal.NoSuchRow
 unfolding turn_of
-bounds_serves s session text accepted = accepted_serves s session (statement.ShowBounds text) accepted
+bounds_lack s session text early none =
+    let name = named_by text.table text.row in
+    late_applies s session (statement.ShowBounds text) refusal.NoSuchRow early (lacking (row_named s.rows name) refusal.NoSuchRow [] (no_row s.rows name none))
 
--- SHOW BOUNDS that isn't refused early: the table is there, and only a row that isn't there is refused late
-pub bounds_table : (s : State) (session : ℕ) (text : RowText) → PassesEarly s session (statement.ShowBounds text) → IsSome (table_named s.catalog text.table)
+pub bounds_answers : (s : State) (session : ℕ) (text : RowText) (table : TableDef) (amounts : List ℤ) → PassesEarly s session (statement.ShowBounds text)
+    → table_named s.catalog text.table ≡ Some table → amounts_named s.rows (named_by text.table text.row) ≡ Some amounts
+    → StepOrRefusal s session (statement.ShowBounds text) (bounds_in s.reservations table (named_by text.table text.row) amounts) s
 unfolding turn_of
-bounds_table s session text early =
-    let unknown = refuse_if (is_none (table_named s.catalog text.table)) refusal.NoSuchTable in
-    there (table_named s.catalog text.table) refusal.NoSuchTable (passed unknown (key_refusal_of s text.table text.row ∷ []) early).first
-
-pub bounds_lack : (s : State) (session : ℕ) (text : RowText) (name : RowName) → name ≡ named_by text.table text.row → PassesEarly s session (statement.ShowBounds text)
-    → None ≡ row_named s.rows name → IsRefusal s session (statement.ShowBounds text) refusal.NoSuchRow
-unfolding turn_of
-bounds_lack s session text name is early none =
-    late_applies s session (statement.ShowBounds text) refusal.NoSuchRow early
-    (lacking (row_named s.rows (named_by text.table text.row)) refusal.NoSuchRow [] (ap (row_named s.rows) (sym is) ∙ sym none))
-
-pub bounds_fails : (s : State) (session : ℕ) (text : RowText) (f : Failure) → PassesEarly s session (statement.ShowBounds text) → IsRefusal s session (statement.ShowBounds text) (refusal_for f)
-unfolding turn_of
-bounds_fails s session text f early = fails s session (statement.ShowBounds text) f early refl
-
-pub bounds_answers : (s : State) (session : ℕ) (text : RowText) (table : TableDef) (row : Row) → row.name ≡ named_by text.table text.row → PassesEarly s session (statement.ShowBounds text)
-    → table_named s.catalog text.table ≡ Some table → row_named s.rows row.name ≡ Some row
-    → StepOrRefusal s session (statement.ShowBounds text) (bounds_in s.reservations table row) s
-unfolding turn_of
-bounds_answers s session text table row same early named stands =
-    let found : row_named s.rows (named_by text.table text.row) ≡ Some row = ap (row_named s.rows) (sym same) ∙ stands in
-    let accepted = none_applies s session (statement.ShowBounds text) early (rw found refl) in
-    let is : bounds_reply s text ≡ bounds_in s.reservations table row = rw (named, found) refl in
-    subst (λ (r : Reply). StepOrRefusal s session (statement.ShowBounds text) r s) is (bounds_serves s session text accepted)
-
-pub journal_serves : (s : State) (session : ℕ) (table : Option (List ℕ)) → IsAccepted s session (statement.ShowJournal table)
-    → StepOrRefusal s session (statement.ShowJournal table) (journal_reply s table) s
-unfolding turn_of
-journal_serves s session table accepted = accepted_serves s session (statement.ShowJournal table) accepted
+bounds_answers s session text table amounts early named has =
+    let row = standing s.rows (named_by text.table text.row) amounts has in
+    let accepted = none_applies s session (statement.ShowBounds text) early (rw row.found refl) in
+    let is : bounds_reply s text ≡ bounds_in s.reservations table row.row.name row.row.amounts = rw (named, row.found) refl in
+    subst (λ (r : Reply). StepOrRefusal s session (statement.ShowBounds text) r s) (is ∙ ap₂ (bounds_in s.reservations table) row.named row.has)
+    (accepted_serves s session (statement.ShowBounds text) accepted)
 
 -- SHOW JOURNAL of a table that is there, or of all, and of one that isn't
-pub journal_accepted : (s : State) (session : ℕ) (table : Option (List ℕ)) → is_known s table ≡ true → IsAccepted s session (statement.ShowJournal table)
+journal_accepted : (s : State) (session : ℕ) (table : Option (List ℕ)) → is_known s table ≡ true → IsAccepted s session (statement.ShowJournal table)
 unfolding turn_of
 journal_accepted s session None known = refl
 journal_accepted s session (Some name) known = let found = some_found (table_named s.catalog name) known in rw found.1 refl
+
+pub journal_serves : (s : State) (session : ℕ) (table : Option (List ℕ)) → is_known s table ≡ true
+    → StepOrRefusal s session (statement.ShowJournal table) (journal_reply s table) s
+unfolding turn_of
+journal_serves s session table known = accepted_serves s session (statement.ShowJournal table) (journal_accepted s session table known)
 
 pub journal_wants : (s : State) (session : ℕ) (table : Option (List ℕ)) → is_known s table ≡ true → IsRefusal s session (statement.ShowJournal table) refusal.Memory
 unfolding turn_of

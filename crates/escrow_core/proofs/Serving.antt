@@ -1,5 +1,5 @@
 -- How a call that serves a statement is put together.
-use Rattle.std.specs.Prelude.{◌≡◌, ℕ, Bool, true, false, Option, Some, None, option_map, unwrap_or, is_none, IsTrue}
+use Rattle.std.specs.Prelude.{◌≡◌, ℕ, Bool, true, false, Option, Some, None, Result, Ok, Err, IsErrAnd, option_map, unwrap_or, is_none, IsTrue}
 use Rattle.std.proofs.Common.{inl, inr, refl, sym, ap, ap₂, subst, le_refl, arith, ◌∙◌}
 use Rattle.std.proofs.lemmas.Bool.{and_parts, false≢true}
 use Rattle.sqlite.specs.Held.{Held, state}
@@ -22,7 +22,7 @@ use Rattle.escrow_machine.specs.Reply.{failure_of, is_refused, tells_write}
 use Rattle.escrow_core.specs.Seen.{Seen, IsKept}
 use Rattle.escrow_core.specs.Serves.{AreAfter, AreHeldOf, Serves}
 use Rattle.escrow_machine.specs.Accepted.{IsAccepted, IsRefusal, PassesEarly}
-use Rattle.escrow_core.specs.Serving.{Looks}
+use Rattle.escrow_core.specs.Serving.{Looks, answer_of}
 use Rattle.escrow_machine.specs.State.{State}
 use Rattle.escrow_machine.specs.Step.{refusals, step, fails_for, StepOrRefusal}
 use Rattle.escrow_machine.specs.Turn.{turn_of}
@@ -71,6 +71,11 @@ early_answered s session asked r other (inr failing) early =
     let parts = and_parts (is_none (first_refusal turn.early)) (fails_for s session asked failing.0) may in
     let none : is_none (Some other) ≡ true = subst (λ (o : Option Refusal). is_none o ≡ true) early parts.0 in
     absurd (false≢true none)
+
+-- what leaves by a `?` answers the refusal that it is
+pub left_by : (result : Result Reply Refusal) (r : Refusal) → IsErrAnd result (λ e. e ≡ r) → answer_of result ≡ reply.Refused r
+left_by (Ok answer) r is = absurd is
+left_by (Err e) r is = ap reply.Refused is
 
 -- a reply that is no refusal is no failure
 succeeds : (answer : Reply) → is_refused answer ≡ false → failure_of answer ≡ None
@@ -171,15 +176,21 @@ module _ {S : Type 0} (g : Ghosts S) (session : ℕ) (asked : Statement) where
         durable = λ e. absurd (false≢true (sym quiet ∙ e));
       }
 
+  -- answered for what was looked at, without a write
+  pub look_answered : (old new : Seen S) (answer : Reply) → Looks g old new → asks_store old.state session asked ≡ true → PassesEarly old.state session asked
+      → tells_write answer ≡ false → (HasCleanDisk (state g new.store) → StepOrRefusal old.state session asked answer old.state) → Serves g session asked old answer new
+  look_answered old new answer looks asks early quiet event =
+      served old new answer asks early
+      (λ clean. subst (λ (s : State). StepOrRefusal old.state session asked answer s) (sym looks.same) (event clean))
+      (λ _. looks.same)
+      (survives_weaker (state g old.store) (state g new.store) (λ _. ⊥) _ (λ _ trees none. absurd none) looks.survives)
+      (λ e. absurd (false≢true (sym quiet ∙ e)))
+
   -- a look that failed, or after which the statement is refused
   pub look_refused : (old new : Seen S) (r : Refusal) → Looks g old new → asks_store old.state session asked ≡ true → PassesEarly old.state session asked
       → (HasCleanDisk (state g new.store) → IsRefusal old.state session asked r) → Serves g session asked old (reply.Refused r) new
   look_refused old new r looks asks early is =
-      served old new (reply.Refused r) asks early
-      (λ clean. subst (λ (s : State). StepOrRefusal old.state session asked (reply.Refused r) s) (sym looks.same) (refused_serves old.state session asked r (is clean)))
-      (λ _. looks.same)
-      (survives_weaker (state g old.store) (state g new.store) (λ _. ⊥) _ (λ _ trees none. absurd none) looks.survives)
-      (λ e. absurd (no_write r e))
+      look_answered old new (reply.Refused r) looks asks early refl (λ clean. refused_serves old.state session asked r (is clean))
 
   -- a crash leaves what the step makes, where a write leaves it
   crashed : (t new : Committed S) (o : Open) (answer : Reply) (next : State) (is_done : Bool) → Writes g t new is_done next.catalog next.rows

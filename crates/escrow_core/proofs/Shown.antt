@@ -1,6 +1,6 @@
 -- What a SELECT shows of what it reads.
-use Rattle.std.specs.Prelude.{◌≡◌, ℕ, Option, Some, None, IsSomeAnd, is_none, option_map, option_to_list, List, [], ◌∷◌, filter, map}
-use Rattle.std.proofs.Common.{refl, sym, ap, ap₂, subst, ◌∙◌}
+use Rattle.std.specs.Prelude.{◌≡◌, ℕ, Option, Some, None, IsSomeAnd, option_map, option_to_list, List, filter, map}
+use Rattle.std.proofs.Common.{refl, ap, ap₂, ◌∙◌}
 use Rattle.escrow_num.specs.declared.row.Row.{Row}
 use Rattle.escrow_num.specs.declared.value.RowName.{RowName}
 use Rattle.escrow_num.specs.declared.value.Value.{Value}
@@ -18,13 +18,14 @@ use Rattle.escrow_machine.specs.Rows.{row_named, row_before}
 use Rattle.escrow_core.proofs.Queries.{selects_one}
 
 -- columns and rows of the table are what a SELECT shows
-pub shows : (s : State) (text : SelectText) (columns : List (List ℕ)) (rows : List (List Value)) → ((table : TableDef) → table_named s.catalog text.table ≡ Some table → columns ≡ names_of table.columns)
+pub shows : (s : State) (text : SelectText) (columns : List (List ℕ)) (rows : List (List Value)) → IsSomeAnd (table_named s.catalog text.table) (λ table. columns ≡ names_of table.columns)
     → IsSomeAnd (table_named s.catalog text.table) (λ table. rows ≡ map (values_of table) (filter (is_shown text.table text.row) s.rows)) → reply.Rows columns rows ≡ select_reply s text
-shows s text columns rows named told = at (table_named s.catalog text.table) refl told
+shows s text columns rows named told = at (table_named s.catalog text.table) refl named told
   where
-    at : (o : Option TableDef) → table_named s.catalog text.table ≡ o → IsSomeAnd o (λ table. rows ≡ map (values_of table) (filter (is_shown text.table text.row) s.rows)) → reply.Rows columns rows ≡ select_reply s text
-    at None e h = absurd h
-    at (Some table) e h = rw e (ap₂ (λ (names : List (List ℕ)) (shown : List (List Value)). reply.Rows names shown) (named table e) h)
+    at : (o : Option TableDef) → table_named s.catalog text.table ≡ o → IsSomeAnd o (λ table. columns ≡ names_of table.columns)
+        → IsSomeAnd o (λ table. rows ≡ map (values_of table) (filter (is_shown text.table text.row) s.rows)) → reply.Rows columns rows ≡ select_reply s text
+    at None e names h = absurd h
+    at (Some table) e names h = rw e (ap₂ (λ (cs : List (List ℕ)) (shown : List (List Value)). reply.Rows cs shown) names h)
 
 -- the values of the row of a name are those of the rows of that name
 pub one_shown : (o : Option TableDef) (rows : List Row) (name : RowName) (found : Option (List Value)) → IsAscending row_before rows

@@ -1,7 +1,7 @@
 -- UPDATE: what its call makes of a database, by its plan.
-use Rattle.std.specs.Prelude.{◌≡◌, ◌<◌, ◌≤◌, ◌+◌, ℕ, ℤ, Bool, true, false, is_none, option_map, unwrap_or, Option, Some, None, IsSome, List, [], ◌∷◌, ◌++◌, length}
+use Rattle.std.specs.Prelude.{◌≡◌, ◌<◌, ◌≤◌, ◌+◌, ℕ, ℤ, Bool, true, false, is_none, nat_le, nat_lt, option_map, unwrap_or, Option, Some, None, IsSome, IsTrue, List, [], ◌∷◌, ◌++◌, length, map}
 use Rattle.std.specs.List.{AllByRecursion}
-use Rattle.std.proofs.Common.{refl, sym, ap, subst, ◌∙◌}
+use Rattle.std.proofs.Common.{refl, sym, ap, ap₂, subst, ◌∙◌}
 use Rattle.std.proofs.lemmas.Bool.{false≢true}
 use Rattle.sqlite.specs.Held.{state}
 use Rattle.sqlite.specs.State.{HasCleanDisk}
@@ -12,12 +12,16 @@ use Rattle.escrow_num.specs.declared.reservation.TheConstants.Reservation.{MAX_I
 use Rattle.escrow_num.specs.declared.row.Row.{Row}
 use Rattle.escrow_num.specs.declared.value.RowName.{RowName}
 use Rattle.escrow_num.specs.declared.value.Value.{Value}
+use Rattle.escrow_num.specs.Reservation.{counted}
 use Rattle.escrow_num.specs.Refusal.{refuse_if, first_refusal, refusal_for}
 use Rattle.escrow_num.specs.Session.{IsSession}
 use Rattle.escrow_sql.specs.declared.statement.UpdateText.{UpdateText}
 use Rattle.escrow_sql.specs.declared.statement.Statement.TheVariants as statement
+use Rattle.escrow_checks.specs.Grant.{broken}
+use Rattle.escrow_schema.specs.Catalog.{table_named}
 use Rattle.escrow_schema.specs.declared.plan.Plan.{Plan}
 use Rattle.escrow_schema.specs.declared.plan.Plan.TheVariants as plan
+use Rattle.escrow_schema.specs.declared.table.TableDef.{TableDef}
 use Rattle.escrow_schema.proofs.PlanLemmas.{plans_of_whole_row}
 use Rattle.escrow_journal.proofs.Free.{is_free}
 use Rattle.escrow_journal.specs.declared.journal.TheConstants.Journal.{MAX_RESERVATIONS}
@@ -28,31 +32,28 @@ use Rattle.escrow_num.specs.declared.failure.Failure.{Failure}
 use Rattle.escrow_num.specs.declared.failure.Failure.TheVariants as failure
 use Rattle.escrow_tables.specs.Calls.{Writes}
 use Rattle.escrow_tables.specs.Committed.{Committed}
-use Rattle.escrow_machine.specs.Rows.{HasTable, row_named, with_plain}
+use Rattle.escrow_machine.specs.Rows.{HasTable, changes_at, row_named, with_plain}
 use Rattle.escrow_machine.specs.declared.reply.Reply.TheVariants as reply
 use Rattle.escrow_machine.specs.Asked.{plan_of, row_name, reservation_from}
 use Rattle.escrow_core.specs.Inside.{seen_of}
 use Rattle.escrow_core.specs.Seen.{Seen, IsKept}
 use Rattle.escrow_core.specs.Serves.{Serves}
+use Rattle.escrow_core.specs.Serving.{Looks}
 use Rattle.escrow_machine.specs.Accepted.{IsAccepted, IsRefusal}
-use Rattle.escrow_machine.specs.State.{State, is_open, open_in, with_open}
-use Rattle.escrow_machine.specs.Step.{step, StepOrRefusal}
+use Rattle.escrow_machine.specs.State.{State, is_open, open_in}
+use Rattle.escrow_machine.specs.Step.{step}
 use Rattle.escrow_machine.specs.Turn.{turn_of, update_refusals, update_reply, after_update}
 use Rattle.escrow_machine.specs.Valid.{IsOrderly, IsValid}
 use Rattle.escrow_core.proofs.Planned.{planned_in, plan_refused, plan_accepted, planned_early}
+use Rattle.escrow_machine.proofs.Refusals.{first_behind}
 use Rattle.escrow_core.proofs.Served.{update_serves}
-use Rattle.escrow_core.proofs.Serving.{accepted_step, fails, late_refused, served, survives_itself, wrote, wrote_keeps, write_failed}
+use Rattle.escrow_core.proofs.Serving.{accepted_step, after_look, fails, look_refused, served, survives_itself, wrote, wrote_keeps, write_failed}
+use Rattle.escrow_core.proofs.Standing.{amounts_named, no_row, standing}
 use Rattle.escrow_machine.proofs.Shapes.{HasOrder}
 use Rattle.escrow_machine.proofs.TurnUpdate.{reserved_valid, replaced_valid}
 use Rattle.escrow_machine.proofs.ValidUpdate.{granted_orderly}
 
 -- REFUSALS
-
--- a row that doesn't stand is refused, whatever is asked of it
-pub reserve_lacks : (s : State) (session : ℕ) (text : UpdateText) (key : Value) (changes : List (Option ℤ)) → plan_of s text ≡ Some (plan.Reserve key changes)
-    → row_named s.rows (row_name text.table key) ≡ None → IsRefusal s session (statement.Update text) refusal.NoSuchRow
-reserve_lacks s session text key changes is none =
-    plan_refused s session text (plan.Reserve key changes) refusal.NoSuchRow is (rw none refl)
 
 -- plain values are refused in a transaction, and where the row doesn't stand
 pub plain_open : (s : State) (session : ℕ) (text : UpdateText) (key : Value) (values : List (Option Value)) → plan_of s text ≡ Some (plan.Plain key values)
@@ -138,14 +139,7 @@ module _ {S : Type 0} (g : Ghosts S) (session : ℕ) (text : UpdateText) (name :
         write_failed g session (statement.Update text) t new o f reply.Updated (record s { rows = with_plain name values t.rows }) refl
         (planned_early s session text (plan.Plain name.key values) may.planned) refl writes replace_step
 
--- A RESERVATION, where the row was looked at
-
--- a reservation of a row's changes that is planned
-pub record MayReserve {S : Type 0} (g : Ghosts S) (d : Seen S) (text : UpdateText) (row : Row) (name : RowName) (changes : List (Option ℤ)) : Type 0 where
-  pub planned : plan_of d.state text ≡ Some (plan.Reserve name.key changes)
-  pub table : name.table ≡ text.table
-  pub named : row.name ≡ name
-  pub stands : HasCleanDisk (state g d.store) → row_named d.state.rows name ≡ Some row
+-- A RESERVATION, where the amounts of the row were looked at
 
 -- where a session has room for it and an id is left, what is in order stays so
 reserved_orderly : (s : State) (session : ℕ) (text : UpdateText) (key : Value) (changes : List (Option ℤ)) → HasOrder s → IsSession session
@@ -156,68 +150,99 @@ reserved_orderly s session text key changes orderly of_session is room more_ids 
     granted_orderly s table (reservation_from s session (row_name text.table key) changes) orderly named of_session refl more_ids
     (plans_of_whole_row table text key changes at) room)
 
--- and that no refusal stands against
-pub record IsUnrefused {S : Type 0} (g : Ghosts S) (d : Seen S) (session : ℕ) (text : UpdateText) (row : Row) (name : RowName) (changes : List (Option ℤ)) : Type 0 where
-  pub may : MayReserve g d text row name changes
-  pub left : HasCleanDisk (state g d.store) → first_refusal (update_refusals d.state session text.table (plan.Reserve name.key changes)) ≡ None
+-- the first of one
+alone : (o : Option Refusal) → first_refusal (o ∷ []) ≡ o
+alone None = refl
+alone (Some r) = refl
 
-module _ {S : Type 0} (g : Ghosts S) (session : ℕ) (text : UpdateText) (row : Row) (name : RowName) (changes : List (Option ℤ)) where
-  -- what was answered of the row's own name is answered of the name that was looked for
-  reserve_refusals : (d : Seen S) (r : Option Refusal) → MayReserve g d text row name changes
-      → (row_named d.state.rows row.name ≡ Some row → r ≡ first_refusal (update_refusals d.state session row.name.table (plan.Reserve row.name.key changes)))
-      → HasCleanDisk (state g d.store) → first_refusal (update_refusals d.state session text.table (plan.Reserve name.key changes)) ≡ r
-  reserve_refusals d r may first u =
-      let of_name : row_named d.state.rows name ≡ Some row → r ≡ first_refusal (update_refusals d.state session name.table (plan.Reserve name.key changes)) =
-      subst (λ (n : RowName). row_named d.state.rows n ≡ Some row → r ≡ first_refusal (update_refusals d.state session n.table (plan.Reserve n.key changes))) may.named first in
-      sym (of_name (may.stands u) ∙ ap (λ (n : List ℕ). first_refusal (update_refusals d.state session n (plan.Reserve name.key changes))) may.table)
+-- why a reservation of the row that has these amounts isn't granted, where the table of transactions has room
+pub grant_reason : (s : State) (session : ℕ) (name : RowName) (table : TableDef) (amounts : List ℤ) (changes : List (Option ℤ))
+    → grant_refusal session (open_in s) ≡ None → table_named s.catalog name.table ≡ Some table → amounts_named s.rows name ≡ Some amounts
+    → option_map refusal.Check (broken table.checks amounts (counted changes) (map (changes_at name) s.reservations))
+    ≡ first_refusal (update_refusals s session name.table (plan.Reserve name.key changes))
+grant_reason s session name table amounts changes free of_table has =
+    let row = standing s.rows name amounts has in
+    let room = refuse_if (nat_le MAX_RESERVATIONS (length (own session s.reservations))) refusal.TooManyReservations ∷ refuse_if (nat_lt MAX_ID s.next_id) refusal.NoMoreIds ∷ [] in
+    let breach : List ℤ → RowName → Option Refusal = λ zs n. option_map refusal.Check (broken table.checks zs (counted changes) (map (changes_at n) s.reservations)) in
+    sym (rw (row.found, of_table) refl ∙ ap₂ (λ (zs : List ℤ) (n : RowName). first_refusal (room ++ breach zs n ∷ [])) row.has row.named
+    ∙ first_behind room (breach amounts name ∷ []) free ∙ alone (breach amounts name))
 
-  -- the row may not be reserved so
-  pub reserve_refused : (d : Seen S) (r : Refusal) → MayReserve g d text row name changes
-      → (row_named d.state.rows row.name ≡ Some row → Some r ≡ first_refusal (update_refusals d.state session row.name.table (plan.Reserve row.name.key changes)))
-      → Serves g session (statement.Update text) d (reply.Refused r) d
-  reserve_refused d r may first =
-      late_refused g session (statement.Update text) d r refl (planned_early d.state session text (plan.Reserve name.key changes) may.planned)
-      (λ u. plan_refused d.state session text (plan.Reserve name.key changes) r may.planned (reserve_refusals d (Some r) may first u))
+module _ {S : Type 0} (g : Ghosts S) (session : ℕ) (text : UpdateText) (key : Value) (changes : List (Option ℤ)) (old mid : Seen S) where
+  -- a reservation is planned, and after a look there is this reason against it, or none
+  pub record IsJudged (found : Option Refusal) : Type 0 where
+    pub planned : plan_of old.state text ≡ Some (plan.Reserve key changes)
+    pub looks : Looks g old mid
+    pub first : HasCleanDisk (state g mid.store) → found ≡ first_refusal (update_refusals mid.state session text.table (plan.Reserve key changes))
 
-  pub unrefused : (d : Seen S) → MayReserve g d text row name changes
-      → (row_named d.state.rows row.name ≡ Some row → None ≡ first_refusal (update_refusals d.state session row.name.table (plan.Reserve row.name.key changes)))
-      → IsUnrefused g d session text row name changes
-  unrefused d may first = record { may = may; left = reserve_refusals d None may first }
+  pub judged : (found : Option Refusal) (amounts : List ℤ) → plan_of old.state text ≡ Some (plan.Reserve key changes) → Looks g old mid
+      → (HasCleanDisk (state g mid.store) → Some amounts ≡ amounts_named old.state.rows (row_name text.table key))
+      → (amounts_named mid.state.rows (row_name text.table key) ≡ Some amounts → found ≡ first_refusal (update_refusals mid.state session text.table (plan.Reserve key changes)))
+      → IsJudged found
+  judged found amounts planned looks refusal_for first = record {
+    planned = planned;
+    looks = looks;
+    first = λ u. first (ap (λ (s : State). amounts_named s.rows (row_name text.table key)) looks.same ∙ sym (refusal_for u));
+  }
 
-  module _ (t : Committed S) (o : Open) (is : IsUnrefused g (seen_of t o) session text row name changes) where
-    after_grant : with_open (seen_of t o).state (txn.granted session (row_name text.table name.key) changes (open_in (seen_of t o).state)) ≡ (seen_of t (txn.granted session name changes o)).state
-    after_grant =
-        let s : State = (seen_of t o).state in
-        ap (λ (n : RowName). with_open s (txn.granted session n changes (open_in s))) (named_so text.table name is.may.table)
+  -- a row that doesn't stand
+  pub reserve_lacks : plan_of old.state text ≡ Some (plan.Reserve key changes) → Looks g old mid
+      → (HasCleanDisk (state g mid.store) → None ≡ amounts_named old.state.rows (row_name text.table key))
+      → Serves g session (statement.Update text) old (reply.Refused refusal.NoSuchRow) mid
+  reserve_lacks planned looks told =
+      let asked = plan.Reserve key changes in
+      look_refused g session (statement.Update text) old mid refusal.NoSuchRow looks refl (planned_early old.state session text asked planned)
+      (λ u. plan_refused old.state session text asked refusal.NoSuchRow planned (rw (no_row old.state.rows (row_name text.table key) (refusal_for u)) refl))
+
+  -- a failure
+  pub reserve_fails : (f : Failure) → plan_of old.state text ≡ Some (plan.Reserve key changes) → Looks g old mid
+      → Serves g session (statement.Update text) old (reply.Refused (refusal_for f)) mid
+  reserve_fails f planned looks =
+      let early = planned_early old.state session text (plan.Reserve key changes) planned in
+      look_refused g session (statement.Update text) old mid (refusal_for f) looks refl early (λ _. fails old.state session (statement.Update text) f early refl)
+
+  -- a reason against it
+  pub reserve_refused : (r : Refusal) → IsJudged (Some r) → Serves g session (statement.Update text) old (reply.Refused r) mid
+  reserve_refused r is =
+      let asked = plan.Reserve key changes in
+      look_refused g session (statement.Update text) old mid r is.looks refl (planned_early old.state session text asked is.planned)
+      (λ u. plan_refused old.state session text asked r is.planned
+      (subst (λ (s : State). first_refusal (update_refusals s session text.table asked) ≡ Some r) is.looks.same (sym (is.first u))))
+
+  module _ (t : Committed S) (o : Open) (view : seen_of t o ≡ mid) (is : IsJudged None) where
+    planned_inside : plan_of (seen_of t o).state text ≡ Some (plan.Reserve key changes)
+    planned_inside = subst (λ (s : State). plan_of s text ≡ Some (plan.Reserve key changes)) (sym (ap (λ (d : Seen S). d.state) view ∙ is.looks.same)) is.planned
 
     reserve_accepted : HasCleanDisk (state g t.store) → IsAccepted (seen_of t o).state session (statement.Update text)
-    reserve_accepted u = plan_accepted (seen_of t o).state session text (plan.Reserve name.key changes) is.may.planned (is.left u)
+    reserve_accepted u =
+        let none : HasCleanDisk (state g t.store) → None ≡ first_refusal (update_refusals (seen_of t o).state session text.table (plan.Reserve key changes)) =
+        subst (λ (d : Seen S). HasCleanDisk (state g d.store) → None ≡ first_refusal (update_refusals d.state session text.table (plan.Reserve key changes))) (sym view) is.first in
+        plan_accepted (seen_of t o).state session text (plan.Reserve key changes) planned_inside (sym (none u))
 
     -- it is granted: the store stays
-    pub grant_serves : Serves g session (statement.Update text) (seen_of t o) (reply.Reserved o.next_id) (seen_of t (txn.granted session name changes o))
-    grant_serves =
+    pub granted_serves : (HasCleanDisk (state g mid.store) → IsTrue (state g mid.store).is_open)
+        → Serves g session (statement.Update text) old (reply.Reserved o.next_id) (seen_of t (txn.granted session (row_name text.table key) changes o))
+    granted_serves opened =
         let s : State = (seen_of t o).state in
-        let asked = plan.Reserve name.key changes in
-        served g session (statement.Update text) (seen_of t o) (seen_of t (txn.granted session name changes o)) (reply.Reserved o.next_id) refl (planned_early s session text asked is.may.planned)
-        (λ u. subst (λ (after : State). StepOrRefusal s session (statement.Update text) (reply.Reserved o.next_id) after) after_grant
-        (update_serves s session text asked (reserve_accepted u) is.may.planned))
-        (λ is_refusal. absurd (false≢true is_refusal)) (survives_itself (state g t.store) _) (λ writes. absurd (false≢true writes))
+        let asked = plan.Reserve key changes in
+        let new = seen_of t (txn.granted session (row_name text.table key) changes o) in
+        after_look g session (statement.Update text) old mid new (reply.Reserved o.next_id) is.looks opened refl (planned_early old.state session text asked is.planned)
+        (subst (λ (d : Seen S). Serves g session (statement.Update text) d (reply.Reserved o.next_id) new) view
+        (served g session (statement.Update text) (seen_of t o) new (reply.Reserved o.next_id) refl (planned_early s session text asked planned_inside)
+        (λ u. update_serves s session text asked (reserve_accepted u) planned_inside)
+        (λ is_refusal. absurd (false≢true is_refusal)) (survives_itself (state g t.store) _) (λ writes. absurd (false≢true writes))))
 
-    pub grant_keeps : IsKept g (seen_of t o) → IsSession session → grant_refusal session o ≡ None → IsKept g (seen_of t (txn.granted session name changes o))
-    grant_keeps kept of_session none =
+    pub granted_keeps : IsKept g (seen_of t o) → IsSession session → grant_refusal session (open_in mid.state) ≡ None
+        → IsKept g (seen_of t (txn.granted session (row_name text.table key) changes o))
+    granted_keeps kept of_session none =
         let s : State = (seen_of t o).state in
-        let free = is_free session o none in
+        let free = is_free session o (subst (λ (d : Seen S). grant_refusal session (open_in d.state) ≡ None) (sym view) none) in
         record {
-          orderly = subst HasOrder after_grant (reserved_orderly s session text name.key changes kept.orderly of_session is.may.planned free.room free.more_ids);
+          orderly = reserved_orderly s session text key changes kept.orderly of_session planned_inside free.room free.more_ids;
           safe_rows = λ u.
               let valid : IsValid s = record { orderly = kept.orderly; safe_rows = kept.safe_rows u } in
-              (subst IsValid after_grant (reserved_valid s session text name.key changes valid of_session is.may.planned (reserve_accepted u))).safe_rows;
+              (reserved_valid s session text key changes valid of_session planned_inside (reserve_accepted u)).safe_rows;
         }
 
     -- it isn't, for want of memory
-    pub grant_fails : Serves g session (statement.Update text) (seen_of t o) (reply.Refused refusal.Memory) (seen_of t o)
-    grant_fails =
-        let s : State = (seen_of t o).state in
-        let early = planned_early s session text (plan.Reserve name.key changes) is.may.planned in
-        late_refused g session (statement.Update text) (seen_of t o) refusal.Memory refl early
-        (λ u. fails s session (statement.Update text) failure.Memory early refl)
+    pub grant_fails : Serves g session (statement.Update text) old (reply.Refused refusal.Memory) (seen_of t o)
+    grant_fails = subst (λ (d : Seen S). Serves g session (statement.Update text) old (reply.Refused refusal.Memory) d) (sym view) (reserve_fails failure.Memory is.planned is.looks)

@@ -6,29 +6,29 @@ ghost use Rattle.escrow_checks.specs.Grant.{broken};
 ghost use Rattle.escrow_checks.specs.declared.coefficients.TheConstants.Coefficients.{MAX_LEN};
 ghost use Rattle.escrow_core.specs.declared.spreads.TheConstants.{MOST_CHECKS};
 ghost use Rattle.escrow_machine.specs.Walked.{AreOpen, AreSpreads};
-ghost use Rattle.escrow_machine.specs.Rows.{changes_to};
+ghost use Rattle.escrow_machine.specs.Rows.{changes_at};
 
 use crate::spreads::{counted, spreads_over};
 use escrow_checks::{Check, Spread};
-use escrow_num::{Amount, Breach, Row};
+use escrow_num::{Amount, Breach, RowName};
 use escrow_txn::TxnTable;
 
-/// The grant rule: what changes of a row would break of the first check that they can break, over
+/// The grant rule: what changes of a row of these amounts would break of the first check that they can break, over
 /// every choice of the open reservations that holds them, by the spread of those under each check.
 /// `None` where they break nothing.
 pub(crate) fn first_breach(
     checks: &[Check],
-    row: &Row,
+    amounts: &[Amount],
     changes: &[Amount],
     spreads: &[Spread],
 ) -> Option<Breach>
     requires enough { length checks.now ≤ length spreads.now }
-    requires covered { AllByRecursion (λ check. IsCovered check.coeffs row.now.amounts) checks.now }
+    requires covered { AllByRecursion (λ check. IsCovered check.coeffs amounts.now) checks.now }
     ensures { (reservations : List (List ℤ)) → AreSpreads checks.now reservations spreads.now
-        → result ≡ broken checks.now row.now.amounts changes.now reservations }
+        → result ≡ broken checks.now amounts.now changes.now reservations }
 {
     for (i, check) in checks.iter().enumerate() {
-        let breach = check.breach(row.amounts.as_slice(), changes, &spreads[i]);
+        let breach = check.breach(amounts, changes, &spreads[i]);
         if breach.is_some() {
             return breach;
         }
@@ -36,21 +36,22 @@ pub(crate) fn first_breach(
     None
 }
 
-/// What new changes of a row would break of the first check that they can break. They are granted
-/// where there is none.
+/// What new changes of the row of a name and of these amounts would break of the first check that they can
+/// break. They are granted where there is none.
 pub(crate) fn breach_of(
     checks: &[Check],
-    row: &Row,
+    name: &RowName,
+    amounts: &[Amount],
     changes: &[Option<Amount>],
     txns: &TxnTable,
 ) -> Option<Breach>
     requires few_checks { length checks.now ≤ MOST_CHECKS }
     requires short { length changes.now ≤ MAX_LEN }
     requires open { AreOpen txns.now.reservations }
-    requires covered { AllByRecursion (λ check. IsCovered check.coeffs row.now.amounts) checks.now }
-    ensures { result ≡ broken checks.now row.now.amounts (counted changes.now) (map (changes_to row.now) txns.now.reservations) }
+    requires covered { AllByRecursion (λ check. IsCovered check.coeffs amounts.now) checks.now }
+    ensures { result ≡ broken checks.now amounts.now (counted changes.now) (map (changes_at name.now) txns.now.reservations) }
 {
-    let amounts = counted(changes);
-    let spreads = spreads_over(checks, row, txns);
-    first_breach(checks, row, &amounts[..changes.len()], &spreads)
+    let added = counted(changes);
+    let spreads = spreads_over(checks, name, txns);
+    first_breach(checks, amounts, &added[..changes.len()], &spreads)
 }

@@ -5,11 +5,11 @@ ghost use Rattle.escrow_checks.specs.declared.spread.TheConstants.Spread.{MAX_OP
 ghost use Rattle.escrow_checks.specs.declared.check.Check.{Check};
 ghost use Rattle.escrow_core.specs.declared.spreads.TheConstants.{MOST_CHECKS};
 ghost use Rattle.escrow_machine.specs.Walked.{AreOpen, AreSpreads, IsShort};
-ghost use Rattle.escrow_machine.specs.Rows.{changes_to};
+ghost use Rattle.escrow_machine.specs.Rows.{changes_at};
 
 use crate::reservations::reservations_at;
 use escrow_checks::{Check, Coefficients, MAX_CHECKS, Spread};
-use escrow_num::{Amount, Reservation, Row, Session};
+use escrow_num::{Amount, Reservation, RowName, Session};
 use escrow_txn::TxnTable;
 
 /// The most checks of a table: those that it declares, and the range of each RESERVABLE column.
@@ -27,34 +27,38 @@ pub(crate) fn counted(changes: &[Option<Amount>]) -> [Amount; Coefficients::MAX_
     amounts
 }
 
-/// How far the open reservations of all sessions can move the form of each check of a row,
-/// whichever are applied: one spread for each check, in place. The journals are walked one after
+/// How far the open reservations of all sessions can move the form of each check of the row
+/// of a name, whichever are applied: one spread for each check, in place. The journals are walked one after
 /// another, and each reservation is read once.
-pub(crate) fn spreads_over(checks: &[Check], row: &Row, txns: &TxnTable) -> [Spread; MOST_CHECKS]
+pub(crate) fn spreads_over(
+    checks: &[Check],
+    name: &RowName,
+    txns: &TxnTable,
+) -> [Spread; MOST_CHECKS]
     requires few_checks { length checks.now ≤ MOST_CHECKS }
     requires open { AreOpen txns.now.reservations }
-    ensures { AreSpreads checks.now (map (changes_to row.now) txns.now.reservations) result }
+    ensures { AreSpreads checks.now (map (changes_at name.now) txns.now.reservations) result }
 {
     let mut spreads = no_spreads();
     for i in 0..Session::MAX {
-        add_reservations(&mut spreads, checks, row, reservations_at(txns, i));
+        add_reservations(&mut spreads, checks, name, reservations_at(txns, i));
     }
     spreads
 }
 
-/// Adds what reservations contribute to the form of each check of a row to its spread.
+/// Adds what reservations contribute to the form of each check of the row of a name to its spread.
 fn add_reservations(
     spreads: &mut [Spread],
     checks: &[Check],
-    row: &Row,
+    name: &RowName,
     reservations: &[Reservation],
 )
     requires room { (before : List (List ℤ)) × AreSpreads checks.now before spreads.old × (length before + length reservations.now ≤ MAX_OPEN) }
     requires short { AllByRecursion IsShort reservations.now }
-    ensures { (before : List (List ℤ)) → AreSpreads checks.now before spreads.old → AreSpreads checks.now (before ++ map (changes_to row.now) reservations.now) spreads.new }
+    ensures { (before : List (List ℤ)) → AreSpreads checks.now before spreads.old → AreSpreads checks.now (before ++ map (changes_at name.now) reservations.now) spreads.new }
 {
     for r in reservations {
-        if row.name.is_same(&r.row) {
+        if name.is_same(&r.row) {
             let amounts = counted(r.changes.as_slice());
             add_to_each(spreads, checks, &amounts[..r.changes.len()]);
         }

@@ -3,9 +3,10 @@ use Rattle.std.proofs.Common.{◌≡◌, ℕ, Option, unwrap_or, pos, ◌+◌, �
 use Rattle.std.proofs.lemmas.List.{map-append, take_more, map_more}
 use Rattle.std.specs.Prelude.{map}
 use Rattle.escrow_num.specs.declared.row.Row.{Row}
+use Rattle.escrow_num.specs.declared.value.RowName.{RowName}
 use Rattle.escrow_num.specs.declared.reservation.Reservation.{Reservation}
 use Rattle.escrow_num.specs.Reservation.{counted}
-use Rattle.escrow_machine.specs.Rows.{changes_to, applied}
+use Rattle.escrow_machine.specs.Rows.{changes_at, applied}
 use Rattle.escrow_num.specs.Order.{same_row}
 
 -- the changes that count, one more of them
@@ -19,15 +20,15 @@ pub applied_none : (rows : List Row) → applied rows [] ≡ rows
 applied_none [] = refl
 applied_none (row ∷ rows) = ap (λ rest. row ∷ rest) (applied_none rows)
 
--- the changes to a row of one more reservation
-pub changes_more : (row : Row) (reservations : List Reservation) (i : ℕ) (r : Reservation) → i < length reservations → r ≡ get_or reservations i r
-    → map (changes_to row) (take (i + 1) reservations) ≡ map (changes_to row) (take i reservations) ++ changes_to row r ∷ []
-changes_more row reservations i r below at = rw (take_more reservations i r below, ← at) (map-append (changes_to row) (take i reservations) (r ∷ []))
+-- the changes to the row of a name of one more reservation
+pub changes_more : (name : RowName) (reservations : List Reservation) (i : ℕ) (r : Reservation) → i < length reservations → r ≡ get_or reservations i r
+    → map (changes_at name) (take (i + 1) reservations) ≡ map (changes_at name) (take i reservations) ++ changes_at name r ∷ []
+changes_more name reservations i r below at = rw (take_more reservations i r below, ← at) (map-append (changes_at name) (take i reservations) (r ∷ []))
 
 -- a reservation changes its own row
-pub changes_own : (row : Row) (r : Reservation) → same_row row.name r.row ≡ true → changes_to row r ≡ counted r.changes
-changes_own row r same = rw same refl
+pub changes_own : (name : RowName) (r : Reservation) → same_row name r.row ≡ true → changes_at name r ≡ counted r.changes
+changes_own name r same = rw same refl
 
 -- and no other one
-pub changes_other : (row : Row) (r : Reservation) → same_row row.name r.row ≡ false → changes_to row r ≡ []
-changes_other row r other = rw other refl
+pub changes_other : (name : RowName) (r : Reservation) → same_row name r.row ≡ false → changes_at name r ≡ []
+changes_other name r other = rw other refl

@@ -1,18 +1,16 @@
--- The bounds of a row, from those of its table's checks.
+-- The bounds of a row of these amounts, from those of its table's checks.
 use Rattle.std.specs.Prelude.{◌≡◌, ℕ, ℤ, ◌-◌, ◌≤◌, bytes_eq, true, false, List, [], ◌∷◌, ◌++◌, length, take, drop, map}
 use Rattle.std.specs.List.{AllZip, list_any}
 use Rattle.std.proofs.Common.{refl, ap, ap₂, ◌∙◌, arith, length-append, length-drop}
 use Rattle.std.proofs.Math.Seq.{drop-append_seam}
 use Rattle.std.proofs.lemmas.Bool.{or_parts}
 use Rattle.std.proofs.lemmas.List.{length-map, take-map, drop-map}
-use Rattle.escrow_num.specs.declared.row.Row.{Row}
 use Rattle.escrow_checks.specs.declared.check.Check.{Check}
 use Rattle.escrow_checks.specs.Condition.{amount_of}
 use Rattle.escrow_schema.specs.declared.column.Column.{Column}
 use Rattle.escrow_schema.specs.declared.table.TableDef.{TableDef}
 use Rattle.escrow_schema.specs.Column.{names_of, reservables}
 use Rattle.escrow_schema.specs.Definition.{IsTable, are_distinct, range_check, range_checks}
-use Rattle.escrow_schema.specs.Fit.{IsRowOf}
 use Rattle.escrow_schema.specs.Print.{declared_checks}
 use Rattle.escrow_schema.proofs.ColumnsLemmas.{reservables_distinct}
 use Rattle.escrow_schema.proofs.DistinctLemmas.{same_name, first_apart}
@@ -57,53 +55,53 @@ columns_shown names amounts (a ∷ rest) reservations (column ∷ columns) have 
     rw (← have.0, columns_shown names amounts rest reservations columns have.1) refl
 
 -- the ranges are the last checks of a table, and its declared checks are those before them
-pub record Split (table : TableDef) (row : Row) : Type 0 where
-  pub within : length row.amounts ≤ length table.checks
-  pub declared : take (length table.checks - length row.amounts) table.checks ≡ declared_checks table
-  pub ranges : drop (length table.checks - length row.amounts) table.checks ≡ range_checks table.columns
+pub record Split (table : TableDef) (amounts : List ℤ) : Type 0 where
+  pub within : length amounts ≤ length table.checks
+  pub declared : take (length table.checks - length amounts) table.checks ≡ declared_checks table
+  pub ranges : drop (length table.checks - length amounts) table.checks ≡ range_checks table.columns
   pub distinct : are_distinct (names_of (reservables table.columns)) ≡ true
 
-pub split : (table : TableDef) (row : Row) → IsTable table → IsRowOf table row → Split table row
-split table row is_table is_row =
+pub split : (table : TableDef) (amounts : List ℤ) → IsTable table → length amounts ≡ length (reservables table.columns) → Split table amounts
+split table amounts is_table many =
     let p = parts is_table.0 table is_table.1 in
     let written = p.written in
     let ranges = range_checks table.columns in
-    let many : length ranges ≡ length (reservables table.columns) = length-map (reservables table.columns) (range_check (names_of (reservables table.columns))) in
+    let ranges_many : length ranges ≡ length (reservables table.columns) = length-map (reservables table.columns) (range_check (names_of (reservables table.columns))) in
     let all : length table.checks ≡ length (written ++ ranges) = ap length p.checks in
-    let at : length table.checks - length row.amounts ≡ length written = omega (arith, length-append written ranges, is_row.amounts) in
+    let at : length table.checks - length amounts ≡ length written = omega (arith, length-append written ranges, many) in
     record {
-      within = omega (arith, length-append written ranges, is_row.amounts);
-      declared = ap (λ (n : ℕ). take (length table.checks - n) table.checks) is_row.amounts;
+      within = omega (arith, length-append written ranges, many);
+      declared = ap (λ (n : ℕ). take (length table.checks - n) table.checks) many;
       ranges = ap₂ (λ (n : ℕ) (checks : List Check). drop n checks) at p.checks ∙ drop-append_seam written ranges;
       distinct = reservables_distinct table.columns (rules_on table.columns table.key p.follow).distinct;
     }
 
 -- the bounds that are shown, from those of all checks
-pub shown_checks : (table : TableDef) (row : Row) (reservations : List (List ℤ)) (n : ℕ) → Split table row → n ≡ length table.checks - length row.amounts
-    → take n (map (check_bounds row.amounts reservations) table.checks) ≡ map (check_bounds row.amounts reservations) (declared_checks table)
-shown_checks table row reservations n s at =
-    take-map (check_bounds row.amounts reservations) n table.checks
-    ∙ ap (λ (m : ℕ). map (check_bounds row.amounts reservations) (take m table.checks)) at
-    ∙ ap (map (check_bounds row.amounts reservations)) s.declared
+pub shown_checks : (table : TableDef) (amounts : List ℤ) (reservations : List (List ℤ)) (n : ℕ) → Split table amounts → n ≡ length table.checks - length amounts
+    → take n (map (check_bounds amounts reservations) table.checks) ≡ map (check_bounds amounts reservations) (declared_checks table)
+shown_checks table amounts reservations n s at =
+    take-map (check_bounds amounts reservations) n table.checks
+    ∙ ap (λ (m : ℕ). map (check_bounds amounts reservations) (take m table.checks)) at
+    ∙ ap (map (check_bounds amounts reservations)) s.declared
 
-pub shown_columns : (table : TableDef) (row : Row) (reservations : List (List ℤ)) (n : ℕ) → IsRowOf table row → Split table row → n ≡ length table.checks - length row.amounts
-    → columns_from (names_of (reservables table.columns)) row.amounts (drop n (map (check_bounds row.amounts reservations) table.checks))
-    ≡ map (column_bounds (names_of (reservables table.columns)) row.amounts reservations) (names_of (reservables table.columns))
-shown_columns table row reservations n is_row s at =
+pub shown_columns : (table : TableDef) (amounts : List ℤ) (reservations : List (List ℤ)) (n : ℕ) → length amounts ≡ length (reservables table.columns) → Split table amounts → n ≡ length table.checks - length amounts
+    → columns_from (names_of (reservables table.columns)) amounts (drop n (map (check_bounds amounts reservations) table.checks))
+    ≡ map (column_bounds (names_of (reservables table.columns)) amounts reservations) (names_of (reservables table.columns))
+shown_columns table amounts reservations n many s at =
     let names = names_of (reservables table.columns) in
-    ap (columns_from names row.amounts)
-    (drop-map (check_bounds row.amounts reservations) n table.checks
-    ∙ ap (λ (m : ℕ). map (check_bounds row.amounts reservations) (drop m table.checks)) at
-    ∙ ap (map (check_bounds row.amounts reservations)) s.ranges)
-    ∙ columns_shown names row.amounts row.amounts reservations (reservables table.columns) (have_amounts (reservables table.columns) row.amounts s.distinct is_row.amounts)
+    ap (columns_from names amounts)
+    (drop-map (check_bounds amounts reservations) n table.checks
+    ∙ ap (λ (m : ℕ). map (check_bounds amounts reservations) (drop m table.checks)) at
+    ∙ ap (map (check_bounds amounts reservations)) s.ranges)
+    ∙ columns_shown names amounts amounts reservations (reservables table.columns) (have_amounts (reservables table.columns) amounts s.distinct many)
 
 -- there are as many of them as columns
-pub ranges_shown : (table : TableDef) (row : Row) (reservations : List (List ℤ)) (n : ℕ) → IsRowOf table row → Split table row → n ≡ length table.checks - length row.amounts
-    → length (drop n (map (check_bounds row.amounts reservations) table.checks)) ≡ length (reservables table.columns)
-ranges_shown table row reservations n is_row s at =
-    let many : length (map (check_bounds row.amounts reservations) table.checks) ≡ length table.checks = length-map table.checks (check_bounds row.amounts reservations) in
+pub ranges_shown : (table : TableDef) (amounts : List ℤ) (reservations : List (List ℤ)) (n : ℕ) → length amounts ≡ length (reservables table.columns) → Split table amounts → n ≡ length table.checks - length amounts
+    → length (drop n (map (check_bounds amounts reservations) table.checks)) ≡ length (reservables table.columns)
+ranges_shown table amounts reservations n many s at =
+    let all : length (map (check_bounds amounts reservations) table.checks) ≡ length table.checks = length-map table.checks (check_bounds amounts reservations) in
     let within = s.within in
-    omega (arith, length-drop n (map (check_bounds row.amounts reservations) table.checks), is_row.amounts)
+    omega (arith, length-drop n (map (check_bounds amounts reservations) table.checks), many)
 
 pub names_shown : (columns : List Column) → length (names_of columns) ≡ length columns
 names_shown columns = length-map columns (λ (column : Column). column.name)

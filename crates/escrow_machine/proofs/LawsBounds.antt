@@ -158,7 +158,7 @@ unfolding columns_of checks_of
 shown_in s valid text table row named found =
     let name = named_by text.table text.row in
     let is_table = is_table_found s valid.orderly text.table table named in
-    let parts = split table row is_table (row_found s valid name table row named found) in
+    let parts = split table row.amounts is_table (row_found s valid name table row named found).amounts in
     let names = names_of (reservables table.columns) in
     let reservations = map (changes_to row) s.reservations in
     record {
@@ -199,9 +199,10 @@ reply_in : (s : State) (session : ℕ) (text : RowText) (stands : Stands s text)
     → (turn_of s session (statement.ShowBounds text)).reply ≡ reply.Bounds (columns_of s stands.table stands.row) (checks_of s stands.table stands.row)
 unfolding turn_of columns_of checks_of
 reply_in s session text stands =
-    let at_row : (table : TableDef) → option_map (bounds_in s.reservations table) (row_named s.rows (named_by text.table text.row)) ≡ Some (bounds_in s.reservations table stands.row) =
-    λ table. ap (option_map (bounds_in s.reservations table)) stands.found in
-    ap (λ (o : Option TableDef). unwrap_or (option_and_then (λ (table : TableDef). option_map (bounds_in s.reservations table) (row_named s.rows (named_by text.table text.row))) o) (reply.Bounds [] [])) stands.named
+    let shown : TableDef → Row → Reply = λ table row. bounds_in s.reservations table row.name row.amounts in
+    let at_row : (table : TableDef) → option_map (shown table) (row_named s.rows (named_by text.table text.row)) ≡ Some (shown table stands.row) =
+    λ table. ap (option_map (shown table)) stands.found in
+    ap (λ (o : Option TableDef). unwrap_or (option_and_then (λ (table : TableDef). option_map (shown table) (row_named s.rows (named_by text.table text.row))) o) (reply.Bounds [] [])) stands.named
     ∙ ap (λ (o : Option Reply). unwrap_or o (reply.Bounds [] [])) (at_row stands.table)
 
 pub bounds_are_reached : BoundsAreReached

@@ -80,7 +80,7 @@ amounts_with : (row : Row) (r : Reservation) (chosen : List Reservation) → sam
 amounts_with row r chosen same =
     ap (all_changed row.amounts) (map_push (changes_to row) chosen r)
     ∙ all_changed_push row.amounts (changes_to row r) (map (changes_to row) chosen)
-    ∙ ap (λ (zs : List ℤ). all_changed (changed row.amounts zs) (map (changes_to row) chosen)) (changes_own row r same)
+    ∙ ap (λ (zs : List ℤ). all_changed (changed row.amounts zs) (map (changes_to row) chosen)) (changes_own row.name r same)
 
 -- the row that an UPDATE names is the row of its reservation
 row_is_named : (s : State) (r : Reservation) (row : Row) → row_named s.rows r.row ≡ Some row → same_row row.name r.row ≡ true

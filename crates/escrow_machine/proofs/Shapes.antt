@@ -1,10 +1,9 @@
 -- What a valid state bounds, and the shapes that its tables, rows and reservations have.
-use Rattle.std.specs.Prelude.{◌≡◌, ◌≤◌, ℕ, List, Option, Some, None, length, bytes_eq, IsSomeAnd}
+use Rattle.std.specs.Prelude.{◌≡◌, ◌≤◌, ℕ, ℤ, List, Option, Some, None, length, bytes_eq, IsSomeAnd}
 use Rattle.std.specs.List.{AllByRecursion}
 use Rattle.std.proofs.Common.{subst, refl, arith}
 use Rattle.escrow_num.specs.declared.row.Row.{Row}
 use Rattle.escrow_num.specs.declared.value.RowName.{RowName}
-use Rattle.escrow_sql.specs.declared.statement.InsertText.{InsertText}
 use Rattle.escrow_num.specs.declared.reservation.Reservation.{Reservation}
 use Rattle.escrow_num.specs.Order.{same_row}
 use Rattle.escrow_checks.specs.declared.check.Check.{Check}
@@ -13,8 +12,8 @@ use Rattle.escrow_schema.specs.declared.table.TableDef.{TableDef}
 use Rattle.escrow_schema.specs.Catalog.{table_named}
 use Rattle.escrow_schema.specs.Column.{reservables}
 use Rattle.escrow_schema.specs.Definition.{IsTable}
-use Rattle.escrow_schema.specs.Fit.{IsRowOf, inserted_row}
-use Rattle.escrow_schema.proofs.LawLemmas.{checks_of_whole_row, rows_of_table, few_reservable}
+use Rattle.escrow_schema.specs.Fit.{IsRowOf}
+use Rattle.escrow_schema.proofs.LawLemmas.{checks_of_whole_row, few_reservable}
 use Rattle.escrow_num.specs.declared.session.TheConstants.Session.{MAX}
 use Rattle.escrow_checks.specs.declared.spread.TheConstants.Spread.{MAX_OPEN}
 use Rattle.escrow_journal.specs.declared.journal.TheConstants.Journal.{MAX_RESERVATIONS}
@@ -79,28 +78,16 @@ row_found s valid name table row named found =
 
 -- COVERED CHECKS
 
--- a row of a table has an amount for each coefficient of each check
-pub covered : (table : TableDef) (row : Row) → IsTable table → length row.amounts ≡ length (reservables table.columns)
-    → AllByRecursion (λ check. IsCovered check.coeffs row.amounts) table.checks
-covered table row is_table long =
-    has_all (λ (check : Check). IsCovered check.coeffs row.amounts) table.checks (λ check h.
+-- amounts of a table's RESERVABLE columns are one for each coefficient of each check
+pub covered : (table : TableDef) (amounts : List ℤ) → IsTable table → length amounts ≡ length (reservables table.columns)
+    → AllByRecursion (λ check. IsCovered check.coeffs amounts) table.checks
+covered table amounts is_table long =
+    has_all (λ (check : Check). IsCovered check.coeffs amounts) table.checks (λ check h.
     let whole = all_has (λ (c : Check). length c.coeffs ≡ length (reservables table.columns)) table.checks (checks_of_whole_row table is_table) check h in
     omega arith)
 
--- so has a row that was read, whatever the store is like
-pub covered_read : (s : State) → HasOrder s → (name : RowName) (table : TableDef) (row : Row)
-    → table_named s.catalog name.table ≡ Some table → HasTable s.catalog row → row.name ≡ name → AllByRecursion (λ check. IsCovered check.coeffs row.amounts) table.checks
-covered_read s orderly name table row named has same =
-    covered table row (is_table_found s orderly name.table table named) (row_of_table s.catalog name table row named has same).amounts
-
--- and one that stands in a valid state
+-- so are those of a row that stands in a valid state
 pub covered_found : (s : State) → IsValid s → (name : RowName) (table : TableDef) (row : Row)
     → table_named s.catalog name.table ≡ Some table → row_named s.rows name ≡ Some row → AllByRecursion (λ check. IsCovered check.coeffs row.amounts) table.checks
 covered_found s valid name table row named found =
-    covered table row (is_table_found s valid.orderly name.table table named) (row_found s valid name table row named found).amounts
-
--- and one that an INSERT makes
-pub covered_made : (s : State) → HasOrder s → (name : List ℕ) (table : TableDef) (text : InsertText) (row : Row)
-    → table_named s.catalog name ≡ Some table → inserted_row table text ≡ Some row → AllByRecursion (λ check. IsCovered check.coeffs row.amounts) table.checks
-covered_made s orderly name table text row named made =
-    covered table row (is_table_found s orderly name table named) (rows_of_table table text row made).amounts
+    covered table row.amounts (is_table_found s valid.orderly name.table table named) (row_found s valid name table row named found).amounts

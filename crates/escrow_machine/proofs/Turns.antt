@@ -169,7 +169,7 @@ shown_of_row P f (Some table) (Some r) none at_none each = each table r
 
 bounds_show : (s : State) (text : RowText) → IsShow (bounds_reply s text)
 bounds_show s text =
-    shown_of_row IsShow (bounds_in s.reservations) (table_named s.catalog text.table) (row_named s.rows (named_by text.table text.row)) (reply.Bounds [] [])
+    shown_of_row IsShow (λ table row. bounds_in s.reservations table row.name row.amounts) (table_named s.catalog text.table) (row_named s.rows (named_by text.table text.row)) (reply.Bounds [] [])
     (λ r e. absurd (cc), refl, λ id e. absurd (cc)) (λ table row. (λ r e. absurd (cc), refl, λ id e. absurd (cc)))
 
 select_turn : (s : State) (session : ℕ) (text : SelectText) → IsTurn s session (statement.Select text) (turn_of s session (statement.Select text))

@@ -1,7 +1,7 @@
 -- Believed: what SHOW BOUNDS shows.
 use Rattle.std.specs.Prelude.{ℕ, ℤ, option_map, option_and_then, unwrap_or, List, [], map}
 use Rattle.escrow_num.specs.declared.reservation.Reservation.{Reservation}
-use Rattle.escrow_num.specs.declared.row.Row.{Row}
+use Rattle.escrow_num.specs.declared.value.RowName.{RowName}
 use Rattle.escrow_sql.specs.declared.statement.RowText.{RowText}
 use Rattle.escrow_checks.specs.declared.check.Check.{Check}
 use Rattle.escrow_checks.specs.Checks.{unit_of}
@@ -17,7 +17,7 @@ use Rattle.escrow_machine.specs.declared.reply.Reply.{Reply}
 use Rattle.escrow_machine.specs.declared.reply.Reply.TheVariants as reply
 use Rattle.escrow_machine.specs.Asked.{named_by}
 use Rattle.escrow_machine.specs.State.{State}
-use Rattle.escrow_machine.specs.Rows.{row_named, changes_to}
+use Rattle.escrow_machine.specs.Rows.{row_named, changes_at}
 
 -- what SHOW BOUNDS shows of a RESERVABLE column: its committed amount, and the least and the greatest
 -- that it can come to, whichever of the open reservations are applied
@@ -38,16 +38,16 @@ check_bounds amounts reservations check = record {
   limits = check.span;
 }
 
--- what SHOW BOUNDS shows of a row: each RESERVABLE column, and each declared check, over every choice
--- of the open reservations of all sessions
-abbrev pub bounds_in : List Reservation → TableDef → Row → Reply
-bounds_in open_ones table row =
+-- what SHOW BOUNDS shows of the row of a name and of these amounts: each RESERVABLE column, and each
+-- declared check, over every choice of the open reservations of all sessions
+abbrev pub bounds_in : List Reservation → TableDef → RowName → List ℤ → Reply
+bounds_in open_ones table name amounts =
     let names = names_of (reservables table.columns) in
-    let reservations = map (changes_to row) open_ones in
-    reply.Bounds (map (column_bounds names row.amounts reservations) names) (map (check_bounds row.amounts reservations) (declared_checks table))
+    let reservations = map (changes_at name) open_ones in
+    reply.Bounds (map (column_bounds names amounts reservations) names) (map (check_bounds amounts reservations) (declared_checks table))
 
 -- what a SHOW BOUNDS shows
 abbrev pub bounds_reply : State → RowText → Reply
 bounds_reply s text =
-    unwrap_or (option_and_then (λ table. option_map (bounds_in s.reservations table) (row_named s.rows (named_by text.table text.row))) (table_named s.catalog text.table))
+    unwrap_or (option_and_then (λ table. option_map (λ row. bounds_in s.reservations table row.name row.amounts) (row_named s.rows (named_by text.table text.row))) (table_named s.catalog text.table))
     (reply.Bounds [] [])

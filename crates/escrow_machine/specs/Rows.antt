@@ -76,9 +76,13 @@ with_plain name values rows = map (with_values name values) rows
 
 -- ROWS WITH RESERVATIONS APPLIED
 
--- the changes that a reservation makes to a row: its own where it is of that row, otherwise none
+-- the changes that a reservation makes to the row of a name: its own where it is of that row, otherwise none
+abbrev pub changes_at : RowName → Reservation → List ℤ
+changes_at name r = if same_row name r.row then counted r.changes else []
+
+-- those that it makes to a row
 abbrev pub changes_to : Row → Reservation → List ℤ
-changes_to row r = if same_row row.name r.row then counted r.changes else []
+changes_to row = changes_at row.name
 
 -- a row with the changes of the chosen reservations added
 abbrev pub row_after : List Reservation → Row → Row

@@ -18,18 +18,16 @@ impl<S: Alter> Database<S> {
     ghost use Rattle.escrow_journal.specs.Reservations.{others};
     ghost use Rattle.escrow_num.specs.Refusal.{refusal_for};
     ghost use Rattle.escrow_core.specs.Serves.{Serves};
-    ghost use Rattle.escrow_core.specs.Serving.{AreAfterEnd};
+    ghost use Rattle.escrow_core.specs.Serving.{AreAfterEnd, answer_of};
     ghost use Rattle.escrow_machine.specs.Settle.{after_end};
     ghost use Rattle.escrow_machine.specs.Turn.{after_rollback};
 
     /// COMMIT.
-    pub(crate) fn commit(&mut self, alloc: Global, session: Session) -> Reply
-        ensures { Serves S.Store session Statement.Commit self.old result self.new }
+    pub(crate) fn commit(&mut self, alloc: Global, session: Session) -> Result<Reply, Refusal>
+        ensures { Serves S.Store session Statement.Commit self.old (answer_of result) self.new }
     {
-        match self.apply(alloc, session) {
-            Ok(count) => Reply::Committed { count },
-            Err(failure) => Reply::Refused(Refusal::from(failure)),
-        }
+        let count = self.apply(alloc, session)?;
+        Ok(Reply::Committed { count })
     }
 
     /// Ends a session's transaction. Answers how many reservations it held. Only a COMMIT of some fails.

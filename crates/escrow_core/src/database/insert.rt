@@ -122,5 +122,11 @@ fn row_refusal(table: &TableDef, count: usize, row: &Row) -> Option<Refusal>
     if count >= TableDef::MAX_ROWS {
         return Some(Refusal::TableFull);
     }
-    first_breach(table.checks.as_slice(), row, &[], &no_spreads()).map(Refusal::Check)
+    first_breach(
+        table.checks.as_slice(),
+        row.amounts.as_slice(),
+        &[],
+        &no_spreads(),
+    )
+    .map(Refusal::Check)
 }

@@ -2,14 +2,14 @@ ghost use Rattle.std.specs.Prelude.{◌≡◌, IfOk, option_to_list};
 
 use crate::database::Database;
 use escrow_machine::Reply;
-use escrow_num::{Failure, Name, Refusal, RowName, Seq, Session, Value, refusal_of};
+use escrow_num::{Failure, Name, Refusal, RowName, Seq, Session, Value};
 use escrow_schema::{check_key, names_of, value_of};
 use escrow_sql::{SelectText, Statement, WhereText};
 use sqlite::Alter;
 use std::alloc::{AllocError, Global};
 
 impl<S: Alter> Database<S> {
-    ghost use Rattle.std.specs.Prelude.{◌≡◌, false, Some, IfOk, IsSomeAnd, IsTrue, OnOk, filter, map};
+    ghost use Rattle.std.specs.Prelude.{◌≡◌, ◌<◌, ℕ, Some, IfOk, IsSomeAnd, IsTrue, List, OnOk, filter, length, map};
     ghost use Rattle.std.specs.Result.{result_err};
     ghost use Rattle.sqlite.specs.Held.{state};
     ghost use Rattle.sqlite.specs.State.{HasCleanDisk};
@@ -17,70 +17,49 @@ impl<S: Alter> Database<S> {
     ghost use Rattle.escrow_schema.specs.Catalog.{place_named, table_named};
     ghost use Rattle.escrow_schema.specs.Column.{names_of};
     ghost use Rattle.escrow_schema.specs.Fit.{values_of};
-    ghost use Rattle.escrow_schema.specs.declared.table.TableDef.{TableDef as TableDefinition};
-    ghost use Rattle.escrow_machine.specs.Asked.{is_shown, select_reply};
-    ghost use Rattle.escrow_machine.specs.Reply.{tells_write};
+    ghost use Rattle.escrow_machine.specs.Asked.{is_shown};
     ghost use Rattle.escrow_core.specs.Serves.{Serves};
-    ghost use Rattle.escrow_core.specs.Serving.{Looks};
-    ghost use Rattle.escrow_machine.specs.Accepted.{PassesEarly};
+    ghost use Rattle.escrow_core.specs.Serving.{Looks, answer_of};
     ghost use Rattle.escrow_machine.specs.Turn.{turn_of};
 
     /// SELECT: the committed rows of a table, or the one of a key, in order of key. Nothing changes.
-    pub(crate) fn select(&mut self, alloc: Global, session: Session, text: &SelectText) -> Reply
-        ensures { Serves S.Store session (Statement.Select text.now) self.old result self.new }
-    {
-        if let Err(refusal) = self.check_select(session, text) {
-            return Reply::Refused(refusal);
-        }
-        match self.selected(alloc, session, text) {
-            Ok(reply) => reply,
-            Err(failure) => Reply::Refused(refusal_of(failure)),
-        }
-    }
-
-    /// Why a SELECT is refused, if it is.
-    #[tactic(auto, unfolding(escrow_machine::specs::Turn::turn_of))]
-    fn check_select(&self, session: Session, text: &SelectText) -> Result<(), Refusal>
-        ensures { result_err result ≡ first_refusal (turn_of self.now.state session (Statement.Select text.now)).early }
-    {
-        let Some(table) = self.tables.find(text.table) else {
-            return Err(Refusal::NoSuchTable);
-        };
-        match &text.row {
-            Some(row) => check_key(table, row),
-            None => Ok(()),
-        }
-    }
-
-    /// What a SELECT shows.
-    fn selected(
+    pub(crate) fn select(
         &mut self,
         alloc: Global,
         session: Session,
         text: &SelectText,
-    ) -> Result<Reply, Failure>
-        requires { PassesEarly self.old.state session (Statement.Select text.now) }
-        ensures told { HasCleanDisk (state S.Store self.new.store) → IfOk result (λ reply. reply ≡ select_reply self.old.state text.now) }
-        ensures quiet { IfOk result (λ reply. tells_write reply ≡ false) }
-        ensures looks { Looks S.Store self.old self.new }
-        ensures open { HasCleanDisk (state S.Store self.new.store) → OnOk result (IsTrue (state S.Store self.new.store).is_open) }
+    ) -> Result<Reply, Refusal>
+        ensures { Serves S.Store session (Statement.Select text.now) self.old (answer_of result) self.new }
     {
-        let columns = self.column_names(alloc, text.table)?;
-        let Some(place) = self.tables.place(text.table) else {
-            return Err(Failure::Store);
-        };
+        let place = self.check_select(session, text)?;
+        let columns = self.column_names(alloc, place)?;
         let rows = self.shown_values(alloc, place, text)?;
         Ok(Reply::Rows { columns, rows })
     }
 
-    /// The names of the columns of a table.
-    fn column_names(&self, alloc: Global, table: Name) -> Result<Seq<Name>, AllocError>
-        ensures { IfOk result (λ names. (definition : TableDefinition) → table_named self.now.state.catalog table ≡ Some definition → names ≡ names_of definition.columns) }
+    /// The place of the table of a SELECT, or why it is refused.
+    #[tactic(auto, unfolding(escrow_machine::specs::Turn::turn_of))]
+    fn check_select(&self, session: Session, text: &SelectText) -> Result<usize, Refusal>
+        ensures place { IfOk result (λ place. place_named self.now.state.catalog text.now.table ≡ Some place) }
+        ensures early { result_err result ≡ first_refusal (turn_of self.now.state session (Statement.Select text.now)).early }
     {
-        match self.tables.find(table) {
-            Some(table) => Ok(Seq::from_vec(names_of(alloc, table.columns.as_slice())?)),
-            None => Ok(Seq::new(alloc)),
+        let Some(place) = self.tables.place(text.table) else {
+            return Err(Refusal::NoSuchTable);
+        };
+        if let Some(row) = &text.row {
+            check_key(self.tables.table(place), row)?;
         }
+        Ok(place)
+    }
+
+    /// The names of the columns of the table at a place.
+    fn column_names(&self, alloc: Global, place: usize) -> Result<Seq<Name>, AllocError>
+        requires { place < length self.now.state.catalog }
+        ensures { IfOk result (λ names. (name : List ℕ) → place_named self.now.state.catalog name ≡ Some place
+            → IsSomeAnd (table_named self.now.state.catalog name) (λ table. names ≡ names_of table.columns)) }
+    {
+        let columns = self.tables.table(place).columns.as_slice();
+        Ok(Seq::from_vec(names_of(alloc, columns)?))
     }
 
     /// The values of each row that a SELECT shows.

@@ -8,17 +8,21 @@ use std::alloc::Global;
 
 impl<S: Alter> Database<S> {
     ghost use Rattle.escrow_core.specs.Serves.{Serves};
+    ghost use Rattle.escrow_core.specs.Serving.{answer_of};
 
     /// SHOW TABLE: the text that defines the table. Nothing changes, and the store isn't asked.
-    pub(crate) fn show_table(&self, alloc: Global, session: Session, name: Name) -> Reply
-        ensures { Serves S.Store session (Statement.ShowTable name) self.now result self.now }
+    pub(crate) fn show_table(
+        &self,
+        alloc: Global,
+        session: Session,
+        name: Name,
+    ) -> Result<Reply, Refusal>
+        ensures { Serves S.Store session (Statement.ShowTable name) self.now (answer_of result) self.now }
     {
         let Some(table) = self.tables.find(name) else {
-            return Reply::Refused(Refusal::NoSuchTable);
+            return Err(Refusal::NoSuchTable);
         };
-        match print_table(alloc, table) {
-            Ok(text) => Reply::Table(text),
-            Err(_) => Reply::Refused(Refusal::Memory),
-        }
+        let text = print_table(alloc, table)?;
+        Ok(Reply::Table(text))
     }
 }

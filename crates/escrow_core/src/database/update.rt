@@ -1,25 +1,26 @@
-use crate::database::Database;
+use crate::database::{Database, reply_of};
 use crate::grant::breach_of;
 use escrow_machine::Reply;
-use escrow_num::{Amount, Changes, Refusal, Row, RowName, Seq, Session, Value, refusal_of};
+use escrow_num::{Amount, Changes, Refusal, RowName, Seq, Session, Value, refusal_of};
 use escrow_schema::{Plan, plan_update};
 use escrow_sql::{Statement, UpdateText};
 use sqlite::Alter;
 use std::alloc::Global;
 
 impl<S: Alter> Database<S> {
-    ghost use Rattle.std.specs.Prelude.{◌≡◌, ◌≤◌, None, Some, IfOk, IfErr, IsSome, length, false};
+    ghost use Rattle.std.specs.Prelude.{◌≡◌, None, Some, IfOk, IfErr, IsSome, IsSomeAnd, length, option_map, false};
     ghost use Rattle.sqlite.specs.Held.{state};
     ghost use Rattle.sqlite.specs.State.{HasCleanDisk};
     ghost use Rattle.escrow_num.specs.Refusal.{first_refusal};
     ghost use Rattle.escrow_num.specs.Session.{IsSession};
-    ghost use Rattle.escrow_checks.specs.declared.coefficients.TheConstants.Coefficients.{MAX_LEN};
     ghost use Rattle.escrow_machine.specs.Asked.{plan_of, row_name};
-    ghost use Rattle.escrow_schema.specs.Catalog.{place_named};
+    ghost use Rattle.escrow_schema.specs.Catalog.{place_named, table_named};
+    ghost use Rattle.escrow_schema.specs.Column.{reservables};
     ghost use Rattle.escrow_core.specs.Serves.{Serves};
+    ghost use Rattle.escrow_core.specs.Serving.{answer_of};
     ghost use Rattle.escrow_journal.specs.Open.{grant_refusal};
     ghost use Rattle.escrow_machine.specs.Accepted.{IsRefusal};
-    ghost use Rattle.escrow_machine.specs.Rows.{row_named, HasTable};
+    ghost use Rattle.escrow_machine.specs.Rows.{row_named};
     ghost use Rattle.escrow_machine.specs.State.{is_open, open_in};
     ghost use Rattle.escrow_machine.specs.Turn.{update_refusals};
 
@@ -32,7 +33,9 @@ impl<S: Alter> Database<S> {
             Err(refusal) => return Reply::Refused(refusal),
         };
         match plan {
-            Plan::Reserve { key, changes } => self.reserve(alloc, session, text, key, changes),
+            Plan::Reserve { key, changes } => {
+                reply_of(self.reserve(alloc, session, text, place, key, changes))
+            }
             Plan::Plain { key, values } => self.replace(alloc, session, text, place, key, values),
         }
     }
@@ -58,66 +61,50 @@ impl<S: Alter> Database<S> {
         }
     }
 
-    /// A reservation of changes of the row of a key, if it stands. The committed row stays as it is.
+    /// A reservation of changes of the row of a key, if it stands. Its amounts alone are read, and the
+    /// committed row stays as it is.
     fn reserve(
         &mut self,
         alloc: Global,
         session: Session,
         text: &UpdateText,
+        place: usize,
         key: Value,
         changes: Changes,
-    ) -> Reply
-        requires { plan_of self.old.state text.now ≡ Some (Plan.Reserve key changes) }
-        ensures { Serves S.Store session (Statement.Update text.now) self.old result self.new }
+    ) -> Result<Reply, Refusal>
+        requires place { place_named self.old.state.catalog text.now.table ≡ Some place }
+        requires plan { plan_of self.old.state text.now ≡ Some (Plan.Reserve key changes) }
+        ensures { Serves S.Store session (Statement.Update text.now) self.old (answer_of result) self.new }
     {
         let name = RowName {
             table: text.table,
             key,
         };
-        match self.row(alloc, &name) {
-            Ok(Some(row)) => self.grant(session, text, &row, name, changes),
-            Ok(None) => Reply::Refused(Refusal::NoSuchRow),
-            Err(failure) => Reply::Refused(refusal_of(failure)),
+        let Some(amounts) = self.amounts(alloc, place, &name)? else {
+            return Err(Refusal::NoSuchRow);
+        };
+        if let Some(refusal) = self.grant_refusal(session, place, &name, &amounts, &changes) {
+            return Err(refusal);
         }
+        let id = self.open.grant(session, name, changes)?;
+        Ok(Reply::Reserved { id })
     }
 
-    /// Grants a reservation of changes of a row that stands.
-    fn grant(
-        &mut self,
-        session: Session,
-        text: &UpdateText,
-        row: &Row,
-        name: RowName,
-        changes: Changes,
-    ) -> Reply
-        requires plan { plan_of self.old.state text.now ≡ Some (Plan.Reserve name.key changes) }
-        requires table { name.table ≡ text.now.table }
-        requires named { row.now.name ≡ name }
-        requires fits { HasTable self.old.state.catalog row.now }
-        requires stands { HasCleanDisk (state S.Store self.old.store) → row_named self.old.state.rows name ≡ Some row.now }
-        ensures { Serves S.Store session (Statement.Update text.now) self.old result self.new }
-    {
-        if let Some(refusal) = self.grant_refusal(session, row, changes.as_slice()) {
-            return Reply::Refused(refusal);
-        }
-        match self.open.grant(session, name, changes) {
-            Ok(id) => Reply::Reserved { id },
-            Err(_) => Reply::Refused(Refusal::Memory),
-        }
-    }
-
-    /// Why a reservation of a row that stands isn't granted: as many reservations of the session as it
-    /// may have, no more ids, or the first check that it could break.
+    /// Why a reservation of the row of a name isn't granted, which stands with these amounts: as many
+    /// reservations of the session as it may have, no more ids, or the first check that it could break.
     fn grant_refusal(
         &self,
         session: Session,
-        row: &Row,
-        changes: &[Option<Amount>],
+        place: usize,
+        name: &RowName,
+        amounts: &Seq<Amount>,
+        changes: &Changes,
     ) -> Option<Refusal>
-        requires short { length changes.now ≤ MAX_LEN }
-        requires fits { HasTable self.now.state.catalog row.now }
-        ensures first { row_named self.now.state.rows row.now.name ≡ Some row.now
-            → result ≡ first_refusal (update_refusals self.now.state session row.now.name.table (Plan.Reserve row.now.name.key changes.now)) }
+        requires place { place_named self.now.state.catalog name.now.table ≡ Some place }
+        requires many { IsSomeAnd (table_named self.now.state.catalog name.now.table) (λ table. length amounts.now ≡ length (reservables table.columns)) }
+        requires whole { IsSomeAnd (table_named self.now.state.catalog name.now.table) (λ table. length changes.now ≡ length (reservables table.columns)) }
+        ensures first { option_map (λ row. row.amounts) (row_named self.now.state.rows name.now) ≡ Some amounts.now
+            → result ≡ first_refusal (update_refusals self.now.state session name.now.table (Plan.Reserve name.now.key changes.now)) }
         ensures session { result ≡ None → IsSession session }
         ensures free { result ≡ None → grant_refusal session (open_in self.now.state) ≡ None }
     {
@@ -126,8 +113,9 @@ impl<S: Alter> Database<S> {
         }
         // What its type knows of a session's number is told where the number is read.
         let _ = session.get();
-        let table = self.tables.find(row.name.table)?;
-        breach_of(table.checks.as_slice(), row, changes, &self.open).map(Refusal::Check)
+        let checks = self.tables.table(place).checks.as_slice();
+        let (amounts, changes) = (amounts.as_slice(), changes.as_slice());
+        breach_of(checks, name, amounts, changes, &self.open).map(Refusal::Check)
     }
 
     /// Plain values of the row of a key are replaced, if it stands and the session's transaction isn't open.

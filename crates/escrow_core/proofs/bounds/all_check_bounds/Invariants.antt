@@ -7,5 +7,5 @@ use Rattle.escrow_core.proofs.bounds.all_check_bounds.Given as goal
 
 abbrev pub invariant-loop-i : goal.invariant-loop-i
 invariant-loop-i l =
-    (reservations : List (List ℤ)) → AllByRecursion (λ check. IsCovered check.coeffs l.row.amounts) l.checks → AreSpreads l.checks reservations l.spreads
-    → l.bounds ≡ map (check_bounds l.row.amounts reservations) (take l.i l.checks)
+    (reservations : List (List ℤ)) → AllByRecursion (λ check. IsCovered check.coeffs l.amounts) l.checks → AreSpreads l.checks reservations l.spreads
+    → l.bounds ≡ map (check_bounds l.amounts reservations) (take l.i l.checks)

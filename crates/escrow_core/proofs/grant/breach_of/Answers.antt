@@ -1,8 +1,8 @@
 use Rattle.std.specs.Prelude.{map}
-use Rattle.escrow_machine.specs.Rows.{changes_to}
+use Rattle.escrow_machine.specs.Rows.{changes_at}
 use Rattle.escrow_core.proofs.SpreadLemmas.{enough_spreads}
 use Rattle.escrow_core.proofs.grant.breach_of.Goals as goal
 
 pub first_breach-requires-clause-enough : goal.first_breach-requires-clause-enough
 first_breach-requires-clause-enough c =
-    enough_spreads c.args.checks.now (map (changes_to c.args.row.now) c.args.txns.now.reservations) c.spreads_over-spreads.result c.spreads_over-spreads.ensures
+    enough_spreads c.args.checks.now (map (changes_at c.args.name.now) c.args.txns.now.reservations) c.spreads_over-spreads.result c.spreads_over-spreads.ensures

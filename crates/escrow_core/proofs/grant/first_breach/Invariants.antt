@@ -6,4 +6,4 @@ use Rattle.escrow_core.proofs.grant.first_breach.Given as goal
 abbrev pub invariant-loop-i : goal.invariant-loop-i
 invariant-loop-i l =
     (reservations : List (List ℤ)) → AreSpreads l.checks reservations l.spreads
-    → broken (drop l.i l.checks) l.row.amounts l.changes reservations ≡ broken l.checks l.row.amounts l.changes reservations
+    → broken (drop l.i l.checks) l.amounts l.changes reservations ≡ broken l.checks l.amounts l.changes reservations

@@ -1,31 +1,56 @@
-use Rattle.std.proofs.Common.{refl, sym}
-use Rattle.escrow_num.specs.declared.refusal.Refusal.TheVariants as refusal
-use Rattle.escrow_sql.specs.declared.statement.Statement.TheVariants as statement
-use Rattle.escrow_schema.specs.declared.plan.Plan.TheVariants as plan
-use Rattle.escrow_core.proofs.Planned.{planned_early}
-use Rattle.escrow_core.proofs.Serving.{after_look, fails, look_refused}
-use Rattle.escrow_core.proofs.Updating.{reserve_lacks}
+use Rattle.std.proofs.Common.{None, Some, refl}
+use Rattle.escrow_core.proofs.Planned.{whole_plan}
+use Rattle.escrow_core.proofs.Serving.{left_by}
+use Rattle.escrow_core.proofs.Updating.{judged, reserve_fails, reserve_lacks, reserve_refused, granted_serves, granted_keeps, grant_fails}
 use Rattle.escrow_core.proofs.database.Database.reserve.Goals as goal
 
-pub returns-in-Ok-Some : goal.returns-in-Ok-Some
-returns-in-Ok-Some g c =
-    let d = c.args.self.now in
-    let text = c.args.text.now in
-    after_look g.S.Store c.args.session (statement.Update text) d c.row.new.self c.grant.new.self c.grant.result c.row.ensures.looks c.in-Ok-Some.ensures.open refl
-    (planned_early d.state c.args.session text (plan.Reserve c.args.key c.args.changes) c.requires) c.grant.ensures
+pub returns-in_err-amounts : goal.returns-in_err-amounts
+returns-in_err-amounts g c =
+    rw (left_by _ _ c.from_residual.ensures.1)
+    (reserve_fails g.S.Store c.args.session c.args.text.now c.args.key c.args.changes c.args.self.now c.amounts.new.self c.in_err-amounts.field-0.0 c.requires.plan c.amounts.ensures.looks)
 
-pub returns-in-Ok-None : goal.returns-in-Ok-None
-returns-in-Ok-None g c =
-    let d = c.args.self.now in
-    let text = c.args.text.now in
-    look_refused g.S.Store c.args.session (statement.Update text) d c.row.new.self refusal.NoSuchRow c.row.ensures.looks refl
-    (planned_early d.state c.args.session text (plan.Reserve c.args.key c.args.changes) c.requires)
-    (λ u. reserve_lacks d.state c.args.session text c.args.key c.args.changes c.requires (sym (rw c.in-Ok-None.field-0-is at (c.in-Ok-None.ensures.told u))))
+pub returns-in_default : goal.returns-in_default
+returns-in_default g c =
+    reserve_lacks g.S.Store c.args.session c.args.text.now c.args.key c.args.changes c.args.self.now c.amounts.new.self c.requires.plan c.amounts.ensures.looks
+    (λ u. rw c.in_default.is at (c.in_ok-amounts.ensures.told u))
 
-pub returns-in-Err : goal.returns-in-Err
-returns-in-Err g c =
-    let d = c.args.self.now in
-    let text = c.args.text.now in
-    let early = planned_early d.state c.args.session text (plan.Reserve c.args.key c.args.changes) c.requires in
-    rw c.refusal_of.ensures (look_refused g.S.Store c.args.session (statement.Update text) d c.row.new.self _ c.row.ensures.looks refl early
-    (λ u. fails d.state c.args.session (statement.Update text) c.in-Err.failure early refl))
+pub grant_refusal-requires-clause-whole : goal.grant_refusal-requires-clause-whole
+grant_refusal-requires-clause-whole g c = rw c.amounts.ensures.looks.same (whole_plan c.args.self.now.state c.args.text.now c.args.key c.args.changes c.requires.plan)
+
+pub returns-in-Some-grant_refusal : goal.returns-in-Some-grant_refusal
+returns-in-Some-grant_refusal g c =
+    let old = c.args.self.now in
+    let mid = c.amounts.new.self in
+    let r = c.in-Some-grant_refusal.refusal in
+    reserve_refused g.S.Store c.args.session c.args.text.now c.args.key c.args.changes old mid r
+    (judged g.S.Store c.args.session c.args.text.now c.args.key c.args.changes old mid (Some r) c.in-Some.amounts c.requires.plan c.amounts.ensures.looks
+    (λ u. rw c.in-Some.is at (c.in_ok-amounts.ensures.told u)) c.in-Some-grant_refusal.ensures.first)
+
+pub returns-in_err-id : goal.returns-in_err-id
+returns-in_err-id g c =
+    let old = c.args.self.now in
+    let mid = c.amounts.new.self in
+    rw (left_by _ _ c.from_residual-in_err-id.ensures.1, c.in_err-id.ensures.unchanged)
+    (grant_fails g.S.Store c.args.session c.args.text.now c.args.key c.args.changes old mid c.self.inside.tables c.self.inside.open c.self.view_is
+    (judged g.S.Store c.args.session c.args.text.now c.args.key c.args.changes old mid None c.in-Some.amounts c.requires.plan c.amounts.ensures.looks
+    (λ u. rw c.in-Some.is at (c.in_ok-amounts.ensures.told u)) c.in_default-grant_refusal.ensures.first))
+
+pub invariant_of-self-2 : goal.invariant_of-self-2
+invariant_of-self-2 g c =
+    let old = c.args.self.now in
+    let mid = c.amounts.new.self in
+    rw c.in_ok-id.ensures.granted
+    (granted_keeps g.S.Store c.args.session c.args.text.now c.args.key c.args.changes old mid c.self.inside.tables c.self.inside.open c.self.view_is
+    (judged g.S.Store c.args.session c.args.text.now c.args.key c.args.changes old mid None c.in-Some.amounts c.requires.plan c.amounts.ensures.looks
+    (λ u. rw c.in-Some.is at (c.in_ok-amounts.ensures.told u)) c.in_default-grant_refusal.ensures.first)
+    c.self.invariant (c.in_default-grant_refusal.ensures.session refl) (c.in_default-grant_refusal.ensures.free refl))
+
+pub returns : goal.returns
+returns g c =
+    let old = c.args.self.now in
+    let mid = c.amounts.new.self in
+    rw (c.in_ok-id.ensures.id, c.in_ok-id.ensures.granted)
+    (granted_serves g.S.Store c.args.session c.args.text.now c.args.key c.args.changes old mid c.self.inside.tables c.self.inside.open c.self.view_is
+    (judged g.S.Store c.args.session c.args.text.now c.args.key c.args.changes old mid None c.in-Some.amounts c.requires.plan c.amounts.ensures.looks
+    (λ u. rw c.in-Some.is at (c.in_ok-amounts.ensures.told u)) c.in_default-grant_refusal.ensures.first)
+    c.in_ok-amounts.ensures.open)
