@@ -12,7 +12,7 @@ use Rattle.escrow_num.specs.declared.session.End.{End}
 use Rattle.escrow_num.specs.declared.span.Side.{Side}
 use Rattle.escrow_num.specs.declared.value.RowName.{RowName}
 use Rattle.escrow_num.specs.Order.{same_row}
-use Rattle.escrow_num.specs.Reservation.{counted}
+use Rattle.escrow_num.specs.Reservation.{counted, changes_at}
 use Rattle.escrow_num.specs.Span.{first_broken_of, first_of_two}
 use Rattle.escrow_num.proofs.Orders.{row_same, same_row_itself}
 use Rattle.escrow_checks.specs.declared.check.Check.{Check}
@@ -25,7 +25,6 @@ use Rattle.escrow_checks.proofs.FormLemmas.{length-changed}
 use Rattle.escrow_bounds.specs.Counts.{Counts, is_counting, IsNew, TakesIn, GivesBack}
 use Rattle.escrow_bounds.specs.Held.{of_row, CountsJust, CountsAll}
 use Rattle.escrow_bounds.specs.Kept.{Kept}
-use Rattle.escrow_bounds.specs.Laws.{changes_at}
 use Rattle.escrow_bounds.specs.Places.{Places, place_at, OthersStay, Becomes}
 
 -- ---- other rows add nothing

@@ -1,11 +1,10 @@
 -- Believed: the statements of the laws in src/laws.rt.
-use Rattle.std.specs.Prelude.{◌≡◌, ℤ, if◌then◌else◌, true, false, Some, None, IsSome, List, [], ◌∷◌, ◌++◌, map}
+use Rattle.std.specs.Prelude.{◌≡◌, ℤ, true, false, Some, None, IsSome, List, [], ◌∷◌, ◌++◌, map}
 use Rattle.std.specs.List.{AllByRecursion}
 use Rattle.escrow_num.specs.declared.reservation.Reservation.{Reservation}
 use Rattle.escrow_num.specs.declared.session.End.{End}
 use Rattle.escrow_num.specs.declared.value.RowName.{RowName}
-use Rattle.escrow_num.specs.Order.{same_row}
-use Rattle.escrow_num.specs.Reservation.{counted}
+use Rattle.escrow_num.specs.Reservation.{counted, changes_at}
 use Rattle.escrow_checks.specs.declared.check.Check.{Check}
 use Rattle.escrow_checks.specs.Extremes.{least, greatest}
 use Rattle.escrow_checks.specs.Form.{IsCovered}
@@ -16,10 +15,6 @@ use Rattle.escrow_bounds.specs.Kept.{Kept}
 use Rattle.escrow_bounds.specs.Places.{Places, place_at, OthersStay, Becomes}
 
 -- ---- what a place counts is enough
-
--- what an open reservation changes of a row, column by column: nothing where it is of another row
-abbrev pub changes_at : RowName → Reservation → List ℤ
-changes_at row r = if same_row row r.row then counted r.changes else []
 
 -- the grant rule over all open reservations is that over those of the row
 abbrev pub SameGrantRule : Type 0

@@ -1,12 +1,11 @@
 ghost use Rattle.std.specs.Prelude.{◌≡◌, ℤ, ◌≤◌, List, length, map};
 ghost use Rattle.std.specs.List.{AllByRecursion};
-ghost use Rattle.escrow_num.specs.Reservation.{counted};
+ghost use Rattle.escrow_num.specs.Reservation.{counted, changes_at};
 ghost use Rattle.escrow_checks.specs.Form.{IsCovered};
 ghost use Rattle.escrow_checks.specs.Grant.{broken};
 ghost use Rattle.escrow_checks.specs.declared.coefficients.TheConstants.Coefficients.{MAX_LEN};
 ghost use Rattle.escrow_core.specs.declared.spreads.TheConstants.{MOST_CHECKS};
 ghost use Rattle.escrow_machine.specs.Walked.{AreOpen, AreSpreads};
-ghost use Rattle.escrow_machine.specs.Rows.{changes_at};
 
 use crate::spreads::{counted, spreads_over};
 use escrow_checks::{Check, Spread};

@@ -1,11 +1,10 @@
 ghost use Rattle.std.specs.Prelude.{◌≡◌, ℤ, [], ◌∷◌, ◌++◌, ◌+◌, ◌<◌, ◌≤◌, List, length, map, take};
 ghost use Rattle.std.specs.List.{AllByRecursion};
-ghost use Rattle.escrow_num.specs.Reservation.{counted};
+ghost use Rattle.escrow_num.specs.Reservation.{counted, changes_at};
 ghost use Rattle.escrow_checks.specs.declared.spread.TheConstants.Spread.{MAX_OPEN};
 ghost use Rattle.escrow_checks.specs.declared.check.Check.{Check};
 ghost use Rattle.escrow_core.specs.declared.spreads.TheConstants.{MOST_CHECKS};
 ghost use Rattle.escrow_machine.specs.Walked.{AreOpen, AreSpreads, IsShort};
-ghost use Rattle.escrow_machine.specs.Rows.{changes_at};
 
 use crate::reservations::reservations_at;
 use escrow_checks::{Check, Coefficients, MAX_CHECKS, Spread};

@@ -5,8 +5,8 @@ use Rattle.std.specs.Prelude.{map}
 use Rattle.escrow_num.specs.declared.row.Row.{Row}
 use Rattle.escrow_num.specs.declared.value.RowName.{RowName}
 use Rattle.escrow_num.specs.declared.reservation.Reservation.{Reservation}
-use Rattle.escrow_num.specs.Reservation.{counted}
-use Rattle.escrow_machine.specs.Rows.{changes_at, applied}
+use Rattle.escrow_num.specs.Reservation.{counted, changes_at}
+use Rattle.escrow_machine.specs.Rows.{applied}
 use Rattle.escrow_num.specs.Order.{same_row}
 
 -- the changes that count, one more of them

@@ -8,7 +8,7 @@ use Rattle.escrow_num.specs.declared.value.RowName.{RowName}
 use Rattle.escrow_num.specs.declared.value.Value.{Value}
 use Rattle.escrow_num.specs.Ascending.{IsAscending}
 use Rattle.escrow_num.specs.Order.{same_row, row_cmp}
-use Rattle.escrow_num.specs.Reservation.{counted}
+use Rattle.escrow_num.specs.Reservation.{changes_at}
 use Rattle.escrow_checks.specs.Form.{all_changed}
 use Rattle.escrow_checks.specs.Grant.{Meets}
 use Rattle.escrow_schema.specs.declared.table.TableDef.{TableDef}
@@ -76,11 +76,7 @@ with_plain name values rows = map (with_values name values) rows
 
 -- ROWS WITH RESERVATIONS APPLIED
 
--- the changes that a reservation makes to the row of a name: its own where it is of that row, otherwise none
-abbrev pub changes_at : RowName → Reservation → List ℤ
-changes_at name r = if same_row name r.row then counted r.changes else []
-
--- those that it makes to a row
+-- the changes that a reservation makes to a row
 abbrev pub changes_to : Row → Reservation → List ℤ
 changes_to row = changes_at row.name
 

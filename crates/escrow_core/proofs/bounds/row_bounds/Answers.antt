@@ -11,7 +11,7 @@ use Rattle.escrow_machine.specs.declared.reply.CheckBounds.{CheckBounds}
 use Rattle.escrow_machine.specs.declared.reply.ColumnBounds.{ColumnBounds}
 use Rattle.escrow_machine.specs.declared.reply.Reply.TheVariants as reply
 use Rattle.escrow_machine.specs.Bounds.{check_bounds, column_bounds}
-use Rattle.escrow_machine.specs.Rows.{changes_at}
+use Rattle.escrow_num.specs.Reservation.{changes_at}
 use Rattle.escrow_machine.proofs.BoundsLemmas.{columns_same, split, shown_checks, shown_columns, ranges_shown, names_shown}
 use Rattle.escrow_machine.proofs.Shapes.{covered}
 use Rattle.escrow_core.proofs.SpreadLemmas.{enough_spreads}

@@ -1,5 +1,5 @@
 use Rattle.std.specs.Prelude.{map}
-use Rattle.escrow_machine.specs.Rows.{changes_at}
+use Rattle.escrow_num.specs.Reservation.{changes_at}
 use Rattle.escrow_core.proofs.SpreadLemmas.{enough_spreads}
 use Rattle.escrow_core.proofs.grant.breach_of.Goals as goal
 

@@ -1,8 +1,7 @@
 use Rattle.std.proofs.Common.{◌≡◌, ◌++◌, sym, ◌∙◌, take, arith}
 use Rattle.std.specs.Prelude.{map}
 use Rattle.std.proofs.lemmas.List.{append_assoc, length-append, length-map, length-take}
-use Rattle.escrow_num.specs.Reservation.{counted}
-use Rattle.escrow_machine.specs.Rows.{changes_at}
+use Rattle.escrow_num.specs.Reservation.{counted, changes_at}
 use Rattle.escrow_machine.proofs.Applying.{changes_more, changes_own, changes_other}
 use Rattle.escrow_core.proofs.SpreadLemmas.{spreads_other}
 use Rattle.escrow_core.proofs.spreads.add_reservations.Goals as goal

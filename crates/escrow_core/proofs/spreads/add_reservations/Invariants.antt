@@ -1,7 +1,7 @@
 use Rattle.std.proofs.Common.{ℤ, List, ◌++◌, take}
 use Rattle.std.specs.Prelude.{map}
 use Rattle.escrow_machine.specs.Walked.{AreSpreads}
-use Rattle.escrow_machine.specs.Rows.{changes_at}
+use Rattle.escrow_num.specs.Reservation.{changes_at}
 use Rattle.escrow_core.proofs.spreads.add_reservations.Given as goal
 
 abbrev pub invariant-loop-r : goal.invariant-loop-r

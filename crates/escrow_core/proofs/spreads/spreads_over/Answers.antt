@@ -4,7 +4,7 @@ use Rattle.std.proofs.lemmas.List.{length-map}
 use Rattle.escrow_checks.specs.declared.spread.TheConstants.Spread.{MAX_OPEN}
 use Rattle.escrow_num.specs.declared.session.TheConstants.Session.{MAX}
 use Rattle.escrow_journal.specs.Reservations.{own}
-use Rattle.escrow_machine.specs.Rows.{changes_at}
+use Rattle.escrow_num.specs.Reservation.{changes_at}
 use Rattle.escrow_machine.proofs.Sessions.{first_sessions, sessions_none, sessions_all, spreads_next, count_next, short_own, few_first}
 use Rattle.escrow_core.proofs.spreads.spreads_over.Goals as goal
 

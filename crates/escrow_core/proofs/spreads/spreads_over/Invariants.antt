@@ -1,6 +1,6 @@
 use Rattle.std.specs.Prelude.{map}
 use Rattle.escrow_machine.specs.Walked.{AreSpreads}
-use Rattle.escrow_machine.specs.Rows.{changes_at}
+use Rattle.escrow_num.specs.Reservation.{changes_at}
 use Rattle.escrow_machine.proofs.Sessions.{first_sessions}
 use Rattle.escrow_core.proofs.spreads.spreads_over.Given as goal
 

@@ -1,13 +1,12 @@
 use Rattle.std.proofs.Common.{◌≡◌, length, option_map, rules, sym, ap, arith, ◌∙◌}
 use Rattle.std.specs.Prelude.{map}
 use Rattle.escrow_num.specs.declared.refusal.Refusal.TheVariants as refusal
-use Rattle.escrow_num.specs.Reservation.{counted}
+use Rattle.escrow_num.specs.Reservation.{counted, changes_at}
 use Rattle.escrow_checks.specs.Grant.{broken}
 use Rattle.escrow_schema.specs.declared.table.TableDef.{TableDef}
 use Rattle.escrow_schema.specs.Catalog.{table_named}
 use Rattle.escrow_schema.specs.Column.{reservables}
 use Rattle.escrow_schema.proofs.LawLemmas.{few_reservable}
-use Rattle.escrow_machine.specs.Rows.{changes_at}
 use Rattle.escrow_machine.specs.State.{State}
 use Rattle.escrow_machine.proofs.Safe.{some_at}
 use Rattle.escrow_machine.proofs.Sessions.{open_ones}
