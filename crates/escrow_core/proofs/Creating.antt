@@ -1,31 +1,25 @@
 -- CREATE TABLE: refused for what the catalog holds, or the table is put in one write.
-use Rattle.std.specs.Prelude.{◌≡◌, ◌<◌, ◌≤◌, ℕ, true, false, is_some, Some, None, [], ◌∷◌, length}
+use Rattle.std.specs.Prelude.{◌≡◌, ◌<◌, ◌≤◌, ℕ, is_some, Some, None, [], ◌∷◌, length}
 use Rattle.std.proofs.Common.{refl, ap, ◌∙◌}
 use Rattle.std.proofs.lemmas.Bool.{le-leb, lt-leb}
 use Rattle.sqlite_trees.specs.declared.store.Store.{Ghosts}
 use Rattle.escrow_num.specs.declared.refusal.Refusal.TheVariants as refusal
-use Rattle.escrow_num.specs.Refusal.{refuse_if, refusal_for}
+use Rattle.escrow_num.specs.Refusal.{refuse_if}
 use Rattle.escrow_sql.specs.declared.statement.CreateText.{CreateText}
 use Rattle.escrow_sql.specs.declared.statement.Statement.TheVariants as statement
-use Rattle.escrow_num.specs.declared.failure.Failure.{Failure}
 use Rattle.escrow_schema.specs.declared.catalog.TheConstants.Catalog.{MAX_TABLES}
 use Rattle.escrow_schema.specs.declared.table.TableDef.{TableDef}
 use Rattle.escrow_schema.specs.Catalog.{table_named, with_table}
 use Rattle.escrow_schema.specs.Definition.{definition_of}
 use Rattle.escrow_schema.proofs.LawLemmas.{name_of_table}
-use Rattle.escrow_tables.specs.Calls.{Writes}
-use Rattle.escrow_tables.specs.Committed.{Committed}
-use Rattle.escrow_journal.specs.Open.{Open}
 use Rattle.escrow_machine.specs.declared.reply.Reply.TheVariants as reply
-use Rattle.escrow_core.specs.Inside.{seen_of}
-use Rattle.escrow_core.specs.Seen.{IsKept}
-use Rattle.escrow_core.specs.Serves.{Serves}
+use Rattle.escrow_core.specs.Seen.{Seen}
 use Rattle.escrow_machine.specs.Accepted.{IsRefusal, PassesEarly}
 use Rattle.escrow_machine.specs.State.{State, is_open}
 use Rattle.escrow_machine.specs.Step.{step}
 use Rattle.escrow_machine.specs.Turn.{turn_of}
 use Rattle.escrow_machine.proofs.Refusals.{passed, failed, none_there}
-use Rattle.escrow_core.proofs.Serving.{accepted_step, late_applies, none_applies, wrote, write_failed, wrote_keeps}
+use Rattle.escrow_core.proofs.Serving.{MayWrite, accepted_step, late_applies, none_applies}
 use Rattle.escrow_machine.proofs.ValidCreate.{create_orderly, create_valid}
 
 -- a table's name is new where no early refusal applies
@@ -54,25 +48,19 @@ unfolding turn_of
 created_step s session text table early made room =
     accepted_step s session (statement.Create text) (none_applies s session (statement.Create text) early (rw (made, lt-leb MAX_TABLES (length s.catalog) room) refl)) ∙ rw made refl
 
-module _ {S : Type 0} (g : Ghosts S) (session : ℕ) (text : CreateText) (t new : Committed S) (o : Open) (table : TableDef)
-    (early : PassesEarly (seen_of t o).state session (statement.Create text)) (made : definition_of text ≡ Some table) (room : length t.catalog < MAX_TABLES) where
-  -- the store agreed
-  pub created : Writes g t new true (with_table table t.catalog) t.rows → Serves g session (statement.Create text) (seen_of t o) (reply.Created text.table) (seen_of new o)
-  created writes =
-      let s : State = (seen_of t o).state in
-      wrote g session (statement.Create text) t new o o (reply.Created text.table) (record s { catalog = with_table table s.catalog }) refl early refl writes
-      (λ _. created_step s session text table early made room) refl
-
-  pub created_keeps : IsKept g (seen_of t o) → Writes g t new true (with_table table t.catalog) t.rows → IsKept g (seen_of new o)
-  created_keeps kept writes =
-      let s : State = (seen_of t o).state in
-      let free = new_text s session text early in
-      wrote_keeps g session (statement.Create text) t new o o (record s { catalog = with_table table s.catalog }) kept writes refl
-      (create_orderly s text table kept.orderly made free room) (λ valid _. create_valid s text table valid made free room)
-
-  -- the store refused
-  pub not_created : (f : Failure) → Writes g t new false (with_table table t.catalog) t.rows → Serves g session (statement.Create text) (seen_of t o) (reply.Refused (refusal_for f)) (seen_of new o)
-  not_created f writes =
-      let s : State = (seen_of t o).state in
-      write_failed g session (statement.Create text) t new o f (reply.Created text.table) (record s { catalog = with_table table s.catalog }) refl early refl writes
-      (λ _. created_step s session text table early made room)
+-- nothing refuses it
+pub may_create : {S : Type 0} (g : Ghosts S) (session : ℕ) (text : CreateText) (d : Seen S) (table : TableDef) → PassesEarly d.state session (statement.Create text)
+    → definition_of text ≡ Some table → length d.state.catalog < MAX_TABLES
+    → MayWrite g session (statement.Create text) d (reply.Created text.table) (record d.state { catalog = with_table table d.state.catalog })
+may_create g session text d table early made room =
+    let free = new_text d.state session text early in
+    record {
+      asks = refl;
+      early = early;
+      takes = λ _. refl;
+      accepted = refl;
+      steps = λ _. created_step d.state session text table early made room;
+      same_open = refl;
+      orderly = λ orderly. create_orderly d.state text table orderly made free room;
+      valid = λ _ valid. create_valid d.state text table valid made free room;
+    }

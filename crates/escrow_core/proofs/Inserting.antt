@@ -1,5 +1,5 @@
 -- INSERT: what follows for its turn from the row that it makes.
-use Rattle.std.specs.Prelude.{◌≡◌, ◌<◌, ℕ, true, false, nat_le, is_some, option_map, option_and_then, unwrap_or, Option, Some, None, IsSome, List, [], ◌∷◌, length, bytes_eq}
+use Rattle.std.specs.Prelude.{◌≡◌, ◌<◌, ℕ, true, nat_le, is_some, option_map, option_and_then, unwrap_or, Option, Some, None, List, [], ◌∷◌, length, bytes_eq}
 use Rattle.std.proofs.Common.{refl, sym, ap, subst, ◌∙◌}
 use Rattle.std.proofs.lemmas.Option.{option_and_then_some}
 use Rattle.sqlite.specs.Held.{state}
@@ -10,7 +10,7 @@ use Rattle.escrow_num.specs.declared.refusal.Breach.{Breach}
 use Rattle.escrow_num.specs.declared.refusal.Refusal.{Refusal}
 use Rattle.escrow_num.specs.declared.refusal.Refusal.TheVariants as refusal
 use Rattle.escrow_num.specs.declared.row.Row.{Row}
-use Rattle.escrow_num.specs.Refusal.{refuse_if, first_refusal, refusal_for}
+use Rattle.escrow_num.specs.Refusal.{refuse_if, first_refusal}
 use Rattle.escrow_num.proofs.Items.{find_has}
 use Rattle.escrow_num.proofs.Orders.{name_same}
 use Rattle.escrow_sql.specs.declared.statement.InsertText.{InsertText}
@@ -20,16 +20,10 @@ use Rattle.escrow_checks.specs.Grant.{broken}
 use Rattle.escrow_schema.specs.Catalog.{table_named}
 use Rattle.escrow_schema.specs.Fit.{IsRowOf, inserted_row}
 use Rattle.escrow_schema.proofs.LawLemmas.{rows_of_table}
-use Rattle.escrow_num.specs.declared.failure.Failure.{Failure}
 use Rattle.escrow_schema.specs.declared.table.TheConstants.TableDef.{MAX_ROWS}
-use Rattle.escrow_tables.specs.Calls.{Writes}
-use Rattle.escrow_tables.specs.Committed.{Committed}
-use Rattle.escrow_journal.specs.Open.{Open}
 use Rattle.escrow_machine.specs.declared.reply.Reply.TheVariants as reply
 use Rattle.escrow_machine.specs.Asked.{new_row, insert_breach}
-use Rattle.escrow_core.specs.Inside.{seen_of}
-use Rattle.escrow_core.specs.Seen.{Seen, IsKept}
-use Rattle.escrow_core.specs.Serves.{Serves}
+use Rattle.escrow_core.specs.Seen.{Seen}
 use Rattle.escrow_machine.specs.Accepted.{IsAccepted, IsRefusal, PassesEarly}
 use Rattle.escrow_machine.specs.State.{State}
 use Rattle.escrow_machine.specs.Rows.{row_named, rows_of, with_row, HasTable}
@@ -37,7 +31,7 @@ use Rattle.escrow_machine.specs.Step.{step}
 use Rattle.escrow_machine.specs.Turn.{turn_of}
 use Rattle.escrow_machine.proofs.Refusals.{passed, failed, below}
 use Rattle.escrow_machine.proofs.Safe.{some_from}
-use Rattle.escrow_core.proofs.Serving.{accepted_step, late_applies, none_applies, wrote, wrote_keeps, write_failed}
+use Rattle.escrow_core.proofs.Serving.{MayWrite, accepted_step, late_applies, none_applies}
 use Rattle.escrow_machine.proofs.Turns.{inserted_valid}
 
 -- why a row of a name that no row has isn't put
@@ -45,10 +39,13 @@ abbrev pub new_refusals : State → InsertText → List (Option Refusal)
 new_refusals s text =
     refuse_if (nat_le MAX_ROWS (length (rows_of s.rows text.table))) refusal.TableFull ∷ option_map refusal.Check (insert_breach s text) ∷ []
 
+-- and what of it is decided by the row, its table and how many rows that has
+abbrev pub refusals_of : TableDef → ℕ → Row → List (Option Refusal)
+refusals_of table count row = refuse_if (nat_le MAX_ROWS count) refusal.TableFull ∷ option_map refusal.Check (broken table.checks row.amounts [] []) ∷ []
+
 -- the row that is made is one of the table that is named
 pub record IsMade (s : State) (text : InsertText) (row : Row) : Type 0 where
   pub table_name : row.name.table ≡ text.table
-  pub table_there : IsSome (table_named s.catalog row.name.table)
   pub has_table : HasTable s.catalog row
 
 made_in : (s : State) (text : InsertText) (row : Row) (table : TableDef) → table_named s.catalog text.table ≡ Some table → inserted_row table text ≡ Some row → IsMade s text row
@@ -59,7 +56,6 @@ made_in s text row table named made =
     let there : table_named s.catalog row.name.table ≡ Some table = ap (λ n. table_named s.catalog n) same ∙ named in
     record {
       table_name = same;
-      table_there = subst (λ (o : Option TableDef). IsSome o) (sym there) refl;
       has_table = some_from (λ t. IsRowOf t row) (table_named s.catalog row.name.table) table there itself;
     }
 
@@ -70,7 +66,7 @@ is_made s text row made =
 -- what is decided of the row, its table and how many rows that has
 pub decided : (s : State) (text : InsertText) (row : Row) (table : TableDef) (count : ℕ) → table_named s.catalog text.table ≡ Some table → new_row s text ≡ Some row
     → count ≡ length (rows_of s.rows text.table)
-    → first_refusal (new_refusals s text) ≡ first_refusal (refuse_if (nat_le MAX_ROWS count) refusal.TableFull ∷ option_map refusal.Check (broken table.checks row.amounts [] []) ∷ [])
+    → first_refusal (new_refusals s text) ≡ first_refusal (refusals_of table count row)
 decided s text row table count named made is =
     let fits : inserted_row table text ≡ Some row = rw named at made in
     rw (named, fits, is) refl
@@ -92,18 +88,18 @@ unfolding turn_of
 late_is s session text row made =
     ap (λ (o : Option Row). first_refusal (refuse_if (is_some (option_and_then (λ (r : Row). row_named s.rows r.name) o)) refusal.RowExists ∷ new_refusals s text)) made
 
-exists_first : (o : Option Row) (other : Row) (rest : List (Option Refusal)) → o ≡ Some other → first_refusal (refuse_if (is_some o) refusal.RowExists ∷ rest) ≡ Some refusal.RowExists
-exists_first o other rest stands = rw stands refl
+exists_first : (o : Option Row) (rest : List (Option Refusal)) → is_some o ≡ true → first_refusal (refuse_if (is_some o) refusal.RowExists ∷ rest) ≡ Some refusal.RowExists
+exists_first o rest stands = rw stands refl
 
 new_first : (o : Option Row) (rest : List (Option Refusal)) → o ≡ None → first_refusal (refuse_if (is_some o) refusal.RowExists ∷ rest) ≡ first_refusal rest
 new_first o rest new = rw new refl
 
 -- a row of a name that stands is refused
-pub row_exists : (s : State) (session : ℕ) (text : InsertText) (row other : Row) → new_row s text ≡ Some row → PassesEarly s session (statement.Insert text)
-    → row_named s.rows row.name ≡ Some other → IsRefusal s session (statement.Insert text) refusal.RowExists
-row_exists s session text row other made early stands =
+pub row_exists : (s : State) (session : ℕ) (text : InsertText) (row : Row) → new_row s text ≡ Some row → PassesEarly s session (statement.Insert text)
+    → is_some (row_named s.rows row.name) ≡ true → IsRefusal s session (statement.Insert text) refusal.RowExists
+row_exists s session text row made early stands =
     late_applies s session (statement.Insert text) refusal.RowExists early
-    (late_is s session text row made ∙ exists_first (row_named s.rows row.name) other (new_refusals s text) stands)
+    (late_is s session text row made ∙ exists_first (row_named s.rows row.name) (new_refusals s text) stands)
 
 -- and a new one for its table's room and its checks alone
 new_late : (s : State) (session : ℕ) (text : InsertText) (row : Row) → new_row s text ≡ Some row → row_named s.rows row.name ≡ None
@@ -139,31 +135,36 @@ insert_step s session text row made accepted =
 
 -- A NEW ROW, where its name, its table's room and its checks were looked at
 
--- a row may be put
-pub record IsNew {S : Type 0} (g : Ghosts S) (d : Seen S) (session : ℕ) (text : InsertText) (row : Row) : Type 0 where
+-- a row of a name that no row has, its table, and how many rows that has
+pub record IsNew {S : Type 0} (g : Ghosts S) (d : Seen S) (session : ℕ) (text : InsertText) (row : Row) (table : TableDef) (count : ℕ) : Type 0 where
   pub made : new_row d.state text ≡ Some row
   pub early : PassesEarly d.state session (statement.Insert text)
   pub none : HasCleanDisk (state g d.store) → row_named d.state.rows row.name ≡ None
-  pub left : HasCleanDisk (state g d.store) → first_refusal (new_refusals d.state text) ≡ None
+  pub named : table_named d.state.catalog text.table ≡ Some table
+  pub counted : HasCleanDisk (state g d.store) → count ≡ length (rows_of d.state.rows text.table)
 
-module _ {S : Type 0} (g : Ghosts S) (session : ℕ) (text : InsertText) (row : Row) (t new : Committed S) (o : Open) (is_new : IsNew g (seen_of t o) session text row) where
-  accepted : HasCleanDisk (state g t.store) → IsAccepted (seen_of t o).state session (statement.Insert text)
-  accepted u = new_accepted (seen_of t o).state session text row is_new.made is_new.early (is_new.none u) (is_new.left u)
+module _ {S : Type 0} (g : Ghosts S) (d : Seen S) (session : ℕ) (text : InsertText) (row : Row) (table : TableDef) (count : ℕ) (new : IsNew g d session text row table count) where
+  judged : (r : Option Refusal) → r ≡ first_refusal (refusals_of table count row) → HasCleanDisk (state g d.store) → first_refusal (new_refusals d.state text) ≡ r
+  judged r is u = decided d.state text row table count new.named new.made (new.counted u) ∙ sym is
 
-  steps : HasCleanDisk (state g t.store) → step (seen_of t o).state session (statement.Insert text) ≡ (reply.Inserted, record (seen_of t o).state { rows = with_row row t.rows })
-  steps u = insert_step (seen_of t o).state session text row is_new.made (accepted u)
+  pub row_refused : (r : Refusal) → Some r ≡ first_refusal (refusals_of table count row) → HasCleanDisk (state g d.store) → IsRefusal d.state session (statement.Insert text) r
+  row_refused r is u = new_refused d.state session text row r new.made new.early (new.none u) (judged (Some r) is u)
 
-  -- it was put
-  pub put_serves : Writes g t new true t.catalog (with_row row t.rows) → Serves g session (statement.Insert text) (seen_of t o) reply.Inserted (seen_of new o)
-  put_serves writes =
-      wrote g session (statement.Insert text) t new o o reply.Inserted (record (seen_of t o).state { rows = with_row row t.rows }) refl is_new.early refl writes steps refl
+  -- its table has room, where neither refuses it
+  pub room_left : None ≡ first_refusal (refusals_of table count row) → HasCleanDisk (state g d.store) → length (rows_of d.state.rows row.name.table) < MAX_ROWS
+  room_left is u = subst (λ n. length (rows_of d.state.rows n) < MAX_ROWS) (sym (is_made d.state text row new.made).table_name) (new_room d.state text (judged None is u))
 
-  pub put_keeps : IsKept g (seen_of t o) → Writes g t new true t.catalog (with_row row t.rows) → IsKept g (seen_of new o)
-  put_keeps kept writes =
-      wrote_keeps g session (statement.Insert text) t new o o (record (seen_of t o).state { rows = with_row row t.rows }) kept writes refl kept.orderly
-      (λ valid u. inserted_valid (seen_of t o).state session text row valid (accepted u) is_new.made)
-
-  -- it could not be put
-  pub put_fails : (f : Failure) → Writes g t new false t.catalog (with_row row t.rows) → Serves g session (statement.Insert text) (seen_of t o) (reply.Refused (refusal_for f)) (seen_of new o)
-  put_fails f writes =
-      write_failed g session (statement.Insert text) t new o f reply.Inserted (record (seen_of t o).state { rows = with_row row t.rows }) refl is_new.early refl writes steps
+  pub may_insert : None ≡ first_refusal (refusals_of table count row) → MayWrite g session (statement.Insert text) d reply.Inserted (record d.state { rows = with_row row d.state.rows })
+  may_insert is =
+      let accepted : HasCleanDisk (state g d.store) → IsAccepted d.state session (statement.Insert text) =
+      λ u. new_accepted d.state session text row new.made new.early (new.none u) (judged None is u) in
+      record {
+        asks = refl;
+        early = new.early;
+        takes = λ _. refl;
+        accepted = refl;
+        steps = λ u. insert_step d.state session text row new.made (accepted u);
+        same_open = refl;
+        orderly = λ orderly. orderly;
+        valid = λ u valid. inserted_valid d.state session text row valid (accepted u) new.made;
+      }

@@ -1,5 +1,6 @@
 -- How a call that serves a statement is put together.
-use Rattle.std.specs.Prelude.{◌≡◌, ℕ, Bool, true, false, Option, Some, None, Result, Ok, Err, IsErrAnd, option_map, unwrap_or, is_none, IsTrue}
+use Rattle.std.specs.Prelude.{◌≡◌, ℕ, Bool, true, false, Option, Some, None, Result, Ok, Err, option_map, unwrap_or, is_none, IsTrue}
+use Rattle.std.specs.Result.{IsErrAnd}
 use Rattle.std.proofs.Common.{inl, inr, refl, sym, ap, ap₂, subst, le_refl, arith, ◌∙◌}
 use Rattle.std.proofs.lemmas.Bool.{and_parts, false≢true}
 use Rattle.sqlite.specs.Held.{Held, state}
@@ -29,6 +30,7 @@ use Rattle.escrow_machine.specs.Turn.{turn_of}
 use Rattle.escrow_machine.specs.Valid.{IsOrderly, AreSafeRows, IsValid}
 use Rattle.escrow_machine.proofs.LawsSteps.{early_refusals_stand, refused_stays}
 use Rattle.escrow_machine.proofs.Refusals.{first_behind, first_in_front}
+use Rattle.escrow_machine.proofs.Shapes.{HasOrder}
 use Rattle.escrow_core.proofs.Served.{refused_serves, stepped}
 
 -- where no refusal applies the step is the turn's
@@ -235,7 +237,7 @@ module _ {S : Type 0} (g : Ghosts S) (session : ℕ) (asked : Statement) where
       (λ _. subst (λ (after : State). StepOrRefusal s session asked (reply.Refused (refusal_for f)) after) (sym same) (refused_serves s session asked (refusal_for f) (fails s session asked f early takes)))
       (λ _. same) (crashed t new o answer next false writes steps) (λ e. absurd (no_write (refusal_for f) e))
 
-  -- what a database keeps after a write that was done, and after one that failed
+  -- what a database keeps after a write that was done
   pub wrote_keeps : (t new : Committed S) (o after : Open) (next : State) → IsKept g (seen_of t o)
       → Writes g t new true next.catalog next.rows
       → next ≡ record (seen_of new after).state { catalog = next.catalog; rows = next.rows }
@@ -254,19 +256,55 @@ module _ {S : Type 0} (g : Ghosts S) (session : ℕ) (asked : Statement) where
             subst (λ (T : Type 0). T) (ap (λ (s : State). AreSafeRows new.catalog new.rows s.reservations) is) at_new;
       }
 
-  pub failed_keeps : (t new : Committed S) (o : Open) (catalog : _) (rows : _) → IsKept g (seen_of t o) → Writes g t new false catalog rows → IsKept g (seen_of new o)
-  failed_keeps t new o catalog rows kept writes = record {
-    orderly = subst (λ c. IsOrderly c o.reservations o.savepoints o.next_id) (sym (writes.kept_catalog refl)) kept.orderly;
-    safe_rows = λ clean.
-        subst (λ c. AreSafeRows c new.rows o.reservations) (sym (writes.kept_catalog refl))
-        (subst (λ rs. AreSafeRows t.catalog rs o.reservations) (sym (writes.kept_rows refl)) (kept.safe_rows (still_clean _ _ _ writes.survives clean)));
-  }
+  -- `?` handed a refusal on
+  pub handed_on : (old new : Seen S) (result : Result Reply Refusal) (r : Refusal) → IsErrAnd result (λ e. e ≡ r) → Serves g session asked old (reply.Refused r) new
+      → Serves g session asked old (answer_of result) new
+  handed_on old new (Ok answer) r is serves = absurd is
+  handed_on old new (Err e) r is serves = subst (λ (q : Refusal). Serves g session asked old (reply.Refused q) new) (sym is) serves
 
-  -- and after one that was done or not, where nothing that is open changes
-  pub write_keeps : (t new : Committed S) (o : Open) (next : State) (is_done : Bool) → IsKept g (seen_of t o)
-      → Writes g t new is_done next.catalog next.rows
-      → next ≡ record (seen_of new o).state { catalog = next.catalog; rows = next.rows }
-      → IsOrderly next.catalog next.reservations next.savepoints next.next_id
-      → (IsValid (seen_of t o).state → HasCleanDisk (state g t.store) → IsValid next) → IsKept g (seen_of new o)
-  write_keeps t new o next true kept writes is orderly valid = wrote_keeps t new o o next kept writes is orderly valid
-  write_keeps t new o next false kept writes is orderly valid = failed_keeps t new o next.catalog next.rows kept writes
+  -- a look that failed
+  pub look_failed : (old new : Seen S) (f : Failure) → Looks g old new → asks_store old.state session asked ≡ true → PassesEarly old.state session asked
+      → fails_for old.state session asked f ≡ true → Serves g session asked old (reply.Refused (refusal_for f)) new
+  look_failed old new f looks asks early takes = look_refused old new (refusal_for f) looks asks early (λ _. fails old.state session asked f early takes)
+
+-- the store was looked at for a statement that asks it, and that nothing refuses early
+pub record HasLooked {S : Type 0} (g : Ghosts S) (session : ℕ) (asked : Statement) (old mid : Seen S) : Type 0 where
+  pub looks : Looks g old mid
+  pub opened : HasCleanDisk (state g mid.store) → IsTrue (state g mid.store).is_open
+  pub asks : asks_store old.state session asked ≡ true
+  pub early : PassesEarly old.state session asked
+
+module _ {S : Type 0} (g : Ghosts S) (session : ℕ) (asked : Statement) (old mid : Seen S) (looked : HasLooked g session asked old mid) where
+  -- what is served from then on
+  pub since_look : (new : Seen S) (answer : Reply) → Serves g session asked mid answer new → Serves g session asked old answer new
+  since_look new answer serves = after_look g session asked old mid new answer looked.looks looked.opened looked.asks looked.early serves
+
+  pub early_since : PassesEarly mid.state session asked
+  early_since = still_passes old.state mid.state session asked looked.looks.same looked.early
+
+-- nothing refuses a statement that writes: its step makes this answer and this state, in which the same is open
+pub record MayWrite {S : Type 0} (g : Ghosts S) (session : ℕ) (asked : Statement) (d : Seen S) (answer : Reply) (next : State) : Type 0 where
+  pub asks : asks_store d.state session asked ≡ true
+  pub early : PassesEarly d.state session asked
+  pub takes : (f : Failure) → fails_for d.state session asked f ≡ true
+  pub accepted : is_refused answer ≡ false
+  pub steps : HasCleanDisk (state g d.store) → step d.state session asked ≡ (answer, next)
+  pub same_open : next ≡ record d.state { catalog = next.catalog; rows = next.rows }
+  pub orderly : HasOrder d.state → HasOrder next
+  pub valid : HasCleanDisk (state g d.store) → IsValid d.state → IsValid next
+
+module _ {S : Type 0} (g : Ghosts S) (session : ℕ) (asked : Statement) (t new : Committed S) (o : Open) (answer : Reply) (next : State)
+    (may : MayWrite g session asked (seen_of t o) answer next) where
+  -- its write was done
+  pub write_serves : Writes g t new true next.catalog next.rows → Serves g session asked (seen_of t o) answer (seen_of new o)
+  write_serves writes = wrote g session asked t new o o answer next may.asks may.early may.accepted writes may.steps may.same_open
+
+  pub write_keeps : IsKept g (seen_of t o) → Writes g t new true next.catalog next.rows → IsKept g (seen_of new o)
+  write_keeps kept writes = wrote_keeps g session asked t new o o next kept writes may.same_open (may.orderly kept.orderly) (λ valid u. may.valid u valid)
+
+  -- it failed, and `?` handed the failure on
+  pub failure_serves : (result : Result Reply Refusal) (f : Failure) → IsErrAnd result (λ e. e ≡ refusal_for f) → Writes g t new false next.catalog next.rows
+      → Serves g session asked (seen_of t o) (answer_of result) (seen_of new o)
+  failure_serves result f is writes =
+      handed_on g session asked (seen_of t o) (seen_of new o) result (refusal_for f) is
+      (write_failed g session asked t new o f answer next may.asks may.early (may.takes f) writes may.steps)

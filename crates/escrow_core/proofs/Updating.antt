@@ -13,7 +13,7 @@ use Rattle.escrow_num.specs.declared.row.Row.{Row}
 use Rattle.escrow_num.specs.declared.value.RowName.{RowName}
 use Rattle.escrow_num.specs.declared.value.Value.{Value}
 use Rattle.escrow_num.specs.Reservation.{counted, changes_at}
-use Rattle.escrow_num.specs.Refusal.{refuse_if, first_refusal, refusal_for}
+use Rattle.escrow_num.specs.Refusal.{refuse_if, first_refusal}
 use Rattle.escrow_num.specs.Session.{IsSession}
 use Rattle.escrow_sql.specs.declared.statement.UpdateText.{UpdateText}
 use Rattle.escrow_sql.specs.declared.statement.Statement.TheVariants as statement
@@ -28,9 +28,7 @@ use Rattle.escrow_journal.specs.declared.journal.TheConstants.Journal.{MAX_RESER
 use Rattle.escrow_journal.specs.Reservations.{own}
 use Rattle.escrow_journal.specs.Open.{Open, grant_refusal}
 use Rattle.escrow_journal.specs.Open as txn
-use Rattle.escrow_num.specs.declared.failure.Failure.{Failure}
 use Rattle.escrow_num.specs.declared.failure.Failure.TheVariants as failure
-use Rattle.escrow_tables.specs.Calls.{Writes}
 use Rattle.escrow_tables.specs.Committed.{Committed}
 use Rattle.escrow_machine.specs.Rows.{HasTable, row_named, with_plain}
 use Rattle.escrow_machine.specs.declared.reply.Reply.TheVariants as reply
@@ -47,7 +45,7 @@ use Rattle.escrow_machine.specs.Valid.{IsOrderly, IsValid}
 use Rattle.escrow_core.proofs.Planned.{planned_in, plan_refused, plan_accepted, planned_early}
 use Rattle.escrow_machine.proofs.Refusals.{first_behind}
 use Rattle.escrow_core.proofs.Served.{update_serves}
-use Rattle.escrow_core.proofs.Serving.{accepted_step, after_look, fails, look_refused, served, survives_itself, wrote, wrote_keeps, write_failed}
+use Rattle.escrow_core.proofs.Serving.{MayWrite, accepted_step, after_look, fails, look_refused, served, survives_itself}
 use Rattle.escrow_core.proofs.Standing.{amounts_named, no_row, standing}
 use Rattle.escrow_machine.proofs.Shapes.{HasOrder}
 use Rattle.escrow_machine.proofs.TurnUpdate.{reserved_valid, replaced_valid}
@@ -75,10 +73,6 @@ plain_accepted : (s : State) (session : ℕ) (text : UpdateText) (key : Value) (
 plain_accepted s session text key values is closed stands =
     plan_accepted s session text (plan.Plain key values) is (plain_passes (is_open session s) (row_named s.rows (row_name text.table key)) closed stands)
 
--- the name of a key's row, in the table that is named
-named_so : (table : List ℕ) (name : RowName) → name.table ≡ table → row_name table name.key ≡ name
-named_so table name same = ap (λ (t : List ℕ). row_name t name.key) (sym same)
-
 -- the step of a plan
 update_step : (s : State) (session : ℕ) (text : UpdateText) (asked : Plan) → plan_of s text ≡ Some asked → IsAccepted s session (statement.Update text)
     → step s session (statement.Update text) ≡ (update_reply s asked, after_update s session text.table asked)
@@ -90,56 +84,37 @@ update_step s session text asked is accepted =
 -- PLAIN VALUES, where the session's transaction was looked at, and the row
 
 -- plain values of a row may be replaced
-pub record MayReplace {S : Type 0} (g : Ghosts S) (d : Seen S) (session : ℕ) (text : UpdateText) (name : RowName) (values : List (Option Value)) : Type 0 where
-  pub planned : plan_of d.state text ≡ Some (plan.Plain name.key values)
-  pub table : name.table ≡ text.table
+pub record MayReplace {S : Type 0} (g : Ghosts S) (d : Seen S) (session : ℕ) (text : UpdateText) (key : Value) (values : List (Option Value)) : Type 0 where
+  pub planned : plan_of d.state text ≡ Some (plan.Plain key values)
   pub closed : is_open session d.state ≡ false
-  pub stands : HasCleanDisk (state g d.store) → IsSome (row_named d.state.rows name)
+  pub stands : HasCleanDisk (state g d.store) → IsSome (row_named d.state.rows (row_name text.table key))
 
-module _ {S : Type 0} (g : Ghosts S) (session : ℕ) (text : UpdateText) (name : RowName) (values : List (Option Value)) (t : Committed S) (o : Open)
-    (may : MayReplace g (seen_of t o) session text name values) where
-  replace_accepted : HasCleanDisk (state g t.store) → IsAccepted (seen_of t o).state session (statement.Update text)
-  replace_accepted u =
-      plain_accepted (seen_of t o).state session text name.key values may.planned may.closed
-      (subst (λ (n : RowName). IsSome (row_named t.rows n)) (sym (named_so text.table name may.table)) (may.stands u))
-
-  replace_valid : HasCleanDisk (state g t.store) → IsValid (seen_of t o).state → IsValid (record (seen_of t o).state { rows = with_plain name values t.rows })
-  replace_valid u valid =
-      subst (λ (n : RowName). IsValid (record (seen_of t o).state { rows = with_plain n values t.rows })) (named_so text.table name may.table)
-      (replaced_valid (seen_of t o).state session text name.key values valid may.planned (replace_accepted u))
-
-  replace_step : HasCleanDisk (state g t.store)
-      → step (seen_of t o).state session (statement.Update text) ≡ (reply.Updated, record (seen_of t o).state { rows = with_plain name values t.rows })
-  replace_step u =
-      let s : State = (seen_of t o).state in
-      update_step s session text (plan.Plain name.key values) may.planned (replace_accepted u)
-      ∙ ap (λ (n : RowName). (reply.Updated, record s { rows = with_plain n values t.rows })) (named_so text.table name may.table)
+module _ {S : Type 0} (g : Ghosts S) (d : Seen S) (session : ℕ) (text : UpdateText) (key : Value) (values : List (Option Value)) (may : MayReplace g d session text key values) where
+  -- nothing refuses it
+  pub may_write : MayWrite g session (statement.Update text) d reply.Updated (record d.state { rows = with_plain (row_name text.table key) values d.state.rows })
+  may_write =
+      let accepted : HasCleanDisk (state g d.store) → IsAccepted d.state session (statement.Update text) =
+      λ u. plain_accepted d.state session text key values may.planned may.closed (may.stands u) in
+      record {
+        asks = refl;
+        early = planned_early d.state session text (plan.Plain key values) may.planned;
+        takes = λ _. refl;
+        accepted = refl;
+        steps = λ u. update_step d.state session text (plan.Plain key values) may.planned (accepted u);
+        same_open = refl;
+        orderly = λ orderly. orderly;
+        valid = λ u valid. replaced_valid d.state session text key values valid may.planned (accepted u);
+      }
 
   -- the rows then are of their tables
-  pub replaced_fit : IsKept g (seen_of t o) → HasCleanDisk (state g t.store) → AllByRecursion (HasTable t.catalog) (with_plain name values t.rows)
-  replaced_fit kept u = (replace_valid u (record { orderly = kept.orderly; safe_rows = kept.safe_rows u })).safe_rows.tables
-
-  module _ (new : Committed S) where
-    -- they were replaced
-    pub replace_serves : Writes g t new true t.catalog (with_plain name values t.rows) → Serves g session (statement.Update text) (seen_of t o) reply.Updated (seen_of new o)
-    replace_serves writes =
-        wrote g session (statement.Update text) t new o o reply.Updated (record (seen_of t o).state { rows = with_plain name values t.rows }) refl
-        (planned_early (seen_of t o).state session text (plan.Plain name.key values) may.planned) refl writes replace_step refl
-
-    pub replace_keeps : IsKept g (seen_of t o) → Writes g t new true t.catalog (with_plain name values t.rows) → IsKept g (seen_of new o)
-    replace_keeps kept writes =
-        wrote_keeps g session (statement.Update text) t new o o (record (seen_of t o).state { rows = with_plain name values t.rows }) kept writes refl kept.orderly
-        (λ valid u. replace_valid u valid)
-
-    -- they could not be
-    pub replace_fails : (f : Failure) → Writes g t new false t.catalog (with_plain name values t.rows)
-        → Serves g session (statement.Update text) (seen_of t o) (reply.Refused (refusal_for f)) (seen_of new o)
-    replace_fails f writes =
-        let s : State = (seen_of t o).state in
-        write_failed g session (statement.Update text) t new o f reply.Updated (record s { rows = with_plain name values t.rows }) refl
-        (planned_early s session text (plan.Plain name.key values) may.planned) refl writes replace_step
+  pub replaced_fit : IsKept g d → HasCleanDisk (state g d.store) → AllByRecursion (HasTable d.state.catalog) (with_plain (row_name text.table key) values d.state.rows)
+  replaced_fit kept u = (may_write.valid u (record { orderly = kept.orderly; safe_rows = kept.safe_rows u })).safe_rows.tables
 
 -- A RESERVATION, where the amounts of the row were looked at
+
+-- the name of a key's row, in the table that is named
+named_so : (table : List ℕ) (name : RowName) → name.table ≡ table → row_name table name.key ≡ name
+named_so table name same = ap (λ (t : List ℕ). row_name t name.key) (sym same)
 
 -- where a session has room for it and an id is left, what is in order stays so
 reserved_orderly : (s : State) (session : ℕ) (text : UpdateText) (key : Value) (changes : List (Option ℤ)) → HasOrder s → IsSession session

@@ -144,12 +144,12 @@ impl<S: Alter> Database<S> {
             Statement::Insert(text) => self.insert(alloc, session, text),
             Statement::Update(text) => self.update(alloc, session, text),
             Statement::Delete(text) => self.delete(alloc, session, text),
-            Statement::Select(text) => reply_of(self.select(alloc, session, text)),
-            Statement::ShowTable(name) => reply_of(self.show_table(alloc, session, *name)),
-            Statement::ShowJournal(table) => { reply_of(self.show_journal(alloc, session, *table)) }
-            Statement::ShowBounds(text) => reply_of(self.show_bounds(alloc, session, text)),
-            Statement::Savepoint(name) => reply_of(self.savepoint(session, *name)),
-            Statement::Commit => reply_of(self.commit(alloc, session)),
+            Statement::Select(text) => self.select(alloc, session, text),
+            Statement::ShowTable(name) => self.show_table(alloc, session, *name),
+            Statement::ShowJournal(table) => self.show_journal(alloc, session, *table),
+            Statement::ShowBounds(text) => self.show_bounds(alloc, session, text),
+            Statement::Savepoint(name) => self.savepoint(session, *name),
+            Statement::Commit => self.commit(alloc, session),
             Statement::Rollback => Reply::RolledBack {
                 count: self.rollback(session),
             },

@@ -1,6 +1,6 @@
 use crate::database::Database;
 use escrow_machine::Reply;
-use escrow_num::{Refusal, Session, refusal_of};
+use escrow_num::{Refusal, Session};
 use escrow_schema::{Catalog, TableDef, define};
 use escrow_sql::{CreateText, Statement};
 use sqlite::Alter;
@@ -10,16 +10,25 @@ impl<S: Alter> Database<S> {
     ghost use Rattle.std.specs.Prelude.{◌≡◌, Some, IfOk, IfErr, OnOk};
     ghost use Rattle.escrow_schema.specs.Definition.{definition_of};
     ghost use Rattle.escrow_core.specs.Serves.{Serves};
+    ghost use Rattle.escrow_core.specs.Serving.{answer_of};
     ghost use Rattle.escrow_machine.specs.Accepted.{IsRefusal, PassesEarly};
 
-    /// CREATE TABLE: the table that the text defines is put into the catalog.
-    pub(crate) fn create(&mut self, alloc: Global, session: Session, text: &CreateText) -> Reply
-        ensures { Serves S.Store session (Statement.Create text.now) self.old result self.new }
+    /// CREATE TABLE: the table that the text defines is put into the catalog, unless there are as many as
+    /// there may be.
+    pub(crate) fn create(
+        &mut self,
+        alloc: Global,
+        session: Session,
+        text: &CreateText,
+    ) -> Result<Reply, Refusal>
+        ensures { Serves S.Store session (Statement.Create text.now) self.old (answer_of result) self.new }
     {
-        match self.plan_create(alloc, session, text) {
-            Ok(table) => self.put_table(alloc, session, text, table),
-            Err(refusal) => Reply::Refused(refusal),
+        let table = self.plan_create(alloc, session, text)?;
+        if self.tables.len() >= Catalog::MAX_TABLES {
+            return Err(Refusal::TooManyTables);
         }
+        self.tables.create(alloc, table)?;
+        Ok(Reply::Created(text.table))
     }
 
     /// The table that a CREATE TABLE makes, or why it makes none.
@@ -41,26 +50,5 @@ impl<S: Alter> Database<S> {
             return Err(Refusal::TableExists);
         }
         define(alloc, text)
-    }
-
-    /// Puts a table, unless there are as many as there may be.
-    fn put_table(
-        &mut self,
-        alloc: Global,
-        session: Session,
-        text: &CreateText,
-        table: TableDef,
-    ) -> Reply
-        requires table { definition_of text.now ≡ Some table }
-        requires early { PassesEarly self.old.state session (Statement.Create text.now) }
-        ensures { Serves S.Store session (Statement.Create text.now) self.old result self.new }
-    {
-        if self.tables.len() >= Catalog::MAX_TABLES {
-            return Reply::Refused(Refusal::TooManyTables);
-        }
-        match self.tables.create(alloc, table) {
-            Ok(()) => Reply::Created(text.table),
-            Err(failure) => Reply::Refused(refusal_of(failure)),
-        }
     }
 }

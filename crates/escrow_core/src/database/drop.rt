@@ -1,7 +1,7 @@
 use crate::database::Database;
 use crate::reservations::is_table_reserved;
 use escrow_machine::Reply;
-use escrow_num::{Name, Refusal, Session, refusal_of};
+use escrow_num::{Name, Refusal, Session};
 use escrow_sql::Statement;
 use sqlite::Alter;
 
@@ -11,20 +11,16 @@ impl<S: Alter> Database<S> {
     ghost use Rattle.escrow_num.specs.Refusal.{first_refusal};
     ghost use Rattle.escrow_schema.specs.Catalog.{place_named};
     ghost use Rattle.escrow_core.specs.Serves.{Serves};
+    ghost use Rattle.escrow_core.specs.Serving.{answer_of};
     ghost use Rattle.escrow_machine.specs.Turn.{turn_of};
 
     /// DROP TABLE: the table and its rows are taken out.
-    pub(crate) fn drop_table(&mut self, session: Session, name: Name) -> Reply
-        ensures { Serves S.Store session (Statement.Drop name) self.old result self.new }
+    pub(crate) fn drop_table(&mut self, session: Session, name: Name) -> Result<Reply, Refusal>
+        ensures { Serves S.Store session (Statement.Drop name) self.old (answer_of result) self.new }
     {
-        let place = match self.check_drop(session, name) {
-            Ok(place) => place,
-            Err(refusal) => return Reply::Refused(refusal),
-        };
-        match self.tables.drop_table(place) {
-            Ok(()) => Reply::Dropped(name),
-            Err(failure) => Reply::Refused(refusal_of(failure)),
-        }
+        let place = self.check_drop(session, name)?;
+        self.tables.drop_table(place)?;
+        Ok(Reply::Dropped(name))
     }
 
     /// The place of the table of a DROP TABLE, or why it is refused.

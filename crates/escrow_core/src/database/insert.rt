@@ -9,31 +9,41 @@ use crate::database::Database;
 use crate::grant::first_breach;
 use crate::spreads::no_spreads;
 use escrow_machine::Reply;
-use escrow_num::{Refusal, Row, Session, refusal_of};
+use escrow_num::{Refusal, Row, Session};
 use escrow_schema::{TableDef, fit_row};
 use escrow_sql::{InsertText, Statement};
 use sqlite::Alter;
 use std::alloc::Global;
 
 impl<S: Alter> Database<S> {
-    ghost use Rattle.std.specs.Prelude.{◌≡◌, None, Some, IfOk, IfErr};
-    ghost use Rattle.sqlite.specs.Held.{state};
-    ghost use Rattle.sqlite.specs.State.{HasCleanDisk};
+    ghost use Rattle.std.specs.Prelude.{◌≡◌, Some, IfOk, IfErr};
     ghost use Rattle.escrow_machine.specs.Asked.{new_row};
     ghost use Rattle.escrow_schema.specs.Catalog.{place_named};
     ghost use Rattle.escrow_core.specs.Serves.{Serves};
+    ghost use Rattle.escrow_core.specs.Serving.{answer_of};
     ghost use Rattle.escrow_machine.specs.Accepted.{IsRefusal, PassesEarly};
-    ghost use Rattle.escrow_machine.specs.Rows.{row_named};
 
     /// INSERT: the row that the values make is put among the committed rows. The key is read first, so that
     /// no write is refused for a row that stands.
-    pub(crate) fn insert(&mut self, alloc: Global, session: Session, text: &InsertText) -> Reply
-        ensures { Serves S.Store session (Statement.Insert text.now) self.old result self.new }
+    pub(crate) fn insert(
+        &mut self,
+        alloc: Global,
+        session: Session,
+        text: &InsertText,
+    ) -> Result<Reply, Refusal>
+        ensures { Serves S.Store session (Statement.Insert text.now) self.old (answer_of result) self.new }
     {
-        match self.plan_insert(alloc, session, text) {
-            Ok(planned) => self.put_row(alloc, session, text, planned.0, &planned.1),
-            Err(refusal) => Reply::Refused(refusal),
+        let (place, row) = self.plan_insert(alloc, session, text)?;
+        if self.stands(alloc, place, &row.name)? {
+            return Err(Refusal::RowExists);
         }
+        if let Some(refusal) =
+            row_refusal(self.tables.table(place), self.tables.count(place), &row)
+        {
+            return Err(refusal);
+        }
+        self.tables.insert(alloc, place, &row)?;
+        Ok(Reply::Inserted)
     }
 
     /// The place of the table of an INSERT, and the row that it makes; or why it makes none.
@@ -58,53 +68,6 @@ impl<S: Alter> Database<S> {
         match fit_row(alloc, self.tables.table(place), text) {
             Ok(row) => Ok((place, row)),
             Err(refusal) => Err(refusal),
-        }
-    }
-
-    /// Puts a row, unless one of its name stands.
-    fn put_row(
-        &mut self,
-        alloc: Global,
-        session: Session,
-        text: &InsertText,
-        place: usize,
-        row: &Row,
-    ) -> Reply
-        requires place { place_named self.old.state.catalog text.now.table ≡ Some place }
-        requires row { new_row self.old.state text.now ≡ Some row.now }
-        requires early { PassesEarly self.old.state session (Statement.Insert text.now) }
-        ensures { Serves S.Store session (Statement.Insert text.now) self.old result self.new }
-    {
-        match self.row(alloc, &row.name) {
-            Ok(None) => self.put_new_row(alloc, session, text, place, row),
-            Ok(Some(_)) => Reply::Refused(Refusal::RowExists),
-            Err(failure) => Reply::Refused(refusal_of(failure)),
-        }
-    }
-
-    /// Puts a row of a name that no row has.
-    fn put_new_row(
-        &mut self,
-        alloc: Global,
-        session: Session,
-        text: &InsertText,
-        place: usize,
-        row: &Row,
-    ) -> Reply
-        requires place { place_named self.old.state.catalog text.now.table ≡ Some place }
-        requires row { new_row self.old.state text.now ≡ Some row.now }
-        requires early { PassesEarly self.old.state session (Statement.Insert text.now) }
-        requires new { HasCleanDisk (state S.Store self.old.store) → row_named self.old.state.rows row.now.name ≡ None }
-        ensures { Serves S.Store session (Statement.Insert text.now) self.old result self.new }
-    {
-        let table = self.tables.table(place);
-        let count = self.tables.count(place);
-        if let Some(refusal) = row_refusal(table, count, row) {
-            return Reply::Refused(refusal);
-        }
-        match self.tables.insert(alloc, place, row) {
-            Ok(()) => Reply::Inserted,
-            Err(failure) => Reply::Refused(refusal_of(failure)),
         }
     }
 }

@@ -8,7 +8,7 @@ use sqlite::Alter;
 use std::alloc::Global;
 
 impl<S: Alter> Database<S> {
-    ghost use Rattle.std.specs.Prelude.{◌≡◌, None, Some, IfOk, IfErr, IsSome, IsSomeAnd, length, option_map, false};
+    ghost use Rattle.std.specs.Prelude.{◌≡◌, None, Some, IfOk, IfErr, IsSomeAnd, length, option_map};
     ghost use Rattle.sqlite.specs.Held.{state};
     ghost use Rattle.sqlite.specs.State.{HasCleanDisk};
     ghost use Rattle.escrow_num.specs.Refusal.{first_refusal};
@@ -25,17 +25,17 @@ impl<S: Alter> Database<S> {
     ghost use Rattle.escrow_machine.specs.Turn.{update_refusals};
 
     /// UPDATE, of RESERVABLE columns or of plain ones, by its plan.
-    pub(crate) fn update(&mut self, alloc: Global, session: Session, text: &UpdateText) -> Reply
-        ensures { Serves S.Store session (Statement.Update text.now) self.old result self.new }
+    pub(crate) fn update(
+        &mut self,
+        alloc: Global,
+        session: Session,
+        text: &UpdateText,
+    ) -> Result<Reply, Refusal>
+        ensures { Serves S.Store session (Statement.Update text.now) self.old (answer_of result) self.new }
     {
-        let (place, plan) = match self.plan(alloc, session, text) {
-            Ok(planned) => planned,
-            Err(refusal) => return Reply::Refused(refusal),
-        };
+        let (place, plan) = self.plan(alloc, session, text)?;
         match plan {
-            Plan::Reserve { key, changes } => {
-                reply_of(self.reserve(alloc, session, text, place, key, changes))
-            }
+            Plan::Reserve { key, changes } => self.reserve(alloc, session, text, place, key, changes),
             Plan::Plain { key, values } => self.replace(alloc, session, text, place, key, values),
         }
     }
@@ -128,45 +128,23 @@ impl<S: Alter> Database<S> {
         place: usize,
         key: Value,
         values: Seq<Option<Value>>,
-    ) -> Reply
+    ) -> Result<Reply, Refusal>
         requires place { place_named self.old.state.catalog text.now.table ≡ Some place }
         requires plan { plan_of self.old.state text.now ≡ Some (Plan.Plain key values) }
-        ensures { Serves S.Store session (Statement.Update text.now) self.old result self.new }
+        ensures { Serves S.Store session (Statement.Update text.now) self.old (answer_of result) self.new }
     {
         if self.is_open(session) {
-            return Reply::Refused(Refusal::TransactionOpen);
+            return Err(Refusal::TransactionOpen);
         }
         let name = RowName {
             table: text.table,
             key,
         };
-        match self.row(alloc, &name) {
-            Ok(Some(_)) => self.put_plain(alloc, session, text, place, &name, values.as_slice()),
-            Ok(None) => Reply::Refused(Refusal::NoSuchRow),
-            Err(failure) => Reply::Refused(refusal_of(failure)),
+        if !self.stands(alloc, place, &name)? {
+            return Err(Refusal::NoSuchRow);
         }
-    }
-
-    /// Replaces plain values of a row that stands.
-    fn put_plain(
-        &mut self,
-        alloc: Global,
-        session: Session,
-        text: &UpdateText,
-        place: usize,
-        name: &RowName,
-        values: &[Option<Value>],
-    ) -> Reply
-        requires place { place_named self.old.state.catalog name.now.table ≡ Some place }
-        requires plan { plan_of self.old.state text.now ≡ Some (Plan.Plain name.now.key values.now) }
-        requires table { name.now.table ≡ text.now.table }
-        requires closed { is_open session self.old.state ≡ false }
-        requires stands { HasCleanDisk (state S.Store self.old.store) → IsSome (row_named self.old.state.rows name.now) }
-        ensures { Serves S.Store session (Statement.Update text.now) self.old result self.new }
-    {
-        match self.tables.set_plain(alloc, place, name, values) {
-            Ok(()) => Reply::Updated,
-            Err(failure) => Reply::Refused(refusal_of(failure)),
-        }
+        self.tables
+            .set_plain(alloc, place, &name, values.as_slice())?;
+        Ok(Reply::Updated)
     }
 }

@@ -1,6 +1,54 @@
+use Rattle.escrow_num.specs.declared.refusal.Refusal.TheVariants as refusal
 use Rattle.escrow_sql.specs.declared.statement.Statement.TheVariants as statement
-use Rattle.escrow_core.proofs.Serving.{refused}
+use Rattle.escrow_machine.specs.declared.reply.Reply.TheVariants as reply
+use Rattle.escrow_schema.specs.Catalog.{with_table}
+use Rattle.escrow_core.specs.Inside.{seen_of}
+use Rattle.escrow_core.proofs.Creating.{full_refused, may_create, new_table}
+use Rattle.escrow_core.proofs.Serving.{MayWrite, failure_serves, handed_on, refused, write_keeps, write_serves}
+use Rattle.escrow_core.proofs.database.Database.create.Given as given
 use Rattle.escrow_core.proofs.database.Database.create.Goals as goal
+use Rattle.escrow_core.proofs.database.Database.create.Goals.{After-create}
 
-pub returns-in-Err : goal.returns-in-Err
-returns-in-Err g c = refused g.S.Store c.args.session (statement.Create c.args.text.now) c.args.self.now c.in-Err.refusal c.in-Err.ensures.refused
+pub returns-in_err-table : goal.returns-in_err-table
+returns-in_err-table g c =
+    let d = c.args.self.now in
+    let asked = statement.Create c.args.text.now in
+    let r = c.in_err-table.field-0.0 in
+    handed_on g.S.Store c.args.session asked d d c.from_residual.result r c.from_residual.ensures.1 (refused g.S.Store c.args.session asked d r c.in_err-table.ensures.refused)
+
+pub returns-then-len-ge-MAX_TABLES : goal.returns-then-len-ge-MAX_TABLES
+returns-then-len-ge-MAX_TABLES g c =
+    let d = seen_of c.self.inside.tables c.self.inside.open in
+    let text = c.args.text.now in
+    let early = rw (← c.self.view_is) at c.in_ok-table.ensures.early in
+    let full = rw c.len.ensures.len at c.if-len-ge-MAX_TABLES.true in
+    rw (← c.self.view_is) (refused g.S.Store c.args.session (statement.Create text) d refusal.TooManyTables (full_refused d.state c.args.session text c.in_ok-table.table early c.in_ok-table.ensures.table full))
+
+pub create-requires-clause-new : goal.create-requires-clause-new
+create-requires-clause-new g c =
+    let early = rw (← c.self.view_is) at c.in_ok-table.ensures.early in
+    new_table (seen_of c.self.inside.tables c.self.inside.open).state c.args.session c.args.text.now c.in_ok-table.table early c.in_ok-table.ensures.table
+
+-- nothing refuses it
+may : (g : given.Over) (c : After-create g)
+    → MayWrite g.S.Store c.args.session (statement.Create c.args.text.now) (seen_of c.self.inside.tables c.self.inside.open) (reply.Created c.args.text.now.table)
+    (record (seen_of c.self.inside.tables c.self.inside.open).state { catalog = with_table c.in_ok-table.table c.self.inside.tables.catalog })
+may g c =
+    may_create g.S.Store c.args.session c.args.text.now (seen_of c.self.inside.tables c.self.inside.open) c.in_ok-table.table (rw (← c.self.view_is) at c.in_ok-table.ensures.early) c.in_ok-table.ensures.table
+    (rw c.len.ensures.len at c.if-len-ge-MAX_TABLES.false)
+
+pub returns-in_err-create : goal.returns-in_err-create
+returns-in_err-create g c =
+    rw (← c.self.view_is)
+    (failure_serves g.S.Store c.args.session (statement.Create c.args.text.now) c.self.inside.tables c.create.new.self c.self.inside.open _ _ (may g (goal.at.returns-in_err-create g c).After-create)
+    c.from_residual-in_err-create.result c.in_err-create.field-0.0 c.from_residual-in_err-create.ensures.1 c.in_err-create.ensures)
+
+pub invariant_of-self-2 : goal.invariant_of-self-2
+invariant_of-self-2 g c =
+    write_keeps g.S.Store c.args.session (statement.Create c.args.text.now) c.self.inside.tables c.create.new.self c.self.inside.open _ _ (may g (goal.at.invariant_of-self-2 g c).After-create)
+    c.self.invariant c.in_ok-create.ensures
+
+pub returns : goal.returns
+returns g c =
+    rw (← c.self.view_is)
+    (write_serves g.S.Store c.args.session (statement.Create c.args.text.now) c.self.inside.tables c.create.new.self c.self.inside.open _ _ (may g (goal.at.returns g c).After-create) c.in_ok-create.ensures)

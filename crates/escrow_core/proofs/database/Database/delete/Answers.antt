@@ -1,15 +1,96 @@
-use Rattle.std.proofs.Common.{sym}
+use Rattle.std.proofs.Common.{◌≡◌, ◌∙◌, false, IsSome, refl, sym, ap, subst}
+use Rattle.sqlite.specs.Held.{state}
+use Rattle.sqlite.specs.State.{HasCleanDisk}
 use Rattle.escrow_num.specs.declared.refusal.Refusal.TheVariants as refusal
 use Rattle.escrow_sql.specs.declared.statement.Statement.TheVariants as statement
-use Rattle.escrow_num.specs.declared.failure.Failure.TheVariants as failure
-use Rattle.escrow_core.proofs.Deleting.{delete_fails}
-use Rattle.escrow_core.proofs.Serving.{early_refused, refused}
+use Rattle.escrow_machine.specs.declared.reply.Reply.TheVariants as reply
+use Rattle.escrow_machine.specs.Asked.{named_by, row_name}
+use Rattle.escrow_machine.specs.Rows.{row_named, without_row}
+use Rattle.escrow_machine.specs.State.{State}
+use Rattle.escrow_machine.proofs.Refusals.{none_there}
+use Rattle.escrow_machine.proofs.Sessions.{open_ones}
+use Rattle.escrow_core.specs.Inside.{seen_of}
+use Rattle.escrow_core.proofs.Deleting.{delete_lack, delete_reserved, may_delete}
+use Rattle.escrow_core.proofs.Serving.{HasLooked, MayWrite, early_refused, early_since, failure_serves, handed_on, late_refused, look_refused, since_look, write_keeps, write_serves}
+use Rattle.escrow_core.proofs.database.Database.delete.Given as given
 use Rattle.escrow_core.proofs.database.Database.delete.Goals as goal
+use Rattle.escrow_core.proofs.database.Database.delete.Goals.{After-is_reserved}
 
-pub returns-in-Err : goal.returns-in-Err
-returns-in-Err g c = early_refused g.S.Store c.args.session (statement.Delete c.args.text.now) c.args.self.now c.in-Err.refusal (sym c.in-Err.ensures.early)
+pub returns-in_err-place : goal.returns-in_err-place
+returns-in_err-place g c =
+    let d = c.args.self.now in
+    let asked = statement.Delete c.args.text.now in
+    let r = c.in_err-place.field-0.0 in
+    handed_on g.S.Store c.args.session asked d d c.from_residual.result r c.from_residual.ensures.1 (early_refused g.S.Store c.args.session asked d r (sym c.in_err-place.ensures.early))
 
-pub returns-in-Err-value_of : goal.returns-in-Err-value_of
-returns-in-Err-value_of g c =
-    refused g.S.Store c.args.session (statement.Delete c.args.text.now) c.args.self.now refusal.Memory
-    (delete_fails c.args.self.now.state c.args.session c.args.text.now failure.Memory (sym c.in-Ok.ensures.early))
+pub returns-then-not-branch : goal.returns-then-not-branch
+returns-then-not-branch g c =
+    let d = c.args.self.now in
+    let text = c.args.text.now in
+    let name = row_name text.table c.in_ok-value_of.field-0 in
+    let named : name ≡ named_by text.table text.row = ap (row_name text.table) c.in_ok-value_of.ensures in
+    let early = sym c.in_ok-place.ensures.early in
+    look_refused g.S.Store c.args.session (statement.Delete text) d c.stands.new.self refusal.NoSuchRow c.in_ok-stands.ensures.looks refl early
+    (λ u. delete_lack d.state c.args.session text name named early (sym (none_there (row_named d.state.rows name) (sym (c.in_ok-stands.ensures.told u) ∙ c.if-not-branch.true))))
+
+pub is_reserved-requires : goal.is_reserved-requires
+is_reserved-requires g c = open_ones (seen_of c.self.inside.tables c.self.inside.open).state c.self.invariant.orderly
+
+-- the row was looked for
+looked : (g : given.Over) (c : After-is_reserved g) → HasLooked g.S.Store c.args.session (statement.Delete c.args.text.now) c.args.self.now (seen_of c.self.inside.tables c.self.inside.open)
+looked g c = record {
+  looks = rw (← c.self.view_is) at c.in_ok-stands.ensures.looks;
+  opened = rw (← c.self.view_is) at c.in_ok-stands.ensures.open;
+  asks = refl;
+  early = sym c.in_ok-place.ensures.early;
+}
+
+named : (g : given.Over) (c : After-is_reserved g) → row_name c.args.text.now.table c.in_ok-value_of.field-0 ≡ named_by c.args.text.now.table c.args.text.now.row
+named g c = ap (row_name c.args.text.now.table) c.in_ok-value_of.ensures
+
+stands : (g : given.Over) (c : After-is_reserved g) → HasCleanDisk (state g.S.Store c.self.inside.tables.store) → IsSome (row_named c.self.inside.tables.rows (row_name c.args.text.now.table c.in_ok-value_of.field-0))
+stands g c u =
+    let name = row_name c.args.text.now.table c.in_ok-value_of.field-0 in
+    subst (λ (s : State). IsSome (row_named s.rows name)) (sym (looked g c).looks.same) (sym ((rw (← c.self.view_is) at c.in_ok-stands.ensures.told) u) ∙ c.if-not-branch.false)
+
+pub returns-then-is_reserved : goal.returns-then-is_reserved
+returns-then-is_reserved g c =
+    let d = seen_of c.self.inside.tables c.self.inside.open in
+    let text = c.args.text.now in
+    let asked = statement.Delete text in
+    let at = (goal.at.returns-then-is_reserved g c).After-is_reserved in
+    let early = early_since g.S.Store c.args.session asked c.args.self.now d (looked g at) in
+    rw (← c.self.view_is)
+    (since_look g.S.Store c.args.session asked c.args.self.now d (looked g at) d (reply.Refused refusal.RowReserved)
+    (late_refused g.S.Store c.args.session asked d refusal.RowReserved refl early
+    (λ u. delete_reserved d.state c.args.session text (row_name text.table c.in_ok-value_of.field-0) (named g at) early (stands g at u) (sym c.is_reserved.ensures ∙ c.if-is_reserved.true))))
+
+-- nothing refuses it, where it isn't reserved
+may : (g : given.Over) (c : After-is_reserved g) → c.is_reserved.result ≡ false
+    → MayWrite g.S.Store c.args.session (statement.Delete c.args.text.now) (seen_of c.self.inside.tables c.self.inside.open) reply.Deleted
+    (record (seen_of c.self.inside.tables c.self.inside.open).state { rows = without_row (row_name c.args.text.now.table c.in_ok-value_of.field-0) c.self.inside.tables.rows })
+may g c free =
+    let d = seen_of c.self.inside.tables c.self.inside.open in
+    let text = c.args.text.now in
+    may_delete g.S.Store c.args.session text (row_name text.table c.in_ok-value_of.field-0) d (named g c) (early_since g.S.Store c.args.session (statement.Delete text) c.args.self.now d (looked g c)) (stands g c)
+    (sym c.is_reserved.ensures ∙ free)
+
+pub returns-in_err-delete : goal.returns-in_err-delete
+returns-in_err-delete g c =
+    let at = (goal.at.returns-in_err-delete g c).After-is_reserved in
+    let asked = statement.Delete c.args.text.now in
+    since_look g.S.Store c.args.session asked c.args.self.now (seen_of c.self.inside.tables c.self.inside.open) (looked g at) (seen_of c.delete.new.self c.self.inside.open) _
+    (failure_serves g.S.Store c.args.session asked c.self.inside.tables c.delete.new.self c.self.inside.open _ _ (may g at c.if-is_reserved.false)
+    c.from_residual-in_err-delete.result c.in_err-delete.field-0.0 c.from_residual-in_err-delete.ensures.1 c.in_err-delete.ensures)
+
+pub invariant_of-self-2 : goal.invariant_of-self-2
+invariant_of-self-2 g c =
+    let at = (goal.at.invariant_of-self-2 g c).After-is_reserved in
+    write_keeps g.S.Store c.args.session (statement.Delete c.args.text.now) c.self.inside.tables c.delete.new.self c.self.inside.open _ _ (may g at c.if-is_reserved.false) c.self.invariant c.in_ok-delete.ensures
+
+pub returns : goal.returns
+returns g c =
+    let at = (goal.at.returns g c).After-is_reserved in
+    let asked = statement.Delete c.args.text.now in
+    since_look g.S.Store c.args.session asked c.args.self.now (seen_of c.self.inside.tables c.self.inside.open) (looked g at) (seen_of c.delete.new.self c.self.inside.open) reply.Deleted
+    (write_serves g.S.Store c.args.session asked c.self.inside.tables c.delete.new.self c.self.inside.open _ _ (may g at c.if-is_reserved.false) c.in_ok-delete.ensures)

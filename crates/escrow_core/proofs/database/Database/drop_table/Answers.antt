@@ -1,30 +1,47 @@
 use Rattle.std.proofs.Common.{sym}
 use Rattle.escrow_sql.specs.declared.statement.Statement.TheVariants as statement
+use Rattle.escrow_machine.specs.declared.reply.Reply.TheVariants as reply
+use Rattle.escrow_machine.specs.Turn.{after_drop}
 use Rattle.escrow_core.specs.Inside.{seen_of}
-use Rattle.escrow_core.proofs.Dropping.{dropped, dropped_keeps, not_dropped}
-use Rattle.escrow_core.proofs.Serving.{early_refused, failed_keeps}
+use Rattle.escrow_core.proofs.Dropping.{may_drop}
+use Rattle.escrow_core.proofs.Serving.{MayWrite, early_refused, failure_serves, handed_on, write_keeps, write_serves}
+use Rattle.escrow_core.proofs.database.Database.drop_table.Given as given
 use Rattle.escrow_core.proofs.database.Database.drop_table.Goals as goal
-use Rattle.escrow_core.proofs.database.Database.drop_table.Goals.{in-Ok-drop_table, in-Err-drop_table}
+use Rattle.escrow_core.proofs.database.Database.drop_table.Goals.{After-drop_table}
 
-pub returns-in-Err : goal.returns-in-Err
-returns-in-Err g c = early_refused g.S.Store c.args.session (statement.Drop c.args.name) c.args.self.now c.in-Err.refusal (sym c.in-Err.ensures.early)
+pub returns-in_err-place : goal.returns-in_err-place
+returns-in_err-place g c =
+    let d = c.args.self.now in
+    let asked = statement.Drop c.args.name in
+    let r = c.in_err-place.field-0.0 in
+    handed_on g.S.Store c.args.session asked d d c.from_residual.result r c.from_residual.ensures.1 (early_refused g.S.Store c.args.session asked d r (sym c.in_err-place.ensures.early))
 
 pub drop_table-requires : goal.drop_table-requires
-drop_table-requires g c = (c.args.name, rw (← c.self.view_is) at c.in-Ok.ensures.place)
+drop_table-requires g c = (c.args.name, rw (← c.self.view_is) at c.in_ok-place.ensures.place)
 
-pub invariant_of-self : goal.invariant_of-self
-invariant_of-self g c =
-    let early = rw (← c.self.view_is) at (sym c.in-Ok.ensures.early) in
-    elim c.match-drop_table.branch [
-      | in-Ok-drop_table w ↦ dropped_keeps g.S.Store c.args.session c.args.name c.self.inside.tables c.drop_table.new.self c.self.inside.open early c.self.invariant (w.in-Ok-drop_table.ensures c.args.name (rw (← c.self.view_is) at c.in-Ok.ensures.place))
-      | in-Err-drop_table w ↦ failed_keeps g.S.Store c.args.session (statement.Drop c.args.name) c.self.inside.tables c.drop_table.new.self c.self.inside.open _ _ c.self.invariant (w.in-Err-drop_table.ensures c.args.name (rw (← c.self.view_is) at c.in-Ok.ensures.place))
-    ]
+-- nothing refuses it
+may : (g : given.Over) (c : After-drop_table g)
+    → MayWrite g.S.Store c.args.session (statement.Drop c.args.name) (seen_of c.self.inside.tables c.self.inside.open) (reply.Dropped c.args.name) (after_drop (seen_of c.self.inside.tables c.self.inside.open).state c.args.name)
+may g c =
+    may_drop g.S.Store c.args.session c.args.name (seen_of c.self.inside.tables c.self.inside.open) (rw (← c.self.view_is) at (sym c.in_ok-place.ensures.early))
+
+pub returns-in_err-drop_table : goal.returns-in_err-drop_table
+returns-in_err-drop_table g c =
+    let d = seen_of c.self.inside.tables c.self.inside.open in
+    rw (← c.self.view_is)
+    (failure_serves g.S.Store c.args.session (statement.Drop c.args.name) c.self.inside.tables c.drop_table.new.self c.self.inside.open (reply.Dropped c.args.name) (after_drop d.state c.args.name)
+    (may g (goal.at.returns-in_err-drop_table g c).After-drop_table) c.from_residual-in_err-drop_table.result c.in_err-drop_table.field-0.0 c.from_residual-in_err-drop_table.ensures.1
+    (c.in_err-drop_table.ensures c.args.name (rw (← c.self.view_is) at c.in_ok-place.ensures.place)))
+
+pub invariant_of-self-2 : goal.invariant_of-self-2
+invariant_of-self-2 g c =
+    let d = seen_of c.self.inside.tables c.self.inside.open in
+    write_keeps g.S.Store c.args.session (statement.Drop c.args.name) c.self.inside.tables c.drop_table.new.self c.self.inside.open (reply.Dropped c.args.name) (after_drop d.state c.args.name)
+    (may g (goal.at.invariant_of-self-2 g c).After-drop_table) c.self.invariant (c.in_ok-drop_table.ensures c.args.name (rw (← c.self.view_is) at c.in_ok-place.ensures.place))
 
 pub returns : goal.returns
 returns g c =
-    let early = rw (← c.self.view_is) at (sym c.in-Ok.ensures.early) in
-    elim c.match-drop_table.branch [
-      | in-Ok-drop_table w ↦ rw (← c.self.view_is, w.result-is) (dropped g.S.Store c.args.session c.args.name c.self.inside.tables c.drop_table.new.self c.self.inside.open early (w.in-Ok-drop_table.ensures c.args.name (rw (← c.self.view_is) at c.in-Ok.ensures.place)))
-      | in-Err-drop_table w ↦ rw (← c.self.view_is, w.result-is, w.refusal_of.ensures)
-          (not_dropped g.S.Store c.args.session c.args.name c.self.inside.tables c.drop_table.new.self c.self.inside.open early w.in-Err-drop_table.failure (w.in-Err-drop_table.ensures c.args.name (rw (← c.self.view_is) at c.in-Ok.ensures.place)))
-    ]
+    let d = seen_of c.self.inside.tables c.self.inside.open in
+    rw (← c.self.view_is)
+    (write_serves g.S.Store c.args.session (statement.Drop c.args.name) c.self.inside.tables c.drop_table.new.self c.self.inside.open (reply.Dropped c.args.name) (after_drop d.state c.args.name)
+    (may g (goal.at.returns g c).After-drop_table) (c.in_ok-drop_table.ensures c.args.name (rw (← c.self.view_is) at c.in_ok-place.ensures.place)))
