@@ -262,6 +262,14 @@ module _ {S : Type 0} (g : Ghosts S) (session : ℕ) (asked : Statement) where
   handed_on old new (Ok answer) r is serves = absurd is
   handed_on old new (Err e) r is serves = subst (λ (q : Refusal). Serves g session asked old (reply.Refused q) new) (sym is) serves
 
+  -- and the statement was refused before the store was asked
+  pub refusal_serves : (d : Seen S) (result : Result Reply Refusal) (r : Refusal) → IsErrAnd result (λ e. e ≡ r) → IsRefusal d.state session asked r → Serves g session asked d (answer_of result) d
+  refusal_serves d result r is_error is = handed_on d d result r is_error (refused d r is)
+
+  pub early_serves : (d : Seen S) (result : Result Reply Refusal) (r : Refusal) → IsErrAnd result (λ e. e ≡ r) → Some r ≡ first_refusal (turn_of d.state session asked).early
+      → Serves g session asked d (answer_of result) d
+  early_serves d result r is_error first = handed_on d d result r is_error (early_refused d r (sym first))
+
   -- a look that failed
   pub look_failed : (old new : Seen S) (f : Failure) → Looks g old new → asks_store old.state session asked ≡ true → PassesEarly old.state session asked
       → fails_for old.state session asked f ≡ true → Serves g session asked old (reply.Refused (refusal_for f)) new

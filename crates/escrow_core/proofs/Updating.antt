@@ -153,10 +153,10 @@ module _ {S : Type 0} (g : Ghosts S) (session : ℕ) (text : UpdateText) (key : 
       → (HasCleanDisk (state g mid.store) → Some amounts ≡ amounts_named old.state.rows (row_name text.table key))
       → (amounts_named mid.state.rows (row_name text.table key) ≡ Some amounts → found ≡ first_refusal (update_refusals mid.state session text.table (plan.Reserve key changes)))
       → IsJudged found
-  judged found amounts planned looks refusal_for first = record {
+  judged found amounts planned looks told first = record {
     planned = planned;
     looks = looks;
-    first = λ u. first (ap (λ (s : State). amounts_named s.rows (row_name text.table key)) looks.same ∙ sym (refusal_for u));
+    first = λ u. first (ap (λ (s : State). amounts_named s.rows (row_name text.table key)) looks.same ∙ sym (told u));
   }
 
   -- a row that doesn't stand
@@ -166,7 +166,7 @@ module _ {S : Type 0} (g : Ghosts S) (session : ℕ) (text : UpdateText) (key : 
   reserve_lacks planned looks told =
       let asked = plan.Reserve key changes in
       look_refused g session (statement.Update text) old mid refusal.NoSuchRow looks refl (planned_early old.state session text asked planned)
-      (λ u. plan_refused old.state session text asked refusal.NoSuchRow planned (rw (no_row old.state.rows (row_name text.table key) (refusal_for u)) refl))
+      (λ u. plan_refused old.state session text asked refusal.NoSuchRow planned (rw (no_row old.state.rows (row_name text.table key) (told u)) refl))
 
   -- a failure
   pub reserve_fails : (f : Failure) → plan_of old.state text ≡ Some (plan.Reserve key changes) → Looks g old mid

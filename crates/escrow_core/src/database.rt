@@ -1,6 +1,3 @@
-ghost use Rattle.std.specs.Prelude.{◌≡◌};
-ghost use Rattle.escrow_core.specs.Serving.{answer_of};
-
 mod bounds;
 mod create;
 mod delete;
@@ -60,6 +57,7 @@ impl<S: Alter> Database<S> {
     ghost use Rattle.escrow_machine.specs.Reply.{is_refused, tells_write};
     ghost use Rattle.escrow_core.specs.Seen.{IsKept};
     ghost use Rattle.escrow_core.specs.Serves.{AreAfter, AreHeldOf, Serves};
+    ghost use Rattle.escrow_core.specs.Serving.{answer_of};
     ghost use Rattle.escrow_machine.specs.State.{is_open, opened};
     ghost use Rattle.escrow_machine.specs.Step.{IsStep, StepOrRefusal};
     ghost use Rattle.escrow_machine.specs.Valid.{IsValid};
@@ -131,12 +129,20 @@ impl<S: Alter> Database<S> {
         ensures crash { Survives (state S.Store self.old.store) (state S.Store self.new.store) (λ trees. IsTrue (state S.Store self.old.store).is_open → AreAfter self.old.state session statement.now trees) }
         ensures durable { IsTrue (tells_write result) → HasCleanDisk (state S.Store self.new.store) → (trees : Trees) → (state S.Store self.new.store).may_leave trees → AreHeldOf self.new.state trees }
     {
-        self.answer(alloc, session, statement)
+        match self.serve_statement(alloc, session, statement) {
+            Ok(reply) => reply,
+            Err(refusal) => Reply::Refused(refusal),
+        }
     }
 
-    /// Serves one statement of a session, by what it asks.
-    fn answer(&mut self, alloc: Global, session: Session, statement: &Statement) -> Reply
-        ensures { Serves S.Store session statement.now self.old result self.new }
+    /// Serves one statement of a session, by what it asks: the reply, or the refusal.
+    fn serve_statement(
+        &mut self,
+        alloc: Global,
+        session: Session,
+        statement: &Statement,
+    ) -> Result<Reply, Refusal>
+        ensures { Serves S.Store session statement.now self.old (answer_of result) self.new }
     {
         match statement {
             Statement::Create(text) => self.create(alloc, session, text),
@@ -150,26 +156,16 @@ impl<S: Alter> Database<S> {
             Statement::ShowBounds(text) => self.show_bounds(alloc, session, text),
             Statement::Savepoint(name) => self.savepoint(session, *name),
             Statement::Commit => self.commit(alloc, session),
-            Statement::Rollback => Reply::RolledBack {
+            Statement::Rollback => Ok(Reply::RolledBack {
                 count: self.rollback(session),
-            },
+            }),
             Statement::RollbackTo(name) => match self.rollback_to(session, *name) {
-                Some(count) => Reply::RolledBackTo {
+                Some(count) => Ok(Reply::RolledBackTo {
                     savepoint: *name,
                     count,
-                },
-                None => Reply::Refused(Refusal::NoSuchSavepoint),
+                }),
+                None => Err(Refusal::NoSuchSavepoint),
             },
         }
-    }
-}
-
-/// The reply that answers a statement: what it was granted, or the refusal.
-fn reply_of(served: Result<Reply, Refusal>) -> Reply
-    ensures { result ≡ answer_of served }
-{
-    match served {
-        Ok(reply) => reply,
-        Err(refusal) => Reply::Refused(refusal),
     }
 }

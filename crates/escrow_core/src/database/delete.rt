@@ -52,9 +52,7 @@ impl<S: Alter> Database<S> {
         let Some(place) = self.tables.place(text.table) else {
             return Err(Refusal::NoSuchTable);
         };
-        match check_key(self.tables.table(place), &text.row) {
-            Ok(()) => Ok(place),
-            Err(refusal) => Err(refusal),
-        }
+        check_key(self.tables.table(place), &text.row)?;
+        Ok(place)
     }
 }

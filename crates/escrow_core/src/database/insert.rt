@@ -65,10 +65,7 @@ impl<S: Alter> Database<S> {
         let Some(place) = self.tables.place(text.table) else {
             return Err(Refusal::NoSuchTable);
         };
-        match fit_row(alloc, self.tables.table(place), text) {
-            Ok(row) => Ok((place, row)),
-            Err(refusal) => Err(refusal),
-        }
+        Ok((place, fit_row(alloc, self.tables.table(place), text)?))
     }
 }
 

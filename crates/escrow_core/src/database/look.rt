@@ -1,10 +1,10 @@
 use crate::database::Database;
-use escrow_num::{Amount, Failure, Name, Row, RowName, Seq, Value};
+use escrow_num::{Amount, Failure, Name, RowName, Seq, Value};
 use sqlite::Alter;
 use std::alloc::Global;
 
 impl<S: Alter> Database<S> {
-    ghost use Rattle.std.specs.Prelude.{◌≡◌, Some, IsSome, IsSomeAnd, IsTrue, IfOk, IfSome, OnOk, is_some, length, map, option_map};
+    ghost use Rattle.std.specs.Prelude.{◌≡◌, Some, IsSomeAnd, IsTrue, IfOk, IfSome, OnOk, is_some, length, map, option_map};
     ghost use Rattle.sqlite.specs.Held.{state};
     ghost use Rattle.sqlite.specs.State.{HasCleanDisk};
     ghost use Rattle.escrow_num.specs.Ascending.{IsAscending};
@@ -12,19 +12,7 @@ impl<S: Alter> Database<S> {
     ghost use Rattle.escrow_schema.specs.Column.{reservables};
     ghost use Rattle.escrow_schema.specs.Fit.{values_of};
     ghost use Rattle.escrow_core.specs.Serving.{Looks};
-    ghost use Rattle.escrow_machine.specs.Rows.{row_named, rows_of, HasTable, row_before};
-
-    /// The committed row of a name, if there is one; all rows are in order.
-    pub(crate) fn row(&mut self, alloc: Global, name: &RowName) -> Result<Option<Row>, Failure>
-        requires { IsSome (table_named self.old.state.catalog name.now.table) }
-        ensures told { HasCleanDisk (state S.Store self.new.store) → IfOk result (λ found. found ≡ row_named self.old.state.rows name.now) }
-        ensures fits { IfOk result (λ found. IfSome found (λ row. HasTable self.old.state.catalog row × (row.name ≡ name.now))) }
-        ensures order { HasCleanDisk (state S.Store self.new.store) → IsAscending row_before self.old.state.rows }
-        ensures looks { Looks S.Store self.old self.new }
-        ensures open { HasCleanDisk (state S.Store self.new.store) → OnOk result (IsTrue (state S.Store self.new.store).is_open) }
-    {
-        self.tables.row(alloc, name)
-    }
+    ghost use Rattle.escrow_machine.specs.Rows.{row_named, rows_of, row_before};
 
     /// The amounts of the committed row of a name, one for each RESERVABLE column in column order, if there is
     /// such a row; all rows are in order. The place is that of its table.

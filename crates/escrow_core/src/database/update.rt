@@ -1,7 +1,7 @@
-use crate::database::{Database, reply_of};
+use crate::database::Database;
 use crate::grant::breach_of;
 use escrow_machine::Reply;
-use escrow_num::{Amount, Changes, Refusal, RowName, Seq, Session, Value, refusal_of};
+use escrow_num::{Amount, Changes, Refusal, RowName, Seq, Session, Value};
 use escrow_schema::{Plan, plan_update};
 use escrow_sql::{Statement, UpdateText};
 use sqlite::Alter;

@@ -4,17 +4,14 @@ use Rattle.escrow_machine.specs.declared.reply.Reply.TheVariants as reply
 use Rattle.escrow_schema.specs.Catalog.{with_table}
 use Rattle.escrow_core.specs.Inside.{seen_of}
 use Rattle.escrow_core.proofs.Creating.{full_refused, may_create, new_table}
-use Rattle.escrow_core.proofs.Serving.{MayWrite, failure_serves, handed_on, refused, write_keeps, write_serves}
+use Rattle.escrow_core.proofs.Serving.{MayWrite, failure_serves, refusal_serves, refused, write_keeps, write_serves}
 use Rattle.escrow_core.proofs.database.Database.create.Given as given
 use Rattle.escrow_core.proofs.database.Database.create.Goals as goal
 use Rattle.escrow_core.proofs.database.Database.create.Goals.{After-create}
 
 pub returns-in_err-table : goal.returns-in_err-table
 returns-in_err-table g c =
-    let d = c.args.self.now in
-    let asked = statement.Create c.args.text.now in
-    let r = c.in_err-table.field-0.0 in
-    handed_on g.S.Store c.args.session asked d d c.from_residual.result r c.from_residual.ensures.1 (refused g.S.Store c.args.session asked d r c.in_err-table.ensures.refused)
+    refusal_serves g.S.Store c.args.session (statement.Create c.args.text.now) c.args.self.now c.from_residual.result c.in_err-table.field-0.0 c.from_residual.ensures.1 c.in_err-table.ensures.refused
 
 pub returns-then-len-ge-MAX_TABLES : goal.returns-then-len-ge-MAX_TABLES
 returns-then-len-ge-MAX_TABLES g c =

@@ -11,17 +11,14 @@ use Rattle.escrow_machine.proofs.Refusals.{none_there}
 use Rattle.escrow_machine.proofs.Sessions.{open_ones}
 use Rattle.escrow_core.specs.Inside.{seen_of}
 use Rattle.escrow_core.proofs.Deleting.{delete_lack, delete_reserved, may_delete}
-use Rattle.escrow_core.proofs.Serving.{HasLooked, MayWrite, early_refused, early_since, failure_serves, handed_on, late_refused, look_refused, since_look, write_keeps, write_serves}
+use Rattle.escrow_core.proofs.Serving.{HasLooked, MayWrite, early_serves, early_since, failure_serves, late_refused, look_refused, since_look, write_keeps, write_serves}
 use Rattle.escrow_core.proofs.database.Database.delete.Given as given
 use Rattle.escrow_core.proofs.database.Database.delete.Goals as goal
 use Rattle.escrow_core.proofs.database.Database.delete.Goals.{After-is_reserved}
 
 pub returns-in_err-place : goal.returns-in_err-place
 returns-in_err-place g c =
-    let d = c.args.self.now in
-    let asked = statement.Delete c.args.text.now in
-    let r = c.in_err-place.field-0.0 in
-    handed_on g.S.Store c.args.session asked d d c.from_residual.result r c.from_residual.ensures.1 (early_refused g.S.Store c.args.session asked d r (sym c.in_err-place.ensures.early))
+    early_serves g.S.Store c.args.session (statement.Delete c.args.text.now) c.args.self.now c.from_residual.result c.in_err-place.field-0.0 c.from_residual.ensures.1 c.in_err-place.ensures.early
 
 pub returns-then-not-branch : goal.returns-then-not-branch
 returns-then-not-branch g c =

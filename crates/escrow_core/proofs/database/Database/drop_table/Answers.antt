@@ -4,17 +4,14 @@ use Rattle.escrow_machine.specs.declared.reply.Reply.TheVariants as reply
 use Rattle.escrow_machine.specs.Turn.{after_drop}
 use Rattle.escrow_core.specs.Inside.{seen_of}
 use Rattle.escrow_core.proofs.Dropping.{may_drop}
-use Rattle.escrow_core.proofs.Serving.{MayWrite, early_refused, failure_serves, handed_on, write_keeps, write_serves}
+use Rattle.escrow_core.proofs.Serving.{MayWrite, early_serves, failure_serves, write_keeps, write_serves}
 use Rattle.escrow_core.proofs.database.Database.drop_table.Given as given
 use Rattle.escrow_core.proofs.database.Database.drop_table.Goals as goal
 use Rattle.escrow_core.proofs.database.Database.drop_table.Goals.{After-drop_table}
 
 pub returns-in_err-place : goal.returns-in_err-place
 returns-in_err-place g c =
-    let d = c.args.self.now in
-    let asked = statement.Drop c.args.name in
-    let r = c.in_err-place.field-0.0 in
-    handed_on g.S.Store c.args.session asked d d c.from_residual.result r c.from_residual.ensures.1 (early_refused g.S.Store c.args.session asked d r (sym c.in_err-place.ensures.early))
+    early_serves g.S.Store c.args.session (statement.Drop c.args.name) c.args.self.now c.from_residual.result c.in_err-place.field-0.0 c.from_residual.ensures.1 c.in_err-place.ensures.early
 
 pub drop_table-requires : goal.drop_table-requires
 drop_table-requires g c = (c.args.name, rw (← c.self.view_is) at c.in_ok-place.ensures.place)

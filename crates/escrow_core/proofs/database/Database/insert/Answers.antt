@@ -9,17 +9,14 @@ use Rattle.escrow_machine.specs.State.{State}
 use Rattle.escrow_machine.proofs.Refusals.{none_there}
 use Rattle.escrow_core.specs.Inside.{seen_of}
 use Rattle.escrow_core.proofs.Inserting.{IsNew, is_made, made_row, may_insert, room_left, row_exists, row_refused}
-use Rattle.escrow_core.proofs.Serving.{HasLooked, early_since, failure_serves, handed_on, late_refused, look_refused, refused, since_look, write_keeps, write_serves}
+use Rattle.escrow_core.proofs.Serving.{HasLooked, early_since, failure_serves, late_refused, look_refused, refusal_serves, since_look, write_keeps, write_serves}
 use Rattle.escrow_core.proofs.database.Database.insert.Given as given
 use Rattle.escrow_core.proofs.database.Database.insert.Goals as goal
 use Rattle.escrow_core.proofs.database.Database.insert.Goals.{After-count}
 
 pub returns-in_err-place : goal.returns-in_err-place
 returns-in_err-place g c =
-    let d = c.args.self.now in
-    let asked = statement.Insert c.args.text.now in
-    let r = c.in_err-place.field-0.0 in
-    handed_on g.S.Store c.args.session asked d d c.from_residual.result r c.from_residual.ensures.1 (refused g.S.Store c.args.session asked d r c.in_err-place.ensures.refused)
+    refusal_serves g.S.Store c.args.session (statement.Insert c.args.text.now) c.args.self.now c.from_residual.result c.in_err-place.field-0.0 c.from_residual.ensures.1 c.in_err-place.ensures.refused
 
 pub stands-requires : goal.stands-requires
 stands-requires g c =

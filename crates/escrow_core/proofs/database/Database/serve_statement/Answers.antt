@@ -4,7 +4,7 @@ use Rattle.escrow_sql.specs.declared.statement.Statement.TheVariants as statemen
 use Rattle.escrow_machine.specs.declared.reply.Reply.TheVariants as reply
 use Rattle.escrow_core.proofs.Served.{rollback_serves, back_serves, back_refuses}
 use Rattle.escrow_core.proofs.Serving.{served_apart}
-use Rattle.escrow_core.proofs.database.Database.answer.Goals as goal
+use Rattle.escrow_core.proofs.database.Database.serve_statement.Goals as goal
 
 pub returns-in-Rollback : goal.returns-in-Rollback
 returns-in-Rollback g c =
