@@ -1,24 +1,19 @@
 -- Values, each by its place.
-use Rattle.std.proofs.Common.{◌≡◌, ℕ, ℤ, zero, suc, pos, ◌+◌, ◌<◌, ◌≤◌, Ordering, Less, int_cmp, Bool, true, false, not, List, [], ◌∷◌, ◌++◌, map, filter, length, length-append, take, get_or, refl, ap, ap₂, sym, ◌∙◌, subst, arith, IsPermutation}
+use Rattle.std.proofs.Common.{◌≡◌, ℕ, ℤ, zero, suc, pos, ◌+◌, ◌<◌, ◌≤◌, Ordering, Less, int_cmp, List, [], ◌∷◌, ◌++◌, map, length, length-append, take, get_or, refl, ap, ap₂, sym, ◌∙◌, arith}
 use Rattle.std.specs.List.{AllByRecursion}
-use Rattle.std.specs.Ordering.{int_eq, on}
+use Rattle.std.specs.Ordering.{on}
 use Rattle.std.specs.Cmp.{IsTotalOrder, int_cmp_is}
 use Rattle.std.proofs.lemmas.Cmp.{on_total}
 use Rattle.std.proofs.lemmas.Int.{ints}
 use Rattle.std.proofs.lemmas.List.{take_more}
-use Rattle.std.proofs.lemmas.List.Sorted.{length_permutation}
-use Rattle.std.proofs.lemmas.Bool.Decides.{Decides-int_eq}
 use Rattle.sqlite_value.specs.declared.value.Value.TheVariants as sql
 use Rattle.sqlite_value.specs.Order.{Row as SqlRow, column, value_cmp}
 use Rattle.sqlite_value.proofs.OrderLemmas.{value_cmp-Int, value_cmp_total}
 use Rattle.sqlite_trees.specs.Tree.{IsAscending as Rises}
-use Rattle.sqlite_trees.proofs.ListLemmas.{all_weaker, all-permutation, filter_all, filter_none, IsPermutation-filter}
 use Rattle.escrow_num.specs.declared.value.Value.{Value}
 use Rattle.escrow_num.specs.declared.value.Value.TheVariants.{Number, Text}
-use Rattle.escrow_cells.specs.Step.{same}
 use Rattle.escrow_rows.specs.Image.{stored, cells_from}
 use Rattle.escrow_rows.specs.Placed.{placed}
-use Rattle.escrow_rows.proofs.Same.{same_numbers}
 
 -- values that are kept the same are the same
 pub stored_same : (a b : Value) → stored a ≡ stored b → a ≡ b
@@ -88,49 +83,3 @@ placed_more cells values new i cell v within at before many is added =
       all ∙ ap₂ (λ (done : List SqlRow) (c : SqlRow). done ++ c ∷ []) before here ∙ sym (placed-push 1 values v) ∙ ap (placed 1) (sym added),
       omega (arith, length-append values (v ∷ [])),
     )
-
--- a cell is at a place
-abbrev is_placed : ℕ → SqlRow → Bool
-is_placed place cell = same (column cell 0) (sql.Int (pos place))
-
--- values from a later place on are not at it
-later : (place from : ℕ) (vs : List Value) → place < from → AllByRecursion (λ cell. is_placed place cell ≡ false) (placed from vs)
-later place from [] h = tt
-later place from (v ∷ vs) h = (same_numbers (pos from) (pos place) ∙ apart (int_eq (pos from) (pos place)) (λ e. let same_place = pos_same from place ((Decides-int_eq (pos from) (pos place)).0 e) in absurd (omega arith)), later place (from + 1) vs (omega arith))
-  where
-    apart : (b : Bool) → (b ≡ true → ⊥) → b ≡ false
-    apart true h = absurd (h refl)
-    apart false h = refl
-
-    pos_same : (a b : ℕ) → pos a ≡ pos b → a ≡ b
-    pos_same a b e = cc
-
-here : (place : ℕ) (v : Value) → is_placed place (sql.Int (pos place) ∷ stored v ∷ []) ≡ true
-here place v = same_numbers (pos place) (pos place) ∙ (Decides-int_eq (pos place) (pos place)).1 refl
-
--- of values from a place on, those at it and those that are not
-first_placed : (place : ℕ) (v : Value) (vs : List Value) → filter (is_placed place) (placed place (v ∷ vs)) ≡ (sql.Int (pos place) ∷ stored v ∷ []) ∷ []
-first_placed place v vs = rw (here place v) (ap (λ cells. (sql.Int (pos place) ∷ stored v ∷ []) ∷ cells) (filter_none (is_placed place) (placed (place + 1) vs) (later place (place + 1) vs (omega arith))))
-
-rest_placed : (place : ℕ) (v : Value) (vs : List Value) → filter (λ cell. not (is_placed place cell)) (placed place (v ∷ vs)) ≡ placed (place + 1) vs
-rest_placed place v vs =
-    rw (here place v) (filter_all (λ cell. not (is_placed place cell)) (placed (place + 1) vs)
-    (all_weaker (λ cell. is_placed place cell ≡ false) (λ cell. not (is_placed place cell) ≡ true) (λ cell e. ap not e) (placed (place + 1) vs) (later place (place + 1) vs (omega arith))))
-
--- a list of one item in another order is the same
-only_one : (a b : SqlRow) → IsPermutation (a ∷ []) (b ∷ []) → a ≡ b
-only_one a b h = (all-permutation (λ x. a ≡ x) (a ∷ []) (b ∷ []) h (refl, tt)).0
-
--- values by their places, in any order, are the same
-pub permuted_same : (place : ℕ) (vs ws : List Value) → IsPermutation (placed place vs) (placed place ws) → vs ≡ ws
-permuted_same place [] [] h = refl
-permuted_same place [] (w ∷ ws) h = absurd (omega (arith, length_permutation _ _ h))
-permuted_same place (v ∷ vs) [] h = absurd (omega (arith, length_permutation _ _ h))
-permuted_same place (v ∷ vs) (w ∷ ws) h =
-    let first = subst (λ cells. IsPermutation cells (filter (is_placed place) (placed place (w ∷ ws)))) (first_placed place v vs) (IsPermutation-filter (is_placed place) (placed place (v ∷ vs)) (placed place (w ∷ ws)) h) in
-    let one = only_one _ _ (subst (λ cells. IsPermutation ((sql.Int (pos place) ∷ stored v ∷ []) ∷ []) cells) (first_placed place w ws) first) in
-    let value : stored v ≡ stored w = cc in
-    let others = subst (λ cells. IsPermutation cells (filter (λ cell. not (is_placed place cell)) (placed place (w ∷ ws)))) (rest_placed place v vs)
-    (IsPermutation-filter (λ cell. not (is_placed place cell)) (placed place (v ∷ vs)) (placed place (w ∷ ws)) h) in
-    let rest = permuted_same (place + 1) vs ws (subst (λ cells. IsPermutation (placed (place + 1) vs) cells) (rest_placed place w ws) others) in
-    ap₂ (λ (x : Value) (xs : List Value). x ∷ xs) (stored_same v w value) rest

@@ -19,10 +19,6 @@ use Rattle.escrow_rows.specs.Changes.{Stands, name_in}
 abbrev pub Tells : {A : Type 0} → StoredTable → (List Row → A) → Database → A → Type 0
 Tells s of db answer = (tables : List StoredTable) (rows : List Row) → AreTables tables → AreRows tables rows → Stands tables s → IsImage tables rows db → answer ≡ of rows
 
--- the row of a key in a table, if it is there
-abbrev pub TellsRow : StoredTable → Value → Database → Option Row → Type 0
-TellsRow s key = Tells s (λ rows. row_named rows (name_in s key))
-
 -- the amounts of the row of a key in a table, if it is there
 abbrev pub TellsAmounts : StoredTable → Value → Database → Option (List ℤ) → Type 0
 TellsAmounts s key = Tells s (λ rows. option_map (λ row. row.amounts) (row_named rows (name_in s key)))

@@ -1,5 +1,5 @@
 -- Helps: what private contracts say of the cells of a table that are grouped into rows. Nothing that callers see rests on it.
-use Rattle.std.specs.Prelude.{◌≡◌, ℕ, ◌+◌, ◌<◌, List, [], ◌∷◌, ◌++◌, map, length}
+use Rattle.std.specs.Prelude.{◌≡◌, ◌+◌, ◌<◌, List, [], ◌∷◌, ◌++◌, map, length}
 use Rattle.std.specs.List.{AllByRecursion, flat_map}
 use Rattle.sqlite_value.specs.Order.{Row as SqlRow, column}
 use Rattle.escrow_num.specs.declared.value.Value.{Value}

@@ -5,7 +5,7 @@ use Rattle.sqlite_value.specs.Order.{Row as SqlRow}
 use Rattle.escrow_num.specs.declared.row.Row.{Row}
 use Rattle.escrow_num.specs.declared.value.Value.{Value}
 use Rattle.escrow_schema.specs.declared.table.TableDef.{TableDef}
-use Rattle.escrow_schema.specs.Fit.{IsRowOf, row_with, values_of}
+use Rattle.escrow_schema.specs.Fit.{values_of}
 use Rattle.sqlite.specs.Effect.{Database}
 use Rattle.escrow_machine.specs.Rows.{row_named}
 use Rattle.escrow_rows.specs.declared.stored.StoredTable.{StoredTable}
@@ -25,19 +25,6 @@ keyed key place values = map (λ cell. stored key ∷ cell) (placed place values
 -- the cells of a row of a table, each by its key, its place and its value
 abbrev pub keyed_cells : TableDef → Row → List SqlRow
 keyed_cells table row = keyed row.name.key 1 (values_of table row)
-
--- cells are those of the row of a key in a table, each by its place and its value
-pub record AreCellsOf (table : TableDef) (key : Value) (cells : List SqlRow) (row : Row) : Type 0 where
-  pub values : List Value
-  pub placed_so : cells ≡ placed 1 values
-  pub made : row_with table values ≡ Some row
-  pub is_row : IsRowOf table row
-  pub key_is : row.name.key ≡ key
-
--- the row that cells are, if there are any
-abbrev pub IsFound : TableDef → Value → List SqlRow → Option Row → Type 0
-IsFound table key cells None = cells ≡ []
-IsFound table key cells (Some row) = AreCellsOf table key cells row
 
 -- the cells of a row, if there are any
 abbrev pub IsRowOfCells : List SqlRow → Option (List SqlRow) → Type 0

@@ -16,7 +16,6 @@ pub mod laws;
 mod listed;
 mod plain;
 mod read;
-mod row;
 mod store;
 mod stored;
 mod tables;

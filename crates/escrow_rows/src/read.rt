@@ -130,7 +130,7 @@ fn amount_in(value: ValueRef<'_>) -> Result<Amount, Failure>
 }
 
 /// The values of cells, each at its place from 1 on.
-pub(crate) fn read_values(alloc: Global, cells: &[Row]) -> Result<Vec<Value>, Failure>
+fn read_values(alloc: Global, cells: &[Row]) -> Result<Vec<Value>, Failure>
     ensures { IfOk result (λ values. cells.now ≡ placed 1 values.items) }
 {
     let mut values = Vec::new(alloc);

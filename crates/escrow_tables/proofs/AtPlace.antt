@@ -1,9 +1,6 @@
 -- What is read of the table at a place.
-use Rattle.std.proofs.Common.{◌≡◌, ◌<◌, ◌+◌, ℕ, Bool, List, [], ◌∷◌, Option, Some, None, Result, map, option_map, ap, ap₂, bytes_eq, cond, get_or, inl, inr, length, nat_lt, position, refl, subst, sym, ◌∙◌}
+use Rattle.std.proofs.Common.{◌≡◌, ℕ, List, Option, Some, None, Result, option_map, get_or, subst}
 use Rattle.std.specs.Prelude.{IfOk, IfSome, IsSomeAnd, IsTrue}
-use Rattle.std.specs.List.{position_or_len}
-use Rattle.std.proofs.lemmas.Bool.{cases_Bool}
-use Rattle.std.proofs.lemmas.List.{length-map}
 use Rattle.std.proofs.lemmas.Result.{IfOk-weaker}
 use Rattle.sqlite.specs.State.{State, HasCleanDisk}
 use Rattle.escrow_num.specs.declared.row.Row.{Row}

@@ -1,5 +1,5 @@
 -- DROP TABLE: the tables that are held, without one of them and its rows.
-use Rattle.std.proofs.Common.{◌≡◌, ◌≤◌, ℕ, pos, int_le, Bool, true, false, not, List, [], ◌∷◌, length, map, filter, Option, Some, sym, ap, subst, ◌∙◌, inl, inr, arith, bytes_eq, position, remove}
+use Rattle.std.proofs.Common.{◌≡◌, ◌≤◌, ℕ, pos, int_le, Bool, true, false, not, List, [], ◌∷◌, length, map, filter, Option, Some, sym, ap, subst, ◌∙◌, inl, inr, arith, bytes_eq, remove}
 use Rattle.std.specs.Prelude.{IsSomeAnd, IsTrue}
 use Rattle.std.specs.Ordering.{int_eq}
 use Rattle.std.proofs.lemmas.Bool.{cases_Bool, not-true}

@@ -1,7 +1,6 @@
 -- Tables by name, among those that are kept.
 use Rattle.std.proofs.Common.{◌≡◌, ℕ, Bool, true, false, cond, List, [], ◌∷◌, map, Option, Some, None, option_map, find, bytes_eq, refl, sym, ap, ◌∙◌, subst}
-use Rattle.std.specs.Prelude.{IsSome, IsSomeAnd}
-use Rattle.std.proofs.lemmas.Bool.{false≢true}
+use Rattle.std.specs.Prelude.{IsSomeAnd}
 use Rattle.sqlite_trees.proofs.ListLemmas.{all_weaker}
 use Rattle.escrow_num.specs.declared.row.Row.{Row}
 use Rattle.escrow_num.proofs.Items.{Has, all_has, find_has}
@@ -62,10 +61,6 @@ named_is_table tables name c catalog named =
 pub none_named : (tables : List Counted) (name : List ℕ) → None ≡ counted_named tables name → table_named (catalog_of tables) name ≡ None
 none_named tables name e = named_table tables name ∙ ap (option_map (λ (c : Counted). c.stored.table)) (sym e)
 
--- a table that is in the catalog is found
-pub some_named : (tables : List Counted) (name : List ℕ) → IsSome (table_named (catalog_of tables) name) → None ≡ counted_named tables name → ⊥
-some_named tables name has e = false≢true (subst (λ (o : Option TableDef). IsSome o) (none_named tables name e) has)
-
 -- a row of a table in the catalog is one of the tables in the store, and the other way round
 both_tables : (row : Row) (o : Option Counted) → IsSomeAnd (option_map (λ (c : Counted). c.stored.table) o) (λ t. IsRowOf t row) → IsSomeAnd (option_map (λ (c : Counted). c.stored) o) (λ s. IsRowOf s.table row)
 both_tables row None h = h
@@ -92,8 +87,3 @@ rows_of_catalog tables rows are = record {
   row_order = are.row_order;
   few_rows = are.few_rows;
 }
-
--- a row of the table of a name is one of a table in the catalog
-pub named_has : (tables : List Counted) (name : List ℕ) (c : Counted) (row : Row) → IsNamed tables name c → row.name.table ≡ name → IsRowOf c.stored.table row → HasTable (catalog_of tables) row
-named_has tables name c row named same fits =
-    subst (λ (o : Option TableDef). IsSomeAnd o (λ t. IsRowOf t row)) (sym (ap (table_named (catalog_of tables)) same ∙ named.in_catalog)) fits

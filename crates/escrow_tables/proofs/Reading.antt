@@ -1,29 +1,25 @@
 -- What the store answers of its image, said of the rows that are read.
-use Rattle.std.proofs.Common.{◌≡◌, ℕ, List, Option, Some, None, Result, ap, arith, subst, ◌∙◌}
-use Rattle.std.specs.Prelude.{IfOk, IfSome, IsTrue}
+use Rattle.std.proofs.Common.{◌≡◌, ℕ, List, Result, ap, arith, subst, ◌∙◌}
+use Rattle.std.specs.Prelude.{IfOk, IsTrue}
 use Rattle.std.proofs.lemmas.Result.{IfOk-weaker}
 use Rattle.sqlite.specs.Effect.{Database}
-use Rattle.sqlite.specs.State.{State, HasCleanDisk, Survives}
+use Rattle.sqlite.specs.State.{State, HasCleanDisk}
 use Rattle.escrow_num.specs.declared.row.Row.{Row}
-use Rattle.escrow_num.specs.declared.value.RowName.{RowName}
 use Rattle.escrow_num.specs.declared.value.Value.{Value}
-use Rattle.escrow_schema.specs.Fit.{IsRowOf}
-use Rattle.escrow_rows.specs.Answers.{IsUsable, Tells}
+use Rattle.escrow_rows.specs.Answers.{IsUsable, Looks, Tells}
 use Rattle.escrow_rows.specs.Changes.{name_in}
 use Rattle.escrow_rows.specs.View.{rows_in}
 use Rattle.escrow_verify.specs.declared.counted.Counted.{Counted}
-use Rattle.escrow_machine.specs.Rows.{HasTable}
-use Rattle.escrow_tables.specs.Inside.{Keeps, stored_of, catalog_of}
-use Rattle.escrow_tables.proofs.Named.{IsNamed, named_has}
+use Rattle.escrow_tables.specs.Inside.{Keeps, stored_of}
+use Rattle.escrow_tables.proofs.Named.{IsNamed}
 
 -- what the fields keep, they keep over a call that reads
-pub keeps_reading : (old new last : State) (tables : List Counted) → Keeps old last tables → (HasCleanDisk new → IsTrue new.is_open → new.now ≡ old.now)
-    → (IsUsable new → IsUsable old) → Survives old new (λ _. ⊥) → Keeps new last tables
-keeps_reading old new last tables keeps same before survives = record {
+pub keeps_reading : (old new last : State) (tables : List Counted) → Keeps old last tables → Looks old new → Keeps new last tables
+keeps_reading old new last tables keeps looks = record {
   are_tables = keeps.are_tables;
   is_catalog = keeps.is_catalog;
-  held = λ clean. keeps.held (omega (arith, survives.clean, clean));
-  same = λ usable. same usable.0 usable.1 ∙ keeps.same (before usable);
+  held = λ clean. keeps.held (omega (arith, looks.survives.clean, clean));
+  same = λ usable. looks.same usable ∙ keeps.same (looks.usable usable);
 }
 
 module _ (tables : List Counted) (name : List ℕ) (c : Counted) (named : IsNamed tables name c) where
@@ -41,15 +37,3 @@ module _ (tables : List Counted) (name : List ℕ) (c : Counted) (named : IsName
   -- the name of a row of the table
   pub name_of : (key : Value) → name_in c.stored key ≡ record { table = name; key = key }
   name_of key = ap (λ (table : List ℕ). record { table = table; key = key }) named.name_is
-
-  some_fits : (o : Option Row) (key : Value) → IfSome o (λ row. IsRowOf c.stored.table row × (row.name ≡ name_in c.stored key))
-      → IfSome o (λ row. HasTable (catalog_of tables) row × (row.name ≡ record { table = name; key = key }))
-  some_fits None key h = tt
-  some_fits (Some row) key h =
-      let same : row.name ≡ record { table = name; key = key } = h.1 ∙ name_of key in
-      (named_has tables name c row named (ap (λ (n : RowName). n.table) same) h.0, same)
-
-  -- a row of the table is one of the catalog
-  pub row_fits : {E : Type 0} (r : Result (Option Row) E) (key : Value) → IfOk r (λ o. IfSome o (λ row. IsRowOf c.stored.table row × (row.name ≡ name_in c.stored key)))
-      → IfOk r (λ o. IfSome o (λ row. HasTable (catalog_of tables) row × (row.name ≡ record { table = name; key = key })))
-  row_fits r key = IfOk-weaker r _ _ (λ o. some_fits o key)

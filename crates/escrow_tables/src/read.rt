@@ -1,31 +1,17 @@
-use crate::tables::{Tables, find_counted};
-use escrow_num::{Amount, Failure, Name, Row, RowName, Seq, Value};
+use crate::tables::Tables;
+use escrow_num::{Amount, Failure, Name, RowName, Seq, Value};
 use sqlite::Alter;
 use std::alloc::Global;
 
 impl<S: Alter> Tables<S> {
-    ghost use Rattle.std.specs.Prelude.{◌≡◌, Some, IsSome, IsSomeAnd, IfOk, OnOk, IfSome, IsTrue, length, map, option_map};
+    ghost use Rattle.std.specs.Prelude.{◌≡◌, Some, IsSomeAnd, IfOk, OnOk, IfSome, IsTrue, length, map, option_map};
     ghost use Rattle.sqlite.specs.Held.{state};
     ghost use Rattle.sqlite.specs.State.{HasCleanDisk};
     ghost use Rattle.escrow_schema.specs.Catalog.{place_named, table_named};
     ghost use Rattle.escrow_schema.specs.Column.{reservables};
     ghost use Rattle.escrow_schema.specs.Fit.{values_of};
-    ghost use Rattle.escrow_machine.specs.Rows.{row_named, rows_of, HasTable};
+    ghost use Rattle.escrow_machine.specs.Rows.{row_named, rows_of};
     ghost use Rattle.escrow_tables.specs.Calls.{Reads};
-
-    /// The committed row of a name, if there is one.
-    pub fn row(&mut self, alloc: Global, name: &RowName) -> Result<Option<Row>, Failure>
-        requires { IsSome (table_named self.old.catalog name.now.table) }
-        ensures told { HasCleanDisk (state S.Store self.new.store) → IfOk result (λ found. found ≡ row_named self.old.rows name.now) }
-        ensures fits { IfOk result (λ found. IfSome found (λ row. HasTable self.old.catalog row × (row.name ≡ name.now))) }
-        ensures reads { Reads S.Store self.old self.new }
-        ensures open { HasCleanDisk (state S.Store self.new.store) → OnOk result (IsTrue (state S.Store self.new.store).is_open) }
-    {
-        let Some(counted) = find_counted(&self.tables, name.table) else {
-            return Err(Failure::Store);
-        };
-        self.store.row(alloc, &counted.stored, &name.key)
-    }
 
     /// The amounts of the committed row of a name, one for each RESERVABLE column in column order, or `None`
     /// where there is no such row; the place is that of its table.

@@ -1,7 +1,7 @@
 use Rattle.std.proofs.Common.{rules}
 use Rattle.sqlite.specs.Held.{state}
 use Rattle.escrow_cells.specs.Store.{MakesStore}
-use Rattle.escrow_cells.proofs.AllOrNone.{begun, ends}
+use Rattle.escrow_cells.proofs.AllOrNone.{ends}
 use Rattle.escrow_cells.proofs.Making.{made_in}
 use Rattle.escrow_cells.proofs.creation.create_outside.Goals as goal
 

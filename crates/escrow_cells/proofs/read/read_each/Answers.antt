@@ -21,7 +21,7 @@ returns-in-Err-next-clause-rests g c outside =
     let moved = c.next.follows.holds-at-none in
     let now = c.next.follows.lender-at-none.conn.now in
     let all = taking_rests g.S.Store g.K.Sink.has_taken _ _ c.requires c.args.conn.now c.args.sink.now c.rows.rows.conn.now now c.rows.sink c.rows.invariant.1 moved.survives settled moved.mode
-        (λ clean. moved_kept _ _ _ (rw c.in-Err-next.is at (moved.kept clean))) outside in
+    (λ clean. moved_kept _ _ _ (rw c.in-Err-next.is at (moved.kept clean))) outside in
     search rules
 
 pub returns-in_default-clause-taken : goal.returns-in_default-clause-taken

@@ -1,5 +1,4 @@
 use Rattle.std.proofs.Common.{◌∙◌, ◌++◌, ◌+◌, ◌∷◌, [], ℤ, List, drop, length, length-append, append_assoc, ap, sym, arith}
-use Rattle.escrow_schema.specs.Column.{reservables}
 use Rattle.escrow_schema.specs.Fit.{amounts_of}
 use Rattle.escrow_rows.proofs.ReadCells.{amount_passed, amount_taken, reservable_passed, reservable_taken}
 use Rattle.escrow_rows.proofs.read.read_amounts.Goals as goal

@@ -1,7 +1,6 @@
 use Rattle.std.proofs.Common.{sym, ◌∙◌}
 use Rattle.sqlite.specs.Held.{state}
 use Rattle.escrow_schema.specs.Fit.{values_of}
-use Rattle.escrow_rows.specs.Placed.{TellsCells}
 use Rattle.escrow_rows.proofs.ReadCells.{placed_same, some_told}
 use Rattle.escrow_rows.proofs.store.RowStore.values.Goals as goal
 

@@ -1,4 +1,4 @@
-use Rattle.std.proofs.Common.{◌≡◌, ◌<◌, arith, ◌∙◌, ap, length}
+use Rattle.std.proofs.Common.{◌<◌, arith, ◌∙◌, ap, length}
 use Rattle.escrow_num.proofs.Items.{all_has}
 use Rattle.escrow_machine.specs.Rows.{rows_of}
 use Rattle.escrow_rows.specs.View.{rows_in}

@@ -1,4 +1,4 @@
-use Rattle.std.proofs.Common.{arith, Some, ◌-◌, ◌≡◌, ℕ, Bool, true, false, ap, refl, subst, subst₂, sym}
+use Rattle.std.proofs.Common.{arith, Some, ◌-◌, ◌≡◌, ℕ, Bool, true, false, ap, refl, subst₂, sym}
 use Rattle.std.specs.Prelude.{IsSome, is_ok}
 use Rattle.std.proofs.lemmas.Bool.{false≢true}
 use Rattle.std.proofs.lemmas.Result.{err_from_is_err_and}

@@ -1,6 +1,4 @@
-use Rattle.std.proofs.Common.{◌≡◌, ◌<◌, arith, length, sym, subst}
-use Rattle.escrow_schema.specs.Definition.{IsTable}
-use Rattle.escrow_tables.specs.Committed.{Committed}
+use Rattle.std.proofs.Common.{◌<◌, arith, length}
 use Rattle.escrow_tables.specs.Inside.{catalog_of}
 use Rattle.escrow_tables.proofs.Placed.{is_placed, kept_is_table, length_kept}
 use Rattle.escrow_tables.proofs.tables.Tables.table.Goals as goal
