@@ -142,6 +142,7 @@ grant_reason s session name table amounts changes free of_table has =
     sym (rw (row.found, of_table) refl ∙ ap₂ (λ (zs : List ℤ) (n : RowName). first_refusal (room ++ breach zs n ∷ [])) row.has row.named
     ∙ first_behind room (breach amounts name ∷ []) free ∙ alone (breach amounts name))
 
+<<<<<<< ours
 module _ {S : Type 0} (g : Ghosts S) (session : ℕ) (text : UpdateText) (key : Value) (changes : List (Option ℤ)) (old mid : Seen S) where
   -- a reservation is planned, and after a look there is this reason against it, or none
   pub record IsJudged (found : Option Refusal) : Type 0 where
@@ -167,57 +168,82 @@ module _ {S : Type 0} (g : Ghosts S) (session : ℕ) (text : UpdateText) (key : 
       let asked = plan.Reserve key changes in
       look_refused g session (statement.Update text) old mid refusal.NoSuchRow looks refl (planned_early old.state session text asked planned)
       (λ u. plan_refused old.state session text asked refusal.NoSuchRow planned (rw (no_row old.state.rows (row_name text.table key) (told u)) refl))
+=======
+module _ {S : Type 0} (g : Ghosts S) (session : ℕ) (text : UpdateText) (key : Value) (changes : List (Option ℤ)) (old mid : Seen S)
+    (planned : plan_of old.state text ≡ Some (plan.Reserve key changes)) (looks : Looks g old mid) where
+  -- these amounts were read, or no row was
+  abbrev WereRead : Option (List ℤ) → Type 0
+  WereRead found = HasCleanDisk (state g mid.store) → found ≡ amounts_named old.state.rows (row_name text.table key)
+
+  -- for a row of these amounts this is the first reason against it, or none is
+  abbrev IsReason : List ℤ → Option Refusal → Type 0
+  IsReason amounts first =
+      amounts_named mid.state.rows (row_name text.table key) ≡ Some amounts → first ≡ first_refusal (update_refusals mid.state session text.table (plan.Reserve key changes))
+>>>>>>> theirs
 
   -- a failure
-  pub reserve_fails : (f : Failure) → plan_of old.state text ≡ Some (plan.Reserve key changes) → Looks g old mid
-      → Serves g session (statement.Update text) old (reply.Refused (refusal_for f)) mid
-  reserve_fails f planned looks =
+  pub reserve_fails : (f : Failure) → Serves g session (statement.Update text) old (reply.Refused (refusal_for f)) mid
+  reserve_fails f =
       let early = planned_early old.state session text (plan.Reserve key changes) planned in
       look_refused g session (statement.Update text) old mid (refusal_for f) looks refl early (λ _. fails old.state session (statement.Update text) f early refl)
 
-  -- a reason against it
-  pub reserve_refused : (r : Refusal) → IsJudged (Some r) → Serves g session (statement.Update text) old (reply.Refused r) mid
-  reserve_refused r is =
+  -- it is refused
+  refused_for : (r : Refusal) → (HasCleanDisk (state g mid.store) → first_refusal (update_refusals old.state session text.table (plan.Reserve key changes)) ≡ Some r)
+      → Serves g session (statement.Update text) old (reply.Refused r) mid
+  refused_for r first =
       let asked = plan.Reserve key changes in
-      look_refused g session (statement.Update text) old mid r is.looks refl (planned_early old.state session text asked is.planned)
-      (λ u. plan_refused old.state session text asked r is.planned
-      (subst (λ (s : State). first_refusal (update_refusals s session text.table asked) ≡ Some r) is.looks.same (sym (is.first u))))
+      look_refused g session (statement.Update text) old mid r looks refl (planned_early old.state session text asked planned)
+      (λ u. plan_refused old.state session text asked r planned (first u))
 
-  module _ (t : Committed S) (o : Open) (view : seen_of t o ≡ mid) (is : IsJudged None) where
-    planned_inside : plan_of (seen_of t o).state text ≡ Some (plan.Reserve key changes)
-    planned_inside = subst (λ (s : State). plan_of s text ≡ Some (plan.Reserve key changes)) (sym (ap (λ (d : Seen S). d.state) view ∙ is.looks.same)) is.planned
+  -- for want of the row
+  pub reserve_lacks : WereRead None → Serves g session (statement.Update text) old (reply.Refused refusal.NoSuchRow) mid
+  reserve_lacks read = refused_for refusal.NoSuchRow (λ u. rw (no_row old.state.rows (row_name text.table key) (read u)) refl)
 
-    reserve_accepted : HasCleanDisk (state g t.store) → IsAccepted (seen_of t o).state session (statement.Update text)
-    reserve_accepted u =
-        let none : HasCleanDisk (state g t.store) → None ≡ first_refusal (update_refusals (seen_of t o).state session text.table (plan.Reserve key changes)) =
-        subst (λ (d : Seen S). HasCleanDisk (state g d.store) → None ≡ first_refusal (update_refusals d.state session text.table (plan.Reserve key changes))) (sym view) is.first in
-        plan_accepted (seen_of t o).state session text (plan.Reserve key changes) planned_inside (sym (none u))
+  module _ (amounts : List ℤ) (read : WereRead (Some amounts)) where
+    reason : (first : Option Refusal) → IsReason amounts first → HasCleanDisk (state g mid.store)
+        → first_refusal (update_refusals mid.state session text.table (plan.Reserve key changes)) ≡ first
+    reason first is u = sym (is (ap (λ (s : State). amounts_named s.rows (row_name text.table key)) looks.same ∙ sym (read u)))
 
-    -- it is granted: the store stays
-    pub granted_serves : (HasCleanDisk (state g mid.store) → IsTrue (state g mid.store).is_open)
-        → Serves g session (statement.Update text) old (reply.Reserved o.next_id) (seen_of t (txn.granted session (row_name text.table key) changes o))
-    granted_serves opened =
-        let s : State = (seen_of t o).state in
-        let asked = plan.Reserve key changes in
-        let new = seen_of t (txn.granted session (row_name text.table key) changes o) in
-        after_look g session (statement.Update text) old mid new (reply.Reserved o.next_id) is.looks opened refl (planned_early old.state session text asked is.planned)
-        (subst (λ (d : Seen S). Serves g session (statement.Update text) d (reply.Reserved o.next_id) new) view
-        (served g session (statement.Update text) (seen_of t o) new (reply.Reserved o.next_id) refl (planned_early s session text asked planned_inside)
-        (λ u. update_serves s session text asked (reserve_accepted u) planned_inside)
-        (λ is_refusal. absurd (false≢true is_refusal)) (survives_itself (state g t.store) _) (λ writes. absurd (false≢true writes))))
+    -- for a reason against it
+    pub reserve_refused : (r : Refusal) → IsReason amounts (Some r) → Serves g session (statement.Update text) old (reply.Refused r) mid
+    reserve_refused r is =
+        refused_for r (λ u. subst (λ (s : State). first_refusal (update_refusals s session text.table (plan.Reserve key changes)) ≡ Some r) looks.same (reason (Some r) is u))
 
-    pub granted_keeps : IsKept g (seen_of t o) → IsSession session → grant_refusal session (open_in mid.state) ≡ None
-        → IsKept g (seen_of t (txn.granted session (row_name text.table key) changes o))
-    granted_keeps kept of_session none =
-        let s : State = (seen_of t o).state in
-        let free = is_free session o (subst (λ (d : Seen S). grant_refusal session (open_in d.state) ≡ None) (sym view) none) in
-        record {
-          orderly = reserved_orderly s session text key changes kept.orderly of_session planned_inside free.room free.more_ids;
-          safe_rows = λ u.
-              let valid : IsValid s = record { orderly = kept.orderly; safe_rows = kept.safe_rows u } in
-              (reserved_valid s session text key changes valid of_session planned_inside (reserve_accepted u)).safe_rows;
-        }
+    module _ (none : IsReason amounts None) (t : Committed S) (o : Open) (view : seen_of t o ≡ mid) where
+      planned_inside : plan_of (seen_of t o).state text ≡ Some (plan.Reserve key changes)
+      planned_inside = subst (λ (s : State). plan_of s text ≡ Some (plan.Reserve key changes)) (sym (ap (λ (d : Seen S). d.state) view ∙ looks.same)) planned
 
-    -- it isn't, for want of memory
-    pub grant_fails : Serves g session (statement.Update text) old (reply.Refused refusal.Memory) (seen_of t o)
-    grant_fails = subst (λ (d : Seen S). Serves g session (statement.Update text) old (reply.Refused refusal.Memory) d) (sym view) (reserve_fails failure.Memory is.planned is.looks)
+      reserve_accepted : HasCleanDisk (state g t.store) → IsAccepted (seen_of t o).state session (statement.Update text)
+      reserve_accepted u =
+          let inside : HasCleanDisk (state g t.store) → first_refusal (update_refusals (seen_of t o).state session text.table (plan.Reserve key changes)) ≡ None =
+          subst (λ (d : Seen S). HasCleanDisk (state g d.store) → first_refusal (update_refusals d.state session text.table (plan.Reserve key changes)) ≡ None) (sym view) (reason None none) in
+          plan_accepted (seen_of t o).state session text (plan.Reserve key changes) planned_inside (inside u)
+
+      -- it is granted: the store stays
+      pub granted_serves : (HasCleanDisk (state g mid.store) → IsTrue (state g mid.store).is_open)
+          → Serves g session (statement.Update text) old (reply.Reserved o.next_id) (seen_of t (txn.granted session (row_name text.table key) changes o))
+      granted_serves opened =
+          let s : State = (seen_of t o).state in
+          let asked = plan.Reserve key changes in
+          let new = seen_of t (txn.granted session (row_name text.table key) changes o) in
+          after_look g session (statement.Update text) old mid new (reply.Reserved o.next_id) looks opened refl (planned_early old.state session text asked planned)
+          (subst (λ (d : Seen S). Serves g session (statement.Update text) d (reply.Reserved o.next_id) new) view
+          (served g session (statement.Update text) (seen_of t o) new (reply.Reserved o.next_id) refl (planned_early s session text asked planned_inside)
+          (λ u. update_serves s session text asked (reserve_accepted u) planned_inside)
+          (λ is_refusal. absurd (false≢true is_refusal)) (survives_itself (state g t.store) _) (λ writes. absurd (false≢true writes))))
+
+      pub granted_keeps : IsKept g (seen_of t o) → IsSession session → grant_refusal session (open_in mid.state) ≡ None
+          → IsKept g (seen_of t (txn.granted session (row_name text.table key) changes o))
+      granted_keeps kept of_session left =
+          let s : State = (seen_of t o).state in
+          let free = is_free session o (subst (λ (d : Seen S). grant_refusal session (open_in d.state) ≡ None) (sym view) left) in
+          record {
+            orderly = reserved_orderly s session text key changes kept.orderly of_session planned_inside free.room free.more_ids;
+            safe_rows = λ u.
+                let valid : IsValid s = record { orderly = kept.orderly; safe_rows = kept.safe_rows u } in
+                (reserved_valid s session text key changes valid of_session planned_inside (reserve_accepted u)).safe_rows;
+          }
+
+      -- it isn't, for want of memory
+      pub grant_fails : Serves g session (statement.Update text) old (reply.Refused refusal.Memory) (seen_of t o)
+      grant_fails = subst (λ (d : Seen S). Serves g session (statement.Update text) old (reply.Refused refusal.Memory) d) (sym view) (reserve_fails failure.Memory)

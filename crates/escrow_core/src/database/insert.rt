@@ -37,9 +37,11 @@ impl<S: Alter> Database<S> {
         if self.stands(alloc, place, &row.name)? {
             return Err(Refusal::RowExists);
         }
-        if let Some(refusal) =
-            row_refusal(self.tables.table(place), self.tables.count(place), &row)
-        {
+        if let Some(refusal) = row_refusal(
+            self.tables.table(place),
+            self.tables.count(place),
+            &row,
+        ) {
             return Err(refusal);
         }
         self.tables.insert(alloc, place, &row)?;

@@ -90,7 +90,7 @@ impl<S: Alter> Database<S> {
         Ok(Reply::Reserved { id })
     }
 
-    /// Why a reservation of the row of a name isn't granted, which stands with these amounts: as many
+    /// Why a reservation of the row of a name, which stands with these amounts, isn't granted: as many
     /// reservations of the session as it may have, no more ids, or the first check that it could break.
     fn grant_refusal(
         &self,
