@@ -142,33 +142,6 @@ grant_reason s session name table amounts changes free of_table has =
     sym (rw (row.found, of_table) refl ∙ ap₂ (λ (zs : List ℤ) (n : RowName). first_refusal (room ++ breach zs n ∷ [])) row.has row.named
     ∙ first_behind room (breach amounts name ∷ []) free ∙ alone (breach amounts name))
 
-<<<<<<< ours
-module _ {S : Type 0} (g : Ghosts S) (session : ℕ) (text : UpdateText) (key : Value) (changes : List (Option ℤ)) (old mid : Seen S) where
-  -- a reservation is planned, and after a look there is this reason against it, or none
-  pub record IsJudged (found : Option Refusal) : Type 0 where
-    pub planned : plan_of old.state text ≡ Some (plan.Reserve key changes)
-    pub looks : Looks g old mid
-    pub first : HasCleanDisk (state g mid.store) → found ≡ first_refusal (update_refusals mid.state session text.table (plan.Reserve key changes))
-
-  pub judged : (found : Option Refusal) (amounts : List ℤ) → plan_of old.state text ≡ Some (plan.Reserve key changes) → Looks g old mid
-      → (HasCleanDisk (state g mid.store) → Some amounts ≡ amounts_named old.state.rows (row_name text.table key))
-      → (amounts_named mid.state.rows (row_name text.table key) ≡ Some amounts → found ≡ first_refusal (update_refusals mid.state session text.table (plan.Reserve key changes)))
-      → IsJudged found
-  judged found amounts planned looks told first = record {
-    planned = planned;
-    looks = looks;
-    first = λ u. first (ap (λ (s : State). amounts_named s.rows (row_name text.table key)) looks.same ∙ sym (told u));
-  }
-
-  -- a row that doesn't stand
-  pub reserve_lacks : plan_of old.state text ≡ Some (plan.Reserve key changes) → Looks g old mid
-      → (HasCleanDisk (state g mid.store) → None ≡ amounts_named old.state.rows (row_name text.table key))
-      → Serves g session (statement.Update text) old (reply.Refused refusal.NoSuchRow) mid
-  reserve_lacks planned looks told =
-      let asked = plan.Reserve key changes in
-      look_refused g session (statement.Update text) old mid refusal.NoSuchRow looks refl (planned_early old.state session text asked planned)
-      (λ u. plan_refused old.state session text asked refusal.NoSuchRow planned (rw (no_row old.state.rows (row_name text.table key) (told u)) refl))
-=======
 module _ {S : Type 0} (g : Ghosts S) (session : ℕ) (text : UpdateText) (key : Value) (changes : List (Option ℤ)) (old mid : Seen S)
     (planned : plan_of old.state text ≡ Some (plan.Reserve key changes)) (looks : Looks g old mid) where
   -- these amounts were read, or no row was
@@ -179,7 +152,6 @@ module _ {S : Type 0} (g : Ghosts S) (session : ℕ) (text : UpdateText) (key : 
   abbrev IsReason : List ℤ → Option Refusal → Type 0
   IsReason amounts first =
       amounts_named mid.state.rows (row_name text.table key) ≡ Some amounts → first ≡ first_refusal (update_refusals mid.state session text.table (plan.Reserve key changes))
->>>>>>> theirs
 
   -- a failure
   pub reserve_fails : (f : Failure) → Serves g session (statement.Update text) old (reply.Refused (refusal_for f)) mid
