@@ -137,10 +137,10 @@ pub grant_reason : (s : State) (session : ℕ) (name : RowName) (table : TableDe
     ≡ first_refusal (update_refusals s session name.table (plan.Reserve name.key changes))
 grant_reason s session name table amounts changes free of_table has =
     let row = standing s.rows name amounts has in
-    let room = refuse_if (nat_le MAX_RESERVATIONS (length (own session s.reservations))) refusal.TooManyReservations ∷ refuse_if (nat_lt MAX_ID s.next_id) refusal.NoMoreIds ∷ [] in
+    let reason = grant_refusal session (open_in s) in
     let breach : List ℤ → RowName → Option Refusal = λ zs n. option_map refusal.Check (broken table.checks zs (counted changes) (map (changes_at n) s.reservations)) in
-    sym (rw (row.found, of_table) refl ∙ ap₂ (λ (zs : List ℤ) (n : RowName). first_refusal (room ++ breach zs n ∷ [])) row.has row.named
-    ∙ first_behind room (breach amounts name ∷ []) free ∙ alone (breach amounts name))
+    sym (rw (row.found, of_table) refl ∙ ap₂ (λ (zs : List ℤ) (n : RowName). first_refusal (reason ∷ breach zs n ∷ [])) row.has row.named
+    ∙ ap (λ (o : Option Refusal). first_refusal (o ∷ breach amounts name ∷ [])) free ∙ alone (breach amounts name))
 
 module _ {S : Type 0} (g : Ghosts S) (session : ℕ) (text : UpdateText) (key : Value) (changes : List (Option ℤ)) (old mid : Seen S)
     (planned : plan_of old.state text ≡ Some (plan.Reserve key changes)) (looks : Looks g old mid) where
