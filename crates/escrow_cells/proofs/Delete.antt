@@ -18,7 +18,7 @@ use Rattle.sqlite.specs.State.{State, Executes}
 use Rattle.escrow_cells.specs.declared.datum.Datum.{Datum}
 use Rattle.escrow_cells.specs.declared.step.Step.TheVariants as step
 use Rattle.escrow_cells.specs.Tables.{tab, cell, tab_tree, cell_tree}
-use Rattle.escrow_cells.specs.Store.{IsStore, AreNumbered, tabs, cells}
+use Rattle.escrow_cells.specs.Store.{IsStore, NumbersDiffer, tabs, cells}
 use Rattle.escrow_cells.specs.Step.{kept, same, is_in, is_of, Does, HoldsContents}
 use Rattle.escrow_cells.proofs.Inside.{Edits, IsStatement, deletes, wrote_by}
 use Rattle.escrow_cells.proofs.Makes.{left_is}
@@ -75,7 +75,7 @@ module _ (sql : List ℕ) (params : Row) (old new : State) (store : IsStore old.
       let d = deletes old new table at got store.no_keys _ params n _ (wrote_by it params old new store.tables n ran) in
       (d.0, matched old.now params table.tree tests rowids d.0 d.1, d.2)
 
-rows_left : (old new : Database) (table : Table) (tests : List Term) (params : Row) (rows : List Row) → AreNumbered (old.trees table.tree) → AreFound tests params (old.trees table.tree) rows → gone_by rows old table new
+rows_left : (old new : Database) (table : Table) (tests : List Term) (params : Row) (rows : List Row) → NumbersDiffer (old.trees table.tree) → AreFound tests params (old.trees table.tree) rows → gone_by rows old table new
     → new.trees table.tree ≡ filter (λ r. not (passes tests params r)) (old.trees table.tree)
 rows_left old new table tests params rows numbered found gone =
     gone.applies.rows ∙ left_is (passes tests params) (λ r. rowid r ∷ []) (old.trees table.tree) rows (λ r. refl) numbered found

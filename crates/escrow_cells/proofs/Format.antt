@@ -19,7 +19,7 @@ use Rattle.sqlite.specs.Effect.{Database}
 use Rattle.sqlite.specs.State.{State, Executes}
 use Rattle.sqlite.proofs.Callers.{IsPlain, command_of, statement_of, runs_as, one_permutation}
 use Rattle.escrow_cells.specs.Tables.{meta_tree, tab_tree, cell_tree, meta}
-use Rattle.escrow_cells.specs.Store.{AreNumbered, IsEmpty}
+use Rattle.escrow_cells.specs.Store.{NumbersDiffer, IsEmpty}
 use Rattle.escrow_cells.specs.Making.{with_cell, IsBare}
 use Rattle.escrow_cells.proofs.Columns.{cast_held}
 use Rattle.escrow_cells.proofs.Inside.{Edits, inserts}
@@ -52,7 +52,7 @@ same_rest false x y values = refl
 made_meta : (db : Trees) → meta_of (made db meta format_values) ≡ Text (codes "format") ∷ Int (pos 1) ∷ []
 made_meta db = same_rest _ _ (cast Integer Null) (Text (codes "format") ∷ cast Integer (Int (pos 1)) ∷ []) ∙ rw (cast_held (Int (pos 1)) refl)
 
-none_numbered : AreNumbered []
+none_numbered : NumbersDiffer []
 none_numbered = record { whole = tt; apart = tt }
 
 abbrev Adds : Database → Database → Type 0

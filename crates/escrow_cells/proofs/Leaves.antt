@@ -9,7 +9,7 @@ use Rattle.sqlite_schema.specs.declared.schema.Schema.{Schema}
 use Rattle.sqlite_rules.specs.Edit.{Edit}
 use Rattle.sqlite.specs.Effect.{Database}
 use Rattle.escrow_cells.specs.Tables.{meta_tree, tab_tree, cell_tree}
-use Rattle.escrow_cells.specs.Store.{IsStore, HasTables, AreNumbered, metas, tabs, cells}
+use Rattle.escrow_cells.specs.Store.{IsStore, HasTables, NumbersDiffer, metas, tabs, cells}
 use Rattle.escrow_cells.specs.Step.{HoldsContents}
 use Rattle.escrow_cells.proofs.Inside.{Edits}
 use Rattle.escrow_cells.proofs.Makes.{numbered_edited}
@@ -32,10 +32,10 @@ module _ (old new : Database) (edit : Edit) (store : IsStore old) (made : Edits 
       let all = subst (λ (s : Schema). AllByRecursion IsSpared s.tables) tables.is made.applies.tables in
       (all.0, all.1.0, all.1.1.0)
 
-  numbered : AreNumbered (old.trees edit.table.tree) → AreNumbered (new.trees edit.table.tree)
-  numbered n = subst AreNumbered (sym made.applies.rows) (numbered_edited old.trees edit made.applies.keyed made.applies.fresh n)
+  numbered : NumbersDiffer (old.trees edit.table.tree) → NumbersDiffer (new.trees edit.table.tree)
+  numbered n = subst NumbersDiffer (sym made.applies.rows) (numbered_edited old.trees edit made.applies.keyed made.applies.fresh n)
 
-  store_with : AreNumbered (new.trees meta_tree) → AreNumbered (new.trees tab_tree) → AreNumbered (new.trees cell_tree) → IsStore new
+  store_with : NumbersDiffer (new.trees meta_tree) → NumbersDiffer (new.trees tab_tree) → NumbersDiffer (new.trees cell_tree) → IsStore new
   store_with metas_are tabs_are cells_are = record {
     tables = record { more = store.tables.more; indexes = store.tables.indexes; views = store.tables.views; is = made.schema ∙ store.tables.is };
     sound = made.sound;
@@ -55,7 +55,7 @@ module _ (old new : Database) (edit : Edit) (store : IsStore old) (made : Edits 
       let meta_is = others.0 (λ e. omega (arith, on, e)) in
       let tab_is = others.1 (λ e. omega (arith, on, e)) in
       record {
-        store = store_with (rw meta_is store.metas_numbered) (rw tab_is store.tabs_numbered) (subst (λ t. AreNumbered (new.trees t)) on (numbered (rw on store.cells_numbered)));
+        store = store_with (rw meta_is store.metas_numbered) (rw tab_is store.tabs_numbered) (subst (λ t. NumbersDiffer (new.trees t)) on (numbered (rw on store.cells_numbered)));
         cells_are = same;
         tabs_are = IsPermutation-same _ _ (ap (map tab_of) (sym tab_is));
         metas_are = same_metas meta_is;
@@ -68,7 +68,7 @@ module _ (old new : Database) (edit : Edit) (store : IsStore old) (made : Edits 
       let meta_is = others.0 (λ e. omega (arith, on, e)) in
       let cell_is = others.2 (λ e. omega (arith, on, e)) in
       record {
-        store = store_with (rw meta_is store.metas_numbered) (subst (λ t. AreNumbered (new.trees t)) on (numbered (rw on store.tabs_numbered))) (rw cell_is store.cells_numbered);
+        store = store_with (rw meta_is store.metas_numbered) (subst (λ t. NumbersDiffer (new.trees t)) on (numbered (rw on store.tabs_numbered))) (rw cell_is store.cells_numbered);
         cells_are = IsPermutation-same _ _ (ap (map cell_of) (sym cell_is));
         tabs_are = same;
         metas_are = same_metas meta_is;

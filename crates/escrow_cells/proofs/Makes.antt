@@ -17,7 +17,7 @@ use Rattle.sqlite_rules.specs.Calls.{ids_of}
 use Rattle.sqlite_rules.proofs.ListLemmas.{all_has, all_from, some_has, some_from, has_filtered, has_kept}
 use Rattle.sqlite_rules.proofs.ProbeLemmas.{has_mapped, mapped_has}
 use Rattle.sqlite_rules.proofs.TableLemmas.{int_is}
-use Rattle.escrow_cells.specs.Store.{AreNumbered}
+use Rattle.escrow_cells.specs.Store.{NumbersDiffer}
 
 -- ---- rowids that come once
 
@@ -53,13 +53,13 @@ apart_permuted = along_permutation (λ xs ys. ((a : Row) → AreApartFrom a xs �
     (λ x y xs. (λ a all. (all.1.0, (all.0, all.1.1)), λ up. ((tied_turn y x ∙ up.0.0, up.1.0), (up.0.1, up.1.1))))
     (λ xs ys zs p q. (λ a all. q.0 a (p.0 a all), λ up. q.1 (p.1 up)))
 
-pub numbered_permuted : (xs ys : List Row) → IsPermutation xs ys → AreNumbered xs → AreNumbered ys
+pub numbered_permuted : (xs ys : List Row) → IsPermutation xs ys → NumbersDiffer xs → NumbersDiffer ys
 numbered_permuted xs ys same n = record { whole = all-permutation (λ r. IsTrue (is_int (rowid r))) xs ys same n.whole; apart = (apart_permuted xs ys same).1 n.apart }
 
-numbered_filtered : (p : Row → Bool) (xs : List Row) → AreNumbered xs → AreNumbered (filter p xs)
+numbered_filtered : (p : Row → Bool) (xs : List Row) → NumbersDiffer xs → NumbersDiffer (filter p xs)
 numbered_filtered p xs n = record { whole = all-filter (λ r. IsTrue (is_int (rowid r))) p xs n.whole; apart = ascending-filter (λ a b. tied a b ≡ false) p xs n.apart }
 
-numbered_left : (ids : List ℤ) (rows : List Row) → AreNumbered rows → AreNumbered (without_all rows ids)
+numbered_left : (ids : List ℤ) (rows : List Row) → NumbersDiffer rows → NumbersDiffer (without_all rows ids)
 numbered_left [] rows n = n
 numbered_left (id ∷ ids) rows n = numbered_left ids (without_rowid id rows) (numbered_filtered _ rows n)
 
@@ -86,11 +86,11 @@ none_tied : (new : Row) (rows : List Row) → is_taken rows new ≡ false → Ar
 none_tied new [] free = tt
 none_tied new (r ∷ rows) free = let parts = or_parts _ _ free in (tied_turn new r ∙ parts.0, none_tied new rows parts.1)
 
-numbered_put : (new : Row) (rows : List Row) → IsTrue (is_int (rowid new)) → is_taken rows new ≡ false → AreNumbered rows → AreNumbered (put_row new rows)
+numbered_put : (new : Row) (rows : List Row) → IsTrue (is_int (rowid new)) → is_taken rows new ≡ false → NumbersDiffer rows → NumbersDiffer (put_row new rows)
 numbered_put new rows whole free n =
     numbered_permuted (new ∷ rows) (put_row new rows) (put_one new rows free) (record { whole = (whole, n.whole); apart = (none_tied new rows free, n.apart) })
 
-numbered_put_all : (news rows : List Row) → have_rowids news ≡ true → are_fresh rows news ≡ true → AreNumbered rows → AreNumbered (put_all rows news)
+numbered_put_all : (news rows : List Row) → have_rowids news ≡ true → are_fresh rows news ≡ true → NumbersDiffer rows → NumbersDiffer (put_all rows news)
 numbered_put_all [] rows whole fresh n = n
 numbered_put_all (new ∷ news) rows whole fresh n =
     let keyed = and_parts _ _ whole in
@@ -98,7 +98,7 @@ numbered_put_all (new ∷ news) rows whole fresh n =
     numbered_put_all news (put_row new rows) keyed.1 parts.1 (numbered_put new rows keyed.0 (not-true _ parts.0) n)
 
 -- the rows of a tree stay numbered over an edit
-pub numbered_edited : (db : Trees) (edit : Edit) → have_rowids edit.news ≡ true → are_fresh (left_by db edit) edit.news ≡ true → AreNumbered (db edit.table.tree) → AreNumbered (edited db edit)
+pub numbered_edited : (db : Trees) (edit : Edit) → have_rowids edit.news ≡ true → are_fresh (left_by db edit) edit.news ≡ true → NumbersDiffer (db edit.table.tree) → NumbersDiffer (edited db edit)
 numbered_edited db edit whole fresh n = numbered_put_all edit.news (left_by db edit) whole fresh (numbered_left edit.gone (db edit.table.tree) n)
 
 -- ---- rows that are taken out
@@ -125,7 +125,7 @@ has_permuted : {X : Type 0} (xs ys : List X) (x : X) → IsPermutation xs ys →
 has_permuted xs ys x same = all_has (Has ys) xs x (all-permutation (Has ys) ys xs (IsPermutation-sym _ _ same) (all_from (Has ys) ys (λ e h. h)))
 
 -- the rows found are those that pass a test, each with its rowid
-module _ (p : Row → Bool) (f : Row → Row) (rows found : List Row) (keeps : (r : Row) → rowid (f r) ≡ rowid r) (numbered : AreNumbered rows) (same : IsPermutation (map f (filter p rows)) found) where
+module _ (p : Row → Bool) (f : Row → Row) (rows found : List Row) (keeps : (r : Row) → rowid (f r) ≡ rowid r) (numbered : NumbersDiffer rows) (same : IsPermutation (map f (filter p rows)) found) where
   listed : (r : Row) → Has rows r → p r ≡ true → is_listed (ids_of found) r ≡ true
   listed r h passes =
       let there = mapped_has (λ x. id_in (rowid x)) found (f r) (has_permuted _ found (f r) same (mapped_has f (filter p rows) r (has_kept p rows r h passes))) in

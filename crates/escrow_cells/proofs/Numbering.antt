@@ -19,7 +19,7 @@ use Rattle.sqlite_rules.proofs.TableLemmas.{int_is}
 use Rattle.sqlite.specs.State.{State, Shown}
 use Rattle.escrow_cells.specs.declared.numbered.Numbers.{Numbers}
 use Rattle.escrow_cells.specs.Numbered.{is_above, with_number, with_numbers, AreIds}
-use Rattle.escrow_cells.specs.Store.{AreNumbered, HasTables}
+use Rattle.escrow_cells.specs.Store.{NumbersDiffer, HasTables}
 use Rattle.escrow_cells.proofs.Makes.{numbered_permuted}
 use Rattle.escrow_cells.proofs.Rising.{ascending_from_sorted}
 
@@ -77,7 +77,7 @@ never_rises last rows h = true≢false (sym h ∙ fallen last rows)
 
 -- rows are numbered, above a number
 record AreAbove (last : Option ℤ) (rows : List Row) : Type 0 where
-  numbered : AreNumbered rows
+  numbered : NumbersDiffer rows
   above : AllByRecursion (λ r. Above last (rowid r)) rows
 
 module _ (last : Option ℤ) (r : Row) (rows : List Row) (rest : (n : ℤ) → (with_numbers (rising (Some n)) rows).rise ≡ true → AreAbove (Some n) rows) where
@@ -109,7 +109,7 @@ are_above last [] h = record { numbered = record { whole = tt; apart = tt }; abo
 are_above last (r ∷ rows) h = value_above last r rows (λ n e. are_above (Some n) rows e) (rowid r) refl h
 
 -- and the numbers of rows that are numbered rise, where none is above a later one
-numbers_rise : (last : Option ℤ) (rows : List Row) → AreNumbered rows → IsAscending (λ a b. is_gt (value_cmp (rowid a) (rowid b)) ≡ false) rows → AllByRecursion (λ r. Above last (rowid r)) rows
+numbers_rise : (last : Option ℤ) (rows : List Row) → NumbersDiffer rows → IsAscending (λ a b. is_gt (value_cmp (rowid a) (rowid b)) ≡ false) rows → AllByRecursion (λ r. Above last (rowid r)) rows
     → (with_numbers (rising last) rows).rise ≡ true
 numbers_rise last [] numbered up above = refl
 numbers_rise last (r ∷ rows) numbered up above =
@@ -128,19 +128,19 @@ id_of r = rowid r ∷ []
 abbrev AreTied : Row → Row → Type 0
 AreTied a b = is_eq (value_cmp (rowid a) (rowid b)) ≡ false
 
-ids_numbered : (rows : List Row) → AreNumbered rows → AreNumbered (map id_of rows)
+ids_numbered : (rows : List Row) → NumbersDiffer rows → NumbersDiffer (map id_of rows)
 ids_numbered rows h = record { whole = all-map (λ r. IsTrue (is_int (rowid r))) id_of rows h.whole; apart = ascending-map AreTied id_of rows h.apart }
 
-numbered_ids : (rows : List Row) → AreNumbered (map id_of rows) → AreNumbered rows
+numbered_ids : (rows : List Row) → NumbersDiffer (map id_of rows) → NumbersDiffer rows
 numbered_ids rows h = record { whole = all_from_map (λ r. IsTrue (is_int (rowid r))) id_of rows h.whole; apart = ascending_from_map AreTied id_of rows h.apart }
 
-numbers_tell : (rows answer : List Row) → AreIds rows answer → (rise : Bool) → rise ≡ (with_numbers (rising None) answer).rise → IsTrue rise ↔ AreNumbered rows
+numbers_tell : (rows answer : List Row) → AreIds rows answer → (rise : Bool) → rise ≡ (with_numbers (rising None) answer).rise → IsTrue rise ↔ NumbersDiffer rows
 numbers_tell rows answer ids rise is = (λ h. there (sym is ∙ h), λ numbered. is ∙ back numbered)
   where
-    there : (with_numbers (rising None) answer).rise ≡ true → AreNumbered rows
+    there : (with_numbers (rising None) answer).rise ≡ true → NumbersDiffer rows
     there h = numbered_ids rows (numbered_permuted answer (map id_of rows) (IsPermutation-sym (map id_of rows) answer ids.same_ids) (are_above None answer h).numbered)
 
-    back : AreNumbered rows → (with_numbers (rising None) answer).rise ≡ true
+    back : NumbersDiffer rows → (with_numbers (rising None) answer).rise ≡ true
     back numbered =
         let up = ascending_from_sorted (on rowid value_cmp) (on_total rowid value_cmp_total) answer ids.in_order in
         numbers_rise None answer (numbered_permuted (map id_of rows) answer ids.same_ids (ids_numbered rows numbered)) up (above_none answer)
@@ -148,5 +148,5 @@ numbers_tell rows answer ids rise is = (λ h. there (sym is ∙ h), λ numbered.
 -- the same of the answer to a query
 pub rise_tells : {E : Type 0} (text : List ℕ) (tree : ℕ) (old new : State) → ((rows : List Row) → Shown text [] old new rows → HasTables old.now.schema → AreIds (old.now.trees tree) rows)
     → (r : Result Bool E) → IfOk r (λ rise. (rows : List Row) × Shown text [] old new rows × (rise ≡ (with_numbers (rising None) rows).rise))
-    → IfOk r (λ are. HasTables old.now.schema → (IsTrue are ↔ AreNumbered (old.now.trees tree)))
+    → IfOk r (λ are. HasTables old.now.schema → (IsTrue are ↔ NumbersDiffer (old.now.trees tree)))
 rise_tells text tree old new shown r = IfOk-weaker r _ _ (λ rise h has. numbers_tell (old.now.trees tree) h.0 (shown h.0 h.1 has) rise h.2)

@@ -23,7 +23,7 @@ use Rattle.sqlite.specs.State.{State, Executes}
 use Rattle.escrow_cells.specs.declared.datum.Datum.{Datum}
 use Rattle.escrow_cells.specs.declared.step.Step.TheVariants as step
 use Rattle.escrow_cells.specs.Tables.{cell}
-use Rattle.escrow_cells.specs.Store.{AreNumbered}
+use Rattle.escrow_cells.specs.Store.{NumbersDiffer}
 use Rattle.escrow_cells.specs.Step.{kept, same, is_at, with_value, Does}
 use Rattle.escrow_cells.proofs.Inside.{IsStatement, updates, wrote_by}
 use Rattle.escrow_cells.proofs.Makes.{put_beside, left_is}
@@ -87,7 +87,7 @@ module _ (table key place value : Value) where
   left_as_told : (r : Row) → not (passes at_tests params r) ≡ true → put r ≡ cell_of r
   left_as_told r at = ap (λ b. cond b (column r 1 ∷ column r 2 ∷ column r 3 ∷ value ∷ []) (cell_of r)) (sym (passes_at r) ∙ not-true _ at)
 
-  module _ (rows found : List Row) (numbered_rows : AreNumbered rows) (held : AllByRecursion IsWritten rows) (same_rows : IsPermutation (map found_by (filter (passes at_tests params) rows)) found) where
+  module _ (rows found : List Row) (numbered_rows : NumbersDiffer rows) (held : AllByRecursion IsWritten rows) (same_rows : IsPermutation (map found_by (filter (passes at_tests params) rows)) found) where
     abbrev left : List Row
     left = without_all rows (ids_of found)
 

@@ -39,15 +39,15 @@ pub record IsStoreSchema (schema : Schema) : Type 0 where
   pub no_keys : AllByRecursion (λ (t : Table). t.references ≡ []) schema.tables
 
 -- SQLite numbers rows by whole numbers, and no number comes twice
-pub record AreNumbered (rows : List Row) : Type 0 where
+pub record NumbersDiffer (rows : List Row) : Type 0 where
   pub whole : AllByRecursion (λ r. IsTrue (is_int (rowid r))) rows
   pub apart : IsAscending (λ a b. is_eq (value_cmp (rowid a) (rowid b)) ≡ false) rows
 
 -- the rows of the three tables are numbered
 pub record AreAllNumbered (db : Database) : Type 0 where
-  pub metas : AreNumbered (db.trees meta_tree)
-  pub tabs : AreNumbered (db.trees tab_tree)
-  pub cells : AreNumbered (db.trees cell_tree)
+  pub metas : NumbersDiffer (db.trees meta_tree)
+  pub tabs : NumbersDiffer (db.trees tab_tree)
+  pub cells : NumbersDiffer (db.trees cell_tree)
 
 -- A store: a database of SQLite with the three tables, and without foreign keys, which would let a write
 -- to one table reach another.
@@ -55,9 +55,9 @@ pub record IsStore (db : Database) : Type 0 where
   pub tables : HasTables db.schema
   pub sound : IsDatabase db
   pub no_keys : AllByRecursion (λ (t : Table). t.references ≡ []) db.schema.tables
-  pub metas_numbered : AreNumbered (db.trees meta_tree)
-  pub tabs_numbered : AreNumbered (db.trees tab_tree)
-  pub cells_numbered : AreNumbered (db.trees cell_tree)
+  pub metas_numbered : NumbersDiffer (db.trees meta_tree)
+  pub tabs_numbered : NumbersDiffer (db.trees tab_tree)
+  pub cells_numbered : NumbersDiffer (db.trees cell_tree)
 
 -- the rows of META in each store: it has the format 1
 abbrev pub format : List Row

@@ -7,7 +7,7 @@ ghost use Rattle.sqlite.specs.State.{HasCleanDisk, Shown};
 ghost use Rattle.escrow_cells.specs.Numbered.{is_above, with_number, with_numbers};
 ghost use Rattle.escrow_cells.specs.Query.{OnlyReads};
 ghost use Rattle.escrow_cells.specs.Read.{Rests};
-ghost use Rattle.escrow_cells.specs.Store.{HasTables, AreNumbered, AreAllNumbered};
+ghost use Rattle.escrow_cells.specs.Store.{HasTables, NumbersDiffer, AreAllNumbered};
 ghost use Rattle.escrow_cells.specs.Tables.{meta_tree, tab_tree, cell_tree};
 
 use crate::failure::failure_of;
@@ -78,7 +78,7 @@ pub fn are_numbered<S: Alter>(conn: &mut Connection<S>) -> Result<bool, Failure>
 }
 
 fn are_metas_numbered<S: Alter>(conn: &mut Connection<S>) -> Result<bool, Failure>
-    ensures numbered { HasCleanDisk (state S.Store conn.new) → IfOk result (λ are. HasTables (state S.Store conn.old).now.schema → (IsTrue are ↔ AreNumbered ((state S.Store conn.old).now.trees meta_tree))) }
+    ensures numbered { HasCleanDisk (state S.Store conn.new) → IfOk result (λ are. HasTables (state S.Store conn.old).now.schema → (IsTrue are ↔ NumbersDiffer ((state S.Store conn.old).now.trees meta_tree))) }
     ensures rests { conn.old.in_transaction ≡ false → Rests S.Store conn.old conn.new }
     ensures is_open { HasCleanDisk (state S.Store conn.new) → OnOk result (IsTrue (state S.Store conn.new).is_open) }
 {
@@ -86,7 +86,7 @@ fn are_metas_numbered<S: Alter>(conn: &mut Connection<S>) -> Result<bool, Failur
 }
 
 fn are_tabs_numbered<S: Alter>(conn: &mut Connection<S>) -> Result<bool, Failure>
-    ensures numbered { HasCleanDisk (state S.Store conn.new) → IfOk result (λ are. HasTables (state S.Store conn.old).now.schema → (IsTrue are ↔ AreNumbered ((state S.Store conn.old).now.trees tab_tree))) }
+    ensures numbered { HasCleanDisk (state S.Store conn.new) → IfOk result (λ are. HasTables (state S.Store conn.old).now.schema → (IsTrue are ↔ NumbersDiffer ((state S.Store conn.old).now.trees tab_tree))) }
     ensures rests { conn.old.in_transaction ≡ false → Rests S.Store conn.old conn.new }
     ensures is_open { HasCleanDisk (state S.Store conn.new) → OnOk result (IsTrue (state S.Store conn.new).is_open) }
 {
@@ -94,7 +94,7 @@ fn are_tabs_numbered<S: Alter>(conn: &mut Connection<S>) -> Result<bool, Failure
 }
 
 fn are_cells_numbered<S: Alter>(conn: &mut Connection<S>) -> Result<bool, Failure>
-    ensures numbered { HasCleanDisk (state S.Store conn.new) → IfOk result (λ are. HasTables (state S.Store conn.old).now.schema → (IsTrue are ↔ AreNumbered ((state S.Store conn.old).now.trees cell_tree))) }
+    ensures numbered { HasCleanDisk (state S.Store conn.new) → IfOk result (λ are. HasTables (state S.Store conn.old).now.schema → (IsTrue are ↔ NumbersDiffer ((state S.Store conn.old).now.trees cell_tree))) }
     ensures rests { conn.old.in_transaction ≡ false → Rests S.Store conn.old conn.new }
     ensures is_open { HasCleanDisk (state S.Store conn.new) → OnOk result (IsTrue (state S.Store conn.new).is_open) }
 {

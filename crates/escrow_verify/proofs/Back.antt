@@ -24,7 +24,7 @@ use Rattle.escrow_machine.specs.Rows.{row_before, rows_of, MeetsChecks}
 use Rattle.escrow_rows.proofs.Cells.{cells_name, filter_pieces, is_in_row, row_in, row_of_stored}
 use Rattle.escrow_rows.proofs.ImageTables.{has_permutation, pieces_same}
 use Rattle.escrow_rows.proofs.KeyedCells.{with_key, cells_keyed}
-use Rattle.escrow_rows.specs.Placed.{keyed, keyed_cells}
+use Rattle.escrow_rows.specs.Placed.{keyed_cells}
 use Rattle.escrow_verify.specs.Inside.{AreOfTables, AreRowsIn, AreTablesIn, IsKnown, IsNumberOf, IsSoundRow}
 use Rattle.escrow_verify.specs.Stored.{HasHeldValues, IsStoreOf}
 use Rattle.escrow_verify.proofs.Parts.{find_mapped, found_named}

@@ -21,7 +21,7 @@ use Rattle.escrow_rows.specs.declared.stored.StoredTable.{StoredTable}
 use Rattle.escrow_rows.specs.Image.{AreTables}
 use Rattle.escrow_rows.proofs.Listings.{apart_permutation}
 use Rattle.escrow_cells.proofs.Rising.{AtMost, ascending_from_sorted}
-use Rattle.escrow_verify.specs.Tabs.{CanStand, apart, are_apart, by_name}
+use Rattle.escrow_verify.specs.Tabs.{CanStand, tables_apart, are_apart, by_name}
 
 abbrev other_id : StoredTable → StoredTable → Bool
 other_id a b = not (int_eq a.id b.id)
@@ -31,44 +31,44 @@ other_name a b = not (bytes_eq a.table.name b.table.name)
 
 -- ---- tables that are apart
 
-ids_part : (tables : List StoredTable) → IsAscending apart tables → IsAscending other_id tables
+ids_part : (tables : List StoredTable) → IsAscending tables_apart tables → IsAscending other_id tables
 ids_part [] h = tt
 ids_part (s ∷ tables) h =
-    (all_weaker (λ t. IsTrue (apart s t)) (λ t. IsTrue (other_id s t)) (λ t k. (and_parts (other_id s t) (other_name s t) k).0) tables h.0, ids_part tables h.1)
+    (all_weaker (λ t. IsTrue (tables_apart s t)) (λ t. IsTrue (other_id s t)) (λ t k. (and_parts (other_id s t) (other_name s t) k).0) tables h.0, ids_part tables h.1)
 
-names_part : (tables : List StoredTable) → IsAscending apart tables → IsAscending other_name tables
+names_part : (tables : List StoredTable) → IsAscending tables_apart tables → IsAscending other_name tables
 names_part [] h = tt
 names_part (s ∷ tables) h =
-    (all_weaker (λ t. IsTrue (apart s t)) (λ t. IsTrue (other_name s t)) (λ t k. (and_parts (other_id s t) (other_name s t) k).1) tables h.0, names_part tables h.1)
+    (all_weaker (λ t. IsTrue (tables_apart s t)) (λ t. IsTrue (other_name s t)) (λ t k. (and_parts (other_id s t) (other_name s t) k).1) tables h.0, names_part tables h.1)
 
-both_parts_apart : (tables : List StoredTable) → IsAscending other_id tables → IsAscending other_name tables → IsAscending apart tables
+both_parts_apart : (tables : List StoredTable) → IsAscending other_id tables → IsAscending other_name tables → IsAscending tables_apart tables
 both_parts_apart [] p q = tt
 both_parts_apart (s ∷ tables) p q = (
-  all_both (λ t. IsTrue (other_id s t)) (λ t. IsTrue (other_name s t)) (λ t. IsTrue (apart s t)) (λ t. and_from (other_id s t) (other_name s t)) tables p.0 q.0,
+  all_both (λ t. IsTrue (other_id s t)) (λ t. IsTrue (other_name s t)) (λ t. IsTrue (tables_apart s t)) (λ t. and_from (other_id s t) (other_name s t)) tables p.0 q.0,
   both_parts_apart tables p.1 q.1,
 )
 
 -- what the test of them says
-pub apart_from : (tables : List StoredTable) → are_apart tables ≡ true → IsAscending apart tables
+pub apart_from : (tables : List StoredTable) → are_apart tables ≡ true → IsAscending tables_apart tables
 apart_from [] e = tt
 apart_from (s ∷ tables) e =
-    let parts = and_parts (list_all (apart s) tables) (are_apart tables) e in
-    (all_from (apart s) tables parts.0, apart_from tables parts.1)
+    let parts = and_parts (list_all (tables_apart s) tables) (are_apart tables) e in
+    (all_from (tables_apart s) tables parts.0, apart_from tables parts.1)
   where
     all_from : (p : StoredTable → Bool) (xs : List StoredTable) → list_all p xs ≡ true → AllByRecursion (λ x. IsTrue (p x)) xs
     all_from p [] e = tt
     all_from p (x ∷ xs) e = let parts = and_parts (p x) (list_all p xs) e in (parts.0, all_from p xs parts.1)
 
-pub apart_test : (tables : List StoredTable) → IsAscending apart tables → are_apart tables ≡ true
+pub apart_test : (tables : List StoredTable) → IsAscending tables_apart tables → are_apart tables ≡ true
 apart_test [] h = refl
-apart_test (s ∷ tables) h = and_from (list_all (apart s) tables) (are_apart tables) (from_all (apart s) tables h.0) (apart_test tables h.1)
+apart_test (s ∷ tables) h = and_from (list_all (tables_apart s) tables) (are_apart tables) (from_all (tables_apart s) tables h.0) (apart_test tables h.1)
   where
     from_all : (p : StoredTable → Bool) (xs : List StoredTable) → AllByRecursion (λ x. IsTrue (p x)) xs → list_all p xs ≡ true
     from_all p [] h = refl
     from_all p (x ∷ xs) h = and_from (p x) (list_all p xs) h.0 (from_all p xs h.1)
 
 -- what is apart is so either way round
-turned : (a b : StoredTable) → apart a b ≡ true → apart b a ≡ true
+turned : (a b : StoredTable) → tables_apart a b ≡ true → tables_apart b a ≡ true
 turned a b h = ap₂ (λ (p q : Bool). not p && not q) (ids_turned b.id a.id) (names_turned b.table.name a.table.name) ∙ h
   where
     ids_turned : (x y : ℤ) → int_eq x y ≡ int_eq y x
@@ -84,7 +84,7 @@ turned a b h = ap₂ (λ (p q : Bool). not p && not q) (ids_turned b.id a.id) (n
 -- each can stand, they are apart, and they are few
 pub record Together (tables : List StoredTable) : Type 0 where
   pub each : AllByRecursion CanStand tables
-  pub are_apart : IsAscending apart tables
+  pub are_apart : IsAscending tables_apart tables
   pub few : length tables ≤ MAX_TABLES
 
 pub together : (tables : List StoredTable) → AreTables tables → Together tables
@@ -107,7 +107,7 @@ are_tables tables h = record {
 pub in_any_order : (xs ys : List StoredTable) → IsPermutation xs ys → Together xs → Together ys
 in_any_order xs ys same h = record {
   each = all-permutation CanStand xs ys same h.each;
-  are_apart = apart_permutation apart turned xs ys same h.are_apart;
+  are_apart = apart_permutation tables_apart turned xs ys same h.are_apart;
   few = omega (arith, h.few, length_permutation xs ys same);
 }
 
@@ -123,17 +123,17 @@ before_if Greater h k = absurd (cc)
 
 -- a table that isn't after another, and has another name, is before it
 before : (s t : StoredTable) → NotAfter s t → IsTrue (other_name s t) → IsTrue (table_before s.table t.table)
-before s t h apart =
+before s t h tables_apart =
     before_if (slice_cmp nat_cmp s.table.name t.table.name) h
-    (λ tied. both_ways (bytes_eq s.table.name t.table.name) (not-true (bytes_eq s.table.name t.table.name) apart)
+    (λ tied. both_ways (bytes_eq s.table.name t.table.name) (not-true (bytes_eq s.table.name t.table.name) tables_apart)
     (subst (λ (n : List ℕ). bytes_eq s.table.name n ≡ true) (list_tied s.table.name t.table.name tied) (same_name s.table.name)))
 
 names_rise : (tables : List StoredTable) → Rises NotAfter tables → IsAscending other_name tables → IsAscending table_before (map (λ (s : StoredTable). s.table) tables)
-names_rise [] up apart = tt
-names_rise (s ∷ tables) up apart = (
+names_rise [] up tables_apart = tt
+names_rise (s ∷ tables) up tables_apart = (
   all-map (λ (t : TableDef). IsTrue (table_before s.table t)) (λ (t : StoredTable). t.table) tables
-      (all_both (NotAfter s) (λ t. IsTrue (other_name s t)) (λ t. IsTrue (table_before s.table t.table)) (before s) tables up.0 apart.0),
-  names_rise tables up.1 apart.1,
+      (all_both (NotAfter s) (λ t. IsTrue (other_name s t)) (λ t. IsTrue (table_before s.table t.table)) (before s) tables up.0 tables_apart.0),
+  names_rise tables up.1 tables_apart.1,
 )
 
 -- sorted by name, they are a catalog

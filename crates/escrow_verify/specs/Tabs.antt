@@ -33,13 +33,13 @@ abbrev pub IsTab : SqlRow → Type 0
 IsTab row = (s : StoredTable) × CanStand s × (row ≡ tab_row s)
 
 -- two tables have neither one number nor one name
-abbrev pub apart : StoredTable → StoredTable → Bool
-apart a b = not (int_eq a.id b.id) && not (bytes_eq a.table.name b.table.name)
+abbrev pub tables_apart : StoredTable → StoredTable → Bool
+tables_apart a b = not (int_eq a.id b.id) && not (bytes_eq a.table.name b.table.name)
 
 -- no two tables have one number or one name
 abbrev pub are_apart : List StoredTable → Bool
 are_apart [] = true
-are_apart (s ∷ tables) = list_all (apart s) tables && are_apart tables
+are_apart (s ∷ tables) = list_all (tables_apart s) tables && are_apart tables
 
 -- the order of tables by name
 abbrev pub by_name : StoredTable → StoredTable → Ordering

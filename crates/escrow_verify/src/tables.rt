@@ -9,7 +9,7 @@ ghost use Rattle.escrow_rows.specs.declared.stored.StoredTable.{StoredTable as S
 ghost use Rattle.escrow_rows.specs.Answers.{IsUsable, Looks};
 ghost use Rattle.escrow_rows.specs.Image.{AreTables, tab_row};
 ghost use Rattle.escrow_verify.specs.Inside.{AreTablesIn};
-ghost use Rattle.escrow_verify.specs.Tabs.{CanStand, IsTab, apart, are_apart, by_name};
+ghost use Rattle.escrow_verify.specs.Tabs.{CanStand, IsTab, tables_apart, are_apart, by_name};
 ghost use Rattle.escrow_verify.specs.declared.unverified.PartFault.TheVariants.{Foreign};
 
 mod tab;
@@ -89,7 +89,7 @@ fn are_apart(tables: &[StoredTable]) -> bool
 
 /// Whether a table has neither the number nor the name of another one.
 fn is_apart(table: &StoredTable, others: &[StoredTable]) -> bool
-    ensures { result ≡ list_all (apart table.now) others.now }
+    ensures { result ≡ list_all (tables_apart table.now) others.now }
 {
     others.iter().all(|other| table.id != other.id && table.table.name != other.table.name)
 }
