@@ -1,5 +1,5 @@
 -- UPDATE: what its call makes of a database, by its plan.
-use Rattle.std.specs.Prelude.{◌≡◌, ◌<◌, ◌≤◌, ◌+◌, ℕ, ℤ, Bool, true, false, is_none, nat_le, nat_lt, option_map, unwrap_or, Option, Some, None, IsSome, IsTrue, List, [], ◌∷◌, ◌++◌, length, map}
+use Rattle.std.specs.Prelude.{◌≡◌, ◌<◌, ◌≤◌, ◌+◌, ℕ, ℤ, Bool, true, false, is_none, option_map, unwrap_or, Option, Some, None, IsSome, IsTrue, List, [], ◌∷◌, ◌++◌, length, map}
 use Rattle.std.specs.List.{AllByRecursion}
 use Rattle.std.proofs.Common.{refl, sym, ap, ap₂, subst, ◌∙◌}
 use Rattle.std.proofs.lemmas.Bool.{false≢true}
@@ -13,7 +13,7 @@ use Rattle.escrow_num.specs.declared.row.Row.{Row}
 use Rattle.escrow_num.specs.declared.value.RowName.{RowName}
 use Rattle.escrow_num.specs.declared.value.Value.{Value}
 use Rattle.escrow_num.specs.Reservation.{counted, changes_at}
-use Rattle.escrow_num.specs.Refusal.{refuse_if, first_refusal}
+use Rattle.escrow_num.specs.Refusal.{refuse_if, first_refusal, refusal_for}
 use Rattle.escrow_num.specs.Session.{IsSession}
 use Rattle.escrow_sql.specs.declared.statement.UpdateText.{UpdateText}
 use Rattle.escrow_sql.specs.declared.statement.Statement.TheVariants as statement
@@ -28,6 +28,7 @@ use Rattle.escrow_journal.specs.declared.journal.TheConstants.Journal.{MAX_RESER
 use Rattle.escrow_journal.specs.Reservations.{own}
 use Rattle.escrow_journal.specs.Open.{Open, grant_refusal}
 use Rattle.escrow_journal.specs.Open as txn
+use Rattle.escrow_num.specs.declared.failure.Failure.{Failure}
 use Rattle.escrow_num.specs.declared.failure.Failure.TheVariants as failure
 use Rattle.escrow_tables.specs.Committed.{Committed}
 use Rattle.escrow_machine.specs.Rows.{HasTable, row_named, with_plain}
@@ -43,7 +44,6 @@ use Rattle.escrow_machine.specs.Step.{step}
 use Rattle.escrow_machine.specs.Turn.{turn_of, update_refusals, update_reply, after_update}
 use Rattle.escrow_machine.specs.Valid.{IsOrderly, IsValid}
 use Rattle.escrow_core.proofs.Planned.{planned_in, plan_refused, plan_accepted, planned_early}
-use Rattle.escrow_machine.proofs.Refusals.{first_behind}
 use Rattle.escrow_core.proofs.Served.{update_serves}
 use Rattle.escrow_core.proofs.Serving.{MayWrite, accepted_step, after_look, fails, look_refused, served, survives_itself}
 use Rattle.escrow_core.proofs.Standing.{amounts_named, no_row, standing}

@@ -84,10 +84,7 @@ fn add(values: &mut Seq<Value>, cell: Cell) -> Result<(), Failure>
     if cell.place == 0 || cell.place - 1 != before {
         return Err(Failure::Store);
     }
-    match values.push(cell.value) {
-        Ok(()) => Ok(()),
-        Err(_) => Err(Failure::Memory),
-    }
+    Ok(values.push(cell.value)?)
 }
 
 impl Sink for Grouped {

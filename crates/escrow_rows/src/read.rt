@@ -113,10 +113,7 @@ fn push_amount(amounts: &mut Seq<Amount>, cell: &Row, place: usize) -> Result<()
     ensures { OnOk result ((a : ℤ) × (cell.now ≡ Int (pos place) ∷ Int a ∷ []) × (amounts.new ≡ amounts.old ++ a ∷ [])) }
 {
     let amount = amount_in(value_at(cell, place)?)?;
-    match amounts.push(amount) {
-        Ok(()) => Ok(()),
-        Err(_) => Err(Failure::Memory),
-    }
+    Ok(amounts.push(amount)?)
 }
 
 /// The amount that a value is.
@@ -151,10 +148,7 @@ fn push_value(
     ensures { OnOk result ((v : HeldValue) × (cell.now ≡ Int (pos place) ∷ stored v ∷ []) × (values.new.items ≡ values.old.items ++ v ∷ [])) }
 {
     let value = held(alloc, value_at(cell, place)?)?;
-    match values.push(value) {
-        Ok(()) => Ok(()),
-        Err(_) => Err(Failure::Memory),
-    }
+    Ok(values.push(value)?)
 }
 
 /// The value of a cell at a place.

@@ -75,10 +75,7 @@ fn push_table(tables: &mut Vec<ListedTable>, row: &Row) -> Result<(), Failure>
     ensures { OnOk result ((t : Listed) × (row.now ≡ listed_row t) × (tables.new.items ≡ tables.old.items ++ t ∷ [])) }
 {
     let table = listed_table(row)?;
-    match tables.push(table) {
-        Ok(()) => Ok(()),
-        Err(_) => Err(Failure::Memory),
-    }
+    Ok(tables.push(table)?)
 }
 
 /// The table that a row of TAB lists.
