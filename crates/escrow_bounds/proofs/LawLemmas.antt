@@ -57,9 +57,10 @@ pub same_extremes : (coeffs amounts : List ℤ) (row : RowName) (held : List Res
 same_extremes coeffs amounts row held covered =
     let all = map (changes_at row) held in
     let own = of_row row held in
-    let f = form coeffs amounts in
-    (least_is coeffs amounts all covered ∙ ap (λ (z : ℤ). f +ℤ z) (falls_same coeffs row held) ∙ sym (least_is coeffs amounts own covered),
-    greatest_is coeffs amounts all covered ∙ ap (λ (z : ℤ). f +ℤ z) (rises_same coeffs row held) ∙ sym (greatest_is coeffs amounts own covered))
+    let f = form coeffs amounts in (
+      least_is coeffs amounts all covered ∙ ap (λ (z : ℤ). f +ℤ z) (falls_same coeffs row held) ∙ sym (least_is coeffs amounts own covered),
+      greatest_is coeffs amounts all covered ∙ ap (λ (z : ℤ). f +ℤ z) (rises_same coeffs row held) ∙ sym (greatest_is coeffs amounts own covered),
+    )
 
 pub same_grant_rule : (checks : List Check) (amounts changes : List ℤ) (row : RowName) (held : List Reservation) → AllByRecursion (λ (check : Check). IsCovered check.coeffs amounts) checks
     → broken checks amounts changes (map (changes_at row) held) ≡ broken checks amounts changes (of_row row held)

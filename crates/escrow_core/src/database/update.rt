@@ -35,7 +35,9 @@ impl<S: Alter> Database<S> {
     {
         let (place, plan) = self.plan(alloc, session, text)?;
         match plan {
-            Plan::Reserve { key, changes } => self.reserve(alloc, session, text, place, key, changes),
+            Plan::Reserve { key, changes } => self.reserve(
+                alloc, session, text, place, key, changes,
+            ),
             Plan::Plain { key, values } => self.replace(alloc, session, text, place, key, values),
         }
     }
