@@ -15,5 +15,4 @@ pub mod Serving
 pub mod Shown
 pub mod Standing
 pub mod SpreadLemmas
-pub mod Txns
 pub mod Updating

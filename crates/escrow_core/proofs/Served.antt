@@ -1,11 +1,11 @@
 -- How a call that served a statement meets the machine's step.
-use Rattle.std.specs.Prelude.{◌≡◌, ◌⊎◌, ℕ, true, is_none, nat_le, option_map, unwrap_or, MatchOption, IsTrue, IfSome, Option, Some, None, List, [], ◌∷◌, length}
+use Rattle.std.specs.Prelude.{◌≡◌, ◌⊎◌, ℕ, true, is_none, option_map, unwrap_or, MatchOption, IsTrue, IfSome, Option, Some, None, Result, Err, List, [], ◌∷◌, length}
 use Rattle.std.proofs.Common.{inl, inr, refl, sym, ap, ◌∙◌, subst}
 use Rattle.std.proofs.lemmas.Bool.{and_from}
 use Rattle.escrow_num.specs.declared.refusal.Refusal.{Refusal}
 use Rattle.escrow_num.specs.declared.refusal.Refusal.TheVariants as refusal
 use Rattle.escrow_num.specs.declared.reservation.Savepoint.{Savepoint}
-use Rattle.escrow_num.specs.Refusal.{refuse_if, first_refusal, refusal_for}
+use Rattle.escrow_num.specs.Refusal.{first_refusal, refusal_for}
 use Rattle.escrow_sql.specs.declared.statement.Statement.{Statement}
 use Rattle.escrow_sql.specs.declared.statement.Statement.TheVariants as statement
 use Rattle.escrow_sql.specs.declared.statement.UpdateText.{UpdateText}
@@ -16,10 +16,9 @@ use Rattle.escrow_num.specs.declared.failure.Failure.{Failure}
 use Rattle.escrow_num.specs.declared.failure.Failure.TheVariants as failure
 use Rattle.escrow_machine.specs.Reply.{failure_of}
 use Rattle.escrow_machine.specs.Accepted.{IsAccepted, IsRefusal}
-use Rattle.escrow_journal.specs.Open.{released, returned_to}
-use Rattle.escrow_journal.specs.declared.journal.TheConstants.Journal.{MAX_SAVEPOINTS}
-use Rattle.escrow_journal.specs.Reservations.{own, own_savepoints}
-use Rattle.escrow_journal.specs.Savepoints.{savepoint_of, without_savepoint, after}
+use Rattle.escrow_journal.specs.Open.{released, returned_to, savepoint_refusal}
+use Rattle.escrow_journal.specs.Reservations.{own}
+use Rattle.escrow_journal.specs.Savepoints.{savepoint_of, after}
 use Rattle.escrow_machine.specs.State.{State, open_in, with_open}
 use Rattle.escrow_machine.specs.Step.{refusals, step, fails_for, may_fail, IsStep, StepOrRefusal}
 use Rattle.escrow_machine.specs.Turn.{turn_of, update_reply, after_update, after_commit, after_rollback, after_savepoint, after_rollback_to}
@@ -89,33 +88,29 @@ pub rollback_serves : (s : State) (session : ℕ) → StepOrRefusal s session st
 unfolding turn_of
 rollback_serves s session = accepted_serves s session statement.Rollback refl
 
--- why a session gets no savepoint of a name
-abbrev pub savepoint_full : State → ℕ → List ℕ → Option Refusal
-savepoint_full s session name = refuse_if (nat_le MAX_SAVEPOINTS (length (own_savepoints session (without_savepoint session name s.savepoints)))) refusal.TooManySavepoints
-
-savepoint_accepted : (s : State) (session : ℕ) (name : List ℕ) → savepoint_full s session name ≡ None → IsAccepted s session (statement.Savepoint name)
+-- SAVEPOINT: made where there is no reason against it, else refused for the reason, or out of memory
+pub savepoint_accepted : (s : State) (session : ℕ) (name : List ℕ) → savepoint_refusal session name (open_in s) ≡ None → IsAccepted s session (statement.Savepoint name)
 unfolding turn_of
 savepoint_accepted s session name room = ap (λ (o : Option Refusal). first_refusal (o ∷ [])) room
 
--- SAVEPOINT: made where there is no reason against it, else refused for the reason, or out of memory
-pub savepoint_serves : (s : State) (session : ℕ) (name : List ℕ) → savepoint_full s session name ≡ None
+pub savepoint_serves : (s : State) (session : ℕ) (name : List ℕ) → savepoint_refusal session name (open_in s) ≡ None
     → StepOrRefusal s session (statement.Savepoint name) (reply.Savepoint name) (after_savepoint s session name)
 unfolding turn_of
 savepoint_serves s session name room = accepted_serves s session (statement.Savepoint name) (savepoint_accepted s session name room)
 
-savepoint_refused : (s : State) (session : ℕ) (name : List ℕ) (r : Refusal) → savepoint_full s session name ≡ Some r
+savepoint_refused : (s : State) (session : ℕ) (name : List ℕ) (r : Refusal) → savepoint_refusal session name (open_in s) ≡ Some r
     → StepOrRefusal s session (statement.Savepoint name) (reply.Refused r) s
 unfolding turn_of
 savepoint_refused s session name r full =
     rule_serves s session (statement.Savepoint name) r (ap (λ (o : Option Refusal). first_refusal (o ∷ [])) full)
 
-savepoint_wants : (s : State) (session : ℕ) (name : List ℕ) → savepoint_full s session name ≡ None
+savepoint_wants : (s : State) (session : ℕ) (name : List ℕ) → savepoint_refusal session name (open_in s) ≡ None
     → StepOrRefusal s session (statement.Savepoint name) (reply.Refused refusal.Memory) s
 unfolding turn_of
 savepoint_wants s session name room =
     memory_serves s session (statement.Savepoint name) (savepoint_accepted s session name room) refl
 
-refused_by : (s : State) (session : ℕ) (name : List ℕ) (r : Refusal) (o : Option Refusal) → savepoint_full s session name ≡ o
+refused_by : (s : State) (session : ℕ) (name : List ℕ) (r : Refusal) (o : Option Refusal) → savepoint_refusal session name (open_in s) ≡ o
     → IfSome o (λ e. e ≡ r) → (o ≡ Some r) ⊎ (r ≡ refusal.Memory) → StepOrRefusal s session (statement.Savepoint name) (reply.Refused r) s
 refused_by s session name r None is first only = elim only [
   | inl e ↦ absurd (cc)
@@ -123,9 +118,14 @@ refused_by s session name r None is first only = elim only [
 ]
 refused_by s session name r (Some e) is first only = savepoint_refused s session name r (is ∙ ap Some first)
 
-pub savepoint_refuses : (s : State) (session : ℕ) (name : List ℕ) (r : Refusal) → IfSome (savepoint_full s session name) (λ e. e ≡ r)
-    → (savepoint_full s session name ≡ Some r) ⊎ (r ≡ refusal.Memory) → StepOrRefusal s session (statement.Savepoint name) (reply.Refused r) s
-savepoint_refuses s session name r first only = refused_by s session name r (savepoint_full s session name) refl first only
+pub savepoint_refuses : (s : State) (session : ℕ) (name : List ℕ) (r : Refusal) → IfSome (savepoint_refusal session name (open_in s)) (λ e. e ≡ r)
+    → (savepoint_refusal session name (open_in s) ≡ Some r) ⊎ (r ≡ refusal.Memory) → StepOrRefusal s session (statement.Savepoint name) (reply.Refused r) s
+savepoint_refuses s session name r first only = refused_by s session name r (savepoint_refusal session name (open_in s)) refl first only
+
+-- what is refused for the reason that there is, if there is one, is refused for that reason
+pub same_reason : {X : Type 0} (o : Option Refusal) (result : Result X Refusal) (r : Refusal) → IfSome o (λ e. result ≡ Err e) → result ≡ Err r → IfSome o (λ e. e ≡ r)
+same_reason None result r refused err = tt
+same_reason (Some e) result r refused err = let same : Err e ≡ Err r = sym refused ∙ err in cc
 
 -- ROLLBACK TO, by how many reservations came after the savepoint, if there is one
 back_at : (s : State) (session : ℕ) (name : List ℕ) (o : Option Savepoint) (count : ℕ) → savepoint_of session name s.savepoints ≡ o

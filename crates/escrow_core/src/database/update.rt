@@ -9,11 +9,9 @@ use std::alloc::Global;
 
 impl<S: Alter> Database<S> {
     ghost use Rattle.std.specs.Prelude.{◌≡◌, None, Some, IfOk, IfErr, IsSomeAnd, length, option_map};
-    ghost use Rattle.sqlite.specs.Held.{state};
-    ghost use Rattle.sqlite.specs.State.{HasCleanDisk};
     ghost use Rattle.escrow_num.specs.Refusal.{first_refusal};
     ghost use Rattle.escrow_num.specs.Session.{IsSession};
-    ghost use Rattle.escrow_machine.specs.Asked.{plan_of, row_name};
+    ghost use Rattle.escrow_machine.specs.Asked.{plan_of};
     ghost use Rattle.escrow_schema.specs.Catalog.{place_named, table_named};
     ghost use Rattle.escrow_schema.specs.Column.{reservables};
     ghost use Rattle.escrow_core.specs.Serves.{Serves};

@@ -1,10 +1,6 @@
-use Rattle.std.proofs.Common.{subst}
 use Rattle.escrow_core.specs.Inside.{seen_of}
-use Rattle.escrow_core.specs.Seen.{IsKept}
-use Rattle.escrow_machine.specs.State.{State}
 use Rattle.escrow_machine.specs.Turn.{after_rollback_to}
 use Rattle.escrow_core.proofs.Serving.{apart_keeps}
-use Rattle.escrow_core.proofs.Txns.{back_is}
 use Rattle.escrow_machine.proofs.ValidEnds.{back_orderly, back_valid}
 use Rattle.escrow_core.proofs.database.Database.rollback_to.Goals as goal
 
@@ -14,5 +10,4 @@ invariant_of-self g c =
     let session = c.args.session in
     let name = c.args.name in
     rw c.cut.ensures.cut
-    (subst (λ (s : State). IsKept g.S.Store (record { store = d.store; state = s })) (back_is d.state session name)
-    (apart_keeps g.S.Store d (after_rollback_to d.state session name) c.self.invariant (back_orderly d.state session name c.self.invariant.orderly) (back_valid d.state session name)))
+    (apart_keeps g.S.Store d (after_rollback_to d.state session name) c.self.invariant (back_orderly d.state session name c.self.invariant.orderly) (back_valid d.state session name))

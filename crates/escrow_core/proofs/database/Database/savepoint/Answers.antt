@@ -8,9 +8,8 @@ use Rattle.escrow_core.specs.Inside.{seen_of}
 use Rattle.escrow_machine.specs.Turn.{after_savepoint}
 use Rattle.escrow_machine.proofs.Accepted.{savepoint_room}
 use Rattle.escrow_machine.proofs.Refusals.{no_reason}
-use Rattle.escrow_core.proofs.Served.{savepoint_serves, savepoint_refuses}
+use Rattle.escrow_core.proofs.Served.{same_reason, savepoint_accepted, savepoint_serves, savepoint_refuses}
 use Rattle.escrow_core.proofs.Serving.{apart_keeps, left_by, served_apart}
-use Rattle.escrow_core.proofs.Txns.{savepoint_accepted, same_reason}
 use Rattle.escrow_machine.proofs.ValidSavepoint.{savepoint_orderly, savepoint_valid}
 use Rattle.escrow_core.proofs.database.Database.savepoint.Goals as goal
 
