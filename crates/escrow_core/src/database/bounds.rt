@@ -1,14 +1,14 @@
 use crate::bounds::row_bounds;
 use crate::database::Database;
 use escrow_machine::Reply;
-use escrow_num::{Refusal, RowName, Session};
+use escrow_num::{Refusal, RowName};
 use escrow_schema::{check_key, value_of};
 use escrow_sql::{RowText, Statement};
 use sqlite::Alter;
 use std::alloc::Global;
 
 impl<S: Alter> Database<S> {
-    ghost use Rattle.std.specs.Prelude.{◌≡◌, Some, IfOk};
+    ghost use Rattle.std.specs.Prelude.{ℕ, ◌≡◌, Some, IfOk};
     ghost use Rattle.std.specs.Result.{result_err};
     ghost use Rattle.escrow_num.specs.Refusal.{first_refusal};
     ghost use Rattle.escrow_schema.specs.Catalog.{place_named};
@@ -18,15 +18,10 @@ impl<S: Alter> Database<S> {
 
     /// SHOW BOUNDS: how far the open reservations of all sessions can move the RESERVABLE columns and the
     /// declared checks of a row. Nothing changes.
-    pub(crate) fn show_bounds(
-        &mut self,
-        alloc: Global,
-        session: Session,
-        text: &RowText,
-    ) -> Result<Reply, Refusal>
-        ensures { Serves S.Store session (Statement.ShowBounds text.now) self.old (answer_of result) self.new }
+    pub(crate) fn show_bounds(&mut self, alloc: Global, text: &RowText) -> Result<Reply, Refusal>
+        ensures { (session : ℕ) → Serves S.Store session (Statement.ShowBounds text.now) self.old (answer_of result) self.new }
     {
-        let place = self.check_bounds(session, text)?;
+        let place = self.check_bounds(text)?;
         let name = RowName {
             table: text.table,
             key: value_of(alloc, &text.row.literal)?,
@@ -40,9 +35,9 @@ impl<S: Alter> Database<S> {
 
     /// The place of the table of a SHOW BOUNDS, or why it is refused before its row is looked for.
     #[tactic(auto, unfolding(escrow_machine::specs::Turn::turn_of))]
-    fn check_bounds(&self, session: Session, text: &RowText) -> Result<usize, Refusal>
+    fn check_bounds(&self, text: &RowText) -> Result<usize, Refusal>
         ensures place { IfOk result (λ place. place_named self.now.state.catalog text.now.table ≡ Some place) }
-        ensures early { result_err result ≡ first_refusal (turn_of self.now.state session (Statement.ShowBounds text.now)).early }
+        ensures early { (session : ℕ) → result_err result ≡ first_refusal (turn_of self.now.state session (Statement.ShowBounds text.now)).early }
     {
         let Some(place) = self.tables.place(text.table) else {
             return Err(Refusal::NoSuchTable);

@@ -2,7 +2,7 @@ ghost use Rattle.std.specs.Prelude.{◌≡◌, IfOk, option_to_list};
 
 use crate::database::Database;
 use escrow_machine::Reply;
-use escrow_num::{Failure, Name, Refusal, RowName, Seq, Session, Value};
+use escrow_num::{Failure, Name, Refusal, RowName, Seq, Value};
 use escrow_schema::{check_key, names_of, value_of};
 use escrow_sql::{SelectText, Statement, WhereText};
 use sqlite::Alter;
@@ -23,15 +23,10 @@ impl<S: Alter> Database<S> {
     ghost use Rattle.escrow_machine.specs.Turn.{turn_of};
 
     /// SELECT: the committed rows of a table, or the one of a key, in order of key. Nothing changes.
-    pub(crate) fn select(
-        &mut self,
-        alloc: Global,
-        session: Session,
-        text: &SelectText,
-    ) -> Result<Reply, Refusal>
-        ensures { Serves S.Store session (Statement.Select text.now) self.old (answer_of result) self.new }
+    pub(crate) fn select(&mut self, alloc: Global, text: &SelectText) -> Result<Reply, Refusal>
+        ensures { (session : ℕ) → Serves S.Store session (Statement.Select text.now) self.old (answer_of result) self.new }
     {
-        let place = self.check_select(session, text)?;
+        let place = self.check_select(text)?;
         let columns = self.column_names(alloc, place)?;
         let rows = self.shown_values(alloc, place, text)?;
         Ok(Reply::Rows { columns, rows })
@@ -39,9 +34,9 @@ impl<S: Alter> Database<S> {
 
     /// The place of the table of a SELECT, or why it is refused.
     #[tactic(auto, unfolding(escrow_machine::specs::Turn::turn_of))]
-    fn check_select(&self, session: Session, text: &SelectText) -> Result<usize, Refusal>
+    fn check_select(&self, text: &SelectText) -> Result<usize, Refusal>
         ensures place { IfOk result (λ place. place_named self.now.state.catalog text.now.table ≡ Some place) }
-        ensures early { result_err result ≡ first_refusal (turn_of self.now.state session (Statement.Select text.now)).early }
+        ensures early { (session : ℕ) → result_err result ≡ first_refusal (turn_of self.now.state session (Statement.Select text.now)).early }
     {
         let Some(place) = self.tables.place(text.table) else {
             return Err(Refusal::NoSuchTable);

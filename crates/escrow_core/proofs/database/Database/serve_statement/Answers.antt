@@ -32,3 +32,15 @@ returns-in-None g c =
     rw c.in-RollbackTo.is
     (served_apart g.S.Store session (statement.RollbackTo name) d c.rollback_to.new.self (reply.Refused refusal.NoSuchSavepoint) refl c.rollback_to.ensures.store
     (rw c.rollback_to.ensures.state (back_refuses d.state session name (sym c.rollback_to.ensures.count ∙ c.in-None.is))))
+
+pub returns-in-Select : goal.returns-in-Select
+returns-in-Select g c = rw c.in-Select.is (c.select.ensures c.args.session)
+
+pub returns-in-ShowTable : goal.returns-in-ShowTable
+returns-in-ShowTable g c = rw c.in-ShowTable.is (c.show_table.ensures c.args.session)
+
+pub returns-in-ShowJournal : goal.returns-in-ShowJournal
+returns-in-ShowJournal g c = rw c.in-ShowJournal.is (c.show_journal.ensures c.args.session)
+
+pub returns-in-ShowBounds : goal.returns-in-ShowBounds
+returns-in-ShowBounds g c = rw c.in-ShowBounds.is (c.show_bounds.ensures c.args.session)
