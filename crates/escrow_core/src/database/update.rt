@@ -8,7 +8,7 @@ use sqlite::Alter;
 use std::alloc::Global;
 
 impl<S: Alter> Database<S> {
-    ghost use Rattle.std.specs.Prelude.{◌≡◌, None, Some, IfOk, IfErr, IsSomeAnd, length, option_map};
+    ghost use Rattle.std.specs.Prelude.{◌≡◌, ℕ, None, Some, IfOk, IfErr, IsSomeAnd, length, option_map};
     ghost use Rattle.escrow_num.specs.Refusal.{first_refusal};
     ghost use Rattle.escrow_num.specs.Session.{IsSession};
     ghost use Rattle.escrow_machine.specs.Asked.{plan_of};
@@ -31,7 +31,7 @@ impl<S: Alter> Database<S> {
     ) -> Result<Reply, Refusal>
         ensures { Serves S.Store session (Statement.Update text.now) self.old (answer_of result) self.new }
     {
-        let (place, plan) = self.plan(alloc, session, text)?;
+        let (place, plan) = self.plan(alloc, text)?;
         match plan {
             Plan::Reserve { key, changes } => self.reserve(
                 alloc, session, text, place, key, changes,
@@ -42,15 +42,10 @@ impl<S: Alter> Database<S> {
 
     /// The place of the table of an UPDATE, and what it asks of a row; or why it can't be planned.
     #[tactic(auto, unfolding(escrow_machine::specs::Turn::turn_of))]
-    fn plan(
-        &self,
-        alloc: Global,
-        session: Session,
-        text: &UpdateText,
-    ) -> Result<(usize, Plan), Refusal>
+    fn plan(&self, alloc: Global, text: &UpdateText) -> Result<(usize, Plan), Refusal>
         ensures place { IfOk result (λ planned. place_named self.now.state.catalog text.now.table ≡ Some planned.0) }
         ensures plan { IfOk result (λ planned. plan_of self.now.state text.now ≡ Some planned.1) }
-        ensures refused { IfErr result (IsRefusal self.now.state session (Statement.Update text.now)) }
+        ensures refused { IfErr result (λ refusal. (session : ℕ) → IsRefusal self.now.state session (Statement.Update text.now) refusal) }
     {
         let Some(place) = self.tables.place(text.table) else {
             return Err(Refusal::NoSuchTable);

@@ -7,10 +7,10 @@ use Rattle.escrow_core.proofs.Planned.{unplanned}
 use Rattle.escrow_core.proofs.database.Database.plan.Goals as goal
 
 pub returns-in-Err-clause-refused : goal.returns-in-Err-clause-refused
-returns-in-Err-clause-refused g c =
+returns-in-Err-clause-refused g c = λ session.
     let s : State = (seen_of c.self.inside.tables c.self.inside.open).state in
     let same : s ≡ c.args.self.now.state = ap (λ (d : Seen _). d.state) c.self.view_is in
     let text = c.args.text.now in
     let table = c.table.result.now in
     let named : table_named s.catalog text.table ≡ Some table = c.table.ensures.named text.table (sym c.in-Some.ensures.place) in
-    rw (← same) (unplanned s c.args.session text table (Err c.in-Err.refusal) named c.in-Err.ensures.only c.in-Err.ensures.memory)
+    rw (← same) (unplanned s session text table (Err c.in-Err.refusal) named c.in-Err.ensures.only c.in-Err.ensures.memory)
