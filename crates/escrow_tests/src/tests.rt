@@ -1,5 +1,6 @@
 //! The tests.
 
+mod bounds;
 mod checks;
 mod num;
 mod schema;

@@ -5,12 +5,12 @@ use escrow_sql::{Item, Request, Statement, parse};
 use std::alloc::Global;
 use std::process::Abort;
 
-fn name(rt: &impl Abort, text: &str) -> Name {
+pub(super) fn name(rt: &impl Abort, text: &str) -> Name {
     Name::new(text.as_bytes()).expect(rt, "a name")
 }
 
 /// The RESERVABLE columns A, B, C and so on.
-fn columns(rt: &impl Abort) -> [Name; 10] {
+pub(super) fn columns(rt: &impl Abort) -> [Name; 10] {
     let mut columns = [name(rt, "A"); 10];
     let texts = ["A", "B", "C", "D", "E", "F", "G", "H", "I", "J"];
     for (column, text) in columns.iter_mut().zip(texts) {
@@ -20,7 +20,7 @@ fn columns(rt: &impl Abort) -> [Name; 10] {
 }
 
 /// The one check that a table's text declares over RESERVABLE columns.
-fn check(rt: &impl Abort, alloc: Global, columns: &[Name], text: &str) -> Check {
+pub(super) fn check(rt: &impl Abort, alloc: Global, columns: &[Name], text: &str) -> Check {
     assert!(rt; columns.len() <= Coefficients::MAX_LEN);
     let Ok(Request::Statement(Statement::Create(create))) = parse(alloc, text) else {
         panic!(rt; "no table: {text}");
@@ -35,7 +35,7 @@ fn check(rt: &impl Abort, alloc: Global, columns: &[Name], text: &str) -> Check 
 }
 
 /// A row's amounts, or changes of them.
-fn amounts(rt: &impl Abort, alloc: Global, values: &[i64]) -> Seq<Amount> {
+pub(super) fn amounts(rt: &impl Abort, alloc: Global, values: &[i64]) -> Seq<Amount> {
     let mut amounts = Seq::new(alloc);
     for value in values {
         let amount = Amount::new(*value).expect(rt, "an amount");
@@ -133,7 +133,7 @@ fn agrees(rt: &impl Abort, alloc: Global, check: &Check, coeffs: [i64; 3], asked
 }
 
 /// What is broken of a check, part by part, if it is that check.
-fn parts(check: &Check, breach: Option<Breach>) -> Option<(Side, i128, i128)> {
+pub(super) fn parts(check: &Check, breach: Option<Breach>) -> Option<(Side, i128, i128)> {
     let breach = breach?;
     if breach.check != check.name {
         return None;

@@ -1,0 +1,77 @@
+//! Worst-case sums of a row, kept between calls.
+ghost use Rattle.std.specs.Prelude.{◌≡◌, ◌<◌, ℤ, None, List, [], ◌∷◌, length};
+ghost use Rattle.escrow_checks.specs.declared.spread.TheConstants.Spread.{MAX_OPEN};
+ghost use Rattle.escrow_bounds.specs.Places.{place_at};
+ghost use Rattle.escrow_tests.specs.Placed.{IsPlaced};
+
+use crate::tests::checks::{amounts, check, columns, name, parts};
+use escrow_bounds::Bounds;
+use escrow_checks::{Check, Coefficients};
+use escrow_num::{Amount, End, RowName, Side, Value};
+use std::process::Abort;
+
+/// A row of a table.
+fn row(rt: &impl Abort) -> RowName {
+    RowName {
+        table: name(rt, "MIX"),
+        key: Value::Number(Amount::ZERO),
+    }
+}
+
+/// Makes a place for a row that has none, of one check.
+fn reserve(rt: &impl Abort, bounds: &mut Bounds, row: &RowName, values: &[Amount], check: &Check)
+    requires { place_at bounds.old row.now ≡ None }
+    ensures { IsPlaced bounds.new row.now [] }
+{
+    assert!(rt; values.len() <= Coefficients::MAX_LEN);
+    assert!(rt; check.coeffs.as_slice().len() <= values.len());
+    bounds.reserve(row, values, &[*check]).expect(rt, "memory");
+}
+
+/// Counts a reservation.
+fn add(bounds: &mut Bounds, row: &RowName, changes: &[Amount])
+    requires { (held : List (List ℤ)) × IsPlaced bounds.old row.now held × (length held < MAX_OPEN) }
+    ensures { (held : List (List ℤ)) → IsPlaced bounds.old row.now held → IsPlaced bounds.new row.now (changes.now ∷ held) }
+{
+    bounds.add(row, changes);
+}
+
+/// Ends the first of two reservations that were counted.
+fn commit_first(bounds: &mut Bounds, row: &RowName, first: &[Amount], second: &[Amount])
+    requires { IsPlaced bounds.old row.now (second.now ∷ first.now ∷ []) }
+    ensures { IsPlaced bounds.new row.now (second.now ∷ []) }
+{
+    bounds.remove(row, first, End::Commit);
+}
+
+/// The least and the greatest value of the check.
+fn worst(bounds: &Bounds, row: &RowName) -> (i128, i128)
+    requires { (held : List (List ℤ)) × IsPlaced bounds.now row.now held }
+{
+    let (least, greatest) = bounds.worst(row, 0);
+    (least.get(), greatest.get())
+}
+
+/// A check of two columns.
+const MIX: &str = "CREATE TABLE T (CHECK (2 * A + 3 * B <= 100))";
+
+/// What is counted moves the worst cases; a commit moves the amounts.
+#[test]
+fn sums_are_kept_between_calls(rt: HostRuntime) {
+    let alloc = rt.alloc();
+    let check = check(&rt, alloc, &columns(&rt)[..2], MIX);
+    let values = amounts(&rt, alloc, &[10, 20]);
+    let (a, b) = (amounts(&rt, alloc, &[5, 0]), amounts(&rt, alloc, &[0, 3]));
+    let more = amounts(&rt, alloc, &[0, 4]);
+    let row = row(&rt);
+    let mut bounds = Bounds::new(alloc);
+    reserve(&rt, &mut bounds, &row, values.as_slice(), &check);
+    add(&mut bounds, &row, a.as_slice());
+    assert_eq!(rt; worst(&bounds, &row), (80, 90));
+    let breach = bounds.verdict(&row, more.as_slice());
+    assert_eq!(rt; parts(&check, breach), Some((Side::High, 102, 100)));
+    add(&mut bounds, &row, b.as_slice());
+    assert_eq!(rt; worst(&bounds, &row), (80, 99));
+    commit_first(&mut bounds, &row, a.as_slice(), b.as_slice());
+    assert_eq!(rt; worst(&bounds, &row), (90, 99));
+}
