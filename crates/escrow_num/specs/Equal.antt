@@ -3,7 +3,7 @@ use Rattle.std.specs.Prelude.{◌≡◌, Bool, true, false, ◌&&◌, bytes_eq, 
 use Rattle.std.specs.Bool.{Decides}
 use Rattle.std.specs.Cmp.{IsEquivalence, decided, signed_Decides}
 use Rattle.std.specs.Cmp.Lexicographic.{bytes_decides}
-use Rattle.std.proofs.Common.{ap, ap₂, ◌∙◌}
+use Rattle.std.proofs.Common.{ap, ap₂}
 use Rattle.escrow_num.specs.declared.value.RowName.{RowName}
 use Rattle.escrow_num.specs.declared.value.Value.{Value}
 use Rattle.escrow_num.specs.declared.value.Value.TheVariants.{Number, Text}
