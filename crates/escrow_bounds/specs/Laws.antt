@@ -31,11 +31,11 @@ SameExtremes =
 
 -- ---- every list of calls: places count just what is open, by the clauses of each call
 
--- without places nothing is open
+-- where there are no places and nothing is open
 abbrev pub NothingCounts : Type 0
 NothingCounts = CountsAll [] []
 
--- `reserve` makes a place of what isn't open
+-- `reserve` leaves what is counted: a new place counts nothing, and its row has nothing open
 abbrev pub ReserveCounts : Type 0
 ReserveCounts =
     (old new : Places) (row : RowName) (amounts : List ℤ) (checks : List Check) (held : List Reservation) → CountsAll old held
