@@ -259,8 +259,7 @@ module _ {S : Type 0} (g : Ghosts S) (session : ℕ) (asked : Statement) where
   -- `?` handed a refusal on
   pub handed_on : (old new : Seen S) (result : Result Reply Refusal) (r : Refusal) → IsErrAnd result (λ e. e ≡ r) → Serves g session asked old (reply.Refused r) new
       → Serves g session asked old (answer_of result) new
-  handed_on old new (Ok answer) r is serves = absurd is
-  handed_on old new (Err e) r is serves = subst (λ (q : Refusal). Serves g session asked old (reply.Refused q) new) (sym is) serves
+  handed_on old new result r is serves = subst (λ (answer : Reply). Serves g session asked old answer new) (sym (left_by result r is)) serves
 
   -- and the statement was refused before the store was asked
   pub refusal_serves : (d : Seen S) (result : Result Reply Refusal) (r : Refusal) → IsErrAnd result (λ e. e ≡ r) → IsRefusal d.state session asked r → Serves g session asked d (answer_of result) d
