@@ -1,7 +1,7 @@
 use crate::lists::{count_others, first_from, make_room, place_of_name};
 use escrow_num::{Name, Refusal, Reservation, Savepoint, Session};
 use smallvec::SmallVec;
-use std::alloc::{AllocError, Global};
+use std::alloc::{AllocFailed, Global};
 use std::marker::Model;
 use std::mem;
 
@@ -73,17 +73,19 @@ impl Journal {
     }
 
     /// Adds a reservation of the session, with an id above those that the journal holds, where it
-    /// holds fewer than [`Journal::MAX_RESERVATIONS`]. Want of memory is the only error, and then the
-    /// journal stays.
-    pub fn push(&mut self, r: Reservation) -> Result<(), AllocError>
+    /// holds fewer than [`Journal::MAX_RESERVATIONS`]. Want of memory is the only error, which hands the
+    /// reservation back, and then the journal stays.
+    pub fn push(&mut self, r: Reservation) -> Result<(), AllocFailed<Reservation>>
         requires own { r.session ≡ self.old.session }
         requires above { AllByRecursion (λ earlier. IsTrue (reservation_before earlier r)) self.old.reservations }
         requires room { length self.old.reservations < MAX_RESERVATIONS }
         ensures pushed { OnOk result (self.new ≡ pushed r self.old) }
         ensures unchanged { OnErr result (self.new ≡ self.old) }
+        ensures returned { IfErr result (λ failed. failed.value ≡ r) }
         ensures valid { IsLog self.new }
     {
-        Ok(self.reservations.push(r)?)
+        self.reservations.push(r)?;
+        Ok(())
     }
 
     /// Makes a savepoint of a name, with the id that the next reservation takes. An earlier one of
