@@ -104,18 +104,29 @@ cut_is session next name logs i log at =
     ∙ ap (λ found. unwrap_or (option_map (returned_to o) found) o)
     (ap (λ n. savepoint_of n name log.savepoints) at.number ∙ sym (savepoint_of_is session name logs i log at))
 
-counted_after : (session : ℕ) (name : List ℕ) (logs : List Log) (i : ℕ) (log : Log) → IsAt session logs i log
+later_found : (session : ℕ) (name : List ℕ) (logs : List Log) (i : ℕ) (log : Log) → IsAt session logs i log
     → (o : Option Savepoint) → savepoint_of session name log.savepoints ≡ o
-    → option_map length (option_map (λ p. after p log.reservations) o) ≡ option_map (λ p. length (after p (by_id (reservations_of logs)))) o
-counted_after session name logs i log at None found = refl
-counted_after session name logs i log at (Some p) found =
+    → option_map (λ p. after p log.reservations) o ≡ option_map (λ p. after p (by_id (reservations_of logs))) o
+later_found session name logs i log at None found = refl
+later_found session name logs i log at (Some p) found =
     let own = found_session session name log.savepoints p found in
-    ap (λ rs. Some (length rs)) (sym (only_own session logs i log at (is_after p) (other_not_after session p own)))
+    ap (λ rs. Some rs) (sym (only_own session logs i log at (is_after p) (other_not_after session p own)))
 
--- as many of all are after a savepoint of the session as of its journal
+-- the same of all are after a savepoint of the session as of its journal
+pub later_is : (session next : ℕ) (name : List ℕ) (logs : List Log) (i : ℕ) (log : Log) → IsAt session logs i log
+    → later name log ≡ option_map (λ p. after p (opened logs next).reservations) (savepoint_of session name (opened logs next).savepoints)
+later_is session next name logs i log at =
+    ap (λ n. option_map (λ p. after p log.reservations) (savepoint_of n name log.savepoints)) at.number
+    ∙ later_found session name logs i log at (savepoint_of session name log.savepoints) refl
+    ∙ ap (option_map (λ p. after p (by_id (reservations_of logs)))) (sym (savepoint_of_is session name logs i log at))
+
+mapped_twice : {A B C : Type 0} (f : A → B) (g : B → C) (o : Option A) → option_map g (option_map f o) ≡ option_map (λ x. g (f x)) o
+mapped_twice f g None = refl
+mapped_twice f g (Some x) = refl
+
+-- and so as many of all as of its journal
 pub released_is : (session next : ℕ) (name : List ℕ) (logs : List Log) (i : ℕ) (log : Log) → IsAt session logs i log
     → option_map length (later name log) ≡ released session name (opened logs next)
 released_is session next name logs i log at =
-    ap (λ n. option_map length (option_map (λ p. after p log.reservations) (savepoint_of n name log.savepoints))) at.number
-    ∙ counted_after session name logs i log at (savepoint_of session name log.savepoints) refl
-    ∙ ap (option_map (λ p. length (after p (by_id (reservations_of logs))))) (sym (savepoint_of_is session name logs i log at))
+    ap (option_map length) (later_is session next name logs i log at)
+    ∙ mapped_twice (λ (p : Savepoint). after p (by_id (reservations_of logs))) (λ (rs : List Reservation). length rs) (savepoint_of session name (savepoints_of logs))

@@ -8,7 +8,7 @@ use crate::merge::merged;
 use escrow_journal::Journal;
 use escrow_num::{Changes, Name, Refusal, Reservation, RowName, Session};
 use smallvec::SmallVec;
-use std::alloc::{AllocError, Global};
+use std::alloc::{AllocError, AllocFailed, Global};
 use std::marker::Model;
 
 /// The open transactions of a database: a journal for each of its 64 sessions, and the id that the
@@ -33,8 +33,9 @@ impl Model for TxnTable {
 }
 
 impl TxnTable {
-    ghost use Rattle.std.specs.Prelude.{◌≡◌, ◌⊎◌, IfOk, IfErr, IfSome, IsErrOf, OnOk, OnErr, Err, Some, None, length, map};
+    ghost use Rattle.std.specs.Prelude.{◌≡◌, ◌⊎◌, IfOk, IfErr, IfSome, IsErrOf, OnOk, OnErr, Err, Some, None, length, map, option_copied, option_map};
     ghost use Rattle.escrow_journal.specs.Reservations.{own, own_savepoints};
+    ghost use Rattle.escrow_journal.specs.Savepoints.{savepoint_of, after};
     ghost use Rattle.escrow_journal.specs.Open.{nothing_open, is_open, id_left, grant_refusal, granted, savepoint_refusal, saved, released, cut_back, ended};
 
     /// A table in which nothing is open and the next id is 1. Out of memory is the only error.
@@ -91,27 +92,35 @@ impl TxnTable {
 
     /// Grants a session a reservation of changes of a row, where nothing but memory refuses it: it
     /// takes the next id, and is the last of the open ones. Answers its id. Want of memory is the only
-    /// error: then nothing changes, and no id is taken.
+    /// error, which hands the row's name back: then nothing changes, and no id is taken.
     pub fn grant(
         &mut self,
         session: Session,
         row: RowName,
         changes: Changes,
-    ) -> Result<u64, AllocError>
+    ) -> Result<u64, AllocFailed<RowName>>
         requires { grant_refusal session self.old ≡ None }
         ensures id { IfOk result (λ id. id ≡ self.old.next_id) }
         ensures granted { OnOk result (self.new ≡ granted session row changes self.old) }
         ensures unchanged { OnErr result (self.new ≡ self.old) }
+        ensures returned { IfErr result (λ failed. failed.value ≡ row) }
     {
         let id = self.next_id;
-        self.journals[place_of_session(session)].push(Reservation {
+        let reservation = Reservation {
             id,
             session,
             row,
             changes,
-        })?;
-        self.next_id += 1;
-        Ok(id)
+        };
+        match self.journals[place_of_session(session)].push(reservation) {
+            Ok(()) => {
+                self.next_id += 1;
+                Ok(id)
+            }
+            Err(failed) => Err(AllocFailed {
+                value: failed.value.row,
+            }),
+        }
     }
 
     /// Makes a savepoint of a session. An earlier one of that name is taken out (Oracle's rule), and
@@ -135,6 +144,14 @@ impl TxnTable {
         ensures cut { self.new ≡ cut_back session name self.old }
     {
         self.journals[place_of_session(session)].cut(name)
+    }
+
+    /// The reservations of a session after its savepoint of a name, in order of grant: those that
+    /// [`TxnTable::cut`] would take out. `None` exactly where there is no such savepoint.
+    pub fn after(&self, session: Session, name: Name) -> Option<&[Reservation]>
+        ensures { option_copied result ≡ option_map (λ p. after p self.now.reservations) (savepoint_of session name self.now.savepoints) }
+    {
+        self.journals[place_of_session(session)].after(name)
     }
 
     /// Ends a session's transaction: hands out its reservations, in order of grant, and leaves

@@ -24,8 +24,8 @@ push-requires-clause-room c =
     let none : grant_refusal c.args.session (opened logs c.self.inside.next_id) ≡ None = ap (λ (o : Open). grant_refusal c.args.session o) c.self.view_is ∙ c.requires in
     has_room c.args.session c.self.inside.next_id logs c.place_of_session.result log at none
 
-pub invariant_of-self-2 : goal.invariant_of-self-2
-invariant_of-self-2 c =
+pub invariant_of-self : goal.invariant_of-self
+invariant_of-self c =
     let logs = c.self.inside.journals.items in
     let next = c.self.inside.next_id in
     let log = c.index_mut.result.now in
@@ -35,16 +35,16 @@ invariant_of-self-2 c =
     let below = below_at logs next c.args.session c.place_of_session.result log c.self.invariant at in
     let none : grant_refusal c.args.session (opened logs next) ≡ None = ap (λ (o : Open). grant_refusal c.args.session o) c.self.view_is ∙ c.requires in
     let left = (is_free c.args.session (opened logs next) none).more_ids in
-    journals_kept logs next (next + 1) c.args.session c.place_of_session.result new log c.self.invariant at c.in_ok-push.ensures.valid
-    (push_kept next r new log below refl c.in_ok-push.ensures.pushed) (omega arith) (omega arith)
+    journals_kept logs next (next + 1) c.args.session c.place_of_session.result new log c.self.invariant at c.in-Ok.ensures.valid
+    (push_kept next r new log below refl c.in-Ok.ensures.pushed) (omega arith) (omega arith)
 
-pub returns-clause-granted : goal.returns-clause-granted
-returns-clause-granted c =
+pub returns-in-Ok-clause-granted : goal.returns-in-Ok-clause-granted
+returns-in-Ok-clause-granted c =
     let logs = c.self.inside.journals.items in
     let next = c.self.inside.next_id in
     let log = c.index_mut.result.now in
     let at = place_is logs next c.args.session c.place_of_session.result log c.self.invariant c.place_of_session.ensures.within c.place_of_session.ensures.place c.index_mut.ensures.value in
     let below = below_at logs next c.args.session c.place_of_session.result log c.self.invariant at in
-    ap (λ (l : Log). opened (set logs c.place_of_session.result l) (next + 1)) c.in_ok-push.ensures.pushed
+    ap (λ (l : Log). opened (set logs c.place_of_session.result l) (next + 1)) c.in-Ok.ensures.pushed
     ∙ granted_is c.args.session next c.args.row c.args.changes logs c.place_of_session.result log at c.self.invariant.below below
     ∙ ap (λ (o : Open). granted c.args.session c.args.row c.args.changes o) c.self.view_is
