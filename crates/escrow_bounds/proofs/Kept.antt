@@ -71,7 +71,7 @@ place_kept old new reservations place amounts checks columns counts = record {
   counts = counts;
 }
 
-length-after : (end : End) (amounts changes : List ℤ) → length (amounts_after end amounts changes) ≡ length amounts
+pub length-after : (end : End) (amounts changes : List ℤ) → length (amounts_after end amounts changes) ≡ length amounts
 length-after ends.Commit amounts changes = length-all_moved amounts changes
 length-after ends.Rollback amounts changes = refl
 

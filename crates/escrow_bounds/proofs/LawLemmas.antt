@@ -75,15 +75,15 @@ same_grant_rule (check ∷ checks) amounts changes row held covered =
 
 -- ---- one row and the others
 
-split : {X : Type 0} (b : Bool) → (b ≡ true → X) → (b ≡ false → X) → X
+pub split : {X : Type 0} (b : Bool) → (b ≡ true → X) → (b ≡ false → X) → X
 split true holds fails = holds refl
 split false holds fails = fails refl
 
 -- what holds of a row, and of each other, holds of all
-each_row : (P : RowName → Type 0) (row : RowName) → P row → ((other : RowName) → same_row row other ≡ false → P other) → (other : RowName) → P other
+pub each_row : (P : RowName → Type 0) (row : RowName) → P row → ((other : RowName) → same_row row other ≡ false → P other) → (other : RowName) → P other
 each_row P row own rest other = split (same_row row other) (λ is. subst P (row_same row other is) own) (rest other)
 
-other_way : (a b : RowName) → same_row a b ≡ false → same_row b a ≡ false
+pub other_way : (a b : RowName) → same_row a b ≡ false → same_row b a ≡ false
 other_way a b apart =
     split (same_row b a) (λ is. absurd (false≢true (sym apart ∙ subst (λ (row : RowName). same_row row b ≡ true) (row_same b a is) (same_row_itself b)))) (λ isnt. isnt)
 
@@ -91,12 +91,12 @@ append_one : (is_own : Bool) (own : List ℤ) (xs ys all : List (List ℤ)) → 
 append_one true own xs ys all is = ap (λ (zs : List (List ℤ)). own ∷ zs) is
 append_one false own xs ys all is = is
 
-of_append : (row : RowName) (before after : List Reservation) → of_row row (before ++ after) ≡ of_row row before ++ of_row row after
+pub of_append : (row : RowName) (before after : List Reservation) → of_row row (before ++ after) ≡ of_row row before ++ of_row row after
 of_append row [] after = refl
 of_append row (r ∷ before) after = append_one (same_row row r.row) (counted r.changes) (of_row row before) (of_row row after) (of_row row (before ++ after)) (of_append row before after)
 
 -- the reservations of its own row are one more, and those of another row are the same
-own_more : (r : Reservation) (before after : List Reservation) → of_row r.row (before ++ r ∷ after) ≡ of_row r.row before ++ counted r.changes ∷ of_row r.row after
+pub own_more : (r : Reservation) (before after : List Reservation) → of_row r.row (before ++ r ∷ after) ≡ of_row r.row before ++ counted r.changes ∷ of_row r.row after
 own_more r before after =
     of_append r.row before (r ∷ after)
     ∙ ap (λ (zs : List (List ℤ)). of_row r.row before ++ zs) (cond-true (same_row r.row r.row) (counted r.changes ∷ of_row r.row after) (of_row r.row after) (same_row_itself r.row))

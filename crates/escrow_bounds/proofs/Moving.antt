@@ -1,7 +1,9 @@
 -- Changes moved into amounts, column by column.
-use Rattle.std.proofs.Common.{◌≡◌, ℕ, zero, suc, ◌+◌, ℤ, pos, ◌+ℤ◌, ◌<◌, ◌≤◌, Bool, true, false, cond, List, [], ◌∷◌, length, set, get_or, take, refl, sym, ap, ap₂, ◌∙◌, subst, arith, add-one}
+use Rattle.std.proofs.Common.{◌≡◌, ℕ, zero, suc, ◌+◌, ℤ, pos, ◌+ℤ◌, ◌<◌, ◌≤◌, Bool, true, false, cond, Option, unwrap_or, List, [], ◌∷◌, ◌++◌, length, set, get_or, take, refl, sym, ap, ap₂, ◌∙◌, subst, arith, add-one}
 use Rattle.std.proofs.lemmas.Int.{ints}
+use Rattle.std.proofs.lemmas.List.{map_more}
 use Rattle.escrow_num.specs.Amount.{is_amount}
+use Rattle.escrow_num.specs.Reservation.{counted}
 use Rattle.escrow_bounds.specs.Moved.{moved, all_moved}
 
 pub length-all_moved : (amounts changes : List ℤ) → length (all_moved amounts changes) ≡ length amounts
@@ -50,3 +52,9 @@ moved_end (a ∷ rest) [] zero past = refl
 moved_end (a ∷ rest) [] (suc place) past = refl
 moved_end (a ∷ rest) (c ∷ changes) zero past = absurd (omega arith)
 moved_end (a ∷ rest) (c ∷ changes) (suc place) past = ap (λ (ys : List ℤ). moved a c ∷ ys) (moved_end rest changes place (omega arith))
+
+-- the changes that count, one more of them
+pub counted_push : (changes : List (Option ℤ)) (i : ℕ) (o : Option ℤ) (done : List ℤ) → i < length changes → o ≡ get_or changes i o
+    → done ≡ counted (take i changes) → done ++ unwrap_or o (pos 0) ∷ [] ≡ counted (take (i + 1) changes)
+counted_push changes i o done below at is =
+    rw (is, at) (sym (map_more (λ (c : Option ℤ). unwrap_or c (pos 0)) changes i o below))

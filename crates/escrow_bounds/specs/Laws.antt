@@ -1,5 +1,5 @@
 -- Believed: the statements of the laws in src/laws.rt.
-use Rattle.std.specs.Prelude.{◌≡◌, ℤ, true, false, Some, None, IsSome, List, [], ◌∷◌, ◌++◌, map}
+use Rattle.std.specs.Prelude.{◌≡◌, ℤ, Bool, true, false, not, Some, None, IsSome, List, [], ◌∷◌, ◌++◌, map, filter}
 use Rattle.std.specs.List.{AllByRecursion}
 use Rattle.escrow_num.specs.declared.reservation.Reservation.{Reservation}
 use Rattle.escrow_num.specs.declared.session.End.{End}
@@ -64,3 +64,11 @@ ReleaseCounts =
     → (is_counting (place_at old row) ≡ false → place_at new row ≡ None)
     → (is_counting (place_at old row) ≡ true → new ≡ old)
     → OthersStay row old new → CountsAll new held
+
+-- ---- the order in which reservations are counted
+
+-- those that pass a test may be counted before the others
+abbrev pub PartsCount : Type 0
+PartsCount =
+    (test : Reservation → Bool) (places : Places) (held : List Reservation) → CountsAll places held
+    → CountsAll places (filter test held ++ filter (λ r. not (test r)) held)

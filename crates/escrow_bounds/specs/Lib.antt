@@ -1,5 +1,6 @@
 pub mod Columns
 pub mod Counts
+pub mod Ended
 pub mod Held
 pub mod Inside
 pub mod Kept

@@ -18,3 +18,8 @@ all_moved (a ∷ rest) (c ∷ changes) = moved a c ∷ all_moved rest changes
 abbrev pub amounts_after : End → List ℤ → List ℤ → List ℤ
 amounts_after end.Commit amounts changes = all_moved amounts changes
 amounts_after end.Rollback amounts changes = amounts
+
+-- the committed amounts after reservations with such changes have ended so, one after another
+abbrev pub amounts_after_all : End → List ℤ → List (List ℤ) → List ℤ
+amounts_after_all end amounts [] = amounts
+amounts_after_all end amounts (changes ∷ rest) = amounts_after_all end (amounts_after end amounts changes) rest

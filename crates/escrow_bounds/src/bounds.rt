@@ -1,5 +1,6 @@
-ghost use Rattle.std.specs.Prelude.{◌≡◌, ℤ, List, [], ◌∷◌, ◌++◌, ◌<◌, ◌≤◌, true, false, OnOk, OnErr, IsSome, Some, None, is_some, length, option_copied, option_map, slice_get};
-ghost use Rattle.std.specs.List.{AllByRecursion};
+ghost use Rattle.std.specs.Prelude.{◌≡◌, ℤ, List, [], ◌∷◌, ◌++◌, ◌<◌, ◌≤◌, true, false, OnOk, OnErr, IsSome, Some, None, is_some, length, option_copied, option_map, slice_get, bytes_eq};
+ghost use Rattle.std.specs.List.{AllByRecursion, list_any};
+ghost use Rattle.escrow_num.specs.declared.reservation.Reservation.{Reservation};
 ghost use Rattle.escrow_checks.specs.Extremes.{least, greatest};
 ghost use Rattle.escrow_checks.specs.Form.{IsCovered};
 ghost use Rattle.escrow_checks.specs.Grant.{broken};
@@ -7,13 +8,16 @@ ghost use Rattle.escrow_checks.specs.declared.coefficients.TheConstants.Coeffici
 ghost use Rattle.escrow_checks.specs.declared.spread.TheConstants.Spread.{MAX_OPEN};
 ghost use Rattle.escrow_bounds.specs.Columns.{unit_form};
 ghost use Rattle.escrow_bounds.specs.Counts.{Counts, is_counting, IsNew, TakesIn, GivesBack};
+ghost use Rattle.escrow_bounds.specs.Ended.{AreEnded};
+ghost use Rattle.escrow_bounds.specs.Held.{CountsAll, AllCount};
 ghost use Rattle.escrow_bounds.specs.Kept.{Kept, checks_of};
 ghost use Rattle.escrow_bounds.specs.Places.{place_at, OthersStay, Becomes};
 ghost use Rattle.escrow_bounds.specs.declared.tracked.Tracked.{Tracked};
 
+use crate::changes::counted;
 use crate::place::Place;
 use escrow_checks::Check;
-use escrow_num::{Amount, Breach, End, RowName, Wide};
+use escrow_num::{Amount, Breach, End, Name, Reservation, RowName, Wide};
 use indexmap::IndexMap;
 use std::alloc::{AllocError, Global};
 use std::marker::Model;
@@ -107,6 +111,13 @@ impl Bounds {
         }
     }
 
+    /// Whether a row of a table has a place.
+    pub fn has_place_in(&self, table: Name) -> bool
+        ensures { result ≡ list_any (λ p. bytes_eq p.0.table table) self.now }
+    {
+        self.places.keys().any(|row| row.table == table)
+    }
+
     /// The committed amounts of a row that has a place.
     pub fn amounts(&self, row: &RowName) -> Option<&[Amount]>
         ensures { option_copied result ≡ option_map (λ place. place.amounts) (place_at self.now row.now) }
@@ -177,6 +188,34 @@ impl Bounds {
         if let Some(place) = self.places.get_mut(row) {
             place.give_back(changes, end);
         }
+    }
+
+    /// Counts reservations no more, since they have ended so, one after another: some of those that
+    /// the places count. Drops each place that then counts nothing.
+    pub fn remove_all(&mut self, reservations: &[Reservation], end: End)
+        requires counted { (rest : List Reservation) × CountsAll self.old (reservations.now ++ rest) }
+        requires short { AllByRecursion (λ r. length r.changes ≤ MAX_LEN) reservations.now }
+        ensures counts { (rest : List Reservation) → CountsAll self.old (reservations.now ++ rest) → CountsAll self.new rest }
+        ensures ends { AreEnded end reservations.now self.old self.new }
+        ensures counting { AllCount self.old → AllCount self.new }
+    {
+        for r in reservations {
+            self.remove_one(r, end);
+        }
+    }
+
+    /// Counts a reservation no more, since it has ended so, and drops its place if that then counts
+    /// nothing.
+    fn remove_one(&mut self, r: &Reservation, end: End)
+        requires counted { (rest : List Reservation) × CountsAll self.old (r.now ∷ rest) }
+        requires short { length r.now.changes ≤ MAX_LEN }
+        ensures counts { (rest : List Reservation) → CountsAll self.old (r.now ∷ rest) → CountsAll self.new rest }
+        ensures ends { AreEnded end (r.now ∷ []) self.old self.new }
+        ensures counting { AllCount self.old → AllCount self.new }
+    {
+        let amounts = counted(r.changes.as_slice());
+        self.remove(&r.row, &amounts[..r.changes.len()], end);
+        self.release(&r.row);
     }
 
     /// The place of a row.

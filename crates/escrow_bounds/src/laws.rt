@@ -2,7 +2,7 @@
 //! Those on calls speak by the clauses that the calls promise, so that whatever list of calls is made,
 //! each place counts just the open reservations of its row.
 
-ghost use Rattle.escrow_bounds.specs.Laws.{SameGrantRule, SameExtremes, NothingCounts, ReserveCounts, AddCounts, RemoveCounts, ReleaseCounts};
+ghost use Rattle.escrow_bounds.specs.Laws.{SameGrantRule, SameExtremes, NothingCounts, ReserveCounts, AddCounts, RemoveCounts, ReleaseCounts, PartsCount};
 
 /// The grant rule over all open reservations is that over those of the row, which its place counts.
 pub fn same_grant_rule()
@@ -37,4 +37,10 @@ pub fn remove_counts()
 /// `Bounds::release` leaves what is counted.
 pub fn release_counts()
     ensures { ReleaseCounts }
+{}
+
+/// The order in which reservations are counted doesn't matter: those that pass a test may come
+/// before the others.
+pub fn parts_count()
+    ensures { PartsCount }
 {}

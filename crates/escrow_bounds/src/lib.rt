@@ -6,8 +6,10 @@
 #![tactic(auto)]
 
 mod bounds;
+mod changes;
 pub mod laws;
 mod place;
 mod tracked;
 
 pub use bounds::Bounds;
+pub use changes::counted;

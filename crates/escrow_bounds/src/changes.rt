@@ -1,0 +1,20 @@
+//! What the changes of a reservation add, in place.
+ghost use Rattle.std.specs.Prelude.{◌≡◌, ◌≤◌, length, take};
+ghost use Rattle.escrow_num.specs.Reservation.{counted};
+ghost use Rattle.escrow_checks.specs.declared.coefficients.TheConstants.Coefficients.{MAX_LEN};
+
+use escrow_checks::Coefficients;
+use escrow_num::Amount;
+
+/// What changes add, column by column, in place: nothing where the UPDATE doesn't assign the column.
+/// They stand before what isn't used.
+pub fn counted(changes: &[Option<Amount>]) -> [Amount; Coefficients::MAX_LEN]
+    requires { length changes.now ≤ MAX_LEN }
+    ensures { take (length changes.now) result ≡ counted changes.now }
+{
+    let mut amounts = [Amount::ZERO; Coefficients::MAX_LEN];
+    for (i, change) in changes.iter().enumerate() {
+        amounts[i] = change.unwrap_or(Amount::ZERO);
+    }
+    amounts
+}
