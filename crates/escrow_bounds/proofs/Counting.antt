@@ -12,7 +12,7 @@ use Rattle.escrow_num.specs.Reservation.{counted}
 use Rattle.escrow_num.proofs.Items.{Has}
 use Rattle.escrow_num.proofs.Orders.{row_same, same_row_itself}
 use Rattle.escrow_bounds.specs.Counts.{is_counting, TakesIn}
-use Rattle.escrow_bounds.specs.Held.{of_row, CountsJust, CountsAll, AllCount, OthersCount}
+use Rattle.escrow_bounds.specs.Held.{of_row, CountsJust, CountsAll, AllCount}
 use Rattle.escrow_bounds.specs.Kept.{Kept}
 use Rattle.escrow_bounds.specs.Places.{Places, place_at, OthersStay, Becomes}
 use Rattle.escrow_bounds.proofs.LawLemmas.{split, each_row, other_way}
@@ -126,6 +126,10 @@ table_placed_is places held table all counts = both_ways
     (sym (ap (λ (row : RowName). bytes_eq row.table table) (row_same r.0.row p.0.0 p.2)) ∙ r.2))
 
 -- ---- every place counts
+
+-- every place of another row counts a reservation
+abbrev pub OthersCount : RowName → Places → Type 0
+OthersCount row places = (other : RowName) (place : Kept) → same_row row other ≡ false → place_at places other ≡ Some place → 0 < place.count
 
 -- after `reserve` the places of other rows still do
 pub reserve_counting : (old new : Places) (row : RowName) → AllCount old → OthersStay row old new → OthersCount row new

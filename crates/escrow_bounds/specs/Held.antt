@@ -1,5 +1,5 @@
 -- Believed: which places count the open reservations.
-use Rattle.std.specs.Prelude.{◌≡◌, ◌<◌, false, if◌then◌else◌, ℤ, Option, Some, None, List, [], ◌∷◌}
+use Rattle.std.specs.Prelude.{◌≡◌, ◌<◌, if◌then◌else◌, ℤ, Option, Some, None, List, [], ◌∷◌}
 use Rattle.escrow_num.specs.declared.reservation.Reservation.{Reservation}
 use Rattle.escrow_num.specs.declared.value.RowName.{RowName}
 use Rattle.escrow_num.specs.Order.{same_row}
@@ -25,7 +25,3 @@ CountsAll places held = (row : RowName) → CountsJust (place_at places row) (of
 -- every place counts a reservation
 abbrev pub AllCount : Places → Type 0
 AllCount places = (row : RowName) (place : Kept) → place_at places row ≡ Some place → 0 < place.count
-
--- every place of another row does
-abbrev pub OthersCount : RowName → Places → Type 0
-OthersCount row places = (other : RowName) (place : Kept) → same_row row other ≡ false → place_at places other ≡ Some place → 0 < place.count

@@ -127,13 +127,13 @@ fn take(rt: &impl Abort, table: &mut TxnTable, step: Step<'_>, alloc: Global) {
             holds(rt, table.journal(session(rt, number)), number, ids, names);
         }
         Step::After(number, text, ids) => {
-            let journal = table.journal(session(rt, number));
-            let later = journal.after(name(rt, text)).expect(rt, "a savepoint");
+            let later = table.after(session(rt, number), name(rt, text));
+            let later = later.expect(rt, "a savepoint");
             has_ids(rt, later, ids);
         }
         Step::Lacks(number, text) => {
-            let journal = table.journal(session(rt, number));
-            assert!(rt; journal.after(name(rt, text)).is_none(), "at {text}");
+            let later = table.after(session(rt, number), name(rt, text));
+            assert!(rt; later.is_none(), "at {text}");
         }
         Step::Next(id) => assert_eq!(rt; table.next_id(), Some(id)),
     }
