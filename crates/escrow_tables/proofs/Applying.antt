@@ -64,12 +64,11 @@ module _ (reservations : List Reservation) where
 
   -- a database with new amounts of the rows of all reservations is that of the rows with these applied
   pub held_after : (tables : List Counted) (rows : List Row) (news : List NewAmounts) (old new : Database) → AreTables (stored_of tables) → IsHeld tables rows old
-      → ArePuts (stored_of tables) reservations (map put_by news) → AllByRecursion (TellsPut (stored_of tables) reservations old) (map put_by news)
+      → ArePuts (stored_of tables) reservations (map put_by news) → AllByRecursion (TellsPut rows reservations) (map put_by news)
       → PutsAmounts news old new → IsHeld tables (applied rows reservations) new
   held_after tables rows news old new are held puts told turns =
       let after = put_all_rows news rows
-      ∙ puts_apply (map put_by news) rows reservations held.are_rows.row_order puts.rows
-      (all_weaker _ _ (λ put tells row named. tells rows row are held.are_rows held.image named) (map put_by news) told) in
+      ∙ puts_apply (map put_by news) rows reservations held.are_rows.row_order puts.rows told in
       record {
         are_rows = are_applied (stored_of tables) rows held.are_rows;
         image = rw after at (turns (stored_of tables) rows are held.are_rows (stand_by (stored_of tables) news puts.stand) held.image);

@@ -4,10 +4,10 @@ use Rattle.std.proofs.lemmas.List.{length-map, length-take-le, map_more, take_al
 use Rattle.escrow_num.specs.declared.reservation.Reservation.{Reservation}
 use Rattle.escrow_num.specs.declared.value.RowName.{RowName}
 use Rattle.escrow_num.specs.Order.{same_row}
-use Rattle.escrow_num.specs.Reservation.{counted}
+use Rattle.escrow_num.specs.Reservation.{counted, changes_at}
 use Rattle.escrow_checks.specs.Form.{changed, all_changed}
 use Rattle.escrow_machine.specs.Rows.{replaced}
-use Rattle.escrow_tables.specs.Puts.{changes_for, changed_by}
+use Rattle.escrow_tables.specs.Puts.{changed_by}
 
 -- no changes change nothing
 pub changed_nil : (amounts : List ℤ) → changed amounts [] ≡ amounts
@@ -58,15 +58,15 @@ all_changed_push amounts (first ∷ before) changes = all_changed_push (changed 
 
 -- one more reservation: of the row, and of another
 pub changes_more : (name : RowName) (before : List ℤ) (reservations : List Reservation) (i : ℕ) (r : Reservation) → i < length reservations → r ≡ get_or reservations i r
-    → changed_by (take (i + 1) reservations) name before ≡ changed (changed_by (take i reservations) name before) (changes_for name r)
+    → changed_by (take (i + 1) reservations) name before ≡ changed (changed_by (take i reservations) name before) (changes_at name r)
 changes_more name before reservations i r below at =
-    ap (all_changed before) (map_more (changes_for name) reservations i r below ∙ ap (λ x. map (changes_for name) (take i reservations) ++ changes_for name x ∷ []) (sym at))
-    ∙ all_changed_push before (map (changes_for name) (take i reservations)) (changes_for name r)
+    ap (all_changed before) (map_more (changes_at name) reservations i r below ∙ ap (λ x. map (changes_at name) (take i reservations) ++ changes_at name x ∷ []) (sym at))
+    ∙ all_changed_push before (map (changes_at name) (take i reservations)) (changes_at name r)
 
-pub changes_own : (name : RowName) (r : Reservation) → same_row name r.row ≡ true → changes_for name r ≡ counted r.changes
+pub changes_own : (name : RowName) (r : Reservation) → same_row name r.row ≡ true → changes_at name r ≡ counted r.changes
 changes_own name r same = rw same refl
 
-pub changes_other : (name : RowName) (r : Reservation) → same_row name r.row ≡ false → changes_for name r ≡ []
+pub changes_other : (name : RowName) (r : Reservation) → same_row name r.row ≡ false → changes_at name r ≡ []
 changes_other name r other = rw other refl
 
 -- one more item replaced, or kept

@@ -5,7 +5,6 @@ pub mod Committing
 pub mod Created
 pub mod Dropped
 pub mod Held
-pub mod Looking
 pub mod Named
 pub mod NewRows
 pub mod Numbers
@@ -13,6 +12,7 @@ pub mod OneHeld
 mod Opening
 pub mod Placed
 pub mod Puts
+pub mod Putting
 pub mod Reading
 pub mod RowWrites
 pub mod Verifying

@@ -18,7 +18,7 @@ use Rattle.escrow_rows.specs.declared.amounts.NewAmounts.{NewAmounts}
 use Rattle.escrow_machine.specs.Rows.{row_named, replaced, row_before, changes_to, row_after, applied}
 use Rattle.escrow_rows.specs.Changes.{with_new_amounts, with_amounts, put_all}
 use Rattle.escrow_rows.proofs.Found.{find_permutation, one_row}
-use Rattle.escrow_tables.specs.Puts.{Put, put_by, row_put, IsFor}
+use Rattle.escrow_tables.specs.Puts.{Put, TellsPut, put_by, row_put, IsFor}
 use Rattle.escrow_tables.proofs.Changed.{changed_nil, changes_other, replaced_twice}
 
 -- puts on a row, one after another
@@ -98,8 +98,7 @@ row_itself rows row order has = find_permutation (λ other. same_row other.name 
 
 -- puts that are those of the reservations, row by row, and are of each reservation's row apply them
 pub puts_apply : (puts : List Put) (rows : List Row) (reservations : List Reservation) → IsAscending row_before rows → AllByRecursion (IsFor puts) reservations
-    → AllByRecursion (λ put. (row : Row) → row_named rows (row_put put) ≡ Some row → replaced put.amounts row.amounts ≡ (row_after reservations row).amounts) puts
-    → map (all_into puts) rows ≡ applied rows reservations
+    → AllByRecursion (TellsPut rows reservations) puts → map (all_into puts) rows ≡ applied rows reservations
 puts_apply puts rows reservations order for tell = map_each (all_into puts) (row_after reservations) rows (has_all _ rows each)
   where
     each : (row : Row) → Has rows row → all_into puts row ≡ row_after reservations row

@@ -1,11 +1,13 @@
 -- Believed: what calls make of the tables of a database.
-use Rattle.std.specs.Prelude.{◌≡◌, Bool, true, false, List, IsTrue}
+use Rattle.std.specs.Prelude.{◌≡◌, ℤ, Bool, true, false, Some, option_map, List, map, IsTrue}
 use Rattle.sqlite.specs.Held.{state}
 use Rattle.sqlite.specs.State.{HasCleanDisk, Survives}
 use Rattle.sqlite_trees.specs.declared.store.Store.{Ghosts}
 use Rattle.sqlite_trees.specs.Tree.{Trees}
+use Rattle.escrow_num.specs.declared.reservation.Reservation.{Reservation}
 use Rattle.escrow_num.specs.declared.row.Row.{Row}
 use Rattle.escrow_schema.specs.declared.table.TableDef.{TableDef}
+use Rattle.escrow_machine.specs.Rows.{row_named}
 use Rattle.escrow_tables.specs.Committed.{Committed, AreHeld}
 
 -- a call reads: tables and rows stay, and a crash leaves what it might have left before
@@ -25,3 +27,7 @@ pub record Writes {S : Type 0} (g : Ghosts S) (old new : Committed S) (is_done :
   pub kept_catalog : is_done ≡ false → new.catalog ≡ old.catalog
   pub kept_rows : is_done ≡ false → new.rows ≡ old.rows
   pub survives : Survives (state g old.store) (state g new.store) (λ trees. IsTrue (state g old.store).is_open → AreHeld catalog rows trees)
+
+-- amounts are those that the row of each reservation has; each of the rows is there
+abbrev pub AreGiven : List Row → List Reservation → List (List ℤ) → Type 0
+AreGiven rows reservations before = map (λ r. option_map (λ row. row.amounts) (row_named rows r.row)) reservations ≡ map Some before

@@ -1,19 +1,17 @@
--- Helps: what COMMIT reads, and what it puts into rows.
-use Rattle.std.specs.Prelude.{◌≡◌, ℤ, true, Option, Some, if◌then◌else◌, List, [], map}
+-- Helps: what COMMIT puts into rows.
+use Rattle.std.specs.Prelude.{◌≡◌, ℤ, true, Option, Some, List, map}
 use Rattle.std.specs.List.{AllByRecursion, list_any}
-use Rattle.sqlite.specs.Effect.{Database}
 use Rattle.escrow_num.specs.declared.reservation.Reservation.{Reservation}
 use Rattle.escrow_num.specs.declared.row.Row.{Row}
 use Rattle.escrow_num.specs.declared.value.RowName.{RowName}
 use Rattle.escrow_num.specs.declared.value.Value.{Value}
 use Rattle.escrow_num.specs.Order.{same_row}
-use Rattle.escrow_num.specs.Reservation.{counted}
+use Rattle.escrow_num.specs.Reservation.{changes_at}
 use Rattle.escrow_checks.specs.Form.{all_changed}
 use Rattle.escrow_rows.specs.declared.amounts.NewAmounts.{NewAmounts}
 use Rattle.escrow_rows.specs.declared.stored.StoredTable.{StoredTable}
 use Rattle.escrow_machine.specs.Rows.{row_named, replaced, row_after}
 use Rattle.escrow_rows.specs.Changes.{Stands, name_in}
-use Rattle.escrow_rows.specs.Image.{IsImage, AreTables, AreRows}
 use Rattle.escrow_tables.specs.declared.apply.Change.{Change}
 
 -- new amounts of the row of a key
@@ -41,16 +39,10 @@ pub record ArePuts (tables : List StoredTable) (reservations : List Reservation)
   pub stand : AllByRecursion (λ put. Stands tables put.table) puts
   pub rows : AllByRecursion (IsFor puts) reservations
 
--- the changes of a reservation to the row of a name, none where it is of another row
-abbrev pub changes_for : RowName → Reservation → List ℤ
-changes_for name r = if same_row name r.row then counted r.changes else []
-
 -- what reservations make of the amounts of the row of a name
 abbrev pub changed_by : List Reservation → RowName → List ℤ → List ℤ
-changed_by reservations name before = all_changed before (map (changes_for name) reservations)
+changed_by reservations name before = all_changed before (map (changes_at name) reservations)
 
--- new amounts are those that reservations give to the row, as the database has it
-abbrev pub TellsPut : List StoredTable → List Reservation → Database → Put → Type 0
-TellsPut tables reservations db put =
-    (rows : List Row) (row : Row) → AreTables tables → AreRows tables rows → IsImage tables rows db
-    → row_named rows (row_put put) ≡ Some row → replaced put.amounts row.amounts ≡ (row_after reservations row).amounts
+-- new amounts are those that reservations give to the row
+abbrev pub TellsPut : List Row → List Reservation → Put → Type 0
+TellsPut rows reservations put = (row : Row) → row_named rows (row_put put) ≡ Some row → replaced put.amounts row.amounts ≡ (row_after reservations row).amounts

@@ -1,20 +1,18 @@
-ghost use Rattle.std.specs.Prelude.{◌≡◌, ◌++◌, ◌∷◌, [], ◌+ℤ◌, map, length, IfOk, IfSome, OnOk, IsTrue};
+ghost use Rattle.std.specs.Prelude.{◌≡◌, ◌+ℤ◌, List, map, length, IfOk, IfSome, OnOk};
 ghost use Rattle.std.specs.List.{AllByRecursion, list_any};
-ghost use Rattle.sqlite.specs.Held.{state};
-ghost use Rattle.sqlite.specs.State.{HasCleanDisk};
 ghost use Rattle.escrow_num.specs.Order.{same_row};
 ghost use Rattle.escrow_num.specs.Reservation.{counted};
+ghost use Rattle.escrow_num.specs.declared.row.Row.{Row};
 ghost use Rattle.escrow_checks.specs.Form.{changed};
-ghost use Rattle.escrow_rows.specs.Answers.{IsUsable, Looks};
-ghost use Rattle.escrow_rows.specs.Changes.{Stands};
 ghost use Rattle.escrow_machine.specs.Rows.{replaced};
-ghost use Rattle.escrow_rows.specs.Image.{AreTables};
+ghost use Rattle.escrow_rows.specs.Changes.{Stands};
+ghost use Rattle.escrow_tables.specs.Calls.{AreGiven};
 ghost use Rattle.escrow_tables.specs.Inside.{stored_of};
 ghost use Rattle.escrow_tables.specs.Puts.{ArePuts, TellsPut, changed_by, put_by, put_of, row_put};
 
 use crate::tables::{Tables, find_counted};
 use escrow_num::{Amount, Failure, Reservation, RowName, Seq, Value};
-use escrow_rows::{NewAmounts, RowStore, StoredTable};
+use escrow_rows::{NewAmounts, StoredTable};
 use escrow_verify::Counted;
 use sqlite::Alter;
 use std::alloc::{AllocError, Global};
@@ -31,15 +29,25 @@ struct Change<'a> {
 
 impl<S: Alter> Tables<S> {
     ghost use Rattle.std.specs.Prelude.{is_ok};
+    ghost use Rattle.sqlite.specs.Held.{state};
+    ghost use Rattle.sqlite.specs.State.{HasCleanDisk};
     ghost use Rattle.escrow_machine.specs.Rows.{applied};
     ghost use Rattle.escrow_tables.specs.Calls.{Writes};
 
     /// COMMIT: adds the changes of reservations to the amounts of their rows, in one transaction. The amounts
-    /// of each row are read once, and each amount that changes is written once.
-    pub fn apply(&mut self, alloc: Global, reservations: &[Reservation]) -> Result<(), Failure>
+    /// that the row of each reservation has are given beside it, so no row is read; each amount that changes
+    /// is written once.
+    pub fn apply(
+        &mut self,
+        alloc: Global,
+        reservations: &[Reservation],
+        before: &[&[Amount]],
+    ) -> Result<(), Failure>
+        requires many { length before.now ≡ length reservations.now }
+        requires given { HasCleanDisk (state S.Store self.old.store) → AreGiven self.old.rows reservations.now (map (λ amounts. amounts.now) before.now) }
         ensures { Writes S.Store self.old self.new (is_ok result) self.old.catalog (applied self.old.rows reservations.now) }
     {
-        let changes = changes_by(&mut self.store, alloc, &self.tables, reservations)?;
+        let changes = changes_by(alloc, &self.tables, reservations, before)?;
         let news = news_of(alloc, changes.as_slice())?;
         self.store.put_amounts(alloc, news.as_slice())?;
         self.last = Snapshot::of(&self.store);
@@ -47,63 +55,49 @@ impl<S: Alter> Tables<S> {
     }
 }
 
-/// What reservations make of each row that one of them is of.
-fn changes_by<'a, S: Alter>(
-    store: &mut RowStore<S>,
+/// What reservations make of each row that one of them is of; the amounts that the row of each has are given
+/// beside it.
+fn changes_by<'a>(
     alloc: Global,
     tables: &'a [Counted],
     reservations: &'a [Reservation],
+    before: &[&[Amount]],
 ) -> Result<Vec<Change<'a>>, Failure>
-    requires { AreTables (stored_of tables.now) }
-    ensures looks { Looks (state S.Store store.old) (state S.Store store.new) }
-    ensures open { HasCleanDisk (state S.Store store.new) → IsTrue (state S.Store store.old).is_open → OnOk result (IsTrue (state S.Store store.new).is_open) }
+    requires { length before.now ≡ length reservations.now }
     ensures puts { IfOk result (λ changes. ArePuts (stored_of tables.now) reservations.now (map put_of changes.items)) }
-    ensures told { IsUsable (state S.Store store.new) → IfOk result (λ changes. AllByRecursion (TellsPut (stored_of tables.now) reservations.now (state S.Store store.old).now) (map put_of changes.items)) }
+    ensures told { IfOk result (λ changes. (rows : List Row) → AreGiven rows reservations.now (map (λ amounts. amounts.now) before.now) → AllByRecursion (TellsPut rows reservations.now) (map put_of changes.items)) }
 {
     let mut changes = Vec::new(alloc);
     for (i, r) in reservations.iter().enumerate() {
         if !is_named(&reservations[..i], &r.row) {
-            let change = change_of(store, alloc, tables, &r.row, reservations)?;
-            keep(&mut changes, change)?;
+            let change = change_of(alloc, tables, &r.row, before[i], reservations)?;
+            changes.push(change)?;
         }
     }
     Ok(changes)
 }
 
-/// What reservations make of the row of a name. A row that isn't there, or a sum that is no amount, is a
-/// store that was changed by others.
-fn change_of<'a, S: Alter>(
-    store: &mut RowStore<S>,
+/// What reservations make of the row of a name, which has these amounts. A table that isn't there, or a sum
+/// that is no amount, is a store that was changed by others.
+fn change_of<'a>(
     alloc: Global,
     tables: &'a [Counted],
     name: &'a RowName,
+    before: &[Amount],
     reservations: &[Reservation],
 ) -> Result<Change<'a>, Failure>
-    requires { AreTables (stored_of tables.now) }
-    ensures looks { Looks (state S.Store store.old) (state S.Store store.new) }
-    ensures open { HasCleanDisk (state S.Store store.new) → OnOk result (IsTrue (state S.Store store.new).is_open) }
     ensures stands { IfOk result (λ change. Stands (stored_of tables.now) change.table.now) }
     ensures row { IfOk result (λ change. row_put (put_of change) ≡ name.now) }
-    ensures told { HasCleanDisk (state S.Store store.new) → IfOk result (λ change. TellsPut (stored_of tables.now) reservations.now (state S.Store store.old).now (put_of change)) }
+    ensures amounts { IfOk result (λ change. replaced change.amounts before.now ≡ changed_by reservations.now name.now before.now) }
 {
     let Some(counted) = find_counted(tables, name.table) else {
-        return Err(Failure::Store);
-    };
-    let Some(before) = store.amounts(alloc, &counted.stored, &name.key)? else {
         return Err(Failure::Store);
     };
     Ok(Change {
         table: &counted.stored,
         key: &name.key,
-        amounts: new_amounts(alloc, name, before.as_slice(), reservations)?,
+        amounts: new_amounts(alloc, name, before, reservations)?,
     })
-}
-
-/// Keeps what reservations make of a row.
-fn keep<'a>(changes: &mut Vec<Change<'a>>, change: Change<'a>) -> Result<(), AllocError>
-    ensures { OnOk result (changes.new.items ≡ changes.old.items ++ change.entry ∷ []) }
-{
-    Ok(changes.push(change)?)
 }
 
 /// The new amounts, as the store takes them.

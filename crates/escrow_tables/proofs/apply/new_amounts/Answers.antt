@@ -1,9 +1,9 @@
 use Rattle.std.proofs.Common.{◌≡◌, ℤ, List, map, length, ap, sym, ◌∙◌}
 use Rattle.std.proofs.lemmas.List.{take_all}
-use Rattle.escrow_num.specs.Reservation.{counted}
+use Rattle.escrow_num.specs.Reservation.{counted, changes_at}
 use Rattle.escrow_checks.specs.Form.{changed}
 use Rattle.escrow_checks.proofs.FormLemmas.{length-all_changed}
-use Rattle.escrow_tables.specs.Puts.{changes_for, changed_by}
+use Rattle.escrow_tables.specs.Puts.{changed_by}
 use Rattle.escrow_tables.proofs.Changed.{changed_nil, changes_more, changes_own, changes_other}
 use Rattle.escrow_tables.proofs.apply.new_amounts.Goals as goal
 use Rattle.escrow_tables.proofs.apply.new_amounts.Goals.{then-is_same+in_ok-add_changes, else-is_same}
@@ -30,5 +30,5 @@ returns c =
     let reservations = c.args.reservations.now in
     let all : c.loop-r.after ≡ changed_by reservations name before =
     c.loop-r.invariant ∙ ap (λ rs. changed_by rs name before) (take_all c.loop-r.r-index reservations (c.loop-r-test.false)) in
-    let long : length before ≡ length c.loop-r.after = sym (ap length all ∙ length-all_changed before (map (changes_for name) reservations)) in
+    let long : length before ≡ length c.loop-r.after = sym (ap length all ∙ length-all_changed before (map (changes_at name) reservations)) in
     rw c.as_slice-2.ensures at c.in_ok-differing.ensures long ∙ all

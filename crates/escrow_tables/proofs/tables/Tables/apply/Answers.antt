@@ -15,9 +15,6 @@ use Rattle.escrow_tables.proofs.tables.Tables.apply.Given as given
 use Rattle.escrow_tables.proofs.tables.Tables.apply.Goals as goal
 use Rattle.escrow_tables.proofs.tables.Tables.apply.Goals.{After-put_amounts}
 
-pub changes_by-requires : goal.changes_by-requires
-changes_by-requires g c = rw c.deref.ensures.value c.self.invariant.are_tables
-
 -- the call writes, and the fields keep what they hold
 written : (g : given.Over) (c : After-put_amounts g) (is_done : Bool) (later : Held g.row.S.Denot) → is_ok c.put_amounts.result ≡ is_done
     → (is_done ≡ true → later ≡ c.put_amounts.new.self) → (is_done ≡ false → later ≡ c.self.inside.last.value)
@@ -27,21 +24,21 @@ written : (g : given.Over) (c : After-put_amounts g) (is_done : Bool) (later : H
 written g c is_done later ok if_done if_not =
     let old = c.self.inside in
     let news = c.as_slice-2.result.now in
-    let mid = c.changes_by.new.store in
     let new = c.put_amounts.new.self in
-    let read = rw c.deref.ensures.value at c.in_ok-changes.ensures in
+    let made = rw c.deref.ensures.value at c.in_ok-changes.ensures in
     let same : map put_of c.in_ok-changes.changes.items ≡ map put_by news =
     sym (ap (map put_by) c.as_slice-2.ensures.value ∙ c.in_ok-news.ensures ∙ ap (map put_of) c.as_slice.ensures.value) in
-    let it = subst (λ b. Alters (state g.S.Store mid) (state g.S.Store new) b (PutsAmounts news)) ok c.put_amounts.ensures in (
-      commits g.S.Store old.store mid new read.looks read.open old.tables.items c.args.reservations.now news is_done old.last.value later c.self.invariant
-          (rw same at read.puts) (rw same at read.told) it if_done if_not,
-      keeps_committed g.S.Store old.store mid new read.looks read.open old.tables.items c.args.reservations.now news is_done old.last.value later c.self.invariant
-          (rw same at read.puts) (rw same at read.told) it if_done if_not,
+    let given = rw (← c.self.view_is) at c.requires.given in
+    let it = subst (λ b. Alters (state g.S.Store old.store) (state g.S.Store new) b (PutsAmounts news)) ok c.put_amounts.ensures in (
+      commits g.S.Store old.store new old.last.value later old.tables.items c.args.reservations.now news is_done c.self.invariant
+          (rw same at made.puts) (λ clean. rw same at (made.told _ (given clean))) it if_done if_not,
+      keeps_committed g.S.Store old.store new old.last.value later old.tables.items c.args.reservations.now news is_done c.self.invariant
+          (rw same at made.puts) (λ clean. rw same at (made.told _ (given clean))) it if_done if_not,
     )
 
-pub invariant_of-self-in_err-put_amounts : goal.invariant_of-self-in_err-put_amounts
-invariant_of-self-in_err-put_amounts g c =
-    (written g (goal.at.invariant_of-self-in_err-put_amounts g c).After-put_amounts false c.self.inside.last.value (ap is_ok c.in_err-put_amounts.was) (λ e. absurd (false≢true e)) (λ _. refl)).1
+pub invariant_of-self : goal.invariant_of-self
+invariant_of-self g c =
+    (written g (goal.at.invariant_of-self g c).After-put_amounts false c.self.inside.last.value (ap is_ok c.in_err-put_amounts.was) (λ e. absurd (false≢true e)) (λ _. refl)).1
 
 pub returns-in_err-put_amounts : goal.returns-in_err-put_amounts
 returns-in_err-put_amounts g c =
