@@ -93,10 +93,10 @@ sets_plain s key news steps change old new does =
 
 -- COMMIT: the cells of a row with amounts replaced
 amount_cells : (tables : List StoredTable) (new : NewAmounts) (row : Row) → AreTables tables → Stands tables new.table.now → IsOfTables tables row
-    → cells_of tables (with_new_amounts (name_in new.table.now new.key.now) new.amounts.now row) ≡ map (amounts_on new) (cells_of tables row)
+    → cells_of tables (with_new_amounts (name_in new.table.now new.key.now) new.amounts row) ≡ map (amounts_on new) (cells_of tables row)
 amount_cells tables new row are stands of =
     let s = new.table.now in
-    let news = new.amounts.now in
+    let news = new.amounts in
     cells_change tables s new.key.now (new_amounts s.table.columns news) row (record row { amounts = replaced news row.amounts }) are stands of refl
     (λ fits. amounts_replaced s.table.columns 0 s.table.key row.name.key row.amounts row.plain news fits.amounts (AllZip-long _ _ row.plain fits.plain))
 
@@ -116,7 +116,7 @@ all_encode : (tables : List StoredTable) (news : List NewAmounts) (rows : List R
 all_encode tables [] rows c are stand of coded = coded
 all_encode tables (new ∷ news) rows c are stand of coded =
     let name = name_in new.table.now new.key.now in
-    let amounts = new.amounts.now in
+    let amounts = new.amounts in
     let here = pieces_change (cells_of tables) (with_new_amounts name amounts) (amounts_on new) rows
     (all_weaker (IsOfTables tables) _ (λ row has. amount_cells tables new row are stand.0 has) rows of) in
     all_encode tables news (with_amounts name amounts rows) (on_cells (amounts_on new) c) are stand.1 (fit rows of) (record {
@@ -124,9 +124,9 @@ all_encode tables (new ∷ news) rows c are stand of coded =
       cells_are = rw here (IsPermutation-map (amounts_on new) (flat_map (cells_of tables) rows) c.cells coded.cells_are);
     })
   where
-    fit : (rows : List Row) → AllByRecursion (IsOfTables tables) rows → AllByRecursion (IsOfTables tables) (with_amounts (name_in new.table.now new.key.now) new.amounts.now rows)
+    fit : (rows : List Row) → AllByRecursion (IsOfTables tables) rows → AllByRecursion (IsOfTables tables) (with_amounts (name_in new.table.now new.key.now) new.amounts rows)
     fit [] h = h
-    fit (row ∷ rows) h = (amounts_fit tables (name_in new.table.now new.key.now) new.amounts.now row h.0, fit rows h.1)
+    fit (row ∷ rows) h = (amounts_fit tables (name_in new.table.now new.key.now) new.amounts row h.0, fit rows h.1)
 
 pub puts_amounts : (news : List NewAmounts) (steps : List Step) → ((c : Contents) → fold done c steps ≡ all_on news c) → (old new : Database) → Does steps old new → PutsAmounts news old new
 puts_amounts news steps change old new does tables rows are of stand =

@@ -47,7 +47,7 @@ Deletes s key = TurnsRows s (without_row (name_in s key))
 
 -- new amounts, one after another, each of the row of a key
 abbrev pub put_all : List NewAmounts → List Row → List Row
-put_all news rows = fold (λ rows new. with_amounts (name_in new.table.now new.key.now) new.amounts.now rows) rows news
+put_all news rows = fold (λ rows new. with_amounts (name_in new.table.now new.key.now) new.amounts rows) rows news
 
 -- COMMIT: amounts of rows are replaced
 abbrev pub PutsAmounts : List NewAmounts → Database → Database → Type 0

@@ -56,7 +56,7 @@ plain_on s key news = put_values s.id (stored key) (pos 1) (new_plain s.table.co
 
 -- a cell with new amounts of the row of a key of a table
 abbrev pub amounts_on : NewAmounts → SqlRow → SqlRow
-amounts_on new = put_values new.table.now.id (stored new.key.now) (pos 1) (new_amounts new.table.now.table.columns new.amounts.now)
+amounts_on new = put_values new.table.now.id (stored new.key.now) (pos 1) (new_amounts new.table.now.table.columns new.amounts)
 
 -- contents with new amounts, one after another
 abbrev pub all_on : List NewAmounts → Contents → Contents

@@ -12,19 +12,19 @@ use crate::datum::datum;
 use crate::store::RowStore;
 use crate::stored::StoredTable;
 use escrow_cells::{Datum, Step, run};
-use escrow_num::{Amount, Failure, Value};
+use escrow_num::{Amount, Changes, Failure, Value};
 use sqlite::Alter;
 use std::alloc::{AllocError, Global};
 
 /// New amounts of the row of a key.
-#[derive(Clone, Copy, Debug)]
+#[derive(Debug, Drop)]
 pub struct NewAmounts<'a> {
     /// The row's table.
     pub table: &'a StoredTable,
     /// Its key.
     pub key: &'a Value,
     /// For each RESERVABLE column, in column order, its new amount, or `None` where it stays.
-    pub amounts: &'a [Option<Amount>],
+    pub amounts: Changes,
 }
 
 impl<S: Alter> RowStore<S> {
@@ -41,7 +41,7 @@ impl<S: Alter> RowStore<S> {
 fn all_steps<'a>(alloc: Global, news: &[NewAmounts<'a>]) -> Result<Vec<Step<'a>>, AllocError>
     ensures { IfOk result (λ steps. (c : Contents) → fold done c steps.items ≡ all_on news.now c) }
 {
-    let mut steps = Vec::new(alloc);
+    let mut steps = Vec::with_capacity(alloc, news.len())?;
     for new in news {
         push_steps(&mut steps, new)?;
     }
@@ -60,7 +60,7 @@ fn push_steps<'a>(steps: &mut Vec<Step<'a>>, new: &NewAmounts<'a>) -> Result<(),
                 new.table.id,
                 datum(new.key),
                 i,
-                amount_at(new.amounts, at),
+                amount_at(new.amounts.as_slice(), at),
             )?;
             at += 1;
         }

@@ -12,13 +12,13 @@ use Rattle.escrow_schema.specs.Fit.{IsRowOf}
 use Rattle.escrow_rows.specs.declared.amounts.NewAmounts.{NewAmounts}
 use Rattle.escrow_rows.specs.declared.stored.StoredTable.{StoredTable}
 use Rattle.escrow_schema.specs.declared.table.TheConstants.TableDef.{MAX_ROWS}
-use Rattle.escrow_rows.specs.Changes.{Stands, PutsAmounts}
+use Rattle.escrow_rows.specs.Changes.{PutsAmounts}
 use Rattle.escrow_rows.specs.Image.{AreTables, AreRows, IsOfTables, stored_named}
 use Rattle.escrow_machine.specs.Rows.{row_before, rows_of, changes_to, row_after, applied}
 use Rattle.escrow_verify.specs.declared.counted.Counted.{Counted}
 use Rattle.escrow_tables.specs.Inside.{stored_of, HasCount, IsHeld}
-use Rattle.escrow_tables.specs.Puts.{ArePuts, TellsPut, put_by}
-use Rattle.escrow_tables.proofs.Puts.{put_all_rows, puts_apply}
+use Rattle.escrow_tables.specs.Puts.{ArePuts, TellsPut}
+use Rattle.escrow_tables.proofs.Puts.{put_rows, puts_apply}
 
 module _ (reservations : List Reservation) where
   -- a row with changes added is one of its table
@@ -56,21 +56,15 @@ module _ (reservations : List Reservation) where
     few_rows = λ table. subst (λ n. n ≤ MAX_ROWS) (sym (applied_many rows table)) (are.few_rows table);
   }
 
-  -- tables that stand, by the new amounts
-  stand_by : (tables : List StoredTable) (news : List NewAmounts) → AllByRecursion (λ put. Stands tables put.table) (map put_by news)
-      → AllByRecursion (λ (n : NewAmounts). Stands tables n.table.now) news
-  stand_by tables [] stand = tt
-  stand_by tables (new ∷ news) stand = (stand.0, stand_by tables news stand.1)
-
   -- a database with new amounts of the rows of all reservations is that of the rows with these applied
   pub held_after : (tables : List Counted) (rows : List Row) (news : List NewAmounts) (old new : Database) → AreTables (stored_of tables) → IsHeld tables rows old
-      → ArePuts (stored_of tables) reservations (map put_by news) → AllByRecursion (TellsPut rows reservations) (map put_by news)
+      → ArePuts (stored_of tables) reservations news → AllByRecursion (TellsPut rows reservations) news
       → PutsAmounts news old new → IsHeld tables (applied rows reservations) new
   held_after tables rows news old new are held puts told turns =
-      let after = put_all_rows news rows
-      ∙ puts_apply (map put_by news) rows reservations held.are_rows.row_order puts.rows told in
+      let after = put_rows news rows
+      ∙ puts_apply news rows reservations held.are_rows.row_order puts.rows told in
       record {
         are_rows = are_applied (stored_of tables) rows held.are_rows;
-        image = rw after at (turns (stored_of tables) rows are held.are_rows (stand_by (stored_of tables) news puts.stand) held.image);
+        image = rw after at (turns (stored_of tables) rows are held.are_rows puts.stand held.image);
         counts = all_weaker (HasCount rows) (HasCount (applied rows reservations)) (λ c count. count ∙ sym (applied_many rows c.stored.table.name)) tables held.counts;
       }

@@ -1,5 +1,5 @@
 -- COMMIT: one call that puts the new amounts of rows.
-use Rattle.std.proofs.Common.{◌≡◌, Bool, true, false, List, map, refl}
+use Rattle.std.proofs.Common.{◌≡◌, Bool, true, false, List, refl}
 use Rattle.std.specs.List.{AllByRecursion}
 use Rattle.sqlite_trees.specs.declared.store.Store.{Ghosts}
 use Rattle.sqlite.specs.Effect.{Database}
@@ -15,14 +15,14 @@ use Rattle.escrow_rows.specs.declared.amounts.NewAmounts.{NewAmounts}
 use Rattle.escrow_machine.specs.Rows.{applied}
 use Rattle.escrow_tables.specs.Calls.{Writes}
 use Rattle.escrow_tables.specs.Inside.{IsHeld, Keeps, catalog_of, stored_of}
-use Rattle.escrow_tables.specs.Puts.{ArePuts, TellsPut, put_by}
+use Rattle.escrow_tables.specs.Puts.{ArePuts, TellsPut}
 use Rattle.escrow_verify.specs.declared.counted.Counted.{Counted}
 use Rattle.escrow_tables.proofs.Applying.{held_after}
 use Rattle.escrow_tables.proofs.Writing.{keeps_on, seen, writes}
 
 module _ {S : Type 0} (g : Ghosts S) (old new was later : Held S) (tables : List Counted) (reservations : List Reservation) (news : List NewAmounts) (is_done : Bool)
-    (keeps : Keeps (state g old) (state g was) tables) (puts : ArePuts (stored_of tables) reservations (map put_by news))
-    (told : HasCleanDisk (state g old) → AllByRecursion (TellsPut (rows_in (stored_of tables) (state g was).now) reservations) (map put_by news))
+    (keeps : Keeps (state g old) (state g was) tables) (puts : ArePuts (stored_of tables) reservations news)
+    (told : HasCleanDisk (state g old) → AllByRecursion (TellsPut (rows_in (stored_of tables) (state g was).now) reservations) news)
     (it : Alters (state g old) (state g new) is_done (PutsAmounts news)) (if_done : is_done ≡ true → later ≡ new) (if_not : is_done ≡ false → later ≡ was) where
   abbrev rows : List Row
   rows = applied (rows_in (stored_of tables) (state g was).now) reservations

@@ -3,7 +3,7 @@ use Rattle.std.proofs.Common.{◌≡◌, ℤ, Bool, true, false, ◌||◌, List,
 use Rattle.std.specs.List.{AllByRecursion, list_any}
 use Rattle.std.proofs.lemmas.Bool.{cases_Bool}
 use Rattle.std.proofs.lemmas.List.{map-id}
-use Rattle.std.proofs.lemmas.List.Folds.{fold-map, list_any-append}
+use Rattle.std.proofs.lemmas.List.Folds.{list_any-append}
 use Rattle.std.proofs.lemmas.List.Sorted.{IsPermutation-refl}
 use Rattle.sqlite_trees.proofs.ListLemmas.{all_weaker}
 use Rattle.escrow_num.specs.declared.reservation.Reservation.{Reservation}
@@ -18,19 +18,19 @@ use Rattle.escrow_rows.specs.declared.amounts.NewAmounts.{NewAmounts}
 use Rattle.escrow_machine.specs.Rows.{row_named, replaced, row_before, changes_to, row_after, applied}
 use Rattle.escrow_rows.specs.Changes.{with_new_amounts, with_amounts, put_all}
 use Rattle.escrow_rows.proofs.Found.{find_permutation, one_row}
-use Rattle.escrow_tables.specs.Puts.{Put, TellsPut, put_by, row_put, IsFor}
+use Rattle.escrow_tables.specs.Puts.{TellsPut, row_put, IsFor}
 use Rattle.escrow_tables.proofs.Changed.{changed_nil, changes_other, replaced_twice}
 
 -- puts on a row, one after another
-abbrev pub all_into : List Put → Row → Row
+abbrev pub all_into : List NewAmounts → Row → Row
 all_into puts row = fold (λ row put. with_new_amounts (row_put put) put.amounts row) row puts
 
 -- a put is of a row
-abbrev IsOf : Row → Put → Bool
+abbrev IsOf : Row → NewAmounts → Bool
 IsOf row put = same_row row.name (row_put put)
 
 -- puts on rows are those on each row
-put_rows : (puts : List Put) (rows : List Row) → fold (λ rs put. with_amounts (row_put put) put.amounts rs) rows puts ≡ map (all_into puts) rows
+pub put_rows : (puts : List NewAmounts) (rows : List Row) → put_all puts rows ≡ map (all_into puts) rows
 put_rows [] rows = sym (map-id rows)
 put_rows (put ∷ puts) rows = put_rows puts (with_amounts (row_put put) put.amounts rows) ∙ twice rows
   where
@@ -38,16 +38,12 @@ put_rows (put ∷ puts) rows = put_rows puts (with_amounts (row_put put) put.amo
     twice [] = refl
     twice (row ∷ rows) = ap (λ rest. all_into (put ∷ puts) row ∷ rest) (twice rows)
 
-pub put_all_rows : (news : List NewAmounts) (rows : List Row) → put_all news rows ≡ map (all_into (map put_by news)) rows
-put_all_rows news rows =
-    sym (fold-map (λ (rs : List Row) (put : Put). with_amounts (row_put put) put.amounts rs) put_by rows news) ∙ put_rows (map put_by news) rows
-
 -- a put of a row gives it these amounts
-abbrev Gives : Row → List ℤ → Put → Type 0
+abbrev Gives : Row → List ℤ → NewAmounts → Type 0
 Gives row after put = IsOf row put ≡ true → replaced put.amounts row.amounts ≡ after
 
 -- a row that has its amounts after the puts keeps them
-all_kept : (puts : List Put) (row : Row) (after : List ℤ) → AllByRecursion (Gives row after) puts → all_into puts (record row { amounts = after }) ≡ record row { amounts = after }
+all_kept : (puts : List NewAmounts) (row : Row) (after : List ℤ) → AllByRecursion (Gives row after) puts → all_into puts (record row { amounts = after }) ≡ record row { amounts = after }
 all_kept [] row after gives = refl
 all_kept (put ∷ puts) row after gives = elim (cases_Bool (IsOf row put)) [
   | inl here ↦ (let same : replaced put.amounts after ≡ after = subst (λ zs. replaced put.amounts zs ≡ zs) (gives.0 here) (replaced_twice put.amounts row.amounts) in
@@ -56,7 +52,7 @@ all_kept (put ∷ puts) row after gives = elim (cases_Bool (IsOf row put)) [
 ]
 
 -- a row that a put is of has them in the end
-all_given : (puts : List Put) (row : Row) (after : List ℤ) → AllByRecursion (Gives row after) puts → list_any (IsOf row) puts ≡ true
+all_given : (puts : List NewAmounts) (row : Row) (after : List ℤ) → AllByRecursion (Gives row after) puts → list_any (IsOf row) puts ≡ true
     → all_into puts row ≡ record row { amounts = after }
 all_given [] row after gives some = absurd (cc)
 all_given (put ∷ puts) row after gives some = elim (cases_Bool (IsOf row put)) [
@@ -65,7 +61,7 @@ all_given (put ∷ puts) row after gives some = elim (cases_Bool (IsOf row put))
 ]
 
 -- another one stays
-none_given : (puts : List Put) (row : Row) → list_any (IsOf row) puts ≡ false → all_into puts row ≡ row
+none_given : (puts : List NewAmounts) (row : Row) → list_any (IsOf row) puts ≡ false → all_into puts row ≡ row
 none_given [] row none = refl
 none_given (put ∷ puts) row none = elim (cases_Bool (IsOf row put)) [
   | inl here ↦ absurd (let t = rw here at none in cc)
@@ -73,7 +69,7 @@ none_given (put ∷ puts) row none = elim (cases_Bool (IsOf row put)) [
 ]
 
 -- a row that no put is of has no reservation
-no_reservation : (puts : List Put) (row : Row) (r : Reservation) → list_any (IsOf row) puts ≡ false → IsFor puts r → same_row row.name r.row ≡ false
+no_reservation : (puts : List NewAmounts) (row : Row) (r : Reservation) → list_any (IsOf row) puts ≡ false → IsFor puts r → same_row row.name r.row ≡ false
 no_reservation puts row r none for = elim (cases_Bool (same_row row.name r.row)) [
   | inl same ↦ absurd (let some = subst (λ (n : RowName). list_any (λ put. same_row n (row_put put)) puts ≡ true) (sym (row_same row.name r.row same)) for in cc)
   | inr other ↦ other
@@ -97,7 +93,7 @@ row_itself : (rows : List Row) (row : Row) → IsAscending row_before rows → H
 row_itself rows row order has = find_permutation (λ other. same_row other.name row.name) rows rows row (IsPermutation-refl rows) (one_row rows row order has)
 
 -- puts that are those of the reservations, row by row, and are of each reservation's row apply them
-pub puts_apply : (puts : List Put) (rows : List Row) (reservations : List Reservation) → IsAscending row_before rows → AllByRecursion (IsFor puts) reservations
+pub puts_apply : (puts : List NewAmounts) (rows : List Row) (reservations : List Reservation) → IsAscending row_before rows → AllByRecursion (IsFor puts) reservations
     → AllByRecursion (TellsPut rows reservations) puts → map (all_into puts) rows ≡ applied rows reservations
 puts_apply puts rows reservations order for tell = map_each (all_into puts) (row_after reservations) rows (has_all _ rows each)
   where
@@ -112,12 +108,12 @@ puts_apply puts rows reservations order for tell = map_each (all_into puts) (row
     ]
 
 -- one more put
-pub for_more : (puts : List Put) (put : Put) (reservations : List Reservation) → AllByRecursion (IsFor puts) reservations → AllByRecursion (IsFor (puts ++ put ∷ [])) reservations
+pub for_more : (puts : List NewAmounts) (put : NewAmounts) (reservations : List Reservation) → AllByRecursion (IsFor puts) reservations → AllByRecursion (IsFor (puts ++ put ∷ [])) reservations
 for_more puts put reservations = all_weaker (IsFor puts) (IsFor (puts ++ put ∷ []))
     (λ r for. list_any-append (λ p. same_row r.row (row_put p)) puts (put ∷ []) ∙ ap (λ b. b || list_any (λ p. same_row r.row (row_put p)) (put ∷ [])) for) reservations
 
 -- it is of the row that it names
-pub for_itself : (puts : List Put) (put : Put) (r : Reservation) → row_put put ≡ r.row → IsFor (puts ++ put ∷ []) r
+pub for_itself : (puts : List NewAmounts) (put : NewAmounts) (r : Reservation) → row_put put ≡ r.row → IsFor (puts ++ put ∷ []) r
 for_itself puts put r is =
     let here : same_row r.row (row_put put) ≡ true = subst (λ (n : RowName). same_row r.row n ≡ true) (sym is) (same_row_itself r.row) in
     list_any-append (λ p. same_row r.row (row_put p)) puts (put ∷ []) ∙ rw here (or_true (list_any (λ p. same_row r.row (row_put p)) puts))
@@ -127,7 +123,7 @@ for_itself puts put r is =
     or_true false = refl
 
 -- puts of the row of one reservation are of that of another one of the row
-pub for_same : (puts : List Put) (reservations : List Reservation) (r : Reservation) → list_any (λ other. same_row other.row r.row) reservations ≡ true
+pub for_same : (puts : List NewAmounts) (reservations : List Reservation) (r : Reservation) → list_any (λ other. same_row other.row r.row) reservations ≡ true
     → AllByRecursion (IsFor puts) reservations → IsFor puts r
 for_same puts [] r named for = absurd (cc)
 for_same puts (other ∷ reservations) r named for = elim (cases_Bool (same_row other.row r.row)) [

@@ -10,11 +10,12 @@ use Rattle.escrow_num.specs.declared.value.RowName.{RowName}
 use Rattle.escrow_num.specs.Order.{same_row}
 use Rattle.escrow_num.proofs.Items.{find_has}
 use Rattle.escrow_num.proofs.Orders.{row_same}
+use Rattle.escrow_rows.specs.declared.amounts.NewAmounts.{NewAmounts}
 use Rattle.escrow_rows.specs.declared.stored.StoredTable.{StoredTable}
 use Rattle.escrow_rows.specs.Changes.{Stands}
 use Rattle.escrow_machine.specs.Rows.{replaced, row_named}
 use Rattle.escrow_tables.specs.Calls.{AreGiven}
-use Rattle.escrow_tables.specs.Puts.{Put, ArePuts, TellsPut, changed_by, row_put}
+use Rattle.escrow_tables.specs.Puts.{ArePuts, TellsPut, changed_by, row_put}
 use Rattle.escrow_tables.proofs.Puts.{for_more, for_itself, for_same}
 
 -- the amounts that are given beside a reservation are those of its row
@@ -30,7 +31,7 @@ given_at of rows reservations before i r amounts below many at at_amounts given 
     ∙ ap Some (get_or-map of before i amounts (of amounts) (omega arith) ∙ sym (ap of at_amounts))
 
 -- new amounts that are made of them
-pub put_told : (rows : List Row) (reservations : List Reservation) (put : Put) (name : RowName) (before : List ℤ) → row_put put ≡ name
+pub put_told : (rows : List Row) (reservations : List Reservation) (put : NewAmounts) (name : RowName) (before : List ℤ) → row_put put ≡ name
     → option_map (λ (row : Row). row.amounts) (row_named rows name) ≡ Some before → replaced put.amounts before ≡ changed_by reservations name before → TellsPut rows reservations put
 put_told rows reservations put name before is given made row named =
     let same : before ≡ row.amounts = same_Some before row.amounts (sym given ∙ ap (λ (n : RowName). option_map (λ (r : Row). r.amounts) (row_named rows n)) (sym is) ∙ ap (option_map (λ (r : Row). r.amounts)) named) in
@@ -42,15 +43,15 @@ one_more : (reservations : List Reservation) (i : ℕ) (r : Reservation) → i <
 one_more reservations i r below at = take_more reservations i r below ∙ ap (λ x. take i reservations ++ x ∷ []) (sym at)
 
 -- one more reservation: its row is one that new amounts are of, or now gets them
-pub puts_same : (tables : List StoredTable) (reservations : List Reservation) (puts : List Put) (i : ℕ) (r : Reservation) → i < length reservations → r ≡ get_or reservations i r
+pub puts_same : (tables : List StoredTable) (reservations : List Reservation) (puts : List NewAmounts) (i : ℕ) (r : Reservation) → i < length reservations → r ≡ get_or reservations i r
     → list_any (λ other. same_row other.row r.row) (take i reservations) ≡ true → ArePuts tables (take i reservations) puts → ArePuts tables (take (i + 1) reservations) puts
 puts_same tables reservations puts i r below at named so_far = record {
   stand = so_far.stand;
   rows = rw (one_more reservations i r below at) (all-append _ _ _ so_far.rows (for_same puts (take i reservations) r named so_far.rows, tt));
 }
 
-pub puts_more : (tables : List StoredTable) (reservations : List Reservation) (puts : List Put) (put : Put) (i : ℕ) (r : Reservation) → i < length reservations → r ≡ get_or reservations i r
-    → Stands tables put.table → row_put put ≡ r.row → ArePuts tables (take i reservations) puts → ArePuts tables (take (i + 1) reservations) (puts ++ put ∷ [])
+pub puts_more : (tables : List StoredTable) (reservations : List Reservation) (puts : List NewAmounts) (put : NewAmounts) (i : ℕ) (r : Reservation) → i < length reservations → r ≡ get_or reservations i r
+    → Stands tables put.table.now → row_put put ≡ r.row → ArePuts tables (take i reservations) puts → ArePuts tables (take (i + 1) reservations) (puts ++ put ∷ [])
 puts_more tables reservations puts put i r below at stands is so_far = record {
   stand = all-append _ _ _ so_far.stand (stands, tt);
   rows = rw (one_more reservations i r below at) (all-append _ _ _ (for_more puts put (take i reservations) so_far.rows) (for_itself puts put r is, tt));

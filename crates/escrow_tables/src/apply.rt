@@ -8,24 +8,15 @@ ghost use Rattle.escrow_machine.specs.Rows.{replaced};
 ghost use Rattle.escrow_rows.specs.Changes.{Stands};
 ghost use Rattle.escrow_tables.specs.Calls.{AreGiven};
 ghost use Rattle.escrow_tables.specs.Inside.{stored_of};
-ghost use Rattle.escrow_tables.specs.Puts.{ArePuts, TellsPut, changed_by, put_by, put_of, row_put};
+ghost use Rattle.escrow_tables.specs.Puts.{ArePuts, TellsPut, changed_by, row_put};
 
 use crate::tables::{Tables, find_counted};
-use escrow_num::{Amount, Failure, Reservation, RowName, Seq, Value};
-use escrow_rows::{NewAmounts, StoredTable};
+use escrow_num::{Amount, Changes, Failure, Reservation, RowName, Seq};
+use escrow_rows::NewAmounts;
 use escrow_verify::Counted;
 use sqlite::Alter;
 use std::alloc::{AllocError, Global};
 use std::snapshot::Snapshot;
-
-/// What reservations make of the row of a key: for each RESERVABLE column its new amount, or none where it
-/// stays.
-#[derive(Debug, Drop)]
-struct Change<'a> {
-    table: &'a StoredTable,
-    key: &'a Value,
-    amounts: Seq<Option<Amount>>,
-}
 
 impl<S: Alter> Tables<S> {
     ghost use Rattle.std.specs.Prelude.{is_ok};
@@ -47,72 +38,56 @@ impl<S: Alter> Tables<S> {
         requires given { HasCleanDisk (state S.Store self.old.store) → AreGiven self.old.rows reservations.now (map (λ amounts. amounts.now) before.now) }
         ensures { Writes S.Store self.old self.new (is_ok result) self.old.catalog (applied self.old.rows reservations.now) }
     {
-        let changes = changes_by(alloc, &self.tables, reservations, before)?;
-        let news = news_of(alloc, changes.as_slice())?;
+        let news = news_by(alloc, &self.tables, reservations, before)?;
         self.store.put_amounts(alloc, news.as_slice())?;
         self.last = Snapshot::of(&self.store);
         Ok(())
     }
 }
 
-/// What reservations make of each row that one of them is of; the amounts that the row of each has are given
-/// beside it.
-fn changes_by<'a>(
+/// The new amounts of each row that one of the reservations is of; the amounts that the row of each has are
+/// given beside it.
+fn news_by<'a>(
     alloc: Global,
     tables: &'a [Counted],
     reservations: &'a [Reservation],
     before: &[&[Amount]],
-) -> Result<Vec<Change<'a>>, Failure>
+) -> Result<Vec<NewAmounts<'a>>, Failure>
     requires { length before.now ≡ length reservations.now }
-    ensures puts { IfOk result (λ changes. ArePuts (stored_of tables.now) reservations.now (map put_of changes.items)) }
-    ensures told { IfOk result (λ changes. (rows : List Row) → AreGiven rows reservations.now (map (λ amounts. amounts.now) before.now) → AllByRecursion (TellsPut rows reservations.now) (map put_of changes.items)) }
+    ensures puts { IfOk result (λ news. ArePuts (stored_of tables.now) reservations.now news.items) }
+    ensures told { IfOk result (λ news. (rows : List Row) → AreGiven rows reservations.now (map (λ amounts. amounts.now) before.now) → AllByRecursion (TellsPut rows reservations.now) news.items) }
 {
-    let mut changes = Vec::new(alloc);
+    let mut news = Vec::new(alloc);
     for (i, r) in reservations.iter().enumerate() {
         if !is_named(&reservations[..i], &r.row) {
-            let change = change_of(alloc, tables, &r.row, before[i], reservations)?;
-            changes.push(change)?;
+            let new = new_of(alloc, tables, &r.row, before[i], reservations)?;
+            news.push(new)?;
         }
     }
-    Ok(changes)
+    Ok(news)
 }
 
-/// What reservations make of the row of a name, which has these amounts. A table that isn't there, or a sum
-/// that is no amount, is a store that was changed by others.
-fn change_of<'a>(
+/// The new amounts that reservations give to the row of a name, which has these. A table that isn't there, or
+/// a sum that is no amount, is a store that was changed by others.
+fn new_of<'a>(
     alloc: Global,
     tables: &'a [Counted],
     name: &'a RowName,
     before: &[Amount],
     reservations: &[Reservation],
-) -> Result<Change<'a>, Failure>
-    ensures stands { IfOk result (λ change. Stands (stored_of tables.now) change.table.now) }
-    ensures row { IfOk result (λ change. row_put (put_of change) ≡ name.now) }
-    ensures amounts { IfOk result (λ change. replaced change.amounts before.now ≡ changed_by reservations.now name.now before.now) }
+) -> Result<NewAmounts<'a>, Failure>
+    ensures stands { IfOk result (λ new. Stands (stored_of tables.now) new.table.now) }
+    ensures row { IfOk result (λ new. row_put new ≡ name.now) }
+    ensures amounts { IfOk result (λ new. replaced new.amounts before.now ≡ changed_by reservations.now name.now before.now) }
 {
     let Some(counted) = find_counted(tables, name.table) else {
         return Err(Failure::Store);
     };
-    Ok(Change {
+    Ok(NewAmounts {
         table: &counted.stored,
         key: &name.key,
         amounts: new_amounts(alloc, name, before, reservations)?,
     })
-}
-
-/// The new amounts, as the store takes them.
-fn news_of<'a>(alloc: Global, changes: &'a [Change<'a>]) -> Result<Vec<NewAmounts<'a>>, AllocError>
-    ensures { IfOk result (λ news. map put_by news.items ≡ map put_of changes.now) }
-{
-    let mut news = Vec::with_capacity(alloc, changes.len())?;
-    for change in changes {
-        news.push(NewAmounts {
-            table: change.table,
-            key: change.key,
-            amounts: change.amounts.as_slice(),
-        })?;
-    }
-    Ok(news)
 }
 
 /// Whether one of the reservations is of the row of a name.
@@ -128,7 +103,7 @@ fn new_amounts(
     name: &RowName,
     before: &[Amount],
     reservations: &[Reservation],
-) -> Result<Seq<Option<Amount>>, Failure>
+) -> Result<Changes, Failure>
     ensures { IfOk result (λ news. replaced news before.now ≡ changed_by reservations.now name.now before.now) }
 {
     let mut after = copied(alloc, before)?;
@@ -172,14 +147,10 @@ fn sum(a: Amount, b: Amount) -> Option<Amount>
 }
 
 /// The amounts that differ from those before, none where one is the same.
-fn differing(
-    alloc: Global,
-    before: &[Amount],
-    after: &[Amount],
-) -> Result<Seq<Option<Amount>>, AllocError>
+fn differing(alloc: Global, before: &[Amount], after: &[Amount]) -> Result<Changes, AllocError>
     ensures { IfOk result (λ news. length before.now ≡ length after.now → replaced news before.now ≡ after.now) }
 {
-    let mut news = Seq::new(alloc);
+    let mut news = Changes::new(alloc);
     for (old, new) in before.iter().zip(after) {
         news.push(if old == new { None } else { Some(*new) })?;
     }

@@ -23,14 +23,14 @@ loop-i-preserved c =
     elim c.if-column.branch [
       | then-column+in_ok-push_cell w ↦ rw (w.steps-is, w.at-is) (record {
         left = λ before. put_next table.id key i _ _ _ (fold done before so_far) _ _
-            (amount_taken columns i column new.amounts.now c.loop-i.at within here w.if-column.true)
+            (amount_taken columns i column new.amounts c.loop-i.at within here w.if-column.true)
             (c.loop-i.invariant.left before)
-            (rw (to_z-of_z w64 table.id (search rules), w.datum.ensures, w.amount_at.ensures) at (w.in_ok-push_cell.ensures before));
+            (rw (to_z-of_z w64 table.id (search rules), w.datum.ensures, w.amount_at.ensures, w.as_slice.ensures) at (w.in_ok-push_cell.ensures before));
         few = omega (arith, c.loop-i.invariant.few);
       })
       | else-column w ↦ rw (w.steps-is, w.at-is) (record {
         left = λ before. pass_next table.id key i _ _ (fold done before so_far) _
-            (amount_passed columns i column (drop c.loop-i.at new.amounts.now) within here w.if-column.false) (c.loop-i.invariant.left before);
+            (amount_passed columns i column (drop c.loop-i.at new.amounts) within here w.if-column.false) (c.loop-i.invariant.left before);
         few = omega (arith, c.loop-i.invariant.few);
       })
     ]
@@ -42,4 +42,4 @@ returns c = λ before.
     let columns = table.table.columns in
     let past : length columns ≤ c.loop-i.i = subst (λ (cs : List Column). length cs ≤ c.loop-i.i) c.as_slice-column-items.ensures c.loop-i-test.false in
     none_left table.id (stored new.key.now) c.loop-i.i _ (fold done before c.loop-i.steps.items) _
-    (ap (λ (cs : List Column). new_amounts cs (drop c.loop-i.at new.amounts.now)) (drop_all c.loop-i.i columns past)) (c.loop-i.invariant.left before)
+    (ap (λ (cs : List Column). new_amounts cs (drop c.loop-i.at new.amounts)) (drop_all c.loop-i.i columns past)) (c.loop-i.invariant.left before)

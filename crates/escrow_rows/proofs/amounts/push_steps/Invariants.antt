@@ -7,6 +7,6 @@ use Rattle.escrow_rows.proofs.amounts.push_steps.Given as goal
 
 abbrev pub invariant-loop-i : goal.invariant-loop-i
 invariant-loop-i l = record {
-  left : (c : Contents) → Leaves l.new.table.now.id (stored l.new.key.now) l.i (new_amounts (drop l.i l.new.table.now.table.columns) (drop l.at l.new.amounts.now)) (fold done c l.steps.items) (on_cells (amounts_on l.new) (fold done c l.initial.steps.items));
+  left : (c : Contents) → Leaves l.new.table.now.id (stored l.new.key.now) l.i (new_amounts (drop l.i l.new.table.now.table.columns) (drop l.at l.new.amounts)) (fold done c l.steps.items) (on_cells (amounts_on l.new) (fold done c l.initial.steps.items));
   few : l.at ≤ l.i;
 }

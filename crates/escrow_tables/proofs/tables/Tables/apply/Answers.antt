@@ -1,4 +1,4 @@
-use Rattle.std.proofs.Common.{◌≡◌, ◌∙◌, Bool, true, false, ap, is_ok, map, refl, subst, sym}
+use Rattle.std.proofs.Common.{◌≡◌, Bool, true, false, ap, is_ok, refl, subst, sym}
 use Rattle.std.proofs.lemmas.Bool.{false≢true}
 use Rattle.std.proofs.lemmas.Result.{err_from_is_err_and}
 use Rattle.sqlite.specs.Held.{Held, state}
@@ -8,7 +8,6 @@ use Rattle.escrow_rows.specs.Changes.{PutsAmounts}
 use Rattle.escrow_rows.specs.View.{rows_in}
 use Rattle.escrow_tables.specs.Calls.{Writes}
 use Rattle.escrow_tables.specs.Inside.{Keeps, catalog_of, stored_of}
-use Rattle.escrow_tables.specs.Puts.{put_by, put_of}
 use Rattle.escrow_tables.proofs.Committing.{commits, keeps_committed}
 use Rattle.escrow_tables.proofs.Writing.{seen}
 use Rattle.escrow_tables.proofs.tables.Tables.apply.Given as given
@@ -23,17 +22,15 @@ written : (g : given.Over) (c : After-put_amounts g) (is_done : Bool) (later : H
     × Keeps (state g.S.Store c.put_amounts.new.self) (state g.S.Store later) c.self.inside.tables.items
 written g c is_done later ok if_done if_not =
     let old = c.self.inside in
-    let news = c.as_slice-2.result.now in
+    let news = c.as_slice.result.now in
     let new = c.put_amounts.new.self in
-    let made = rw c.deref.ensures.value at c.in_ok-changes.ensures in
-    let same : map put_of c.in_ok-changes.changes.items ≡ map put_by news =
-    sym (ap (map put_by) c.as_slice-2.ensures.value ∙ c.in_ok-news.ensures ∙ ap (map put_of) c.as_slice.ensures.value) in
+    let made = rw (c.deref.ensures.value, ← c.as_slice.ensures.value) at c.in_ok-news.ensures in
     let given = rw (← c.self.view_is) at c.requires.given in
     let it = subst (λ b. Alters (state g.S.Store old.store) (state g.S.Store new) b (PutsAmounts news)) ok c.put_amounts.ensures in (
       commits g.S.Store old.store new old.last.value later old.tables.items c.args.reservations.now news is_done c.self.invariant
-          (rw same at made.puts) (λ clean. rw same at (made.told _ (given clean))) it if_done if_not,
+          made.puts (λ clean. made.told _ (given clean)) it if_done if_not,
       keeps_committed g.S.Store old.store new old.last.value later old.tables.items c.args.reservations.now news is_done c.self.invariant
-          (rw same at made.puts) (λ clean. rw same at (made.told _ (given clean))) it if_done if_not,
+          made.puts (λ clean. made.told _ (given clean)) it if_done if_not,
     )
 
 pub invariant_of-self : goal.invariant_of-self

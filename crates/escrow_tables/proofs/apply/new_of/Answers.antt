@@ -1,6 +1,6 @@
 use Rattle.std.proofs.Common.{ℕ, List, ap}
 use Rattle.escrow_tables.proofs.Named.{is_named}
-use Rattle.escrow_tables.proofs.apply.change_of.Goals as goal
+use Rattle.escrow_tables.proofs.apply.new_of.Goals as goal
 
 pub returns-clause-stands : goal.returns-clause-stands
 returns-clause-stands c = (is_named c.args.tables.now c.args.name.now.table c.in-Some.counted.now c.in-Some.ensures).stands
