@@ -1,10 +1,13 @@
 -- Changes added to amounts, column by column, and amounts replaced.
-use Rattle.std.proofs.Common.{◌≡◌, ℕ, ℤ, zero, suc, Option, None, Some, unwrap_or, pos, ◌+◌, ◌<◌, ◌≤◌, ◌+ℤ◌, List, [], ◌∷◌, ◌++◌, map, length, min, take, get_or, set, refl, ap, sym, ◌∙◌, subst, subst₂, true, false, arith, add-one}
-use Rattle.std.proofs.lemmas.List.{length-map, length-take-le, map_more, take_all, take_more, take-map, get_or-map, length_push}
+use Rattle.std.proofs.Common.{◌≡◌, ℕ, ℤ, zero, suc, Option, None, Some, unwrap_or, pos, ◌+◌, ◌-◌, ◌<◌, ◌≤◌, ◌+ℤ◌, List, [], ◌∷◌, ◌++◌, map, length, min, take, drop, get_or, set, refl, ap, sym, ◌∙◌, subst, subst₂, true, false, arith, add-one, inl, inr}
+use Rattle.std.specs.List.{list_any}
+use Rattle.std.proofs.lemmas.Bool.{cases_Bool, false_from_ne_true, false≢true}
+use Rattle.std.proofs.lemmas.List.{length-drop, length-map, length-take-le, map_more, take_all, take_more, take-map, get_or-map, length_push}
 use Rattle.escrow_num.specs.declared.reservation.Reservation.{Reservation}
 use Rattle.escrow_num.specs.declared.value.RowName.{RowName}
 use Rattle.escrow_num.specs.Order.{same_row}
 use Rattle.escrow_num.specs.Reservation.{counted, changes_at}
+use Rattle.escrow_num.proofs.Orders.{row_same, same_row_itself}
 use Rattle.escrow_checks.specs.Form.{changed, all_changed}
 use Rattle.escrow_machine.specs.Rows.{replaced}
 use Rattle.escrow_tables.specs.Puts.{changed_by}
@@ -68,6 +71,25 @@ changes_own name r same = rw same refl
 
 pub changes_other : (name : RowName) (r : Reservation) → same_row name r.row ≡ false → changes_at name r ≡ []
 changes_other name r other = rw other refl
+
+-- reservations of other rows, in front of the others, change nothing
+changed_later : (name : RowName) (before : List ℤ) (reservations : List Reservation) (i : ℕ) → list_any (λ r. same_row r.row name) (take i reservations) ≡ false
+    → changed_by (drop i reservations) name before ≡ changed_by reservations name before
+changed_later name before [] zero none = refl
+changed_later name before [] (suc i) none = refl
+changed_later name before (r ∷ reservations) zero none = refl
+changed_later name before (r ∷ reservations) (suc i) none = elim (cases_Bool (same_row r.row name)) [
+  | inl own ↦ absurd (let t = rw own at none in cc)
+  | inr apart ↦ (let later = rw apart at none in
+      let other : same_row name r.row ≡ false = false_from_ne_true _ (λ own. false≢true (sym apart ∙ subst (λ (n : RowName). same_row r.row n ≡ true) (sym (row_same name r.row own)) (same_row_itself r.row))) in
+      let same : changed before (changes_at name r) ≡ before = ap (changed before) (changes_other name r other) ∙ changed_nil before in
+      changed_later name before reservations i later ∙ sym (ap (λ (zs : List ℤ). all_changed zs (map (changes_at name) reservations)) same))
+]
+
+pub changed_from : (name : RowName) (before : List ℤ) (reservations : List Reservation) (i : ℕ) → list_any (λ r. same_row r.row name) (take i reservations) ≡ false
+    → changed_by (take (length reservations - i) (drop i reservations)) name before ≡ changed_by reservations name before
+changed_from name before reservations i none =
+    ap (λ rs. changed_by rs name before) (take_all (length reservations - i) (drop i reservations) (omega (arith, length-drop i reservations))) ∙ changed_later name before reservations i none
 
 -- one more item replaced, or kept
 replaced_push : {A : Type 0} (news : List (Option A)) (new : Option A) (xs : List A) (x : A) → length news ≡ length xs

@@ -46,7 +46,7 @@ impl<S: Alter> Tables<S> {
 }
 
 /// The new amounts of each row that one of the reservations is of; the amounts that the row of each has are
-/// given beside it.
+/// given beside it. A row's first reservation gives it those of all, since none before is of it.
 fn news_by<'a>(
     alloc: Global,
     tables: &'a [Counted],
@@ -60,7 +60,7 @@ fn news_by<'a>(
     let mut news = Vec::new(alloc);
     for (i, r) in reservations.iter().enumerate() {
         if !is_named(&reservations[..i], &r.row) {
-            let new = new_of(alloc, tables, &r.row, before[i], reservations)?;
+            let new = new_of(alloc, tables, &r.row, before[i], &reservations[i..])?;
             news.push(new)?;
         }
     }

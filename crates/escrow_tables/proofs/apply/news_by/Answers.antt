@@ -1,6 +1,7 @@
 use Rattle.std.proofs.Common.{sym, ◌∙◌}
 use Rattle.sqlite_trees.proofs.ListLemmas.{all-append}
 use Rattle.escrow_tables.specs.Inside.{stored_of}
+use Rattle.escrow_tables.proofs.Changed.{changed_from}
 use Rattle.escrow_tables.proofs.Putting.{given_at, put_told, puts_same, puts_more}
 use Rattle.escrow_tables.proofs.apply.news_by.Goals as goal
 use Rattle.escrow_tables.proofs.apply.news_by.Goals.{then-not-is_named+in_ok-new+in_ok-push, else-not-is_named}
@@ -21,7 +22,7 @@ loop-i-preserved c =
             puts = puts_more tables reservations news new i r c.loop-i-test.true c.index-reservations-i.is made.stands made.row so_far.puts;
             told = λ rows given. all-append _ _ _ (so_far.told rows given) (
               put_told rows reservations new r.row _ made.row
-                  (given_at _ rows reservations c.args.before.now i r w.index-before-i.result c.loop-i-test.true c.requires c.index-reservations-i.is w.index-before-i.is given) made.amounts,
+                  (given_at _ rows reservations c.args.before.now i r w.index-before-i.result c.loop-i-test.true c.requires c.index-reservations-i.is w.index-before-i.is given) (made.amounts ∙ changed_from r.row _ reservations i (sym c.is_named.ensures ∙ w.if-not-is_named.true)),
               tt,
             );
           })
