@@ -1,4 +1,4 @@
-ghost use Rattle.std.specs.Prelude.{◌≡◌, bytes_eq};
+ghost use Rattle.std.specs.Prelude.{◌≡◌, ℕ, List, ◌∷◌, bytes_eq};
 ghost use Rattle.std.specs.List.{find};
 
 /// A reserved word: no name may be one, in any case of its letters.
@@ -169,13 +169,54 @@ impl Word {
         self as u8
     }
 
+    /// The reserved words that begin with the letter, in the alphabet's order.
+    fn beginning_with(letter: u8) -> &'static [Self]
+        ensures { (rest : List ℕ) → find (λ w. bytes_eq (spelling w) (letter ∷ rest)) result.now ≡ reserved (letter ∷ rest) }
+    {
+        match letter {
+            b'A' => &[Word::Add, Word::Alter, Word::And],
+            b'B' => &[Word::Between, Word::Bounds],
+            b'C' => &[Word::Check, Word::Commit, Word::Constraint, Word::Create],
+            b'D' => &[Word::Delete, Word::Drop],
+            b'F' => &[Word::From],
+            b'I' => &[Word::Insert, Word::Integer, Word::Into],
+            b'J' => &[Word::Journal],
+            b'K' => &[Word::Key],
+            b'N' => &[Word::Not, Word::Null, Word::Number],
+            b'P' => &[Word::Primary],
+            b'R' => &[Word::Reservable, Word::Rollback],
+            b'S' => &[
+                Word::Savepoint,
+                Word::Select,
+                Word::Set,
+                Word::Show,
+                Word::Statistics,
+            ],
+            b'T' => &[Word::Table, Word::To],
+            b'U' => &[Word::Update],
+            b'V' => &[Word::Values, Word::Varchar2],
+            b'W' => &[Word::Where, Word::Work],
+            _ => &[],
+        }
+    }
+
+    /// The first of the words that is spelled so, if one is.
+    fn among(words: &[Self], text: &[u8]) -> Option<Self>
+        ensures { result ≡ find (λ w. bytes_eq (spelling w) text.now) words.now }
+    {
+        words
+            .iter()
+            .copied()
+            .find(|word| word.spelling().as_bytes() == text)
+    }
+
     /// The reserved word that is spelled so, in upper case, if one is.
     pub fn of(text: &[u8]) -> Option<Self>
         ensures { result ≡ reserved text.now }
     {
-        Self::ALL
-            .iter()
-            .copied()
-            .find(|word| word.spelling().as_bytes() == text)
+        match text {
+            [] => None,
+            [letter, ..] => Self::among(Self::beginning_with(*letter), text),
+        }
     }
 }
