@@ -80,45 +80,6 @@ impl Word {
     ghost use Rattle.escrow_sql.specs.Word.{spelling, reserved};
     ghost use Rattle.escrow_sql.specs.Classes.{number_of};
 
-    /// Every reserved word, in the alphabet's order.
-    pub const ALL: [Word; 35] = [
-        Word::Add,
-        Word::Alter,
-        Word::And,
-        Word::Between,
-        Word::Bounds,
-        Word::Check,
-        Word::Commit,
-        Word::Constraint,
-        Word::Create,
-        Word::Delete,
-        Word::Drop,
-        Word::From,
-        Word::Insert,
-        Word::Integer,
-        Word::Into,
-        Word::Journal,
-        Word::Key,
-        Word::Not,
-        Word::Null,
-        Word::Number,
-        Word::Primary,
-        Word::Reservable,
-        Word::Rollback,
-        Word::Savepoint,
-        Word::Select,
-        Word::Set,
-        Word::Show,
-        Word::Statistics,
-        Word::Table,
-        Word::To,
-        Word::Update,
-        Word::Values,
-        Word::Varchar2,
-        Word::Where,
-        Word::Work,
-    ];
-
     /// The word as it is spelled, in upper case.
     pub fn spelling(self) -> &'static str
         ensures { result.now ≡ spelling self }
