@@ -89,7 +89,8 @@ pub fn lex(alloc: Global, text: &str) -> Result<Seq<Token>, ParseFault>
             column: MAX_TEXT as u32 + 1,
         });
     }
-    let mut tokens = Seq::new(alloc);
+    // Of a statement each token takes some four bytes, so that the list seldom has to grow.
+    let mut tokens = Seq::from_vec(Vec::with_capacity(alloc, text.len() / 4 + 1)?);
     let mut at = 0;
     while at < text.len() {
         match piece_at(alloc, text, at)? {
