@@ -6,11 +6,10 @@ use crate::push::{push_bytes, push_counted, push_number, push_signed, push_text}
 use crate::values::push_value;
 use escrow_machine::{ColumnChange, JournalEntry};
 use escrow_num::Amount;
-use std::alloc::{AllocError, Global};
+use std::alloc::AllocError;
 
 /// A line for each open reservation.
 pub(crate) fn push_entry_lines(
-    alloc: Global,
     lines: &mut Vec<u8>,
     prefix: &[u8],
     entries: &[JournalEntry],
@@ -18,14 +17,13 @@ pub(crate) fn push_entry_lines(
     ensures { OnOk result (lines.new.items ≡ lines.old.items ++ with_prefix prefix.now (map entry_text entries.now)) }
 {
     for entry in entries {
-        push_entry_line(alloc, lines, prefix, entry)?;
+        push_entry_line(lines, prefix, entry)?;
     }
     Ok(())
 }
 
 /// A line of an open reservation.
 fn push_entry_line(
-    alloc: Global,
     lines: &mut Vec<u8>,
     prefix: &[u8],
     entry: &JournalEntry,
@@ -33,55 +31,51 @@ fn push_entry_line(
     ensures { OnOk result (lines.new.items ≡ lines.old.items ++ with_prefix prefix.now (entry_text entry.now ∷ [])) }
 {
     push_bytes(lines, prefix)?;
-    push_entry(alloc, lines, entry)?;
+    push_entry(lines, entry)?;
     push_text(lines, "\n")
 }
 
 /// An open reservation's id, its session, its row, and its changes.
 #[tactic(auto, unfolding(crate::specs::Text::entry_text))]
-fn push_entry(alloc: Global, line: &mut Vec<u8>, entry: &JournalEntry) -> Result<(), AllocError>
+fn push_entry(line: &mut Vec<u8>, entry: &JournalEntry) -> Result<(), AllocError>
     ensures { OnOk result (line.new.items ≡ line.old.items ++ entry_text entry.now) }
 {
-    push_number(alloc, line, entry.id)?;
-    push_counted(alloc, line, " session ", u64::from(entry.session.get()))?;
+    push_number(line, entry.id)?;
+    push_counted(line, " session ", u64::from(entry.session.get()))?;
     push_text(line, " ")?;
     push_bytes(line, entry.row.table.as_bytes())?;
     push_text(line, " ")?;
-    push_value(alloc, line, &entry.row.key)?;
-    push_changes(alloc, line, entry.changes.as_slice())
+    push_value(line, &entry.row.key)?;
+    push_changes(line, entry.changes.as_slice())
 }
 
 /// The changes of columns, one behind the other.
-fn push_changes(
-    alloc: Global,
-    line: &mut Vec<u8>,
-    changes: &[ColumnChange],
-) -> Result<(), AllocError>
+fn push_changes(line: &mut Vec<u8>, changes: &[ColumnChange]) -> Result<(), AllocError>
     ensures { OnOk result (line.new.items ≡ line.old.items ++ flat_map change_text changes.now) }
 {
     for change in changes {
-        push_change(alloc, line, change)?;
+        push_change(line, change)?;
     }
     Ok(())
 }
 
 /// A column's name, and its change.
-fn push_change(alloc: Global, line: &mut Vec<u8>, change: &ColumnChange) -> Result<(), AllocError>
+fn push_change(line: &mut Vec<u8>, change: &ColumnChange) -> Result<(), AllocError>
     ensures { OnOk result (line.new.items ≡ line.old.items ++ change_text change.now) }
 {
     push_text(line, " ")?;
     push_bytes(line, change.column.as_bytes())?;
     push_text(line, " ")?;
-    push_with_sign(alloc, line, change.change)
+    push_with_sign(line, change.change)
 }
 
 /// A change with its sign: a plus where it isn't negative.
-fn push_with_sign(alloc: Global, line: &mut Vec<u8>, change: Amount) -> Result<(), AllocError>
+fn push_with_sign(line: &mut Vec<u8>, change: Amount) -> Result<(), AllocError>
     ensures { OnOk result (line.new.items ≡ line.old.items ++ signed_text change) }
 {
     let number = change.get();
     if number >= 0 {
         push_text(line, "+")?;
     }
-    push_signed(alloc, line, i128::from(number))
+    push_signed(line, i128::from(number))
 }

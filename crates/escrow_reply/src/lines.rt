@@ -10,6 +10,12 @@ use escrow_machine::Reply;
 use escrow_num::{Name, Seq, Session, Value};
 use std::alloc::{AllocError, Global};
 
+/// How many bytes the longest prefix takes: `bank16.64> `.
+const MOST_PREFIX: usize = 11;
+
+/// More bytes than most replies take, so that their memory is taken at once.
+const MOST_LINE: usize = 64;
+
 /// The lines that answer a statement, each behind the database and the session that they are for, and
 /// before a line feed.
 pub fn render(
@@ -44,10 +50,10 @@ pub fn render_lines(alloc: Global, prefix: &str, reply: &Reply) -> Result<Vec<u8
 fn prefix_of(alloc: Global, database: &str, session: Session) -> Result<Vec<u8>, AllocError>
     ensures { IfOk result (λ bytes. bytes.items ≡ prefix_of database.now session) }
 {
-    let mut prefix = Vec::new(alloc);
+    let mut prefix = Vec::with_capacity(alloc, MOST_PREFIX)?;
     push_text(&mut prefix, database)?;
     push_text(&mut prefix, ".")?;
-    push_number(alloc, &mut prefix, u64::from(session.get()))?;
+    push_number(&mut prefix, u64::from(session.get()))?;
     push_text(&mut prefix, "> ")?;
     Ok(prefix)
 }
@@ -56,7 +62,7 @@ fn prefix_of(alloc: Global, database: &str, session: Session) -> Result<Vec<u8>,
 fn database_prefix(alloc: Global, database: &str) -> Result<Vec<u8>, AllocError>
     ensures { IfOk result (λ bytes. bytes.items ≡ database_prefix database.now) }
 {
-    let mut prefix = Vec::new(alloc);
+    let mut prefix = Vec::with_capacity(alloc, MOST_PREFIX)?;
     push_text(&mut prefix, database)?;
     push_text(&mut prefix, "> ")?;
     Ok(prefix)
@@ -66,34 +72,29 @@ fn database_prefix(alloc: Global, database: &str) -> Result<Vec<u8>, AllocError>
 fn with_prefix(alloc: Global, prefix: &[u8], reply: &Reply) -> Result<Vec<u8>, AllocError>
     ensures { IfOk result (λ bytes. bytes.items ≡ with_prefix prefix.now (reply_lines reply.now)) }
 {
-    let mut lines = Vec::new(alloc);
-    push_shown(alloc, &mut lines, prefix, reply)?;
+    let mut lines = Vec::with_capacity(alloc, MOST_LINE)?;
+    push_shown(&mut lines, prefix, reply)?;
     push_bytes(&mut lines, prefix)?;
-    push_words(alloc, &mut lines, reply)?;
+    push_words(&mut lines, reply)?;
     push_text(&mut lines, "\n")?;
     Ok(lines)
 }
 
 /// The lines before the last one, for what is shown.
-fn push_shown(
-    alloc: Global,
-    lines: &mut Vec<u8>,
-    prefix: &[u8],
-    reply: &Reply,
-) -> Result<(), AllocError>
+fn push_shown(lines: &mut Vec<u8>, prefix: &[u8], reply: &Reply) -> Result<(), AllocError>
     ensures { OnOk result (lines.new.items ≡ lines.old.items ++ with_prefix prefix.now (shown_lines reply.now)) }
 {
     match reply {
         Reply::Rows { columns, rows } => {
             push_header_line(lines, prefix, columns.as_slice())?;
-            push_row_lines(alloc, lines, prefix, rows.as_slice())
+            push_row_lines(lines, prefix, rows.as_slice())
         }
         Reply::Table(text) => push_line(lines, prefix, text.as_str()),
         Reply::Bounds { columns, checks } => {
-            push_column_lines(alloc, lines, prefix, columns.as_slice())?;
-            push_check_lines(alloc, lines, prefix, checks.as_slice())
+            push_column_lines(lines, prefix, columns.as_slice())?;
+            push_check_lines(lines, prefix, checks.as_slice())
         }
-        Reply::Journal(entries) => push_entry_lines(alloc, lines, prefix, entries.as_slice()),
+        Reply::Journal(entries) => push_entry_lines(lines, prefix, entries.as_slice()),
         _ => Ok(()),
     }
 }
@@ -117,30 +118,20 @@ fn push_header_line(lines: &mut Vec<u8>, prefix: &[u8], names: &[Name]) -> Resul
 }
 
 /// A line for each row.
-fn push_row_lines(
-    alloc: Global,
-    lines: &mut Vec<u8>,
-    prefix: &[u8],
-    rows: &[Seq<Value>],
-) -> Result<(), AllocError>
+fn push_row_lines(lines: &mut Vec<u8>, prefix: &[u8], rows: &[Seq<Value>]) -> Result<(), AllocError>
     ensures { OnOk result (lines.new.items ≡ lines.old.items ++ with_prefix prefix.now (map row_text rows.now)) }
 {
     for row in rows {
-        push_row_line(alloc, lines, prefix, row.as_slice())?;
+        push_row_line(lines, prefix, row.as_slice())?;
     }
     Ok(())
 }
 
 /// A line of a row's values.
-fn push_row_line(
-    alloc: Global,
-    lines: &mut Vec<u8>,
-    prefix: &[u8],
-    values: &[Value],
-) -> Result<(), AllocError>
+fn push_row_line(lines: &mut Vec<u8>, prefix: &[u8], values: &[Value]) -> Result<(), AllocError>
     ensures { OnOk result (lines.new.items ≡ lines.old.items ++ with_prefix prefix.now (row_text values.now ∷ [])) }
 {
     push_bytes(lines, prefix)?;
-    push_row(alloc, lines, values)?;
+    push_row(lines, values)?;
     push_text(lines, "\n")
 }

@@ -1,7 +1,8 @@
 ghost use Rattle.std.specs.Prelude.{◌≡◌, ◌++◌, OnOk, decimal};
 ghost use Rattle.std.specs.Fmt.{signed_decimal};
 
-use std::alloc::{AllocError, Global};
+use itoa::Buffer;
+use std::alloc::AllocError;
 
 pub(crate) fn push_bytes(line: &mut Vec<u8>, bytes: &[u8]) -> Result<(), AllocError>
     ensures { OnOk result (line.new.items ≡ line.old.items ++ bytes.now) }
@@ -16,43 +17,33 @@ pub(crate) fn push_text(line: &mut Vec<u8>, text: &str) -> Result<(), AllocError
 }
 
 /// A number in decimal.
-pub(crate) fn push_number(alloc: Global, line: &mut Vec<u8>, number: u64) -> Result<(), AllocError>
+pub(crate) fn push_number(line: &mut Vec<u8>, number: u64) -> Result<(), AllocError>
     ensures { OnOk result (line.new.items ≡ line.old.items ++ decimal number) }
 {
-    let digits = number.to_string(alloc)?;
-    push_text(line, digits.as_str())
+    let mut digits = Buffer::new();
+    push_text(line, digits.format(number))
 }
 
 /// A number in decimal, with a minus where it is negative.
-pub(crate) fn push_signed(alloc: Global, line: &mut Vec<u8>, number: i128) -> Result<(), AllocError>
+pub(crate) fn push_signed(line: &mut Vec<u8>, number: i128) -> Result<(), AllocError>
     ensures { OnOk result (line.new.items ≡ line.old.items ++ signed_decimal number) }
 {
-    let digits = number.to_string(alloc)?;
-    push_text(line, digits.as_str())
+    let mut digits = Buffer::new();
+    push_text(line, digits.format(number))
 }
 
 /// Words and a number behind them, with a minus where it is negative.
-pub(crate) fn push_measure(
-    alloc: Global,
-    line: &mut Vec<u8>,
-    words: &str,
-    number: i128,
-) -> Result<(), AllocError>
+pub(crate) fn push_measure(line: &mut Vec<u8>, words: &str, number: i128) -> Result<(), AllocError>
     ensures { OnOk result (line.new.items ≡ line.old.items ++ (words.now ++ signed_decimal number)) }
 {
     push_text(line, words)?;
-    push_signed(alloc, line, number)
+    push_signed(line, number)
 }
 
 /// Words and a number behind them.
-pub(crate) fn push_counted(
-    alloc: Global,
-    line: &mut Vec<u8>,
-    words: &str,
-    number: u64,
-) -> Result<(), AllocError>
+pub(crate) fn push_counted(line: &mut Vec<u8>, words: &str, number: u64) -> Result<(), AllocError>
     ensures { OnOk result (line.new.items ≡ line.old.items ++ (words.now ++ decimal number)) }
 {
     push_text(line, words)?;
-    push_number(alloc, line, number)
+    push_number(line, number)
 }

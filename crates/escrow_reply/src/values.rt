@@ -4,7 +4,7 @@ ghost use Rattle.escrow_reply.specs.Text.{quoted, value_text, row_text, header_t
 
 use crate::push::{push_bytes, push_signed, push_text};
 use escrow_num::{Name, Value};
-use std::alloc::{AllocError, Global};
+use std::alloc::AllocError;
 
 /// What stands between two columns.
 const BAR: &str = " | ";
@@ -25,30 +25,26 @@ pub(crate) fn push_header(line: &mut Vec<u8>, names: &[Name]) -> Result<(), Allo
 }
 
 /// The values of a row, with a bar between each two.
-pub(crate) fn push_row(
-    alloc: Global,
-    line: &mut Vec<u8>,
-    values: &[Value],
-) -> Result<(), AllocError>
+pub(crate) fn push_row(line: &mut Vec<u8>, values: &[Value]) -> Result<(), AllocError>
     ensures { OnOk result (line.new.items ≡ line.old.items ++ row_text values.now) }
 {
     let [first, others @ ..] = values else {
         return Ok(());
     };
-    push_value(alloc, line, first)?;
+    push_value(line, first)?;
     for value in others {
         push_text(line, BAR)?;
-        push_value(alloc, line, value)?;
+        push_value(line, value)?;
     }
     Ok(())
 }
 
 /// A value: a number in decimal, or a text in quotes.
-pub(crate) fn push_value(alloc: Global, line: &mut Vec<u8>, value: &Value) -> Result<(), AllocError>
+pub(crate) fn push_value(line: &mut Vec<u8>, value: &Value) -> Result<(), AllocError>
     ensures { OnOk result (line.new.items ≡ line.old.items ++ value_text value.now) }
 {
     match value {
-        Value::Number(number) => push_signed(alloc, line, i128::from(number.get())),
+        Value::Number(number) => push_signed(line, i128::from(number.get())),
         Value::Text(text) => push_quoted(line, text.as_str()),
     }
 }

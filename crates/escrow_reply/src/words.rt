@@ -4,43 +4,30 @@ ghost use Rattle.escrow_reply.specs.Text.{reply_text, refusal_text, breach_text,
 use crate::push::{push_bytes, push_counted, push_measure, push_text};
 use escrow_machine::Reply;
 use escrow_num::{Breach, Name, Refusal, Side};
-use std::alloc::{AllocError, Global};
+use std::alloc::AllocError;
 
 /// The words of a reply's last line.
-pub(crate) fn push_words(alloc: Global, line: &mut Vec<u8>, reply: &Reply) -> Result<(), AllocError>
+pub(crate) fn push_words(line: &mut Vec<u8>, reply: &Reply) -> Result<(), AllocError>
     ensures { OnOk result (line.new.items ≡ line.old.items ++ reply_text reply.now) }
 {
     match reply {
-        Reply::Refused(refusal) => push_refused(alloc, line, refusal),
+        Reply::Refused(refusal) => push_refused(line, refusal),
         Reply::Created(name) => push_named(line, "OK created ", *name),
         Reply::Dropped(name) => push_named(line, "OK dropped ", *name),
         Reply::Inserted => push_text(line, "OK inserted"),
         Reply::Deleted => push_text(line, "OK deleted"),
         Reply::Updated => push_text(line, "OK updated"),
-        Reply::Reserved { id } => push_counted(alloc, line, "OK reserved ", *id),
-        Reply::Committed { count } => push_counted(alloc, line, "OK committed ", u64::from(*count)),
-        Reply::RolledBack { count } => push_counted(
-            alloc,
-            line,
-            "OK rolled back ",
-            u64::from(*count),
-        ),
-        Reply::Rows { rows, .. } => push_counted(alloc, line, "OK rows ", rows.len() as u64),
+        Reply::Reserved { id } => push_counted(line, "OK reserved ", *id),
+        Reply::Committed { count } => push_counted(line, "OK committed ", u64::from(*count)),
+        Reply::RolledBack { count } => push_counted(line, "OK rolled back ", u64::from(*count)),
+        Reply::Rows { rows, .. } => push_counted(line, "OK rows ", rows.len() as u64),
         Reply::Table(_) => push_text(line, "OK table"),
         Reply::Bounds { .. } => push_text(line, "OK bounds"),
-        Reply::Journal(entries) => {
-            push_counted(alloc, line, "OK reservations ", entries.len() as u64)
-        }
+        Reply::Journal(entries) => { push_counted(line, "OK reservations ", entries.len() as u64) }
         Reply::Savepoint(name) => push_named(line, "OK savepoint ", *name),
         Reply::Restarted => push_text(line, "OK restarted"),
         Reply::RolledBackTo { savepoint, count } => {
-            push_named_count(
-                alloc,
-                line,
-                "OK rolled back to ",
-                *savepoint,
-                u64::from(*count),
-            )
+            push_named_count(line, "OK rolled back to ", *savepoint, u64::from(*count))
         }
     }
 }
@@ -55,7 +42,6 @@ fn push_named(line: &mut Vec<u8>, words: &str, name: Name) -> Result<(), AllocEr
 
 /// Words, a name behind them, and a number behind that.
 fn push_named_count(
-    alloc: Global,
     line: &mut Vec<u8>,
     words: &str,
     name: Name,
@@ -64,26 +50,24 @@ fn push_named_count(
     ensures { OnOk result (line.new.items ≡ line.old.items ++ (words.now ++ name ++ codes " " ++ decimal count)) }
 {
     push_named(line, words, name)?;
-    push_counted(alloc, line, " ", count)
+    push_counted(line, " ", count)
 }
 
 /// A refusal's number and its words.
-fn push_refused(alloc: Global, line: &mut Vec<u8>, refusal: &Refusal) -> Result<(), AllocError>
+fn push_refused(line: &mut Vec<u8>, refusal: &Refusal) -> Result<(), AllocError>
     ensures { OnOk result (line.new.items ≡ line.old.items ++ reply_text (Reply.Refused refusal.now)) }
 {
-    push_counted(alloc, line, "ERR ", u64::from(refusal.number()))?;
+    push_counted(line, "ERR ", u64::from(refusal.number()))?;
     push_text(line, " ")?;
-    push_refusal(alloc, line, refusal)
+    push_refusal(line, refusal)
 }
 
 /// The words for a refusal.
-fn push_refusal(alloc: Global, line: &mut Vec<u8>, refusal: &Refusal) -> Result<(), AllocError>
+fn push_refusal(line: &mut Vec<u8>, refusal: &Refusal) -> Result<(), AllocError>
     ensures { OnOk result (line.new.items ≡ line.old.items ++ refusal_text refusal.now) }
 {
     match refusal {
-        Refusal::Syntax { column } => {
-            push_counted(alloc, line, "syntax column ", u64::from(*column))
-        }
+        Refusal::Syntax { column } => { push_counted(line, "syntax column ", u64::from(*column)) }
         Refusal::Line => push_text(line, "line"),
         Refusal::TableExists => push_text(line, "table exists"),
         Refusal::NoSuchTable => push_text(line, "no such table"),
@@ -98,7 +82,7 @@ fn push_refusal(alloc: Global, line: &mut Vec<u8>, refusal: &Refusal) -> Result<
         Refusal::TableReserved => push_text(line, "table reserved"),
         Refusal::TableFull => push_text(line, "table full"),
         Refusal::TooManyTables => push_text(line, "too many tables"),
-        Refusal::Check(breach) => push_breach(alloc, line, breach),
+        Refusal::Check(breach) => push_breach(line, breach),
         Refusal::TooManyReservations => push_text(line, "too many reservations"),
         Refusal::NoSuchSavepoint => push_text(line, "no such savepoint"),
         Refusal::TooManySavepoints => push_text(line, "too many savepoints"),
@@ -112,13 +96,13 @@ fn push_refusal(alloc: Global, line: &mut Vec<u8>, refusal: &Refusal) -> Result<
 }
 
 /// A limit that could be broken: the check, the side, the worst value and the limit.
-fn push_breach(alloc: Global, line: &mut Vec<u8>, breach: &Breach) -> Result<(), AllocError>
+fn push_breach(line: &mut Vec<u8>, breach: &Breach) -> Result<(), AllocError>
     ensures { OnOk result (line.new.items ≡ line.old.items ++ breach_text breach.now) }
 {
     push_bytes(line, breach.check.as_bytes())?;
     push_text(line, side_words(breach.side))?;
-    push_measure(alloc, line, " ", breach.worst.get())?;
-    push_measure(alloc, line, " limit ", breach.limit.get())
+    push_measure(line, " ", breach.worst.get())?;
+    push_measure(line, " limit ", breach.limit.get())
 }
 
 /// The word for a side, behind a space.
