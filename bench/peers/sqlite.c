@@ -12,7 +12,8 @@
 #include <stdlib.h>
 #include <string.h>
 
-/* The statements of a way; what it hasn't is NULL. ?1 is the session, ?2 the reservation's id, ?3 the number, ?4 the change. */
+/* The statements of a way; what it hasn't is NULL. ?1 is the session, ?2 the reservation's id, ?3 the number, ?4 the change. A COMMIT or a
+   ROLLBACK does its statement for each change that the session holds, and then forgets them. */
 static const struct way {
     const char *name, *index, *fall, *rise, *note, *commit, *rollback, *forget;
 } WAYS[] = {
@@ -22,19 +23,14 @@ static const struct way {
              " AND amount + ?4 + (SELECT coalesce(sum(change), 0) FROM pending WHERE number = ?3 AND change < 0) >= floor",
      .rise = "INSERT INTO pending SELECT ?1, ?3, ?2, ?4 FROM numbers WHERE id = ?3"
              " AND amount + ?4 + (SELECT coalesce(sum(change), 0) FROM pending WHERE number = ?3 AND change > 0) <= ceiling",
-     .commit = "UPDATE numbers SET amount = amount + by FROM"
-               " (SELECT number, sum(change) AS by FROM pending WHERE session = ?1 GROUP BY number) WHERE id = number",
+     .commit = "UPDATE numbers SET amount = amount + ?4 WHERE id = ?3",
      .forget = "DELETE FROM pending WHERE session = ?1"},
     {.name = "kept",
      .fall = "UPDATE numbers SET falls = falls + ?4 WHERE id = ?3 AND amount + falls + ?4 >= floor",
      .rise = "UPDATE numbers SET rises = rises + ?4 WHERE id = ?3 AND amount + rises + ?4 <= ceiling",
      .note = "INSERT INTO pending VALUES (?1, ?3, ?2, ?4)",
-     .commit = "UPDATE numbers SET amount = amount + fall + rise, falls = falls - fall, rises = rises - rise FROM"
-               " (SELECT number, sum(min(change, 0)) AS fall, sum(max(change, 0)) AS rise FROM pending WHERE session = ?1 GROUP BY number)"
-               " WHERE id = number",
-     .rollback = "UPDATE numbers SET falls = falls - fall, rises = rises - rise FROM"
-                 " (SELECT number, sum(min(change, 0)) AS fall, sum(max(change, 0)) AS rise FROM pending WHERE session = ?1 GROUP BY number)"
-                 " WHERE id = number",
+     .commit = "UPDATE numbers SET amount = amount + ?4, falls = falls - min(?4, 0), rises = rises - max(?4, 0) WHERE id = ?3",
+     .rollback = "UPDATE numbers SET falls = falls - min(?4, 0), rises = rises - max(?4, 0) WHERE id = ?3",
      .forget = "DELETE FROM pending WHERE session = ?1"},
     {.name = "plain",
      .fall = "UPDATE numbers SET amount = amount + ?4 WHERE id = ?3 AND amount + ?4 >= floor",
@@ -82,6 +78,7 @@ int main(int argc, char **argv) {
     sqlite3_stmt *insert = prepare("INSERT INTO numbers (id, amount) VALUES (?1, ?2)");
     sqlite3_stmt *fall = prepare(way->fall), *rise = prepare(way->rise), *note = prepare(way->note);
     sqlite3_stmt *commit = prepare(way->commit), *rollback = prepare(way->rollback), *forget = prepare(way->forget);
+    sqlite3_stmt *held = prepare("SELECT number, change FROM pending WHERE session = ?1");
     static char line[8192];
     sqlite3_int64 next = 1;
     while (fgets(line, sizeof line, stdin)) {
@@ -124,8 +121,13 @@ int main(int argc, char **argv) {
             else printf("bank.%lld> ERR 41\n", session);
         } else if (!strncmp(text, "COMMIT", 6) || *text == 'R') {
             sqlite3_stmt *end = *text == 'C' ? commit : rollback;
-            if (end) run(begin, NULL);
-            run(end, &session);
+            if (end) {
+                run(begin, NULL);
+                sqlite3_bind_int64(held, 1, session);
+                while (sqlite3_step(held) == SQLITE_ROW)
+                    run(end, (sqlite3_int64[4]){session, 0, sqlite3_column_int64(held, 0), sqlite3_column_int64(held, 1)});
+                sqlite3_reset(held);
+            }
             run(forget, &session);
             if (end) run(keep, NULL);
             printf("bank.%lld> OK %s\n", session, *text == 'C' ? "committed" : "rolled back");
