@@ -7,6 +7,7 @@ ghost use Rattle.escrow_server.specs.declared.limits.TheConstants.{MAX_LINE, MAX
 use crate::fault::ServeFault;
 use crate::limits::{MAX_LINE, MAX_READS, MAX_SCRIPT};
 use crate::unread::Unread;
+use memchr::memchr;
 use std::alloc::{AllocError, Global};
 use std::io::Read;
 
@@ -124,12 +125,10 @@ fn line_len(bytes: &[u8]) -> usize
     ensures value { result ≡ position_or_len is_feed bytes.now }
     ensures within { result ≤ length bytes.now }
 {
-    for (len, byte) in bytes.iter().enumerate() {
-        if *byte == b'\n' {
-            return len;
-        }
+    match memchr(b'\n', bytes) {
+        Some(place) => place,
+        None => bytes.len(),
     }
-    bytes.len()
 }
 
 /// Adds bytes to a line, of which no more than one more than a line may have are kept.
