@@ -12,12 +12,7 @@ use escrow_num::Name;
 fn goes_on(byte: u8) -> bool
     ensures { result ≡ goes_on byte }
 {
-    let upper = byte.to_ascii_uppercase();
-    upper.is_ascii_uppercase()
-        || upper.is_ascii_digit()
-        || upper == b'_'
-        || upper == b'$'
-        || upper == b'#'
+    matches!(byte, b'A'..=b'Z' | b'a'..=b'z' | b'0'..=b'9' | b'_' | b'$' | b'#')
 }
 
 /// How many bytes at the front a name may go on with.
