@@ -12,7 +12,7 @@ use escrow_num::Name;
 fn goes_on(byte: u8) -> bool
     ensures { result ≡ goes_on byte }
 {
-    matches!(byte, b'A'..=b'Z' | b'a'..=b'z' | b'0'..=b'9' | b'_' | b'$' | b'#')
+    byte.is_ascii_alphanumeric() || byte == b'_' || byte == b'$' || byte == b'#'
 }
 
 /// How many bytes at the front a name may go on with.
