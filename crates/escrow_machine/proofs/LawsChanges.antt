@@ -80,13 +80,18 @@ Deleted s name new =
     × IsSome (row_named s.rows name) × (row_named new.rows name ≡ None)
     × ((other : RowName) → ¬ (other ≡ name) → row_named new.rows other ≡ row_named s.rows other)
 
+-- another row is found as before
+pub other_found : (rows : List Row) (name other : RowName) → ¬ (other ≡ name) → row_named (without_row name rows) other ≡ row_named rows other
+other_found rows name other differ =
+    find_filter (λ (r : Row). same_row r.name other) (λ (r : Row). not (same_row r.name name)) rows
+    (λ r same. ap not (ap (λ (n : RowName). same_row n name) (row_same r.name other same) ∙ rows_differ other name differ))
+
 deleted : (s : State) (name : RowName) → IsSome (row_named s.rows name) → Deleted s name (record s { rows = without_row name s.rows })
 deleted s name stands = (
   refl,
   stands,
   none_found (λ (r : Row). same_row r.name name) (without_row name s.rows) (kept_fails (λ (r : Row). same_row r.name name) s.rows),
-  λ other differ. find_filter (λ (r : Row). same_row r.name other) (λ (r : Row). not (same_row r.name name)) s.rows
-      (λ r same. ap not (ap (λ (n : RowName). same_row n name) (row_same r.name other same) ∙ rows_differ other name differ)),
+  λ other differ. other_found s.rows name other differ,
 )
 
 pub deletes_one_row : DeletesOneRow
@@ -108,7 +113,7 @@ same_names name values (row ∷ rows) =
     (values_both (λ (r : Row). name_and_amounts r ≡ name_and_amounts row) name values row (λ _. refl) refl)
     (same_names name values rows)
 
--- another row is found as before
+-- and another row is found as before
 found_as_before : (name other : RowName) (values : List (Option Value)) (rows : List Row) (o : Option Row) → same_row other name ≡ false → row_named rows other ≡ o
     → option_map (with_values name values) o ≡ o
 found_as_before name other values rows None differs found = refl

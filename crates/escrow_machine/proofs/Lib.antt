@@ -25,7 +25,6 @@ pub mod Refusals
 pub mod Safe
 pub mod SavepointNames
 pub mod Savepoints
-pub mod Sessions
 pub mod Settling
 pub mod Shapes
 pub mod TurnSavepoints

@@ -24,8 +24,15 @@ use Rattle.escrow_machine.proofs.Applying.{applied_none}
 use Rattle.escrow_machine.proofs.Changes.{all_changed_later}
 use Rattle.escrow_machine.proofs.Filters.{filter_kept, filter_all, filter_none}
 use Rattle.escrow_machine.proofs.LawsEnds.{any_order_of_ends, same_state}
-use Rattle.escrow_machine.proofs.Sessions.{count_one}
 use Rattle.escrow_machine.proofs.Shapes.{HasOrder, few_reservations}
+
+-- of reservations of either of two kinds one more is one of one of them
+count_one : (r : Reservation) (a b c : Bool) (part other whole : List Reservation) → c ≡ (a || b) → (a && b) ≡ false
+    → length part + length other ≡ length whole → length (cond a (r ∷ part) part) + length (cond b (r ∷ other) other) ≡ length (cond c (r ∷ whole) whole)
+count_one r true true c part other whole either both rest = absurd (cc)
+count_one r true false c part other whole either both rest = rw either (omega (arith, rest))
+count_one r false true c part other whole either both rest = rw either (omega (arith, rest))
+count_one r false false c part other whole either both rest = rw either rest
 
 -- TESTS OF A LIST
 

@@ -1,7 +1,7 @@
 -- What a valid state bounds, and the shapes that its tables, rows and reservations have.
-use Rattle.std.specs.Prelude.{◌≡◌, ◌≤◌, ℕ, ℤ, List, Option, Some, None, length, bytes_eq, IsSomeAnd}
+use Rattle.std.specs.Prelude.{◌≡◌, ◌≤◌, ℕ, ℤ, List, Some, length, bytes_eq, IsSomeAnd}
 use Rattle.std.specs.List.{AllByRecursion}
-use Rattle.std.proofs.Common.{subst, refl, arith}
+use Rattle.std.proofs.Common.{subst, arith}
 use Rattle.escrow_num.specs.declared.row.Row.{Row}
 use Rattle.escrow_num.specs.declared.value.RowName.{RowName}
 use Rattle.escrow_num.specs.declared.reservation.Reservation.{Reservation}
@@ -13,11 +13,10 @@ use Rattle.escrow_schema.specs.Catalog.{table_named}
 use Rattle.escrow_schema.specs.Column.{reservables}
 use Rattle.escrow_schema.specs.Definition.{IsTable}
 use Rattle.escrow_schema.specs.Fit.{IsRowOf}
-use Rattle.escrow_schema.proofs.LawLemmas.{checks_of_whole_row, few_reservable}
+use Rattle.escrow_schema.proofs.LawLemmas.{checks_of_whole_row}
 use Rattle.escrow_num.specs.declared.session.TheConstants.Session.{MAX}
 use Rattle.escrow_checks.specs.declared.spread.TheConstants.Spread.{MAX_OPEN}
 use Rattle.escrow_journal.specs.declared.journal.TheConstants.Journal.{MAX_RESERVATIONS}
-use Rattle.escrow_machine.specs.Walked.{IsShort}
 use Rattle.escrow_machine.specs.State.{State}
 use Rattle.escrow_machine.specs.Rows.{row_named, HasTable}
 use Rattle.escrow_machine.specs.Valid.{IsOrderly, IsValid, IsReservationIn}
@@ -42,23 +41,6 @@ pub few_reservations : (s : State) → HasOrder s → length s.reservations ≤ 
 few_reservations s orderly =
     length-by_number (λ (r : Reservation). r.session) MAX_RESERVATIONS MAX s.reservations
     (λ r h. (all_has (IsReservationIn s.catalog s.next_id) s.reservations orderly.reservations_in r h).session) orderly.few_reservations
-
--- each of them has a change for at most ten columns
-short_if : (s : State) → HasOrder s → (r : Reservation) (o : Option TableDef) → table_named s.catalog r.row.table ≡ o
-    → IsSomeAnd o (λ table. length r.changes ≡ length (reservables table.columns)) → IsShort r
-short_if s orderly r None found whole = absurd whole
-short_if s orderly r (Some table) found whole =
-    let few = (few_reservable table (is_table_found s orderly r.row.table table found)).1 in
-    omega arith
-
-pub short_reservation : (s : State) → HasOrder s → (r : Reservation)
-    → IsSomeAnd (table_named s.catalog r.row.table) (λ table. length r.changes ≡ length (reservables table.columns)) → IsShort r
-short_reservation s orderly r whole = short_if s orderly r (table_named s.catalog r.row.table) refl whole
-
-pub short_reservations : (s : State) → HasOrder s → AllByRecursion IsShort s.reservations
-short_reservations s orderly =
-    has_all IsShort s.reservations
-    (λ r h. short_reservation s orderly r (all_has (IsReservationIn s.catalog s.next_id) s.reservations orderly.reservations_in r h).changes)
 
 -- ROWS
 

@@ -1,5 +1,5 @@
 -- Believed: what statements ask of a state.
-use Rattle.std.specs.Prelude.{ℕ, ℤ, Option, Some, None, option_map, option_and_then, unwrap_or, Bool, List, [], map, filter, bytes_eq}
+use Rattle.std.specs.Prelude.{ℕ, ℤ, Option, Some, None, option_map, option_and_then, unwrap_or, Bool, false, List, [], map, filter, bytes_eq}
 use Rattle.std.specs.Result.{result_ok, result_err}
 use Rattle.escrow_num.specs.declared.refusal.Refusal.{Refusal}
 use Rattle.escrow_num.specs.declared.refusal.Breach.{Breach}
@@ -23,7 +23,7 @@ use Rattle.escrow_schema.specs.Plan.{key_named, planned}
 use Rattle.escrow_schema.specs.Print.{canonical}
 use Rattle.escrow_machine.specs.declared.reply.Reply.{Reply}
 use Rattle.escrow_machine.specs.declared.reply.Reply.TheVariants as reply
-use Rattle.escrow_machine.specs.State.{State}
+use Rattle.escrow_machine.specs.State.{State, is_reserved}
 use Rattle.escrow_machine.specs.Rows.{row_named, changes_to}
 
 -- INSERT
@@ -63,6 +63,15 @@ reserved_by s session table (plan.Plain key values) = None
 -- the reservation that an UPDATE asks, if it asks one
 abbrev pub reservation_of : State → ℕ → UpdateText → Option Reservation
 reservation_of s session text = option_and_then (reserved_by s session text.table) (plan_of s text)
+
+-- a plan reserves changes of a row that has an open reservation, of whichever session
+abbrev pub is_beside : State → List ℕ → Plan → Bool
+is_beside s table (plan.Reserve key changes) = is_reserved s (row_name table key)
+is_beside s table (plan.Plain key values) = false
+
+-- an UPDATE does
+abbrev pub reserves_beside : State → UpdateText → Bool
+reserves_beside s text = unwrap_or (option_map (is_beside s text.table) (plan_of s text)) false
 
 -- what a reservation breaks of its table's checks, over every choice of the open ones that holds it
 abbrev pub breach_of : State → Reservation → Option Breach

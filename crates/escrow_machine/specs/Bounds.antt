@@ -39,13 +39,16 @@ check_bounds amounts reservations check = record {
   limits = check.span;
 }
 
--- what SHOW BOUNDS shows of the row of a name and of these amounts: each RESERVABLE column, and each
--- declared check, over every choice of the open reservations of all sessions
-abbrev pub bounds_in : List Reservation → TableDef → RowName → List ℤ → Reply
-bounds_in open_ones table name amounts =
+-- what SHOW BOUNDS shows of a row of these amounts: each RESERVABLE column, and each declared check, over
+-- every choice of these reservations
+abbrev pub bounds_over : List (List ℤ) → TableDef → List ℤ → Reply
+bounds_over reservations table amounts =
     let names = names_of (reservables table.columns) in
-    let reservations = map (changes_at name) open_ones in
     reply.Bounds (map (column_bounds names amounts reservations) names) (map (check_bounds amounts reservations) (declared_checks table))
+
+-- and of the row of a name, over those of all sessions
+abbrev pub bounds_in : List Reservation → TableDef → RowName → List ℤ → Reply
+bounds_in open_ones table name amounts = bounds_over (map (changes_at name) open_ones) table amounts
 
 -- what a SHOW BOUNDS shows
 abbrev pub bounds_reply : State → RowText → Reply

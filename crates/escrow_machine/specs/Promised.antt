@@ -13,6 +13,12 @@ use Rattle.escrow_machine.specs.Step.{step, fails_for}
 abbrev pub asks_store : State → ℕ → Statement → Bool
 asks_store s session asked = fails_for s session asked failure.Store
 
+-- a statement is answered from rows: it asks the store, or it is an UPDATE, which where it doesn't ask the store goes
+-- by the amounts that are kept of a row that has an open reservation
+abbrev pub reads_rows : State → ℕ → Statement → Bool
+reads_rows s session (statement.Update text) = true
+reads_rows s session asked = asks_store s session asked
+
 -- a statement needs neither memory nor the store
 abbrev pub needs_nothing : State → ℕ → Statement → Bool
 needs_nothing s session asked = not (fails_for s session asked failure.Memory) && not (asks_store s session asked)

@@ -1,5 +1,5 @@
 -- Believed: the step, what may come in its place, and runs.
-use Rattle.std.specs.Prelude.{◌≡◌, ◌⊎◌, ℕ, Bool, true, false, ◌&&◌, nat_lt, length, Option, is_none, option_map, unwrap_or, MatchOption, IsTrue, List, [], ◌∷◌, ◌++◌}
+use Rattle.std.specs.Prelude.{◌≡◌, ◌⊎◌, ℕ, Bool, true, false, ◌&&◌, not, nat_lt, length, Option, is_none, option_map, unwrap_or, MatchOption, IsTrue, List, [], ◌∷◌, ◌++◌}
 use Rattle.escrow_num.specs.declared.refusal.Refusal.{Refusal}
 use Rattle.escrow_num.specs.declared.refusal.Refusal.TheVariants as refusal
 use Rattle.escrow_num.specs.Refusal.{first_refusal}
@@ -13,6 +13,7 @@ use Rattle.escrow_machine.specs.declared.reply.Reply.TheVariants as reply
 use Rattle.escrow_num.specs.declared.failure.Failure.{Failure}
 use Rattle.escrow_num.specs.declared.failure.Failure.TheVariants as failure
 use Rattle.escrow_machine.specs.Reply.{failure_of}
+use Rattle.escrow_machine.specs.Asked.{reserves_beside}
 use Rattle.escrow_machine.specs.State.{State, opened}
 use Rattle.escrow_machine.specs.Turn.{Turn, turn_of}
 
@@ -33,7 +34,8 @@ pub record IsStep (s : State) (session : ℕ) (asked : Statement) (answer : Repl
   pub is_step : (answer, new) ≡ step s session asked
 
 -- what a statement takes, and so may fail for: ROLLBACK and ROLLBACK TO nothing, nor does a COMMIT of a session
--- that holds no reservation; SAVEPOINT, SHOW TABLE and SHOW JOURNAL memory; all others memory and the store
+-- that holds no reservation; SAVEPOINT, SHOW TABLE, SHOW JOURNAL and an UPDATE of RESERVABLE columns of a row that
+-- has an open reservation memory; all others memory and the store
 abbrev pub fails_for : State → ℕ → Statement → Failure → Bool
 fails_for s session statement.Rollback f = false
 fails_for s session (statement.RollbackTo name) f = false
@@ -41,6 +43,7 @@ fails_for s session statement.Commit f = nat_lt 0 (length (own session s.reserva
 fails_for s session (statement.Savepoint name) failure.Store = false
 fails_for s session (statement.ShowTable name) failure.Store = false
 fails_for s session (statement.ShowJournal table) failure.Store = false
+fails_for s session (statement.Update text) failure.Store = not (reserves_beside s text)
 fails_for s session asked f = true
 
 -- a statement may fail, out of memory or refused by the store, where no early refusal applies, and

@@ -1,15 +1,9 @@
--- Helps: words on walks over reservations, columns and ends.
+-- Helps: words on reservations, columns and ends.
 use Rattle.std.specs.Prelude.{ℕ, ℤ, ◌+◌, ◌≤◌, List, [], ◌∷◌, length}
-use Rattle.std.specs.List.{AllByRecursion}
 use Rattle.escrow_num.specs.declared.reservation.Reservation.{Reservation}
 use Rattle.escrow_num.specs.declared.session.End.{End}
 use Rattle.escrow_num.specs.declared.session.End.TheVariants as end
-use Rattle.escrow_num.specs.Session.{IsSession}
-use Rattle.escrow_checks.specs.declared.check.Check.{Check}
 use Rattle.escrow_checks.specs.declared.coefficients.TheConstants.Coefficients.{MAX_LEN}
-use Rattle.escrow_checks.specs.declared.spread.Spread.{Spread}
-use Rattle.escrow_checks.specs.declared.spread.TheConstants.Spread.{MAX_OPEN}
-use Rattle.escrow_checks.specs.Spread.{IsSpread}
 use Rattle.escrow_machine.specs.declared.reply.CheckBounds.{CheckBounds}
 use Rattle.escrow_machine.specs.declared.reply.ColumnBounds.{ColumnBounds}
 use Rattle.escrow_machine.specs.declared.settled.Settled.{Settled}
@@ -17,19 +11,6 @@ use Rattle.escrow_machine.specs.declared.settled.Settled.{Settled}
 -- a reservation has changes for at most as many columns as a check has coefficients
 abbrev pub IsShort : Reservation → Type 0
 IsShort r = length r.changes ≤ MAX_LEN
-
--- open reservations, as they can be walked: each is of a session and short, and they are as many at
--- most as there can be
-pub record AreOpen (reservations : List Reservation) : Type 0 where
-  pub sessions : AllByRecursion (λ r. IsSession r.session) reservations
-  pub short : AllByRecursion IsShort reservations
-  pub few : length reservations ≤ MAX_OPEN
-
--- there is a spread for each check: how far reservations can move its form
-abbrev pub AreSpreads : List Check → List (List ℤ) → List Spread → Type 0
-AreSpreads [] reservations spreads = Unit {0}
-AreSpreads (check ∷ checks) reservations [] = ⊥
-AreSpreads (check ∷ checks) reservations (spread ∷ spreads) = IsSpread check.coeffs reservations spread × AreSpreads checks reservations spreads
 
 -- the bounds of columns, each with its amount and the bounds of its range
 abbrev pub columns_from : List (List ℕ) → List ℤ → List CheckBounds → List ColumnBounds

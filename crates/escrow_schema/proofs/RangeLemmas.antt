@@ -61,7 +61,7 @@ int_le_true (pos a) (negsuc b) e = absurd (false≢true e)
 int_le_true (negsuc a) (pos b) e = omega (arith, ints)
 int_le_true (negsuc a) (negsuc b) e = let h = leb-true b a e in omega (arith, ints)
 
-int_le_from : (a b : ℤ) → a ≤ℤ b → int_le a b ≡ true
+pub int_le_from : (a b : ℤ) → a ≤ℤ b → int_le a b ≡ true
 int_le_from (pos a) (pos b) h = elim (leb_tells a b) [ inl t ↦ t.0 | inr f ↦ (let less = f.1 in absurd (omega (arith, ints))) ]
 int_le_from (pos a) (negsuc b) h = absurd (omega (arith, ints))
 int_le_from (negsuc a) (pos b) h = refl
