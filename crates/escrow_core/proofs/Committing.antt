@@ -1,31 +1,41 @@
 -- COMMIT: the store is asked where its session holds a reservation, and else its transaction just ends.
-use Rattle.std.specs.Prelude.{◌≡◌, ℕ, true, false, nat_lt, ◌==◌, List, [], length}
-use Rattle.std.proofs.Common.{refl, sym, ap, subst, ◌∙◌, arith}
+use Rattle.std.specs.Prelude.{◌≡◌, ℕ, ℤ, Result, Ok, Err, IfErr, true, false, nat_lt, ◌==◌, Option, Some, None, option_map, List, [], ◌∷◌, length}
+use Rattle.std.specs.Result.{IsErrAnd}
+use Rattle.std.proofs.Common.{refl, sym, ap, ap₂, subst, ◌∙◌, arith}
 use Rattle.std.proofs.lemmas.Bool.Decides.{nat_tests}
-use Rattle.std.proofs.lemmas.List.{nil_from_length}
+use Rattle.std.proofs.lemmas.List.{length-map, nil_from_length}
 use Rattle.sqlite_trees.specs.declared.store.Store.{Ghosts}
 use Rattle.escrow_num.specs.declared.reservation.Reservation.{Reservation}
 use Rattle.escrow_num.specs.declared.row.Row.{Row}
 use Rattle.escrow_sql.specs.declared.statement.Statement.TheVariants as statement
 use Rattle.escrow_num.specs.declared.failure.Failure.{Failure}
-use Rattle.escrow_journal.specs.Reservations.{own}
-use Rattle.escrow_tables.specs.Calls.{Writes}
+use Rattle.escrow_num.specs.declared.failure.Failure.TheVariants as failure
+use Rattle.escrow_num.specs.declared.refusal.Refusal.TheVariants as refusal
+use Rattle.escrow_num.specs.declared.session.End.TheVariants as end
+use Rattle.escrow_num.specs.declared.value.RowName.{RowName}
+use Rattle.escrow_bounds.specs.Ended.{AreEnded}
+use Rattle.escrow_bounds.specs.Kept.{Kept}
+use Rattle.escrow_bounds.specs.Places.{Places, place_at}
+use Rattle.escrow_journal.specs.Reservations.{own, others}
+use Rattle.escrow_tables.specs.Calls.{AreGiven, Writes}
 use Rattle.escrow_tables.specs.Committed.{Committed}
 use Rattle.escrow_num.specs.Refusal.{refusal_for}
 use Rattle.escrow_journal.specs.Open.{Open, ended}
 use Rattle.escrow_machine.specs.declared.reply.Reply.{Reply}
 use Rattle.escrow_machine.specs.declared.reply.Reply.TheVariants as reply
-use Rattle.escrow_core.specs.Inside.{seen_of}
-use Rattle.escrow_core.specs.Seen.{IsKept}
+use Rattle.escrow_core.specs.Inside.{seen_of, amounts_named, AreOfTables, HaveAmounts, Keeps}
+use Rattle.escrow_core.specs.Reserved.{AreAmounts, ArePlaced}
 use Rattle.escrow_core.specs.Serves.{Serves}
 use Rattle.escrow_machine.specs.Accepted.{PassesEarly}
 use Rattle.escrow_machine.specs.State.{State}
 use Rattle.escrow_machine.specs.Rows.{applied}
 use Rattle.escrow_machine.specs.Step.{step, StepOrRefusal}
 use Rattle.escrow_machine.specs.Turn.{turn_of, after_commit, after_rollback}
+use Rattle.escrow_machine.specs.Valid.{IsValid}
 use Rattle.escrow_machine.proofs.Applying.{applied_none}
 use Rattle.escrow_core.proofs.Served.{commit_serves}
-use Rattle.escrow_core.proofs.Serving.{apart_keeps, served_apart, wrote, write_failed, wrote_keeps}
+use Rattle.escrow_core.proofs.Places.{commits_amounts, ended_tables, rollbacks_amounts}
+use Rattle.escrow_core.proofs.Serving.{apart_keeps, fails, refused, served_apart, still_clean, wrote, write_failed, wrote_keeps}
 use Rattle.escrow_machine.proofs.ValidEnds.{commit_orderly, commit_valid, rollback_orderly, rollback_valid}
 
 -- a list that isn't empty has items, and one that is has none
@@ -65,10 +75,16 @@ module _ {S : Type 0} (g : Ghosts S) (session : ℕ) (t : Committed S) (o : Open
       let quiet : nat_lt 0 (length (own session o.reservations)) ≡ false = subst (λ (mine : List Reservation). nat_lt 0 (length mine) ≡ false) (sym none) refl in
       served_apart g session statement.Commit (seen_of t o) (seen_of t (ended session o)) (done session o) quiet refl event
 
-  pub just_ended_keeps : IsKept g (seen_of t o) → IsKept g (seen_of t (ended session o))
-  just_ended_keeps kept =
+  pub just_ended_keeps : (old places : Places) → Keeps g (seen_of t o) old → AreEnded end.Rollback (own session o.reservations) old places → ArePlaced (others session o.reservations) places
+      → Keeps g (seen_of t (ended session o)) places
+  just_ended_keeps old places keeps are placed =
       let s : State = (seen_of t o).state in
-      apart_keeps g (seen_of t o) (after_rollback s session) kept (rollback_orderly s session kept.orderly) (rollback_valid s session)
+      record {
+        kept = apart_keeps g (seen_of t o) (after_rollback s session) keeps.kept (rollback_orderly s session keeps.kept.orderly) (rollback_valid s session);
+        placed = placed;
+        of_tables = ended_tables end.Rollback (own session o.reservations) s.catalog old places are keeps.of_tables;
+        amounts = λ clean. rollbacks_amounts (own session o.reservations) s.rows old places are (keeps.amounts clean);
+      }
 
   module _ (new : Committed S) where
     -- the store agreed: the changes are written, and the transaction is over
@@ -78,10 +94,19 @@ module _ {S : Type 0} (g : Ghosts S) (session : ℕ) (t : Committed S) (o : Open
         let s : State = (seen_of t o).state in
         wrote g session statement.Commit t new o (ended session o) (done session o) (after_commit s session) holds (passes s session) refl writes (λ _. commit_step s session) refl
 
-    pub committed_keeps : IsKept g (seen_of t o) → Writes g t new true t.catalog (applied t.rows (own session o.reservations)) → IsKept g (seen_of new (ended session o))
-    committed_keeps kept writes =
+    pub committed_keeps : (old places : Places) → Keeps g (seen_of t o) old → Writes g t new true t.catalog (applied t.rows (own session o.reservations))
+        → AreEnded end.Commit (own session o.reservations) old places → ArePlaced (others session o.reservations) places → Keeps g (seen_of new (ended session o)) places
+    committed_keeps old places keeps writes are placed =
         let s : State = (seen_of t o).state in
-        wrote_keeps g session statement.Commit t new o (ended session o) (after_commit s session) kept writes refl (commit_orderly s session kept.orderly) (λ valid _. commit_valid s session valid)
+        record {
+          kept = wrote_keeps g session statement.Commit t new o (ended session o) (after_commit s session) keeps.kept writes refl (commit_orderly s session keeps.kept.orderly) (λ valid _. commit_valid s session valid);
+          placed = placed;
+          of_tables = subst (λ c. AreOfTables c places) (sym (writes.done_catalog refl)) (ended_tables end.Commit (own session o.reservations) s.catalog old places are keeps.of_tables);
+          amounts = λ clean.
+              let was = still_clean _ _ _ writes.survives clean in
+              let valid : IsValid s = record { orderly = keeps.kept.orderly; safe_rows = keeps.kept.safe_rows was } in
+              subst (λ rs. HaveAmounts rs places) (sym (writes.done_rows refl clean)) (commits_amounts s session old places valid are (keeps.amounts was));
+        }
 
     -- the store refused: the transaction goes on
     pub not_committed : (f : Failure) → nat_lt 0 (length (own session o.reservations)) ≡ true → Writes g t new false t.catalog (applied t.rows (own session o.reservations))
@@ -89,3 +114,33 @@ module _ {S : Type 0} (g : Ghosts S) (session : ℕ) (t : Committed S) (o : Open
     not_committed f holds writes =
         let s : State = (seen_of t o).state in
         write_failed g session statement.Commit t new o f (done session o) (after_commit s session) holds (passes s session) holds writes (λ _. commit_step s session)
+
+  -- memory was refused, before the store was asked
+  pub commit_wants : nat_lt 0 (length (own session o.reservations)) ≡ true → Serves g session statement.Commit (seen_of t o) (reply.Refused (refusal_for failure.Memory)) (seen_of t o)
+  commit_wants holds =
+      let s : State = (seen_of t o).state in
+      refused g session statement.Commit (seen_of t o) refusal.Memory (fails s session statement.Commit failure.Memory (passes s session) holds)
+
+-- the amounts that the places have of the rows of reservations are those of the rows
+given_one : (rows : List Row) (places : Places) (row : RowName) (amounts : List ℤ) → HaveAmounts rows places → (o : Option Kept) → place_at places row ≡ o
+    → option_map (λ (place : Kept). place.amounts) o ≡ Some amounts → amounts_named rows row ≡ Some amounts
+given_one rows places row amounts have None at is = absurd (cc)
+given_one rows places row amounts have (Some place) at is = have row place at ∙ is
+
+pub given : (rows : List Row) (places : Places) (reservations : List Reservation) (before : List (List ℤ)) → HaveAmounts rows places → AreAmounts places reservations before → AreGiven rows reservations before
+given rows places [] before have are = are
+given rows places (r ∷ reservations) [] have are = absurd (cc)
+given rows places (r ∷ reservations) (amounts ∷ before) have are =
+    let first : option_map (λ (place : Kept). place.amounts) (place_at places r.row) ≡ Some amounts = cc in
+    let rest : AreAmounts places reservations before = cc in
+    ap₂ (λ (o : Option (List ℤ)) (os : List (Option (List ℤ))). o ∷ os) (given_one rows places r.row amounts have (place_at places r.row) refl first) (given rows places reservations before have rest)
+
+-- and they are as many
+pub as_many : (places : Places) (reservations : List Reservation) (before : List (List ℤ)) → AreAmounts places reservations before → length before ≡ length reservations
+as_many places reservations before are =
+    sym (length-map before Some) ∙ sym (ap length are) ∙ length-map reservations (λ (r : Reservation). option_map (λ (place : Kept). place.amounts) (place_at places r.row))
+
+-- what `?` handed on as a failure, failed so
+pub failed_so : {T : Type 0} (result : Result T Failure) (f : Failure) (P : Failure → Type 0) → IsErrAnd result (λ e. e ≡ f) → P f → IfErr result P
+failed_so (Ok x) f P is holds = absurd is
+failed_so (Err e) f P is holds = subst P (sym is) holds

@@ -1,7 +1,7 @@
 -- CREATE TABLE: refused for what the catalog holds, or the table is put in one write.
-use Rattle.std.specs.Prelude.{◌≡◌, ◌<◌, ◌≤◌, ℕ, is_some, Some, None, [], ◌∷◌, length}
-use Rattle.std.proofs.Common.{refl, ap, ◌∙◌}
-use Rattle.std.proofs.lemmas.Bool.{le-leb, lt-leb}
+use Rattle.std.specs.Prelude.{◌≡◌, ◌<◌, ◌≤◌, ℕ, bytes_eq, is_some, Some, None, List, [], ◌∷◌, length}
+use Rattle.std.proofs.Common.{inl, inr, refl, sym, ap, ◌∙◌}
+use Rattle.std.proofs.lemmas.Bool.{cases_Bool, le-leb, lt-leb}
 use Rattle.sqlite_trees.specs.declared.store.Store.{Ghosts}
 use Rattle.escrow_num.specs.declared.refusal.Refusal.TheVariants as refusal
 use Rattle.escrow_num.specs.Refusal.{refuse_if}
@@ -9,7 +9,10 @@ use Rattle.escrow_sql.specs.declared.statement.CreateText.{CreateText}
 use Rattle.escrow_sql.specs.declared.statement.Statement.TheVariants as statement
 use Rattle.escrow_schema.specs.declared.catalog.TheConstants.Catalog.{MAX_TABLES}
 use Rattle.escrow_schema.specs.declared.table.TableDef.{TableDef}
-use Rattle.escrow_schema.specs.Catalog.{table_named, with_table}
+use Rattle.escrow_num.proofs.Orders.{name_same}
+use Rattle.escrow_num.proofs.Put.{find_put}
+use Rattle.escrow_schema.specs.Catalog.{table_before, table_named, with_table}
+use Rattle.escrow_schema.proofs.CatalogLemmas.{with_table_put}
 use Rattle.escrow_schema.specs.Definition.{definition_of}
 use Rattle.escrow_schema.proofs.LawLemmas.{name_of_table}
 use Rattle.escrow_machine.specs.declared.reply.Reply.TheVariants as reply
@@ -48,6 +51,15 @@ unfolding turn_of
 created_step s session text table early made room =
     accepted_step s session (statement.Create text) (none_applies s session (statement.Create text) early (rw (made, lt-leb MAX_TABLES (length s.catalog) room) refl)) ∙ rw made refl
 
+-- a table that stands is found with a new one beside it
+still_named : (catalog : List TableDef) (table other : TableDef) (name : List ℕ) → table_named catalog table.name ≡ None → table_named catalog name ≡ Some other
+    → table_named (with_table table catalog) name ≡ Some other
+still_named catalog table other name new named =
+    elim (cases_Bool (bytes_eq table.name name)) [
+      | inl same ↦ (let both : None ≡ Some other = sym new ∙ ap (table_named catalog) (name_same table.name name same) ∙ named in absurd (cc))
+      | inr differs ↦ ap (λ (c : List TableDef). table_named c name) (with_table_put table catalog) ∙ find_put table_before (λ (t : TableDef). bytes_eq t.name name) table catalog differs ∙ named
+    ]
+
 -- nothing refuses it
 pub may_create : {S : Type 0} (g : Ghosts S) (session : ℕ) (text : CreateText) (d : Seen S) (table : TableDef) → PassesEarly d.state session (statement.Create text)
     → definition_of text ≡ Some table → length d.state.catalog < MAX_TABLES
@@ -63,4 +75,6 @@ may_create g session text d table early made room =
       same_open = refl;
       orderly = λ orderly. create_orderly d.state text table orderly made free room;
       valid = λ _ valid. create_valid d.state text table valid made free room;
+      tables_stay = λ row other _ named. still_named d.state.catalog table other row.table (new_table d.state session text table early made) named;
+      amounts_stay = λ _ row amounts _ has. has;
     }

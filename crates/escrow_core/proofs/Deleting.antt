@@ -1,10 +1,12 @@
 -- DELETE: how a call that served one meets the machine's step, and what it keeps.
-use Rattle.std.specs.Prelude.{◌≡◌, ℕ, true, false, IsSome, None, [], ◌∷◌}
+use Rattle.std.specs.Prelude.{◌≡◌, ℕ, true, false, option_map, IsSome, None, [], ◌∷◌}
 use Rattle.std.proofs.Common.{refl, sym, ap, subst, ◌∙◌}
+use Rattle.std.proofs.lemmas.Bool.{false≢true}
 use Rattle.sqlite.specs.Held.{state}
 use Rattle.sqlite.specs.State.{HasCleanDisk}
 use Rattle.sqlite_trees.specs.declared.store.Store.{Ghosts}
 use Rattle.escrow_num.specs.declared.refusal.Refusal.TheVariants as refusal
+use Rattle.escrow_num.specs.declared.row.Row.{Row}
 use Rattle.escrow_num.specs.declared.value.RowName.{RowName}
 use Rattle.escrow_num.specs.Refusal.{refuse_if}
 use Rattle.escrow_sql.specs.declared.statement.RowText.{RowText}
@@ -17,6 +19,7 @@ use Rattle.escrow_machine.specs.State.{State, is_reserved}
 use Rattle.escrow_machine.specs.Rows.{row_named, without_row}
 use Rattle.escrow_machine.specs.Step.{step}
 use Rattle.escrow_machine.specs.Turn.{turn_of}
+use Rattle.escrow_machine.proofs.LawsChanges.{other_found}
 use Rattle.escrow_machine.proofs.Refusals.{lacking, standing}
 use Rattle.escrow_core.proofs.Serving.{MayWrite, accepted_step, late_applies, none_applies}
 use Rattle.escrow_machine.proofs.ValidDelete.{delete_valid}
@@ -62,4 +65,9 @@ may_delete g session text name d is early stands free = record {
   same_open = refl;
   orderly = λ orderly. orderly;
   valid = λ _ valid. delete_valid d.state name valid free;
+  tables_stay = λ row table _ is_named. is_named;
+  amounts_stay = λ _ row amounts reserved has.
+      ap (option_map (λ (r : Row). r.amounts))
+      (other_found d.state.rows name row (λ same. absurd (false≢true (sym free ∙ subst (λ (n : RowName). is_reserved d.state n ≡ true) same reserved))))
+      ∙ has;
 }

@@ -1,8 +1,14 @@
 -- DROP TABLE: refused for what is open or for the catalog, or the table and its rows are taken out in one write.
-use Rattle.std.specs.Prelude.{◌≡◌, ℕ, Bool, true, false, is_some, is_none, Option, Some, None, List}
-use Rattle.std.proofs.Common.{refl}
+use Rattle.std.specs.Prelude.{◌≡◌, ℕ, Bool, true, false, not, bytes_eq, is_some, is_none, option_map, Option, Some, None, List}
+use Rattle.std.proofs.Common.{refl, sym, ap, ◌∙◌}
+use Rattle.std.proofs.lemmas.Bool.{false≢true, false_from_ne_true}
 use Rattle.sqlite_trees.specs.declared.store.Store.{Ghosts}
 use Rattle.escrow_num.specs.declared.refusal.Refusal.TheVariants as refusal
+use Rattle.escrow_num.specs.declared.reservation.Reservation.{Reservation}
+use Rattle.escrow_num.specs.declared.row.Row.{Row}
+use Rattle.escrow_num.specs.declared.value.RowName.{RowName}
+use Rattle.escrow_num.specs.Order.{same_row}
+use Rattle.escrow_num.proofs.Orders.{row_same}
 use Rattle.escrow_num.specs.Refusal.{refuse_if, first_refusal}
 use Rattle.escrow_sql.specs.declared.statement.Statement.TheVariants as statement
 use Rattle.escrow_schema.specs.declared.table.TableDef.{TableDef}
@@ -10,12 +16,15 @@ use Rattle.escrow_schema.specs.Catalog.{table_named}
 use Rattle.escrow_machine.specs.declared.reply.Reply.TheVariants as reply
 use Rattle.escrow_core.specs.Seen.{Seen}
 use Rattle.escrow_machine.specs.Accepted.{PassesEarly}
-use Rattle.escrow_machine.specs.State.{State, is_open, is_table_reserved}
+use Rattle.escrow_machine.specs.Rows.{row_named, without_rows_of}
+use Rattle.escrow_machine.specs.State.{State, is_open, is_reserved, is_table_reserved}
 use Rattle.escrow_machine.specs.Step.{step}
 use Rattle.escrow_machine.specs.Turn.{turn_of, after_drop}
 use Rattle.escrow_machine.proofs.Accepted.{DropStands, drop_stands}
 use Rattle.escrow_core.proofs.Serving.{MayWrite, accepted_step, none_applies}
-use Rattle.escrow_machine.proofs.ValidDrop.{drop_orderly, drop_valid}
+use Rattle.escrow_machine.proofs.Kept.{find_filter}
+use Rattle.escrow_machine.proofs.ValidDrop.{drop_orderly, drop_valid, other_table}
+use Rattle.escrow_core.proofs.Places.{any_weaker}
 
 is_there : (named : Option TableDef) → is_some named ≡ true → is_none named ≡ false
 is_there None e = absurd (cc)
@@ -38,6 +47,19 @@ dropped_step : (s : State) (session : ℕ) (name : List ℕ) → PassesEarly s s
 unfolding turn_of
 dropped_step s session name early = accepted_step s session (statement.Drop name) (none_applies s session (statement.Drop name) early refl)
 
+-- no row that is reserved is of a table that isn't
+not_its_table : (s : State) (name : List ℕ) (row : RowName) → is_table_reserved s name ≡ false → is_reserved s row ≡ true → bytes_eq row.table name ≡ false
+not_its_table s name row free reserved =
+    false_from_ne_true (bytes_eq row.table name) (λ same.
+    false≢true (sym free ∙ any_weaker (λ (r : Reservation). same_row r.row row) (λ (r : Reservation). bytes_eq r.row.table name) s.reservations
+    (λ r is. ap (λ (n : RowName). bytes_eq n.table name) (row_same r.row row is) ∙ same) reserved))
+
+-- a row of another table is found as before
+other_table_row : (rows : List Row) (name : List ℕ) (row : RowName) → bytes_eq row.table name ≡ false → row_named (without_rows_of name rows) row ≡ row_named rows row
+other_table_row rows name row differs =
+    find_filter (λ (r : Row). same_row r.name row) (λ (r : Row). not (bytes_eq r.name.table name)) rows
+    (λ r same. ap not (ap (λ (n : RowName). bytes_eq n.table name) (row_same r.name row same) ∙ differs))
+
 -- nothing refuses it
 pub may_drop : {S : Type 0} (g : Ghosts S) (session : ℕ) (name : List ℕ) (d : Seen S) → PassesEarly d.state session (statement.Drop name)
     → MayWrite g session (statement.Drop name) d (reply.Dropped name) (after_drop d.state name)
@@ -52,4 +74,7 @@ may_drop g session name d early =
       same_open = refl;
       orderly = λ orderly. drop_orderly d.state name orderly free;
       valid = λ _ valid. drop_valid d.state name valid free;
+      tables_stay = λ row table reserved named. other_table d.state.catalog name row.table (not_its_table d.state name row free reserved) ∙ named;
+      amounts_stay = λ _ row amounts reserved has.
+          ap (option_map (λ (r : Row). r.amounts)) (other_table_row d.state.rows name row (not_its_table d.state name row free reserved)) ∙ has;
     }

@@ -1,18 +1,21 @@
 -- INSERT: what follows for its turn from the row that it makes.
-use Rattle.std.specs.Prelude.{◌≡◌, ◌<◌, ℕ, true, nat_le, is_some, option_map, option_and_then, unwrap_or, Option, Some, None, List, [], ◌∷◌, length, bytes_eq}
-use Rattle.std.proofs.Common.{refl, sym, ap, subst, ◌∙◌}
+use Rattle.std.specs.Prelude.{◌≡◌, ◌<◌, ℕ, ℤ, true, nat_le, is_some, option_map, option_and_then, unwrap_or, Option, Some, None, List, [], ◌∷◌, length, bytes_eq}
+use Rattle.std.proofs.Common.{inl, inr, refl, sym, ap, subst, ◌∙◌}
 use Rattle.std.proofs.lemmas.Option.{option_and_then_some}
 use Rattle.sqlite.specs.Held.{state}
 use Rattle.sqlite.specs.State.{HasCleanDisk}
 use Rattle.sqlite_trees.specs.declared.store.Store.{Ghosts}
-use Rattle.std.proofs.lemmas.Bool.{lt-leb}
+use Rattle.std.proofs.lemmas.Bool.{cases_Bool, lt-leb}
 use Rattle.escrow_num.specs.declared.refusal.Breach.{Breach}
 use Rattle.escrow_num.specs.declared.refusal.Refusal.{Refusal}
 use Rattle.escrow_num.specs.declared.refusal.Refusal.TheVariants as refusal
 use Rattle.escrow_num.specs.declared.row.Row.{Row}
+use Rattle.escrow_num.specs.declared.value.RowName.{RowName}
+use Rattle.escrow_num.specs.Order.{same_row}
 use Rattle.escrow_num.specs.Refusal.{refuse_if, first_refusal}
 use Rattle.escrow_num.proofs.Items.{find_has}
-use Rattle.escrow_num.proofs.Orders.{name_same}
+use Rattle.escrow_num.proofs.Orders.{name_same, row_same}
+use Rattle.escrow_num.proofs.Put.{find_put}
 use Rattle.escrow_sql.specs.declared.statement.InsertText.{InsertText}
 use Rattle.escrow_sql.specs.declared.statement.Statement.TheVariants as statement
 use Rattle.escrow_schema.specs.declared.table.TableDef.{TableDef}
@@ -23,12 +26,14 @@ use Rattle.escrow_schema.proofs.LawLemmas.{rows_of_table}
 use Rattle.escrow_schema.specs.declared.table.TheConstants.TableDef.{MAX_ROWS}
 use Rattle.escrow_machine.specs.declared.reply.Reply.TheVariants as reply
 use Rattle.escrow_machine.specs.Asked.{new_row, insert_breach}
+use Rattle.escrow_core.specs.Inside.{amounts_named}
 use Rattle.escrow_core.specs.Seen.{Seen}
 use Rattle.escrow_machine.specs.Accepted.{IsAccepted, IsRefusal, PassesEarly}
 use Rattle.escrow_machine.specs.State.{State}
-use Rattle.escrow_machine.specs.Rows.{row_named, rows_of, with_row, HasTable}
+use Rattle.escrow_machine.specs.Rows.{row_before, row_named, rows_of, with_row, HasTable}
 use Rattle.escrow_machine.specs.Step.{step}
 use Rattle.escrow_machine.specs.Turn.{turn_of}
+use Rattle.escrow_machine.proofs.Put.{with_row_put}
 use Rattle.escrow_machine.proofs.Refusals.{passed, failed, below}
 use Rattle.escrow_machine.proofs.Safe.{some_from}
 use Rattle.escrow_core.proofs.Serving.{MayWrite, accepted_step, late_applies, none_applies}
@@ -143,6 +148,14 @@ pub record IsNew {S : Type 0} (g : Ghosts S) (d : Seen S) (session : ℕ) (text 
   pub named : table_named d.state.catalog text.table ≡ Some table
   pub counted : HasCleanDisk (state g d.store) → count ≡ length (rows_of d.state.rows text.table)
 
+-- a row that stands is found, with its amounts, among those and a new one
+still_has : (rows : List Row) (row : Row) (name : RowName) (amounts : List ℤ) → row_named rows row.name ≡ None → amounts_named rows name ≡ Some amounts → amounts_named (with_row row rows) name ≡ Some amounts
+still_has rows row name amounts new has =
+    elim (cases_Bool (same_row row.name name)) [
+      | inl same ↦ (let none : amounts_named rows name ≡ None = ap (option_map (λ (r : Row). r.amounts)) (ap (row_named rows) (sym (row_same row.name name same)) ∙ new) in absurd (cc))
+      | inr differs ↦ ap (option_map (λ (r : Row). r.amounts)) (ap (λ (rs : List Row). row_named rs name) (with_row_put row rows) ∙ find_put row_before (λ (r : Row). same_row r.name name) row rows differs) ∙ has
+    ]
+
 module _ {S : Type 0} (g : Ghosts S) (d : Seen S) (session : ℕ) (text : InsertText) (row : Row) (table : TableDef) (count : ℕ) (new : IsNew g d session text row table count) where
   judged : (r : Option Refusal) → r ≡ first_refusal (refusals_of table count row) → HasCleanDisk (state g d.store) → first_refusal (new_refusals d.state text) ≡ r
   judged r is u = decided d.state text row table count new.named new.made (new.counted u) ∙ sym is
@@ -167,4 +180,6 @@ module _ {S : Type 0} (g : Ghosts S) (d : Seen S) (session : ℕ) (text : Insert
         same_open = refl;
         orderly = λ orderly. orderly;
         valid = λ u valid. inserted_valid d.state session text row valid (accepted u) new.made;
+        tables_stay = λ other table _ named. named;
+        amounts_stay = λ u other amounts _ has. still_has d.state.rows row other amounts (new.none u) has;
       }

@@ -1,10 +1,13 @@
+pub mod Breaches
 pub mod Committing
+pub mod Counted
 pub mod Creating
 pub mod Deleting
 pub mod Dropping
 pub mod Ending
 pub mod Inserting
 pub mod Journals
+pub mod Places
 pub mod Planned
 pub mod Promised
 pub mod Queries
@@ -14,5 +17,4 @@ pub mod Served
 pub mod Serving
 pub mod Shown
 pub mod Standing
-pub mod SpreadLemmas
 pub mod Updating

@@ -10,7 +10,8 @@ use Rattle.escrow_machine.specs.declared.reply.Reply.{Reply}
 use Rattle.escrow_machine.specs.declared.reply.Reply.TheVariants as reply
 use Rattle.escrow_num.specs.declared.failure.Failure.{Failure}
 use Rattle.escrow_num.specs.declared.failure.Failure.TheVariants as failure
-use Rattle.escrow_machine.specs.Promised.{asks_store, needs_nothing, is_plain_refusal, is_promised}
+use Rattle.escrow_machine.specs.Promised.{asks_store, needs_nothing, is_plain_refusal, is_promised, reads_rows}
+use Rattle.escrow_sql.specs.declared.statement.Statement.TheVariants as statement
 use Rattle.escrow_machine.specs.Reply.{failure_of}
 use Rattle.escrow_core.specs.Seen.{Seen}
 use Rattle.escrow_core.specs.Serves.{Serves}
@@ -63,6 +64,22 @@ takes_nothing s session asked failure.Memory none =
 takes_nothing s session asked failure.Store none =
     not-true (asks_store s session asked) (and_parts (not (fails_for s session asked failure.Memory)) (not (asks_store s session asked)) none).1
 
+-- nor does it go by rows
+reads_nothing : (s : State) (session : ℕ) (asked : Statement) → needs_nothing s session asked ≡ true → reads_rows s session asked ≡ false
+reads_nothing s session (statement.Create text) none = absurd (cc)
+reads_nothing s session (statement.Drop name) none = absurd (cc)
+reads_nothing s session (statement.Insert text) none = absurd (cc)
+reads_nothing s session (statement.Update text) none = absurd (cc)
+reads_nothing s session (statement.Delete text) none = absurd (cc)
+reads_nothing s session (statement.Select text) none = absurd (cc)
+reads_nothing s session (statement.ShowTable name) none = refl
+reads_nothing s session (statement.ShowJournal table) none = refl
+reads_nothing s session (statement.ShowBounds text) none = absurd (cc)
+reads_nothing s session (statement.Savepoint name) none = refl
+reads_nothing s session statement.Commit none = takes_nothing s session statement.Commit failure.Store none
+reads_nothing s session statement.Rollback none = refl
+reads_nothing s session (statement.RollbackTo name) none = refl
+
 never_fails : (s : State) (session : ℕ) (asked : Statement) (f : Failure) → needs_nothing s session asked ≡ true → ¬ (may_fail s session asked f ≡ true)
 never_fails s session asked f none = λ may.
     let takes = (and_parts (is_none (first_refusal (turn_of s session asked).early)) (fails_for s session asked f) may).1 in
@@ -79,8 +96,10 @@ pub promised : {S : Type 0} (g : Ghosts S) (session : ℕ) (asked : Statement) (
 promised {S} g session asked old answer new serves promise =
     let s = old.state in
     elim (or_cases (needs_nothing s session asked) (is_plain_refusal asked (step s session asked).0) promise) [
-      | inl none ↦ (let left = serves.apart (takes_nothing s session asked failure.Store none) in
-          (left.0, kept s session asked answer new.state (failure_of answer) none left.1))
+      | inl none ↦ (
+        (serves.apart (takes_nothing s session asked failure.Store none)).0,
+        kept s session asked answer new.state (failure_of answer) none (serves.unread (reads_nothing s session asked none)),
+      )
       | inr plain ↦ (let first = early_at s session asked (first_refusal (turn_of s session asked).early) refl plain in
           let is = serves.early first.0 first.1 in
           let stays : (answer, new.state) ≡ (reply.Refused first.0, s) = ap₂ (λ (a : Reply) (d : Seen S). (a, d.state)) is.0 is.1 in

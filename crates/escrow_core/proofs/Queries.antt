@@ -26,7 +26,8 @@ use Rattle.escrow_machine.specs.Step.{StepOrRefusal}
 use Rattle.escrow_machine.specs.Turn.{turn_of}
 use Rattle.escrow_rows.proofs.OneRow.{rows_named}
 use Rattle.escrow_machine.proofs.Refusals.{lacking, none_there, some_found}
-use Rattle.escrow_core.proofs.Standing.{amounts_named, no_row, standing}
+use Rattle.escrow_core.specs.Inside.{amounts_named}
+use Rattle.escrow_core.proofs.Standing.{no_row, standing}
 use Rattle.escrow_core.proofs.Serving.{late_applies, none_applies}
 use Rattle.escrow_core.proofs.Served.{rule_serves, accepted_serves, memory_serves}
 

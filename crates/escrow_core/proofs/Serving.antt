@@ -1,5 +1,5 @@
 -- How a call that serves a statement is put together.
-use Rattle.std.specs.Prelude.{◌≡◌, ℕ, Bool, true, false, Option, Some, None, Result, Ok, Err, option_map, unwrap_or, is_none, IsTrue}
+use Rattle.std.specs.Prelude.{◌≡◌, ℕ, ℤ, List, MatchOption, Bool, true, false, Option, Some, None, Result, Ok, Err, option_map, unwrap_or, is_none, IsTrue}
 use Rattle.std.specs.Result.{IsErrAnd}
 use Rattle.std.proofs.Common.{inl, inr, refl, sym, ap, ap₂, subst, le_refl, arith, ◌∙◌}
 use Rattle.std.proofs.lemmas.Bool.{and_parts, false≢true}
@@ -11,26 +11,34 @@ use Rattle.sqlite_trees.specs.Tree.{Trees}
 use Rattle.escrow_num.specs.declared.refusal.Refusal.{Refusal}
 use Rattle.escrow_num.specs.Refusal.{first_refusal, refusal_for}
 use Rattle.escrow_sql.specs.declared.statement.Statement.{Statement}
+use Rattle.escrow_sql.specs.declared.statement.Statement.TheVariants as statement
 use Rattle.escrow_num.specs.declared.failure.Failure.{Failure}
-use Rattle.escrow_tables.specs.Calls.{Writes}
+use Rattle.escrow_num.specs.declared.failure.Failure.TheVariants as failure
+use Rattle.escrow_bounds.specs.Places.{Places}
+use Rattle.escrow_num.specs.declared.row.Row.{Row}
+use Rattle.escrow_num.specs.declared.value.RowName.{RowName}
+use Rattle.escrow_schema.specs.Catalog.{table_named}
+use Rattle.escrow_schema.specs.declared.table.TableDef.{TableDef}
+use Rattle.escrow_tables.specs.Calls.{Reads, Writes}
 use Rattle.escrow_tables.specs.Committed.{Committed, AreHeld}
 use Rattle.escrow_journal.specs.Open.{Open}
 use Rattle.escrow_machine.specs.declared.reply.Reply.{Reply}
 use Rattle.escrow_machine.specs.declared.reply.Reply.TheVariants as reply
-use Rattle.escrow_core.specs.Inside.{seen_of}
-use Rattle.escrow_machine.specs.Promised.{asks_store}
+use Rattle.escrow_core.specs.Inside.{seen_of, amounts_named, AreOfTables, HaveAmounts, Keeps}
+use Rattle.escrow_machine.specs.Promised.{asks_store, reads_rows}
 use Rattle.escrow_machine.specs.Reply.{failure_of, is_refused, tells_write}
 use Rattle.escrow_core.specs.Seen.{Seen, IsKept}
 use Rattle.escrow_core.specs.Serves.{AreAfter, AreHeldOf, Serves}
 use Rattle.escrow_machine.specs.Accepted.{IsAccepted, IsRefusal, PassesEarly}
 use Rattle.escrow_core.specs.Serving.{Looks, answer_of}
-use Rattle.escrow_machine.specs.State.{State}
-use Rattle.escrow_machine.specs.Step.{refusals, step, fails_for, StepOrRefusal}
+use Rattle.escrow_machine.specs.State.{State, is_reserved}
+use Rattle.escrow_machine.specs.Step.{refusals, step, fails_for, may_fail, IsStep, StepOrRefusal}
 use Rattle.escrow_machine.specs.Turn.{turn_of}
 use Rattle.escrow_machine.specs.Valid.{IsOrderly, AreSafeRows, IsValid}
 use Rattle.escrow_machine.proofs.LawsSteps.{early_refusals_stand, refused_stays}
 use Rattle.escrow_machine.proofs.Refusals.{first_behind, first_in_front}
 use Rattle.escrow_machine.proofs.Shapes.{HasOrder}
+use Rattle.escrow_core.proofs.Places.{amounts_stay, tables_stay}
 use Rattle.escrow_core.proofs.Served.{refused_serves, stepped}
 
 -- where no refusal applies the step is the turn's
@@ -94,6 +102,31 @@ survives_itself s P = record { clean = le_refl _; shield = λ h. h; counts = le_
 pub still_clean : (a b : Store) (P : Trees → Type 0) → Survives a b P → HasCleanDisk b → HasCleanDisk a
 still_clean a b P survives clean = omega (arith, survives.clean, clean)
 
+-- what a database keeps where its store was read
+pub read_keeps : {S : Type 0} (g : Ghosts S) (t new : Committed S) (o : Open) (places : Places) → Keeps g (seen_of t o) places → Reads g t new → Keeps g (seen_of new o) places
+read_keeps g t new o places keeps reads = record {
+  kept = record {
+    orderly = rw reads.catalog keeps.kept.orderly;
+    safe_rows = λ clean. rw (reads.catalog, reads.rows) (keeps.kept.safe_rows (still_clean _ _ _ reads.survives clean));
+  };
+  placed = keeps.placed;
+  of_tables = rw reads.catalog keeps.of_tables;
+  amounts = λ clean. rw reads.rows (keeps.amounts (still_clean _ _ _ reads.survives clean));
+}
+
+-- and where a write failed
+pub unwritten_keeps : {S : Type 0} (g : Ghosts S) (t new : Committed S) (o : Open) (places : Places) (catalog : List TableDef) (rows : List Row) → Keeps g (seen_of t o) places
+    → Writes g t new false catalog rows → Keeps g (seen_of new o) places
+unwritten_keeps g t new o places catalog rows keeps writes = record {
+  kept = record {
+    orderly = rw (writes.kept_catalog refl) keeps.kept.orderly;
+    safe_rows = λ clean. rw (writes.kept_catalog refl, writes.kept_rows refl) (keeps.kept.safe_rows (still_clean _ _ _ writes.survives clean));
+  };
+  placed = keeps.placed;
+  of_tables = rw (writes.kept_catalog refl) keeps.of_tables;
+  amounts = λ clean. rw (writes.kept_rows refl) (keeps.amounts (still_clean _ _ _ writes.survives clean));
+}
+
 -- what a database keeps where the store is left
 pub apart_keeps : {S : Type 0} (g : Ghosts S) (d : Seen S) (next : State) → IsKept g d → IsOrderly next.catalog next.reservations next.savepoints next.next_id
     → (IsValid d.state → IsValid next) → IsKept g (record { store = d.store; state = next })
@@ -102,13 +135,37 @@ apart_keeps g d next kept orderly valid = record {
   safe_rows = λ u. (valid (record { orderly = kept.orderly; safe_rows = kept.safe_rows u })).safe_rows;
 }
 
+-- what asks the store goes by rows
+asking_reads : (s : State) (session : ℕ) (asked : Statement) → asks_store s session asked ≡ true → reads_rows s session asked ≡ true
+asking_reads s session (statement.Create text) asks = asks
+asking_reads s session (statement.Drop name) asks = asks
+asking_reads s session (statement.Insert text) asks = asks
+asking_reads s session (statement.Update text) asks = refl
+asking_reads s session (statement.Delete text) asks = asks
+asking_reads s session (statement.Select text) asks = asks
+asking_reads s session (statement.ShowTable name) asks = asks
+asking_reads s session (statement.ShowJournal table) asks = asks
+asking_reads s session (statement.ShowBounds text) asks = asks
+asking_reads s session (statement.Savepoint name) asks = asks
+asking_reads s session statement.Commit asks = asks
+asking_reads s session statement.Rollback asks = asks
+asking_reads s session (statement.RollbackTo name) asks = asks
+
+-- what asks nothing of the store isn't refused by it
+not_by_store : (s : State) (session : ℕ) (asked : Statement) (answer : Reply) (new : State) → StepOrRefusal s session asked answer new → asks_store s session asked ≡ false
+    → ¬ (failure_of answer ≡ Some failure.Store)
+not_by_store s session asked answer new event none is =
+    let failed = subst (λ (o : Option Failure). MatchOption o (IsStep s session asked answer new) (λ f. IsTrue (may_fail s session asked f) × (new ≡ s))) is event in
+    absurd (false≢true (sym none ∙ (and_parts (is_none (first_refusal (turn_of s session asked).early)) (fails_for s session asked failure.Store) failed.0).1))
+
 module _ {S : Type 0} (g : Ghosts S) (session : ℕ) (asked : Statement) where
   -- refused before the store is asked: all stays
   pub refused : (d : Seen S) (r : Refusal) → IsRefusal d.state session asked r → Serves g session asked d (reply.Refused r) d
   refused d r is = record {
     event = λ _. refused_serves d.state session asked r is;
     early = λ other first. (ap reply.Refused (early_answered d.state session asked r other is first), refl);
-    apart = λ _. (refl, refused_serves d.state session asked r is);
+    apart = λ none. (refl, not_by_store d.state session asked (reply.Refused r) d.state (refused_serves d.state session asked r is) none);
+    unread = λ _. refused_serves d.state session asked r is;
     refused = λ _. refl;
     survives = survives_itself (state g d.store) _;
     durable = λ e. absurd (no_write r e);
@@ -131,6 +188,7 @@ module _ {S : Type 0} (g : Ghosts S) (session : ℕ) (asked : Statement) where
     event = event;
     early = λ r first. let both : None ≡ Some r = sym early ∙ first in absurd (cc);
     apart = λ not_asked. absurd (false≢true (sym not_asked ∙ asks));
+    unread = λ none. absurd (false≢true (sym none ∙ asking_reads old.state session asked asks));
     refused = refused;
     survives = survives;
     durable = durable;
@@ -172,8 +230,27 @@ module _ {S : Type 0} (g : Ghosts S) (session : ℕ) (asked : Statement) where
         early = λ r first.
             let stands = early_refusals_stand old.state session asked answer new.state r event first in
             (stands.0, ap₂ (λ (h : Held S) (s : State). record { store = h; state = s }) same stands.1);
-        apart = λ _. (same, event);
+        apart = λ none. (same, not_by_store old.state session asked answer new.state event none);
+        unread = λ _. event;
         refused = refused_stays old.state session asked answer new.state event;
+        survives = subst (λ (h : Held S). Survives (state g old.store) (state g h) (λ trees. IsTrue (state g old.store).is_open → AreAfter old.state session asked trees)) (sym same) unwritten;
+        durable = λ e. absurd (false≢true (sym quiet ∙ e));
+      }
+
+  -- a statement goes by what is kept of rows: it leaves the store, and isn't refused by it
+  pub served_beside : (old new : Seen S) (answer : Reply) → tells_write answer ≡ false → new.store ≡ old.store → PassesEarly old.state session asked
+      → reads_rows old.state session asked ≡ true → ¬ (failure_of answer ≡ Some failure.Store)
+      → (HasCleanDisk (state g old.store) → StepOrRefusal old.state session asked answer new.state) → (IsTrue (is_refused answer) → new.state ≡ old.state)
+      → Serves g session asked old answer new
+  served_beside old new answer quiet same early reads not_refused event refused =
+      let unwritten : Survives (state g old.store) (state g old.store) (λ trees. IsTrue (state g old.store).is_open → AreAfter old.state session asked trees) =
+      survives_itself (state g old.store) _ in
+      record {
+        event = subst (λ (h : Held S). HasCleanDisk (state g h) → StepOrRefusal old.state session asked answer new.state) (sym same) event;
+        early = λ r first. let both : None ≡ Some r = sym early ∙ first in absurd (cc);
+        apart = λ _. (same, not_refused);
+        unread = λ none. absurd (false≢true (sym none ∙ reads));
+        refused = refused;
         survives = subst (λ (h : Held S). Survives (state g old.store) (state g h) (λ trees. IsTrue (state g old.store).is_open → AreAfter old.state session asked trees)) (sym same) unwritten;
         durable = λ e. absurd (false≢true (sym quiet ∙ e));
       }
@@ -289,7 +366,8 @@ module _ {S : Type 0} (g : Ghosts S) (session : ℕ) (asked : Statement) (old mi
   pub early_since : PassesEarly mid.state session asked
   early_since = still_passes old.state mid.state session asked looked.looks.same looked.early
 
--- nothing refuses a statement that writes: its step makes this answer and this state, in which the same is open
+-- nothing refuses a statement that writes: its step makes this answer and this state, in which the same is open, and each row
+-- that is reserved has its table and its amounts
 pub record MayWrite {S : Type 0} (g : Ghosts S) (session : ℕ) (asked : Statement) (d : Seen S) (answer : Reply) (next : State) : Type 0 where
   pub asks : asks_store d.state session asked ≡ true
   pub early : PassesEarly d.state session asked
@@ -299,6 +377,9 @@ pub record MayWrite {S : Type 0} (g : Ghosts S) (session : ℕ) (asked : Stateme
   pub same_open : next ≡ record d.state { catalog = next.catalog; rows = next.rows }
   pub orderly : HasOrder d.state → HasOrder next
   pub valid : HasCleanDisk (state g d.store) → IsValid d.state → IsValid next
+  pub tables_stay : (row : RowName) (table : TableDef) → is_reserved d.state row ≡ true → table_named d.state.catalog row.table ≡ Some table → table_named next.catalog row.table ≡ Some table
+  pub amounts_stay : HasCleanDisk (state g d.store) → (row : RowName) (amounts : List ℤ) → is_reserved d.state row ≡ true → amounts_named d.state.rows row ≡ Some amounts
+      → amounts_named next.rows row ≡ Some amounts
 
 module _ {S : Type 0} (g : Ghosts S) (session : ℕ) (asked : Statement) (t new : Committed S) (o : Open) (answer : Reply) (next : State)
     (may : MayWrite g session asked (seen_of t o) answer next) where
@@ -306,8 +387,17 @@ module _ {S : Type 0} (g : Ghosts S) (session : ℕ) (asked : Statement) (t new 
   pub write_serves : Writes g t new true next.catalog next.rows → Serves g session asked (seen_of t o) answer (seen_of new o)
   write_serves writes = wrote g session asked t new o o answer next may.asks may.early may.accepted writes may.steps may.same_open
 
-  pub write_keeps : IsKept g (seen_of t o) → Writes g t new true next.catalog next.rows → IsKept g (seen_of new o)
-  write_keeps kept writes = wrote_keeps g session asked t new o o next kept writes may.same_open (may.orderly kept.orderly) (λ valid u. may.valid u valid)
+  pub write_keeps : (places : Places) → Keeps g (seen_of t o) places → Writes g t new true next.catalog next.rows → Keeps g (seen_of new o) places
+  write_keeps places keeps writes =
+      let s : State = (seen_of t o).state in
+      record {
+        kept = wrote_keeps g session asked t new o o next keeps.kept writes may.same_open (may.orderly keeps.kept.orderly) (λ valid u. may.valid u valid);
+        placed = keeps.placed;
+        of_tables = subst (λ c. AreOfTables c places) (sym (writes.done_catalog refl)) (tables_stay s next places keeps.placed may.tables_stay keeps.of_tables);
+        amounts = λ clean.
+            let was = still_clean _ _ _ writes.survives clean in
+            subst (λ rs. HaveAmounts rs places) (sym (writes.done_rows refl clean)) (amounts_stay s next places keeps.placed (may.amounts_stay was) (keeps.amounts was));
+      }
 
   -- it failed, and `?` handed the failure on
   pub failure_serves : (result : Result Reply Refusal) (f : Failure) → IsErrAnd result (λ e. e ≡ refusal_for f) → Writes g t new false next.catalog next.rows

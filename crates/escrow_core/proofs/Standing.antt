@@ -7,10 +7,7 @@ use Rattle.escrow_num.specs.Order.{same_row}
 use Rattle.escrow_num.proofs.Items.{find_has}
 use Rattle.escrow_num.proofs.Orders.{row_same}
 use Rattle.escrow_machine.specs.Rows.{row_named}
-
--- the amounts of the row of a name, if there is one
-abbrev pub amounts_named : List Row → RowName → Option (List ℤ)
-amounts_named rows name = option_map (λ row. row.amounts) (row_named rows name)
+use Rattle.escrow_core.specs.Inside.{amounts_named}
 
 -- a row stands under a name, and has these amounts
 pub record IsStanding (rows : List Row) (name : RowName) (amounts : List ℤ) : Type 0 where

@@ -1,55 +1,73 @@
 -- UPDATE: what its call makes of a database, by its plan.
-use Rattle.std.specs.Prelude.{◌≡◌, ◌<◌, ◌≤◌, ◌+◌, ℕ, ℤ, Bool, true, false, is_none, option_map, unwrap_or, Option, Some, None, IsSome, IsTrue, List, [], ◌∷◌, ◌++◌, length, map}
+use Rattle.std.specs.Prelude.{◌≡◌, ◌⊎◌, ◌<◌, ◌≤◌, ◌+◌, ℕ, ℤ, Bool, true, false, not, nat_le, nat_lt, is_none, is_some, option_map, unwrap_or, Option, Some, None, IsSome, IsSomeAnd, IsTrue, List, [], ◌∷◌, ◌++◌, length, map}
 use Rattle.std.specs.List.{AllByRecursion}
-use Rattle.std.proofs.Common.{refl, sym, ap, ap₂, subst, ◌∙◌}
+use Rattle.std.proofs.Common.{inl, inr, refl, sym, ap, ap₂, subst, ◌∙◌, arith, length-append}
 use Rattle.std.proofs.lemmas.Bool.{false≢true}
 use Rattle.sqlite.specs.Held.{state}
 use Rattle.sqlite.specs.State.{HasCleanDisk}
 use Rattle.sqlite_trees.specs.declared.store.Store.{Ghosts}
+use Rattle.escrow_num.specs.declared.failure.Failure.{Failure}
+use Rattle.escrow_num.specs.declared.failure.Failure.TheVariants as failure
+use Rattle.escrow_num.specs.declared.refusal.Breach.{Breach}
 use Rattle.escrow_num.specs.declared.refusal.Refusal.{Refusal}
 use Rattle.escrow_num.specs.declared.refusal.Refusal.TheVariants as refusal
 use Rattle.escrow_num.specs.declared.reservation.TheConstants.Reservation.{MAX_ID}
 use Rattle.escrow_num.specs.declared.row.Row.{Row}
 use Rattle.escrow_num.specs.declared.value.RowName.{RowName}
 use Rattle.escrow_num.specs.declared.value.Value.{Value}
+use Rattle.escrow_num.specs.Order.{same_row}
 use Rattle.escrow_num.specs.Reservation.{counted, changes_at}
 use Rattle.escrow_num.specs.Refusal.{refuse_if, first_refusal, refusal_for}
 use Rattle.escrow_num.specs.Session.{IsSession}
 use Rattle.escrow_sql.specs.declared.statement.UpdateText.{UpdateText}
 use Rattle.escrow_sql.specs.declared.statement.Statement.TheVariants as statement
+use Rattle.escrow_checks.specs.declared.check.Check.{Check}
+use Rattle.escrow_checks.specs.declared.coefficients.TheConstants.Coefficients.{MAX_LEN}
+use Rattle.escrow_checks.specs.declared.spread.TheConstants.Spread.{MAX_OPEN}
 use Rattle.escrow_checks.specs.Grant.{broken}
+use Rattle.escrow_bounds.specs.Counts.{TakesIn}
+use Rattle.escrow_bounds.specs.Held.{of_row}
+use Rattle.escrow_bounds.specs.Kept.{Kept, checks_of}
+use Rattle.escrow_bounds.specs.Places.{Places, place_at, Becomes, OthersStay}
+use Rattle.escrow_bounds.proofs.LawLemmas.{same_grant_rule}
 use Rattle.escrow_schema.specs.Catalog.{table_named}
+use Rattle.escrow_schema.specs.Definition.{IsTable}
 use Rattle.escrow_schema.specs.declared.plan.Plan.{Plan}
 use Rattle.escrow_schema.specs.declared.plan.Plan.TheVariants as plan
 use Rattle.escrow_schema.specs.declared.table.TableDef.{TableDef}
+use Rattle.escrow_schema.proofs.LawLemmas.{few_reservable}
 use Rattle.escrow_schema.proofs.PlanLemmas.{plans_of_whole_row}
 use Rattle.escrow_journal.proofs.Free.{is_free}
 use Rattle.escrow_journal.specs.declared.journal.TheConstants.Journal.{MAX_RESERVATIONS}
 use Rattle.escrow_journal.specs.Reservations.{own}
-use Rattle.escrow_journal.specs.Open.{Open, grant_refusal}
+use Rattle.escrow_journal.specs.Open.{grant_refusal}
 use Rattle.escrow_journal.specs.Open as txn
-use Rattle.escrow_num.specs.declared.failure.Failure.{Failure}
-use Rattle.escrow_num.specs.declared.failure.Failure.TheVariants as failure
-use Rattle.escrow_tables.specs.Committed.{Committed}
-use Rattle.escrow_machine.specs.Rows.{HasTable, row_named, with_plain}
+use Rattle.escrow_machine.specs.Rows.{HasTable, row_named, with_plain, with_values}
 use Rattle.escrow_machine.specs.declared.reply.Reply.TheVariants as reply
-use Rattle.escrow_machine.specs.Asked.{plan_of, row_name, reservation_from}
-use Rattle.escrow_core.specs.Inside.{seen_of}
+use Rattle.escrow_machine.specs.Asked.{plan_of, row_name, reservation_from, reserves_beside}
+use Rattle.escrow_machine.specs.Accepted.{IsAccepted, IsRefusal, PassesEarly}
+use Rattle.escrow_machine.specs.Promised.{asks_store}
+use Rattle.escrow_machine.specs.Reply.{failure_of, failure_of_refusal}
+use Rattle.escrow_machine.specs.State.{State, is_open, is_reserved, open_in, with_open}
+use Rattle.escrow_machine.specs.Step.{step, fails_for, StepOrRefusal}
+use Rattle.escrow_machine.specs.Turn.{turn_of, update_refusals, update_reply, after_update}
+use Rattle.escrow_machine.specs.Valid.{IsOrderly, IsValid}
+use Rattle.escrow_machine.proofs.Lengths.{find_map}
+use Rattle.escrow_machine.proofs.Refusals.{passed}
+use Rattle.escrow_machine.proofs.Shapes.{HasOrder, covered, few_reservations, is_table_found}
+use Rattle.escrow_machine.proofs.TurnUpdate.{reserved_valid, replaced_valid}
+use Rattle.escrow_machine.proofs.ValidPlain.{same_test, values_both}
+use Rattle.escrow_machine.proofs.ValidUpdate.{granted_orderly}
+use Rattle.escrow_core.specs.Inside.{amounts_named, AreOfTables, HaveAmounts, IsOfTable, Keeps}
+use Rattle.escrow_core.specs.Reserved.{reason_against}
 use Rattle.escrow_core.specs.Seen.{Seen, IsKept}
 use Rattle.escrow_core.specs.Serves.{Serves}
 use Rattle.escrow_core.specs.Serving.{Looks}
-use Rattle.escrow_machine.specs.Accepted.{IsAccepted, IsRefusal}
-use Rattle.escrow_machine.specs.State.{State, is_open, open_in}
-use Rattle.escrow_machine.specs.Step.{step}
-use Rattle.escrow_machine.specs.Turn.{turn_of, update_refusals, update_reply, after_update}
-use Rattle.escrow_machine.specs.Valid.{IsOrderly, IsValid}
+use Rattle.escrow_core.proofs.Places.{becomes_some, granted_placed, same_amounts, same_placed, same_tables, some_of, some_same, taken_amounts, taken_tables}
 use Rattle.escrow_core.proofs.Planned.{planned_in, plan_refused, plan_accepted, planned_early}
-use Rattle.escrow_core.proofs.Served.{update_serves}
-use Rattle.escrow_core.proofs.Serving.{MayWrite, accepted_step, after_look, fails, look_refused, served, survives_itself}
-use Rattle.escrow_core.proofs.Standing.{amounts_named, no_row, standing}
-use Rattle.escrow_machine.proofs.Shapes.{HasOrder}
-use Rattle.escrow_machine.proofs.TurnUpdate.{reserved_valid, replaced_valid}
-use Rattle.escrow_machine.proofs.ValidUpdate.{granted_orderly}
+use Rattle.escrow_core.proofs.Served.{refused_serves, update_serves}
+use Rattle.escrow_core.proofs.Serving.{MayWrite, accepted_step, after_look, fails, look_failed, look_refused, served, served_beside, survives_itself}
+use Rattle.escrow_core.proofs.Standing.{no_row, standing}
 
 -- REFUSALS
 
@@ -81,6 +99,26 @@ update_step s session text asked is accepted =
     accepted_step s session (statement.Update text) accepted
     ∙ ap (λ (p : Option Plan). (unwrap_or (option_map (update_reply s) p) reply.Updated, unwrap_or (option_map (after_update s session text.table) p) s)) is
 
+-- plain values ask the store, and may fail for whatever it and memory refuse
+pub plain_asks : (s : State) (session : ℕ) (text : UpdateText) (key : Value) (values : List (Option Value)) → plan_of s text ≡ Some (plan.Plain key values)
+    → asks_store s session (statement.Update text) ≡ true
+plain_asks s session text key values is = rw is refl
+
+pub plain_takes : (s : State) (session : ℕ) (text : UpdateText) (key : Value) (values : List (Option Value)) → plan_of s text ≡ Some (plan.Plain key values)
+    → (f : Failure) → fails_for s session (statement.Update text) f ≡ true
+plain_takes s session text key values is failure.Memory = refl
+plain_takes s session text key values is failure.Store = plain_asks s session text key values is
+
+-- they leave the amounts of each row
+plain_amounts : (name row : RowName) (values : List (Option Value)) (rows : List Row) → amounts_named (with_plain name values rows) row ≡ amounts_named rows row
+plain_amounts name row values rows =
+    ap (option_map (λ (r : Row). r.amounts)) (find_map (λ (r : Row). same_row r.name row) (with_values name values) (same_test name row values) rows)
+    ∙ at (row_named rows row)
+  where
+    at : (o : Option Row) → option_map (λ (r : Row). r.amounts) (option_map (with_values name values) o) ≡ option_map (λ (r : Row). r.amounts) o
+    at None = refl
+    at (Some r) = values_both (λ (x : Row). Some x.amounts ≡ Some r.amounts) name values r (λ _. refl) refl
+
 -- PLAIN VALUES, where the session's transaction was looked at, and the row
 
 -- plain values of a row may be replaced
@@ -96,21 +134,23 @@ module _ {S : Type 0} (g : Ghosts S) (d : Seen S) (session : ℕ) (text : Update
       let accepted : HasCleanDisk (state g d.store) → IsAccepted d.state session (statement.Update text) =
       λ u. plain_accepted d.state session text key values may.planned may.closed (may.stands u) in
       record {
-        asks = refl;
+        asks = plain_asks d.state session text key values may.planned;
         early = planned_early d.state session text (plan.Plain key values) may.planned;
-        takes = λ _. refl;
+        takes = plain_takes d.state session text key values may.planned;
         accepted = refl;
         steps = λ u. update_step d.state session text (plan.Plain key values) may.planned (accepted u);
         same_open = refl;
         orderly = λ orderly. orderly;
         valid = λ u valid. replaced_valid d.state session text key values valid may.planned (accepted u);
+        tables_stay = λ row table _ named. named;
+        amounts_stay = λ _ row amounts _ has. plain_amounts (row_name text.table key) row values d.state.rows ∙ has;
       }
 
   -- the rows then are of their tables
   pub replaced_fit : IsKept g d → HasCleanDisk (state g d.store) → AllByRecursion (HasTable d.state.catalog) (with_plain (row_name text.table key) values d.state.rows)
   replaced_fit kept u = (may_write.valid u (record { orderly = kept.orderly; safe_rows = kept.safe_rows u })).safe_rows.tables
 
--- A RESERVATION, where the amounts of the row were looked at
+-- A RESERVATION, by the place of its row
 
 -- the name of a key's row, in the table that is named
 named_so : (table : List ℕ) (name : RowName) → name.table ≡ table → row_name table name.key ≡ name
@@ -125,97 +165,218 @@ reserved_orderly s session text key changes orderly of_session is room more_ids 
     granted_orderly s table (reservation_from s session (row_name text.table key) changes) orderly named of_session refl more_ids
     (plans_of_whole_row table text key changes at) room)
 
--- the first of one
-alone : (o : Option Refusal) → first_refusal (o ∷ []) ≡ o
-alone None = refl
-alone (Some r) = refl
+-- so the open reservations are fewer than there can be
+pub room_for_one : (s : State) (session : ℕ) (text : UpdateText) (key : Value) (changes : List (Option ℤ)) → HasOrder s → IsSession session
+    → plan_of s text ≡ Some (plan.Reserve key changes) → grant_refusal session (open_in s) ≡ None → length s.reservations < MAX_OPEN
+room_for_one s session text key changes orderly of_session is none =
+    let free = is_free session (open_in s) none in
+    let r = reservation_from s session (row_name text.table key) changes in
+    let next : State = record s { reservations = s.reservations ++ r ∷ []; next_id = s.next_id + 1 } in
+    let few : length (s.reservations ++ r ∷ []) ≤ MAX_OPEN = few_reservations next (reserved_orderly s session text key changes orderly of_session is free.room free.more_ids) in
+    omega (arith, length-append s.reservations (r ∷ []), few)
 
--- why a reservation of the row that has these amounts isn't granted, where the table of transactions has room
-pub grant_reason : (s : State) (session : ℕ) (name : RowName) (table : TableDef) (amounts : List ℤ) (changes : List (Option ℤ))
-    → grant_refusal session (open_in s) ≡ None → table_named s.catalog name.table ≡ Some table → amounts_named s.rows name ≡ Some amounts
-    → option_map refusal.Check (broken table.checks amounts (counted changes) (map (changes_at name) s.reservations))
-    ≡ first_refusal (update_refusals s session name.table (plan.Reserve name.key changes))
-grant_reason s session name table amounts changes free of_table has =
-    let row = standing s.rows name amounts has in
+-- a plan's changes are at most as many as a check has coefficients
+pub short_plan : (s : State) (text : UpdateText) (key : Value) (changes : List (Option ℤ)) → HasOrder s → plan_of s text ≡ Some (plan.Reserve key changes) → length changes ≤ MAX_LEN
+short_plan s text key changes orderly is =
+    planned_in s text (plan.Reserve key changes) is (λ table named at.
+    let whole = plans_of_whole_row table text key changes at in
+    let few = (few_reservable table (is_table_found s orderly text.table table named)).1 in
+    omega (arith, whole, few))
+
+-- a reason against it is no failure
+no_failure : (many none_left : Bool) (o : Option Breach) (r : Refusal)
+    → first_refusal (first_refusal (refuse_if many refusal.TooManyReservations ∷ refuse_if none_left refusal.NoMoreIds ∷ []) ∷ option_map refusal.Check o ∷ []) ≡ Some r
+    → failure_of_refusal r ≡ None
+no_failure true none_left o r is = subst (λ (q : Refusal). failure_of_refusal q ≡ None) (some_same is) refl
+no_failure false true o r is = subst (λ (q : Refusal). failure_of_refusal q ≡ None) (some_same is) refl
+no_failure false false (Some breach) r is = subst (λ (q : Refusal). failure_of_refusal q ≡ None) (some_same is) refl
+no_failure false false None r is = absurd (cc)
+
+-- the first reason against it is that by its row's place
+reason_is : (s : State) (session : ℕ) (name : RowName) (table : TableDef) (place : Kept) (changes : List (Option ℤ))
+    → table_named s.catalog name.table ≡ Some table → IsTable table → IsOfTable table place → amounts_named s.rows name ≡ Some place.amounts
+    → first_refusal (update_refusals s session name.table (plan.Reserve name.key changes)) ≡ reason_against session place name changes (open_in s)
+reason_is s session name table place changes named is_table of_table has =
+    let row = standing s.rows name place.amounts has in
     let reason = grant_refusal session (open_in s) in
     let breach : List ℤ → RowName → Option Refusal = λ zs n. option_map refusal.Check (broken table.checks zs (counted changes) (map (changes_at n) s.reservations)) in
-    sym (rw (row.found, of_table) refl ∙ ap₂ (λ (zs : List ℤ) (n : RowName). first_refusal (reason ∷ breach zs n ∷ [])) row.has row.named
-    ∙ ap (λ (o : Option Refusal). first_refusal (o ∷ breach amounts name ∷ [])) free ∙ alone (breach amounts name))
+    let same : broken table.checks place.amounts (counted changes) (map (changes_at name) s.reservations) ≡ broken (checks_of place.checks) place.amounts (counted changes) (of_row name s.reservations) =
+    same_grant_rule table.checks place.amounts (counted changes) name s.reservations (covered table place.amounts is_table of_table.amounts)
+    ∙ ap (λ (checks : List Check). broken checks place.amounts (counted changes) (of_row name s.reservations)) (sym of_table.checks) in
+    rw (row.found, named) refl ∙ ap₂ (λ (zs : List ℤ) (n : RowName). first_refusal (reason ∷ breach zs n ∷ [])) row.has row.named
+    ∙ ap (λ (o : Option Breach). first_refusal (reason ∷ option_map refusal.Check o ∷ [])) same
 
-module _ {S : Type 0} (g : Ghosts S) (session : ℕ) (text : UpdateText) (key : Value) (changes : List (Option ℤ)) (old mid : Seen S)
-    (planned : plan_of old.state text ≡ Some (plan.Reserve key changes)) (looks : Looks g old mid) where
-  -- these amounts were read, or no row was
-  abbrev WereRead : Option (List ℤ) → Type 0
-  WereRead found = HasCleanDisk (state g mid.store) → found ≡ amounts_named old.state.rows (row_name text.table key)
+-- a reservation of changes of a row is planned, in the table that the text names
+pub record IsPlanned (s : State) (text : UpdateText) (name : RowName) (changes : List (Option ℤ)) : Type 0 where
+  pub table : name.table ≡ text.table
+  pub plan : plan_of s text ≡ Some (plan.Reserve name.key changes)
 
-  -- for a row of these amounts this is the first reason against it, or none is
-  abbrev IsReason : List ℤ → Option Refusal → Type 0
-  IsReason amounts first =
-      amounts_named mid.state.rows (row_name text.table key) ≡ Some amounts → first ≡ first_refusal (update_refusals mid.state session text.table (plan.Reserve key changes))
+module _ (s : State) (session : ℕ) (text : UpdateText) (name : RowName) (changes : List (Option ℤ)) (planned : IsPlanned s text name changes) where
+  passes : PassesEarly s session (statement.Update text)
+  passes = planned_early s session text (plan.Reserve name.key changes) planned.plan
 
-  -- a failure
-  pub reserve_fails : (f : Failure) → Serves g session (statement.Update text) old (reply.Refused (refusal_for f)) mid
-  reserve_fails f =
-      let early = planned_early old.state session text (plan.Reserve key changes) planned in
-      look_refused g session (statement.Update text) old mid (refusal_for f) looks refl early (λ _. fails old.state session (statement.Update text) f early refl)
+  -- the store is asked just where its row isn't reserved
+  beside_is : reserves_beside s text ≡ is_reserved s name
+  beside_is = rw planned.plan (ap (is_reserved s) (named_so text.table name planned.table))
 
-  -- it is refused
-  refused_for : (r : Refusal) → (HasCleanDisk (state g mid.store) → first_refusal (update_refusals old.state session text.table (plan.Reserve key changes)) ≡ Some r)
-      → Serves g session (statement.Update text) old (reply.Refused r) mid
-  refused_for r first =
-      let asked = plan.Reserve key changes in
-      look_refused g session (statement.Update text) old mid r looks refl (planned_early old.state session text asked planned)
-      (λ u. plan_refused old.state session text asked r planned (first u))
+  pub asks_first : is_reserved s name ≡ false → asks_store s session (statement.Update text) ≡ true
+  asks_first first = ap not (beside_is ∙ first)
 
-  -- for want of the row
-  pub reserve_lacks : WereRead None → Serves g session (statement.Update text) old (reply.Refused refusal.NoSuchRow) mid
-  reserve_lacks read = refused_for refusal.NoSuchRow (λ u. rw (no_row old.state.rows (row_name text.table key) (read u)) refl)
+  -- its refusals are those of its row's table
+  refusals_are : first_refusal (update_refusals s session text.table (plan.Reserve name.key changes)) ≡ first_refusal (update_refusals s session name.table (plan.Reserve name.key changes))
+  refusals_are = ap (λ (t : List ℕ). first_refusal (update_refusals s session t (plan.Reserve name.key changes))) (sym planned.table)
 
-  module _ (amounts : List ℤ) (read : WereRead (Some amounts)) where
-    reason : (first : Option Refusal) → IsReason amounts first → HasCleanDisk (state g mid.store)
-        → first_refusal (update_refusals mid.state session text.table (plan.Reserve key changes)) ≡ first
-    reason first is u = sym (is (ap (λ (s : State). amounts_named s.rows (row_name text.table key)) looks.same ∙ sym (read u)))
+  fails_so : (f : Failure) → fails_for s session (statement.Update text) f ≡ true → IsRefusal s session (statement.Update text) (refusal_for f)
+  fails_so f takes = fails s session (statement.Update text) f passes takes
 
-    -- for a reason against it
-    pub reserve_refused : (r : Refusal) → IsReason amounts (Some r) → Serves g session (statement.Update text) old (reply.Refused r) mid
-    reserve_refused r is =
-        refused_for r (λ u. subst (λ (s : State). first_refusal (update_refusals s session text.table (plan.Reserve key changes)) ≡ Some r) looks.same (reason (Some r) is u))
+  module _ (place : Kept) (orderly : HasOrder s) (of_table : IsSomeAnd (table_named s.catalog name.table) (λ table. IsOfTable table place))
+      (has : amounts_named s.rows name ≡ Some place.amounts) where
+    by_place : first_refusal (update_refusals s session text.table (plan.Reserve name.key changes)) ≡ reason_against session place name changes (open_in s)
+    by_place =
+        refusals_are
+        ∙ some_of (λ (table : TableDef). IsOfTable table place) (table_named s.catalog name.table) of_table (λ table named is.
+        reason_is s session name table place changes named (is_table_found s orderly name.table table named) is has)
 
-    module _ (none : IsReason amounts None) (t : Committed S) (o : Open) (view : seen_of t o ≡ mid) where
-      planned_inside : plan_of (seen_of t o).state text ≡ Some (plan.Reserve key changes)
-      planned_inside = subst (λ (s : State). plan_of s text ≡ Some (plan.Reserve key changes)) (sym (ap (λ (d : Seen S). d.state) view ∙ looks.same)) planned
+    -- refused for it, or for want of memory
+    pub place_refuses : (r : Refusal) → (reason_against session place name changes (open_in s) ≡ Some r) ⊎ (r ≡ refusal.Memory) → IsRefusal s session (statement.Update text) r
+    place_refuses r why = elim why [
+      | inl first ↦ plan_refused s session text (plan.Reserve name.key changes) r planned.plan (by_place ∙ first)
+      | inr memory ↦ subst (λ (q : Refusal). IsRefusal s session (statement.Update text) q) (sym memory) (fails_so failure.Memory refl)
+    ]
 
-      reserve_accepted : HasCleanDisk (state g t.store) → IsAccepted (seen_of t o).state session (statement.Update text)
-      reserve_accepted u =
-          let inside : HasCleanDisk (state g t.store) → first_refusal (update_refusals (seen_of t o).state session text.table (plan.Reserve key changes)) ≡ None =
-          subst (λ (d : Seen S). HasCleanDisk (state g d.store) → first_refusal (update_refusals d.state session text.table (plan.Reserve key changes)) ≡ None) (sym view) (reason None none) in
-          plan_accepted (seen_of t o).state session text (plan.Reserve key changes) planned_inside (inside u)
+    -- or granted
+    pub place_accepts : reason_against session place name changes (open_in s) ≡ None → IsAccepted s session (statement.Update text)
+    place_accepts none = plan_accepted s session text (plan.Reserve name.key changes) planned.plan (by_place ∙ none)
 
-      -- it is granted: the store stays
-      pub granted_serves : (HasCleanDisk (state g mid.store) → IsTrue (state g mid.store).is_open)
-          → Serves g session (statement.Update text) old (reply.Reserved o.next_id) (seen_of t (txn.granted session (row_name text.table key) changes o))
-      granted_serves opened =
-          let s : State = (seen_of t o).state in
-          let asked = plan.Reserve key changes in
-          let new = seen_of t (txn.granted session (row_name text.table key) changes o) in
-          after_look g session (statement.Update text) old mid new (reply.Reserved o.next_id) looks opened refl (planned_early old.state session text asked planned)
-          (subst (λ (d : Seen S). Serves g session (statement.Update text) d (reply.Reserved o.next_id) new) view
-          (served g session (statement.Update text) (seen_of t o) new (reply.Reserved o.next_id) refl (planned_early s session text asked planned_inside)
-          (λ u. update_serves s session text asked (reserve_accepted u) planned_inside)
-          (λ is_refusal. absurd (false≢true is_refusal)) (survives_itself (state g t.store) _) (λ writes. absurd (false≢true writes))))
+  -- a refusal by its place is no refusal by the store
+  pub not_the_store : (place : Kept) (r : Refusal) → (reason_against session place name changes (open_in s) ≡ Some r) ⊎ (r ≡ refusal.Memory) → ¬ (failure_of (reply.Refused r) ≡ Some failure.Store)
+  not_the_store place r why is = elim why [
+    | inl first ↦ (let none : failure_of_refusal r ≡ None =
+        no_failure (nat_le MAX_RESERVATIONS (length (own session s.reservations))) (nat_lt MAX_ID s.next_id)
+        (broken (checks_of place.checks) place.amounts (counted changes) (of_row name s.reservations)) r first in absurd (cc))
+    | inr memory ↦ (let wanted : failure_of_refusal r ≡ Some failure.Memory = ap failure_of_refusal memory in absurd (cc))
+  ]
 
-      pub granted_keeps : IsKept g (seen_of t o) → IsSession session → grant_refusal session (open_in mid.state) ≡ None
-          → IsKept g (seen_of t (txn.granted session (row_name text.table key) changes o))
-      granted_keeps kept of_session left =
-          let s : State = (seen_of t o).state in
-          let free = is_free session o (subst (λ (d : Seen S). grant_refusal session (open_in d.state) ≡ None) (sym view) left) in
-          record {
-            orderly = reserved_orderly s session text key changes kept.orderly of_session planned_inside free.room free.more_ids;
-            safe_rows = λ u.
-                let valid : IsValid s = record { orderly = kept.orderly; safe_rows = kept.safe_rows u } in
-                (reserved_valid s session text key changes valid of_session planned_inside (reserve_accepted u)).safe_rows;
-          }
+  -- the step where it is accepted
+  pub grant_step : IsAccepted s session (statement.Update text)
+      → StepOrRefusal s session (statement.Update text) (reply.Reserved s.next_id) (with_open s (txn.granted session name changes (open_in s)))
+  grant_step accepted =
+      subst (λ (n : RowName). StepOrRefusal s session (statement.Update text) (reply.Reserved s.next_id) (with_open s (txn.granted session n changes (open_in s)))) (named_so text.table name planned.table)
+      (update_serves s session text (plan.Reserve name.key changes) accepted planned.plan)
 
-      -- it isn't, for want of memory
-      pub grant_fails : Serves g session (statement.Update text) old (reply.Refused refusal.Memory) (seen_of t o)
-      grant_fails = subst (λ (d : Seen S). Serves g session (statement.Update text) old (reply.Refused refusal.Memory) d) (sym view) (reserve_fails failure.Memory)
+-- what is planned stays planned where the state is the same
+pub still_planned : (old new : State) (text : UpdateText) (name : RowName) (changes : List (Option ℤ)) → new ≡ old → IsPlanned old text name changes → IsPlanned new text name changes
+still_planned old new text name changes same planned = subst (λ (s : State). IsPlanned s text name changes) (sym same) planned
+
+module _ {S : Type 0} (g : Ghosts S) (session : ℕ) (text : UpdateText) (name : RowName) (changes : List (Option ℤ)) where
+  -- by the place of a row that is reserved
+  module _ (d : Seen S) (places : Places) (planned : IsPlanned d.state text name changes) (keeps : Keeps g d places) (place : Kept) (at : place_at places name ≡ Some place) where
+    of_its_table : IsSomeAnd (table_named d.state.catalog name.table) (λ table. IsOfTable table place)
+    of_its_table = keeps.of_tables name place at
+
+    pub beside_refused : (r : Refusal) → (reason_against session place name changes (open_in d.state) ≡ Some r) ⊎ (r ≡ refusal.Memory)
+        → Serves g session (statement.Update text) d (reply.Refused r) d
+    beside_refused r why =
+        served_beside g session (statement.Update text) d d (reply.Refused r) refl refl (passes d.state session text name changes planned) refl
+        (not_the_store d.state session text name changes planned place r why)
+        (λ clean. refused_serves d.state session (statement.Update text) r
+        (place_refuses d.state session text name changes planned place keeps.kept.orderly of_its_table (keeps.amounts clean name place at) r why))
+        (λ _. refl)
+
+    pub beside_granted : reason_against session place name changes (open_in d.state) ≡ None
+        → Serves g session (statement.Update text) d (reply.Reserved d.state.next_id) (record { store = d.store; state = with_open d.state (txn.granted session name changes (open_in d.state)) })
+    beside_granted none =
+        served_beside g session (statement.Update text) d (record { store = d.store; state = with_open d.state (txn.granted session name changes (open_in d.state)) }) (reply.Reserved d.state.next_id)
+        refl refl (passes d.state session text name changes planned) refl (λ is. absurd (cc))
+        (λ clean. grant_step d.state session text name changes planned
+        (place_accepts d.state session text name changes planned place keeps.kept.orderly of_its_table (keeps.amounts clean name place at) none))
+        (λ is. absurd (false≢true is))
+
+  -- where the amounts of its row were looked at
+  module _ (old mid : Seen S) (planned : IsPlanned old.state text name changes) (first : is_reserved old.state name ≡ false) (looks : Looks g old mid) where
+    asks : asks_store old.state session (statement.Update text) ≡ true
+    asks = asks_first old.state session text name changes planned first
+
+    early : PassesEarly old.state session (statement.Update text)
+    early = passes old.state session text name changes planned
+
+    -- a failure
+    takes : (f : Failure) → fails_for old.state session (statement.Update text) f ≡ true
+    takes failure.Memory = refl
+    takes failure.Store = asks
+
+    pub first_fails : (f : Failure) → Serves g session (statement.Update text) old (reply.Refused (refusal_for f)) mid
+    first_fails f = look_failed g session (statement.Update text) old mid f looks asks early (takes f)
+
+    -- for want of the row
+    pub first_lacks : (HasCleanDisk (state g mid.store) → None ≡ amounts_named old.state.rows name) → Serves g session (statement.Update text) old (reply.Refused refusal.NoSuchRow) mid
+    first_lacks read =
+        look_refused g session (statement.Update text) old mid refusal.NoSuchRow looks asks early
+        (λ clean. plan_refused old.state session text (plan.Reserve name.key changes) refusal.NoSuchRow planned.plan
+        (refusals_are old.state session text name changes planned ∙ rw (no_row old.state.rows name (read clean)) refl))
+
+    module _ (place : Kept) (orderly : HasOrder mid.state) (of_table : IsSomeAnd (table_named mid.state.catalog name.table) (λ table. IsOfTable table place))
+        (read : HasCleanDisk (state g mid.store) → amounts_named mid.state.rows name ≡ Some place.amounts) where
+      planned_now : IsPlanned mid.state text name changes
+      planned_now = still_planned old.state mid.state text name changes looks.same planned
+
+      -- refused
+      pub first_refused : (r : Refusal) → (reason_against session place name changes (open_in mid.state) ≡ Some r) ⊎ (r ≡ refusal.Memory)
+          → Serves g session (statement.Update text) old (reply.Refused r) mid
+      first_refused r why =
+          look_refused g session (statement.Update text) old mid r looks asks early
+          (λ clean. subst (λ (s : State). IsRefusal s session (statement.Update text) r) looks.same
+          (place_refuses mid.state session text name changes planned_now place orderly of_table (read clean) r why))
+
+      -- granted: the store stays
+      pub first_granted : (HasCleanDisk (state g mid.store) → IsTrue (state g mid.store).is_open) → reason_against session place name changes (open_in mid.state) ≡ None
+          → Serves g session (statement.Update text) old (reply.Reserved mid.state.next_id) (record { store = mid.store; state = with_open mid.state (txn.granted session name changes (open_in mid.state)) })
+      first_granted opened none =
+          let new : Seen S = record { store = mid.store; state = with_open mid.state (txn.granted session name changes (open_in mid.state)) } in
+          let still_first : is_reserved mid.state name ≡ false = subst (λ (s : State). is_reserved s name ≡ false) (sym looks.same) first in
+          after_look g session (statement.Update text) old mid new (reply.Reserved mid.state.next_id) looks opened asks early
+          (served g session (statement.Update text) mid new (reply.Reserved mid.state.next_id) (asks_first mid.state session text name changes planned_now still_first)
+          (passes mid.state session text name changes planned_now)
+          (λ clean. grant_step mid.state session text name changes planned_now (place_accepts mid.state session text name changes planned_now place orderly of_table (read clean) none))
+          (λ is. absurd (false≢true is)) (survives_itself (state g mid.store) _) (λ writes. absurd (false≢true writes)))
+
+-- WHAT A GRANT KEEPS
+module _ {S : Type 0} (g : Ghosts S) (session : ℕ) (text : UpdateText) (name : RowName) (changes : List (Option ℤ)) (d : Seen S) (old new : Places)
+    (planned : IsPlanned d.state text name changes) (kept : IsKept g d) (of_session : IsSession session) where
+  -- where its row has a place of its table, with its amounts, and all other places are those of the rows that are reserved
+  pub grant_keeps : (place : Kept) → place_at old name ≡ Some place
+      → ((other : RowName) → same_row name other ≡ false → is_some (place_at old other) ≡ is_reserved d.state other)
+      → AreOfTables d.state.catalog old → (HasCleanDisk (state g d.store) → HaveAmounts d.state.rows old)
+      → reason_against session place name changes (open_in d.state) ≡ None
+      → Becomes (TakesIn (counted changes)) (place_at old name) (place_at new name) → OthersStay name old new
+      → Keeps g (record { store = d.store; state = with_open d.state (txn.granted session name changes (open_in d.state)) }) new
+  grant_keeps place at others_placed of_tables amounts none becomes others =
+      let s = d.state in
+      let there : IsSome (place_at old name) = ap (λ (p : Option Kept). is_some p) at in
+      let left : grant_refusal session (open_in s) ≡ None = (passed (grant_refusal session (open_in s)) (option_map refusal.Check (broken (checks_of place.checks) place.amounts (counted changes) (of_row name s.reservations)) ∷ []) none).first in
+      let free = is_free session (open_in s) left in
+      let same = named_so text.table name planned.table in
+      let orderly : IsOrderly s.catalog (s.reservations ++ reservation_from s session (row_name text.table name.key) changes ∷ []) s.savepoints (s.next_id + 1) =
+      reserved_orderly s session text name.key changes kept.orderly of_session planned.plan free.room free.more_ids in
+      let accepted : HasCleanDisk (state g d.store) → IsAccepted s session (statement.Update text) = λ clean.
+      place_accepts s session text name changes planned place kept.orderly (of_tables name place at) (amounts clean name place at) none in
+      record {
+        kept = subst (λ (n : RowName). IsKept g (record { store = d.store; state = with_open s (txn.granted session n changes (open_in s)) })) same (record {
+          orderly = orderly;
+          safe_rows = λ clean.
+              let valid : IsValid s = record { orderly = kept.orderly; safe_rows = kept.safe_rows clean } in
+              (reserved_valid s session text name.key changes valid of_session planned.plan (accepted clean)).safe_rows;
+        });
+        placed = granted_placed session name changes (open_in s) old new others_placed (becomes_some (place_at old name) (place_at new name) (counted changes) there becomes) others;
+        of_tables = taken_tables s.catalog name (counted changes) old new there becomes others of_tables;
+        amounts = λ clean. taken_amounts s.rows name (counted changes) old new there becomes others (amounts clean);
+      }
+
+-- where each row has the place that it had, what is kept stays
+pub same_keeps : {S : Type 0} (g : Ghosts S) (d : Seen S) (old new : Places) → Keeps g d old → ((row : RowName) → place_at new row ≡ place_at old row) → Keeps g d new
+same_keeps g d old new keeps same = record {
+  kept = keeps.kept;
+  placed = same_placed d.state.reservations old new same keeps.placed;
+  of_tables = same_tables d.state.catalog old new same keeps.of_tables;
+  amounts = λ clean. same_amounts d.state.rows old new same (keeps.amounts clean);
+}

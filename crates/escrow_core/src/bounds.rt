@@ -1,40 +1,39 @@
-ghost use Rattle.std.specs.Prelude.{◌≡◌, ℤ, ◌≤◌, IfOk, List, length, map};
-ghost use Rattle.std.specs.List.{AllByRecursion};
-ghost use Rattle.escrow_checks.specs.Form.{IsCovered};
-ghost use Rattle.escrow_checks.specs.Spread.{IsSpread};
+ghost use Rattle.std.specs.Prelude.{◌≡◌, ℤ, Some, IfOk, IsSome, List, [], length, map};
+ghost use Rattle.escrow_checks.specs.Extremes.{least, greatest};
+ghost use Rattle.escrow_bounds.specs.Counts.{Counts};
+ghost use Rattle.escrow_bounds.specs.Kept.{Kept, checks_of};
+ghost use Rattle.escrow_bounds.specs.Places.{place_at};
 ghost use Rattle.escrow_schema.specs.Column.{reservables};
 ghost use Rattle.escrow_schema.specs.Definition.{IsTable};
-ghost use Rattle.escrow_machine.specs.Bounds.{bounds_in, check_bounds};
-ghost use Rattle.escrow_machine.specs.Walked.{AreOpen, AreSpreads, columns_from};
+ghost use Rattle.escrow_machine.specs.Bounds.{bounds_over, check_bounds};
+ghost use Rattle.escrow_machine.specs.Walked.{columns_from};
+ghost use Rattle.escrow_core.specs.Inside.{IsOfTable};
 
-use crate::spreads::spreads_over;
-use escrow_checks::{Check, Spread};
+use escrow_bounds::Bounds;
+use escrow_checks::Check;
 use escrow_machine::{CheckBounds, ColumnBounds, Reply};
-use escrow_num::{Amount, Name, RowName, Seq, copy_all};
+use escrow_num::{Amount, Name, RowName, Seq, Wide, copy_all};
 use escrow_schema::{TableDef, reservable_names};
-use escrow_txn::TxnTable;
 use std::alloc::{AllocError, Global};
 
-/// The bounds of the row of a name and of these amounts, in a table: those of its RESERVABLE columns, and
-/// of its declared checks. The ranges of the columns are the last checks, and their forms are the columns
-/// themselves.
+/// The bounds of a row that has a place, in its table: those of its RESERVABLE columns, and of its declared
+/// checks. The ranges of the columns are the last checks, and their forms are the columns themselves.
 pub(crate) fn row_bounds(
     alloc: Global,
     table: &TableDef,
     name: &RowName,
-    amounts: &[Amount],
-    txns: &TxnTable,
+    bounds: &Bounds,
 ) -> Result<Reply, AllocError>
     requires table { IsTable table.now }
-    requires amounts { length amounts.now ≡ length (reservables table.now.columns) }
-    requires open { AreOpen txns.now.reservations }
-    ensures { IfOk result (λ reply. reply ≡ bounds_in txns.now.reservations table.now name.now amounts.now) }
+    requires placed { IsSome (place_at bounds.now name.now) }
+    requires of_table { (place : Kept) → place_at bounds.now name.now ≡ Some place → IsOfTable table.now place }
+    ensures { IfOk result (λ reply. (place : Kept) (reservations : List (List ℤ)) → place_at bounds.now name.now ≡ Some place → Counts place reservations
+        → reply ≡ bounds_over reservations table.now place.amounts) }
 {
-    let checks = table.checks.as_slice();
-    let declared = checks.len() - amounts.len();
-    let spreads = spreads_over(checks, name, txns);
-    let bounds = all_check_bounds(alloc, checks, amounts, &spreads)?;
-    let (shown, ranges) = bounds.as_slice().split_at(declared);
+    let amounts = bounds.amounts(name).unwrap();
+    let declared = table.checks.len() - amounts.len();
+    let all = all_check_bounds(alloc, table.checks.as_slice(), name, bounds)?;
+    let (shown, ranges) = all.as_slice().split_at(declared);
     let names = reservable_names(alloc, table.columns.as_slice())?;
     Ok(Reply::Bounds {
         columns: all_column_bounds(alloc, names.as_slice(), amounts, ranges)?,
@@ -42,37 +41,52 @@ pub(crate) fn row_bounds(
     })
 }
 
-/// The bounds of each check of a row of these amounts, by its spread.
+/// The bounds of a row of these amounts that has no open reservation, in its table.
+pub(crate) fn free_bounds(
+    alloc: Global,
+    table: &TableDef,
+    name: &RowName,
+    amounts: &[Amount],
+) -> Result<Reply, AllocError>
+    requires table { IsTable table.now }
+    requires amounts { length amounts.now ≡ length (reservables table.now.columns) }
+    ensures { IfOk result (λ reply. reply ≡ bounds_over [] table.now amounts.now) }
+{
+    let mut bounds = Bounds::new(alloc);
+    bounds.reserve(name, amounts, table.checks.as_slice())?;
+    row_bounds(alloc, table, name, &bounds)
+}
+
+/// The bounds of each check of a row that has a place.
 fn all_check_bounds(
     alloc: Global,
     checks: &[Check],
-    amounts: &[Amount],
-    spreads: &[Spread],
+    name: &RowName,
+    bounds: &Bounds,
 ) -> Result<Seq<CheckBounds>, AllocError>
-    requires enough { length checks.now ≤ length spreads.now }
-    ensures { IfOk result (λ bounds. (reservations : List (List ℤ))
-        → AllByRecursion (λ check. IsCovered check.coeffs amounts.now) checks.now
-        → AreSpreads checks.now reservations spreads.now
-        → bounds ≡ map (check_bounds amounts.now reservations) checks.now) }
+    requires placed { IsSome (place_at bounds.now name.now) }
+    requires checks { (place : Kept) → place_at bounds.now name.now ≡ Some place → checks_of place.checks ≡ checks.now }
+    ensures many { IfOk result (λ all. length all ≡ length checks.now) }
+    ensures shown { IfOk result (λ all. (place : Kept) (reservations : List (List ℤ)) → place_at bounds.now name.now ≡ Some place → Counts place reservations
+        → all ≡ map (check_bounds place.amounts reservations) checks.now) }
 {
-    let mut bounds = Seq::new(alloc);
+    let mut all = Seq::new(alloc);
     for (i, check) in checks.iter().enumerate() {
-        bounds.push(check_bounds(check, amounts, &spreads[i]))?;
+        all.push(check_bounds(check, bounds.worst(name, i)))?;
     }
-    Ok(bounds)
+    Ok(all)
 }
 
-/// The bounds of a check of a row of these amounts.
-fn check_bounds(check: &Check, amounts: &[Amount], spread: &Spread) -> CheckBounds
-    ensures { (reservations : List (List ℤ)) → IsCovered check.now.coeffs amounts.now
-        → IsSpread check.now.coeffs reservations spread.now
-        → result ≡ check_bounds amounts.now reservations check.now }
+/// The bounds of a check whose form has these extremes.
+fn check_bounds(check: &Check, extremes: (Wide, Wide)) -> CheckBounds
+    ensures { (amounts : List ℤ) (reservations : List (List ℤ))
+        → extremes.0 ≡ least check.now.coeffs amounts reservations → extremes.1 ≡ greatest check.now.coeffs amounts reservations
+        → result ≡ check_bounds amounts reservations check.now }
 {
-    let (least, greatest) = check.extremes(amounts, spread);
     CheckBounds {
         check: check.name,
-        least,
-        greatest,
+        least: extremes.0,
+        greatest: extremes.1,
         limits: check.span,
     }
 }

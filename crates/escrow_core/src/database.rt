@@ -14,35 +14,36 @@ mod settle;
 mod show;
 mod update;
 
+use crate::reserved::Reserved;
 use escrow_machine::Reply;
 use escrow_num::{Refusal, Session};
 use escrow_sql::Statement;
 use escrow_tables::Tables;
-use escrow_txn::TxnTable;
 use sqlite::Alter;
 use std::alloc::{AllocFailed, Global};
 use std::marker::Model;
 
 /// A database: its tables and their committed rows, in a store that SQLite writes to; the open
 /// reservations and savepoints of all sessions, and the id that the next reservation takes. A fault that
-/// shuts the store takes nothing from these.
+/// shuts the store takes nothing from these. Beside the reservations it keeps what they can do to each row
+/// that they reserve, so that no statement walks them.
 #[derive(Drop)]
 pub struct Database<S: Alter> {
     tables: Tables<S>,
-    open: TxnTable,
+    reserved: Reserved,
 }
 
 impl<S: Alter> Model for Database<S> {
-    ghost use Rattle.escrow_core.specs.Inside.{seen_of};
-    ghost use Rattle.escrow_core.specs.Seen.{Seen, seen_code, IsKept};
+    ghost use Rattle.escrow_core.specs.Inside.{seen_of, Keeps};
+    ghost use Rattle.escrow_core.specs.Seen.{Seen, seen_code};
 
     ghost Value = { Seen S };
 
     ghost coded = { seen_code S.code };
 
-    ghost view = { λ d. seen_of d.tables d.open };
+    ghost view = { λ d. seen_of d.tables d.reserved.txns };
 
-    ghost invariant = { λ d. IsKept S.Store (seen_of d.tables d.open) };
+    ghost invariant = { λ d. Keeps S.Store (seen_of d.tables d.reserved.txns) d.reserved.places };
 }
 
 impl<S: Alter> Database<S> {
@@ -53,8 +54,9 @@ impl<S: Alter> Database<S> {
     ghost use Rattle.sqlite_trees.specs.Tree.{Trees};
     ghost use Rattle.escrow_journal.specs.Open.{id_left};
     ghost use Rattle.escrow_rows.specs.Answers.{IsUsable};
-    ghost use Rattle.escrow_machine.specs.Promised.{asks_store, is_promised};
-    ghost use Rattle.escrow_machine.specs.Reply.{is_refused, tells_write};
+    ghost use Rattle.escrow_num.specs.declared.failure.Failure.TheVariants.{Store};
+    ghost use Rattle.escrow_machine.specs.Promised.{asks_store, is_promised, reads_rows};
+    ghost use Rattle.escrow_machine.specs.Reply.{failure_of, is_refused, tells_write};
     ghost use Rattle.escrow_core.specs.Seen.{IsKept};
     ghost use Rattle.escrow_core.specs.Serves.{AreAfter, AreHeldOf, Serves};
     ghost use Rattle.escrow_core.specs.Serving.{answer_of};
@@ -74,8 +76,8 @@ impl<S: Alter> Database<S> {
     {
         // What its type knows of the tables is told where they are counted.
         let _ = tables.len();
-        match TxnTable::new(alloc) {
-            Ok(open) => Ok(Database { tables, open }),
+        match Reserved::new(alloc) {
+            Ok(reserved) => Ok(Database { tables, reserved }),
             Err(_) => Err(AllocFailed { value: tables }),
         }
     }
@@ -92,14 +94,14 @@ impl<S: Alter> Database<S> {
     {
         // What a crash leaves is told where the tables are counted.
         let _ = self.tables.len();
-        self.open.next_id()
+        self.reserved.txns().next_id()
     }
 
     /// Whether a session's transaction is open: it holds a reservation or a savepoint.
     pub fn is_open(&self, session: Session) -> bool
         ensures { result ≡ is_open session self.now.state }
     {
-        self.open.is_open(session)
+        self.reserved.txns().is_open(session)
     }
 
     /// Limits the steps that a statement of the store may take; with `None` there is no limit, as at
@@ -115,11 +117,13 @@ impl<S: Alter> Database<S> {
     /// and the new state are those of the machine, which tries every choice of the open reservations; or
     /// the statement fails for what it may fail for, and the state is equal. So it is also where a fault
     /// shuts the store, or has shut it before. What needs neither memory nor the store never fails, and
-    /// what asks nothing of the store leaves it.
+    /// what asks nothing of the store leaves it, and is never refused by it: an UPDATE of RESERVABLE columns of a
+    /// row that has an open reservation is one of these. What goes by no row is answered so whatever the disk did.
     pub fn step(&mut self, alloc: Global, session: Session, statement: &Statement) -> Reply
         ensures event { HasCleanDisk (state S.Store self.new.store) → StepOrRefusal self.old.state session statement.now result self.new.state }
         ensures succeeds { IsTrue (is_promised self.old.state session statement.now) → (self.new.store ≡ self.old.store) × IsStep self.old.state session statement.now result self.new.state }
-        ensures apart { asks_store self.old.state session statement.now ≡ false → (self.new.store ≡ self.old.store) × StepOrRefusal self.old.state session statement.now result self.new.state }
+        ensures apart { asks_store self.old.state session statement.now ≡ false → (self.new.store ≡ self.old.store) × ¬ (failure_of result ≡ Some Store) }
+        ensures unread { reads_rows self.old.state session statement.now ≡ false → StepOrRefusal self.old.state session statement.now result self.new.state }
 
         // What is refused changes nothing, whatever the store is like.
         ensures refused { IsTrue (is_refused result) → self.new.state ≡ self.old.state }

@@ -8,10 +8,8 @@
 
 mod bounds;
 mod database;
-mod grant;
 mod journal;
-mod reservations;
-mod spreads;
+mod reserved;
 
 pub use database::Database;
 pub use escrow_machine::{

@@ -1,4 +1,4 @@
-use crate::bounds::row_bounds;
+use crate::bounds::{free_bounds, row_bounds};
 use crate::database::Database;
 use escrow_machine::Reply;
 use escrow_num::{Refusal, RowName};
@@ -26,11 +26,15 @@ impl<S: Alter> Database<S> {
             table: text.table,
             key: value_of(alloc, &text.row.literal)?,
         };
+        if self.reserved.is_reserved(&name) {
+            let table = self.tables.table(place);
+            return Ok(row_bounds(alloc, table, &name, self.reserved.bounds())?);
+        }
         let Some(amounts) = self.amounts(alloc, place, &name)? else {
             return Err(Refusal::NoSuchRow);
         };
         let table = self.tables.table(place);
-        Ok(row_bounds(alloc, table, &name, amounts.as_slice(), &self.open)?)
+        Ok(free_bounds(alloc, table, &name, amounts.as_slice())?)
     }
 
     /// The place of the table of a SHOW BOUNDS, or why it is refused before its row is looked for.

@@ -1,5 +1,4 @@
 use crate::database::Database;
-use crate::reservations::is_reserved;
 use escrow_machine::Reply;
 use escrow_num::{Refusal, RowName, Session};
 use escrow_schema::{check_key, value_of};
@@ -33,7 +32,7 @@ impl<S: Alter> Database<S> {
         if !self.stands(alloc, place, &name)? {
             return Err(Refusal::NoSuchRow);
         }
-        if is_reserved(&self.open, &name) {
+        if self.reserved.is_reserved(&name) {
             return Err(Refusal::RowReserved);
         }
         self.tables.delete(place, &name)?;

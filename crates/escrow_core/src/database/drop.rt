@@ -1,5 +1,4 @@
 use crate::database::Database;
-use crate::reservations::is_table_reserved;
 use escrow_machine::Reply;
 use escrow_num::{Name, Refusal, Session};
 use escrow_sql::Statement;
@@ -35,7 +34,7 @@ impl<S: Alter> Database<S> {
         let Some(place) = self.tables.place(name) else {
             return Err(Refusal::NoSuchTable);
         };
-        if is_table_reserved(&self.open, name) {
+        if self.reserved.is_table_reserved(name) {
             return Err(Refusal::TableReserved);
         }
         Ok(place)

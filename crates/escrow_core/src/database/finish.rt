@@ -1,13 +1,10 @@
-ghost use Rattle.std.specs.Prelude.{◌≡◌, ◌≤◌, length};
-ghost use Rattle.escrow_journal.specs.declared.journal.TheConstants.Journal.{MAX_RESERVATIONS};
+ghost use Rattle.std.specs.Prelude.{◌≡◌, length};
 ghost use Rattle.escrow_journal.specs.Reservations.{own};
-ghost use Rattle.escrow_journal.specs.Open.{ended};
 
 use crate::database::Database;
 use escrow_machine::Reply;
 use escrow_num::{End, Failure, Refusal, Session};
 use escrow_sql::Statement;
-use escrow_txn::TxnTable;
 use sqlite::Alter;
 use std::alloc::Global;
 
@@ -53,8 +50,9 @@ impl<S: Alter> Database<S> {
     }
 
     /// Applies the open reservations of a session to the committed rows, in one write, and ends its
-    /// transaction once the store has agreed. Answers how many there were. Each was granted over every
-    /// choice of the open ones, so no check is tested here. Where there are none the store isn't asked.
+    /// transaction once the store has agreed. Answers how many there were. No row is read: the places of the
+    /// rows have their amounts. Each reservation was granted over every choice of the open ones, so no check is tested
+    /// here. Where there are none the store isn't asked.
     fn apply(&mut self, alloc: Global, session: Session) -> Result<u32, Failure>
         ensures done { IfOk result (λ count. Serves S.Store session Statement.Commit self.old (Reply.Committed count) self.new) }
         ensures failed { IfErr result (λ f. Serves S.Store session Statement.Commit self.old (Reply.Refused (refusal_for f)) self.new) }
@@ -63,12 +61,15 @@ impl<S: Alter> Database<S> {
         ensures held { OnErr result (0 < length (own session self.old.state.reservations)) }
         ensures stays { HasCleanDisk (state S.Store self.new.store) → OnOk result (IsTrue (state S.Store self.old.store).is_open → IsTrue (state S.Store self.new.store).is_open) }
     {
-        let reservations = self.open.journal(session).all();
+        let reservations = self.reserved.txns().journal(session).all();
         if reservations.is_empty() {
-            return Ok(end(&mut self.open, session));
+            return Ok(self.reserved.end(session, End::Rollback));
         }
-        match self.tables.apply(alloc, reservations) {
-            Ok(()) => Ok(end(&mut self.open, session)),
+        let amounts = self.reserved.amounts_of(alloc, session)?;
+        let written = self.tables.apply(alloc, reservations, &amounts);
+        drop(amounts);
+        match written {
+            Ok(()) => Ok(self.reserved.end(session, End::Commit)),
             Err(failure) => Err(failure),
         }
     }
@@ -80,15 +81,6 @@ impl<S: Alter> Database<S> {
         ensures state { self.new.state ≡ after_rollback self.old.state session }
         ensures store { self.new.store ≡ self.old.store }
     {
-        self.open.take_all(session).len() as u32
+        self.reserved.end(session, End::Rollback)
     }
-}
-
-/// Ends a session's transaction. Answers how many reservations it held.
-fn end(txns: &mut TxnTable, session: Session) -> u32
-    requires { length (own session txns.old.reservations) ≤ MAX_RESERVATIONS }
-    ensures count { result ≡ length (own session txns.old.reservations) }
-    ensures ended { txns.new ≡ ended session txns.old }
-{
-    txns.take_all(session).len() as u32
 }

@@ -19,7 +19,7 @@ impl<S: Alter> Database<S> {
         if !self.is_known(&table) {
             return Err(Refusal::NoSuchTable);
         }
-        let entries = journal_entries(alloc, &self.tables, &self.open, table)?;
+        let entries = journal_entries(alloc, &self.tables, self.reserved.txns(), table)?;
         Ok(Reply::Journal(entries))
     }
 

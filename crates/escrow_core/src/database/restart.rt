@@ -27,7 +27,7 @@ impl<S: Alter> Database<S> {
         ensures crash { Survives (state S.Store self.old.store) (state S.Store self.new.store) (λ _. ⊥) }
     {
         self.tables.verify(alloc)?;
-        self.open.clear();
+        self.reserved.clear();
         Ok(())
     }
 }

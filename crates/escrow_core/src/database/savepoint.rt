@@ -18,7 +18,7 @@ impl<S: Alter> Database<S> {
     {
         // What its type knows of a session's number is told where the number is read.
         let _ = session.get();
-        self.open.mark(session, name)?;
+        self.reserved.mark(session, name)?;
         Ok(Reply::Savepoint(name))
     }
 
@@ -31,6 +31,6 @@ impl<S: Alter> Database<S> {
         ensures state { self.new.state ≡ after_rollback_to self.old.state session name }
         ensures store { self.new.store ≡ self.old.store }
     {
-        self.open.cut(session, name)
+        self.reserved.cut(session, name)
     }
 }

@@ -1,26 +1,19 @@
 use crate::database::Database;
-use crate::grant::breach_of;
 use escrow_machine::Reply;
-use escrow_num::{Amount, Changes, Refusal, RowName, Seq, Session, Value};
+use escrow_num::{Changes, Refusal, RowName, Seq, Session, Value};
 use escrow_schema::{Plan, plan_update};
 use escrow_sql::{Statement, UpdateText};
 use sqlite::Alter;
 use std::alloc::Global;
 
 impl<S: Alter> Database<S> {
-    ghost use Rattle.std.specs.Prelude.{◌≡◌, ℕ, None, Some, IfOk, IfErr, IsSomeAnd, length, option_map};
-    ghost use Rattle.escrow_num.specs.Refusal.{first_refusal};
-    ghost use Rattle.escrow_num.specs.Session.{IsSession};
+    ghost use Rattle.std.specs.Prelude.{◌≡◌, ℕ, false, Some, IfOk, IfErr, IsTrue};
     ghost use Rattle.escrow_machine.specs.Asked.{plan_of};
-    ghost use Rattle.escrow_schema.specs.Catalog.{place_named, table_named};
-    ghost use Rattle.escrow_schema.specs.Column.{reservables};
+    ghost use Rattle.escrow_schema.specs.Catalog.{place_named};
     ghost use Rattle.escrow_core.specs.Serves.{Serves};
     ghost use Rattle.escrow_core.specs.Serving.{answer_of};
-    ghost use Rattle.escrow_journal.specs.Open.{grant_refusal};
     ghost use Rattle.escrow_machine.specs.Accepted.{IsRefusal};
-    ghost use Rattle.escrow_machine.specs.Rows.{row_named};
-    ghost use Rattle.escrow_machine.specs.State.{is_open, open_in};
-    ghost use Rattle.escrow_machine.specs.Turn.{update_refusals};
+    ghost use Rattle.escrow_machine.specs.State.{is_reserved};
 
     /// UPDATE, of RESERVABLE columns or of plain ones, by its plan.
     pub(crate) fn update(
@@ -56,8 +49,8 @@ impl<S: Alter> Database<S> {
         }
     }
 
-    /// A reservation of changes of the row of a key, if it stands. Its amounts alone are read, and the
-    /// committed row stays as it is.
+    /// A reservation of changes of the row of a key, if it stands. The committed row stays as it is. Where the
+    /// row has an open reservation the store isn't asked.
     fn reserve(
         &mut self,
         alloc: Global,
@@ -75,42 +68,56 @@ impl<S: Alter> Database<S> {
             table: text.table,
             key,
         };
-        let Some(amounts) = self.amounts(alloc, place, &name)? else {
-            return Err(Refusal::NoSuchRow);
-        };
-        if let Some(refusal) = self.grant_refusal(session, place, &name, &amounts, &changes) {
-            return Err(refusal);
+        if self.reserved.is_reserved(&name) {
+            return self.reserve_beside(session, text, name, changes);
         }
-        let id = self.open.grant(session, name, changes)?;
+        self.reserve_first(alloc, session, text, place, name, changes)
+    }
+
+    /// A reservation of a row that has an open one, by the amounts that its place keeps.
+    fn reserve_beside(
+        &mut self,
+        session: Session,
+        text: &UpdateText,
+        name: RowName,
+        changes: Changes,
+    ) -> Result<Reply, Refusal>
+        requires table { name.table ≡ text.now.table }
+        requires plan { plan_of self.old.state text.now ≡ Some (Plan.Reserve name.key changes) }
+        requires beside { IsTrue (is_reserved self.old.state name) }
+        ensures { Serves S.Store session (Statement.Update text.now) self.old (answer_of result) self.new }
+    {
+        // What its type knows of a session's number is told where the number is read.
+        let _ = session.get();
+        let id = self.reserved.grant(session, name, changes)?;
         Ok(Reply::Reserved { id })
     }
 
-    /// Why a reservation of the row of a name, which stands with these amounts, isn't granted: as many
-    /// reservations of the session as it may have, no more ids, or the first check that it could break.
-    fn grant_refusal(
-        &self,
+    /// The first open reservation of a row, by the amounts that are read of it.
+    fn reserve_first(
+        &mut self,
+        alloc: Global,
         session: Session,
+        text: &UpdateText,
         place: usize,
-        name: &RowName,
-        amounts: &Seq<Amount>,
-        changes: &Changes,
-    ) -> Option<Refusal>
-        requires place { place_named self.now.state.catalog name.now.table ≡ Some place }
-        requires many { IsSomeAnd (table_named self.now.state.catalog name.now.table) (λ table. length amounts.now ≡ length (reservables table.columns)) }
-        requires whole { IsSomeAnd (table_named self.now.state.catalog name.now.table) (λ table. length changes.now ≡ length (reservables table.columns)) }
-        ensures first { option_map (λ row. row.amounts) (row_named self.now.state.rows name.now) ≡ Some amounts.now
-            → result ≡ first_refusal (update_refusals self.now.state session name.now.table (Plan.Reserve name.now.key changes.now)) }
-        ensures session { result ≡ None → IsSession session }
-        ensures free { result ≡ None → grant_refusal session (open_in self.now.state) ≡ None }
+        name: RowName,
+        changes: Changes,
+    ) -> Result<Reply, Refusal>
+        requires table { name.table ≡ text.now.table }
+        requires place { place_named self.old.state.catalog name.table ≡ Some place }
+        requires plan { plan_of self.old.state text.now ≡ Some (Plan.Reserve name.key changes) }
+        requires first { is_reserved self.old.state name ≡ false }
+        ensures { Serves S.Store session (Statement.Update text.now) self.old (answer_of result) self.new }
     {
-        if let Some(refusal) = self.open.grant_refusal(session) {
-            return Some(refusal);
-        }
+        let Some(amounts) = self.amounts(alloc, place, &name)? else {
+            return Err(Refusal::NoSuchRow);
+        };
         // What its type knows of a session's number is told where the number is read.
         let _ = session.get();
         let checks = self.tables.table(place).checks.as_slice();
-        let (amounts, changes) = (amounts.as_slice(), changes.as_slice());
-        breach_of(checks, name, amounts, changes, &self.open).map(Refusal::Check)
+        self.reserved.make_place(&name, amounts.as_slice(), checks)?;
+        let id = self.reserved.grant(session, name, changes)?;
+        Ok(Reply::Reserved { id })
     }
 
     /// Plain values of the row of a key are replaced, if it stands and the session's transaction isn't open.

@@ -1,11 +1,12 @@
-use Rattle.std.proofs.Common.{◌≡◌, ℤ, List, map, take}
-use Rattle.std.specs.List.{AllByRecursion}
-use Rattle.escrow_checks.specs.Form.{IsCovered}
+use Rattle.std.proofs.Common.{◌≡◌, Some, ℤ, List, length, map, take}
+use Rattle.escrow_bounds.specs.Counts.{Counts}
+use Rattle.escrow_bounds.specs.Kept.{Kept}
+use Rattle.escrow_bounds.specs.Places.{place_at}
 use Rattle.escrow_machine.specs.Bounds.{check_bounds}
-use Rattle.escrow_machine.specs.Walked.{AreSpreads}
 use Rattle.escrow_core.proofs.bounds.all_check_bounds.Given as goal
 
 abbrev pub invariant-loop-i : goal.invariant-loop-i
-invariant-loop-i l =
-    (reservations : List (List ℤ)) → AllByRecursion (λ check. IsCovered check.coeffs l.amounts) l.checks → AreSpreads l.checks reservations l.spreads
-    → l.bounds ≡ map (check_bounds l.amounts reservations) (take l.i l.checks)
+invariant-loop-i l = record {
+  many : length l.all ≡ l.i;
+  shown : (place : Kept) (reservations : List (List ℤ)) → place_at l.bounds l.name ≡ Some place → Counts place reservations → l.all ≡ map (check_bounds place.amounts reservations) (take l.i l.checks);
+}

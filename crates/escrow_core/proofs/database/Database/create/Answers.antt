@@ -4,7 +4,7 @@ use Rattle.escrow_machine.specs.declared.reply.Reply.TheVariants as reply
 use Rattle.escrow_schema.specs.Catalog.{with_table}
 use Rattle.escrow_core.specs.Inside.{seen_of}
 use Rattle.escrow_core.proofs.Creating.{full_refused, may_create, new_table}
-use Rattle.escrow_core.proofs.Serving.{MayWrite, failure_serves, refusal_serves, refused, write_keeps, write_serves}
+use Rattle.escrow_core.proofs.Serving.{MayWrite, failure_serves, refusal_serves, refused, unwritten_keeps, write_keeps, write_serves}
 use Rattle.escrow_core.proofs.database.Database.create.Given as given
 use Rattle.escrow_core.proofs.database.Database.create.Goals as goal
 use Rattle.escrow_core.proofs.database.Database.create.Goals.{After-create}
@@ -15,7 +15,7 @@ returns-in_err-table g c =
 
 pub returns-then-len-ge-MAX_TABLES : goal.returns-then-len-ge-MAX_TABLES
 returns-then-len-ge-MAX_TABLES g c =
-    let d = seen_of c.self.inside.tables c.self.inside.open in
+    let d = seen_of c.self.inside.tables c.self.inside.reserved.txns in
     let text = c.args.text.now in
     let early = rw (← c.self.view_is) at c.in_ok-table.ensures.early in
     let full = rw c.len.ensures.len at c.if-len-ge-MAX_TABLES.true in
@@ -24,28 +24,31 @@ returns-then-len-ge-MAX_TABLES g c =
 pub create-requires-clause-new : goal.create-requires-clause-new
 create-requires-clause-new g c =
     let early = rw (← c.self.view_is) at c.in_ok-table.ensures.early in
-    new_table (seen_of c.self.inside.tables c.self.inside.open).state c.args.session c.args.text.now c.in_ok-table.table early c.in_ok-table.ensures.table
+    new_table (seen_of c.self.inside.tables c.self.inside.reserved.txns).state c.args.session c.args.text.now c.in_ok-table.table early c.in_ok-table.ensures.table
 
 -- nothing refuses it
 may : (g : given.Over) (c : After-create g)
-    → MayWrite g.S.Store c.args.session (statement.Create c.args.text.now) (seen_of c.self.inside.tables c.self.inside.open) (reply.Created c.args.text.now.table)
-    (record (seen_of c.self.inside.tables c.self.inside.open).state { catalog = with_table c.in_ok-table.table c.self.inside.tables.catalog })
+    → MayWrite g.S.Store c.args.session (statement.Create c.args.text.now) (seen_of c.self.inside.tables c.self.inside.reserved.txns) (reply.Created c.args.text.now.table)
+    (record (seen_of c.self.inside.tables c.self.inside.reserved.txns).state { catalog = with_table c.in_ok-table.table c.self.inside.tables.catalog })
 may g c =
-    may_create g.S.Store c.args.session c.args.text.now (seen_of c.self.inside.tables c.self.inside.open) c.in_ok-table.table (rw (← c.self.view_is) at c.in_ok-table.ensures.early) c.in_ok-table.ensures.table
+    may_create g.S.Store c.args.session c.args.text.now (seen_of c.self.inside.tables c.self.inside.reserved.txns) c.in_ok-table.table (rw (← c.self.view_is) at c.in_ok-table.ensures.early) c.in_ok-table.ensures.table
     (rw c.len.ensures.len at c.if-len-ge-MAX_TABLES.false)
 
 pub returns-in_err-create : goal.returns-in_err-create
 returns-in_err-create g c =
     rw (← c.self.view_is)
-    (failure_serves g.S.Store c.args.session (statement.Create c.args.text.now) c.self.inside.tables c.create.new.self c.self.inside.open _ _ (may g (goal.at.returns-in_err-create g c).After-create)
+    (failure_serves g.S.Store c.args.session (statement.Create c.args.text.now) c.self.inside.tables c.create.new.self c.self.inside.reserved.txns _ _ (may g (goal.at.returns-in_err-create g c).After-create)
     c.from_residual-in_err-create.result c.in_err-create.field-0.0 c.from_residual-in_err-create.ensures.1 c.in_err-create.ensures)
 
 pub invariant_of-self-2 : goal.invariant_of-self-2
 invariant_of-self-2 g c =
-    write_keeps g.S.Store c.args.session (statement.Create c.args.text.now) c.self.inside.tables c.create.new.self c.self.inside.open _ _ (may g (goal.at.invariant_of-self-2 g c).After-create)
-    c.self.invariant c.in_ok-create.ensures
+    write_keeps g.S.Store c.args.session (statement.Create c.args.text.now) c.self.inside.tables c.create.new.self c.self.inside.reserved.txns _ _ (may g (goal.at.invariant_of-self-2 g c).After-create)
+    c.self.inside.reserved.places c.self.invariant c.in_ok-create.ensures
 
 pub returns : goal.returns
 returns g c =
     rw (← c.self.view_is)
-    (write_serves g.S.Store c.args.session (statement.Create c.args.text.now) c.self.inside.tables c.create.new.self c.self.inside.open _ _ (may g (goal.at.returns g c).After-create) c.in_ok-create.ensures)
+    (write_serves g.S.Store c.args.session (statement.Create c.args.text.now) c.self.inside.tables c.create.new.self c.self.inside.reserved.txns _ _ (may g (goal.at.returns g c).After-create) c.in_ok-create.ensures)
+
+pub invariant_of-self : goal.invariant_of-self
+invariant_of-self g c = unwritten_keeps g.S.Store c.self.inside.tables c.create.new.self c.self.inside.reserved.txns c.self.inside.reserved.places _ _ c.self.invariant c.in_err-create.ensures

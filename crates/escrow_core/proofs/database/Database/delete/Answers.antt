@@ -8,10 +8,9 @@ use Rattle.escrow_machine.specs.Asked.{named_by, row_name}
 use Rattle.escrow_machine.specs.Rows.{row_named, without_row}
 use Rattle.escrow_machine.specs.State.{State}
 use Rattle.escrow_machine.proofs.Refusals.{none_there}
-use Rattle.escrow_machine.proofs.Sessions.{open_ones}
 use Rattle.escrow_core.specs.Inside.{seen_of}
 use Rattle.escrow_core.proofs.Deleting.{delete_lack, delete_reserved, may_delete}
-use Rattle.escrow_core.proofs.Serving.{HasLooked, MayWrite, early_serves, early_since, failure_serves, late_refused, look_refused, since_look, write_keeps, write_serves}
+use Rattle.escrow_core.proofs.Serving.{HasLooked, MayWrite, early_serves, early_since, failure_serves, late_refused, look_refused, since_look, unwritten_keeps, write_keeps, write_serves}
 use Rattle.escrow_core.proofs.database.Database.delete.Given as given
 use Rattle.escrow_core.proofs.database.Database.delete.Goals as goal
 use Rattle.escrow_core.proofs.database.Database.delete.Goals.{After-is_reserved}
@@ -30,11 +29,8 @@ returns-then-not-branch g c =
     look_refused g.S.Store c.args.session (statement.Delete text) d c.stands.new.self refusal.NoSuchRow c.in_ok-stands.ensures.looks refl early
     (λ u. delete_lack d.state c.args.session text name named early (sym (none_there (row_named d.state.rows name) (sym (c.in_ok-stands.ensures.told u) ∙ c.if-not-branch.true))))
 
-pub is_reserved-requires : goal.is_reserved-requires
-is_reserved-requires g c = open_ones (seen_of c.self.inside.tables c.self.inside.open).state c.self.invariant.orderly
-
 -- the row was looked for
-looked : (g : given.Over) (c : After-is_reserved g) → HasLooked g.S.Store c.args.session (statement.Delete c.args.text.now) c.args.self.now (seen_of c.self.inside.tables c.self.inside.open)
+looked : (g : given.Over) (c : After-is_reserved g) → HasLooked g.S.Store c.args.session (statement.Delete c.args.text.now) c.args.self.now (seen_of c.self.inside.tables c.self.inside.reserved.txns)
 looked g c = record {
   looks = rw (← c.self.view_is) at c.in_ok-stands.ensures.looks;
   opened = rw (← c.self.view_is) at c.in_ok-stands.ensures.open;
@@ -52,7 +48,7 @@ stands g c u =
 
 pub returns-then-is_reserved : goal.returns-then-is_reserved
 returns-then-is_reserved g c =
-    let d = seen_of c.self.inside.tables c.self.inside.open in
+    let d = seen_of c.self.inside.tables c.self.inside.reserved.txns in
     let text = c.args.text.now in
     let asked = statement.Delete text in
     let at = (goal.at.returns-then-is_reserved g c).After-is_reserved in
@@ -64,10 +60,10 @@ returns-then-is_reserved g c =
 
 -- nothing refuses it, where it isn't reserved
 may : (g : given.Over) (c : After-is_reserved g) → c.is_reserved.result ≡ false
-    → MayWrite g.S.Store c.args.session (statement.Delete c.args.text.now) (seen_of c.self.inside.tables c.self.inside.open) reply.Deleted
-    (record (seen_of c.self.inside.tables c.self.inside.open).state { rows = without_row (row_name c.args.text.now.table c.in_ok-value_of.field-0) c.self.inside.tables.rows })
+    → MayWrite g.S.Store c.args.session (statement.Delete c.args.text.now) (seen_of c.self.inside.tables c.self.inside.reserved.txns) reply.Deleted
+    (record (seen_of c.self.inside.tables c.self.inside.reserved.txns).state { rows = without_row (row_name c.args.text.now.table c.in_ok-value_of.field-0) c.self.inside.tables.rows })
 may g c free =
-    let d = seen_of c.self.inside.tables c.self.inside.open in
+    let d = seen_of c.self.inside.tables c.self.inside.reserved.txns in
     let text = c.args.text.now in
     may_delete g.S.Store c.args.session text (row_name text.table c.in_ok-value_of.field-0) d (named g c) (early_since g.S.Store c.args.session (statement.Delete text) c.args.self.now d (looked g c)) (stands g c)
     (sym c.is_reserved.ensures ∙ free)
@@ -76,18 +72,21 @@ pub returns-in_err-delete : goal.returns-in_err-delete
 returns-in_err-delete g c =
     let at = (goal.at.returns-in_err-delete g c).After-is_reserved in
     let asked = statement.Delete c.args.text.now in
-    since_look g.S.Store c.args.session asked c.args.self.now (seen_of c.self.inside.tables c.self.inside.open) (looked g at) (seen_of c.delete.new.self c.self.inside.open) _
-    (failure_serves g.S.Store c.args.session asked c.self.inside.tables c.delete.new.self c.self.inside.open _ _ (may g at c.if-is_reserved.false)
+    since_look g.S.Store c.args.session asked c.args.self.now (seen_of c.self.inside.tables c.self.inside.reserved.txns) (looked g at) (seen_of c.delete.new.self c.self.inside.reserved.txns) _
+    (failure_serves g.S.Store c.args.session asked c.self.inside.tables c.delete.new.self c.self.inside.reserved.txns _ _ (may g at c.if-is_reserved.false)
     c.from_residual-in_err-delete.result c.in_err-delete.field-0.0 c.from_residual-in_err-delete.ensures.1 c.in_err-delete.ensures)
 
 pub invariant_of-self-2 : goal.invariant_of-self-2
 invariant_of-self-2 g c =
     let at = (goal.at.invariant_of-self-2 g c).After-is_reserved in
-    write_keeps g.S.Store c.args.session (statement.Delete c.args.text.now) c.self.inside.tables c.delete.new.self c.self.inside.open _ _ (may g at c.if-is_reserved.false) c.self.invariant c.in_ok-delete.ensures
+    write_keeps g.S.Store c.args.session (statement.Delete c.args.text.now) c.self.inside.tables c.delete.new.self c.self.inside.reserved.txns _ _ (may g at c.if-is_reserved.false) c.self.inside.reserved.places c.self.invariant c.in_ok-delete.ensures
 
 pub returns : goal.returns
 returns g c =
     let at = (goal.at.returns g c).After-is_reserved in
     let asked = statement.Delete c.args.text.now in
-    since_look g.S.Store c.args.session asked c.args.self.now (seen_of c.self.inside.tables c.self.inside.open) (looked g at) (seen_of c.delete.new.self c.self.inside.open) reply.Deleted
-    (write_serves g.S.Store c.args.session asked c.self.inside.tables c.delete.new.self c.self.inside.open _ _ (may g at c.if-is_reserved.false) c.in_ok-delete.ensures)
+    since_look g.S.Store c.args.session asked c.args.self.now (seen_of c.self.inside.tables c.self.inside.reserved.txns) (looked g at) (seen_of c.delete.new.self c.self.inside.reserved.txns) reply.Deleted
+    (write_serves g.S.Store c.args.session asked c.self.inside.tables c.delete.new.self c.self.inside.reserved.txns _ _ (may g at c.if-is_reserved.false) c.in_ok-delete.ensures)
+
+pub invariant_of-self : goal.invariant_of-self
+invariant_of-self g c = unwritten_keeps g.S.Store c.self.inside.tables c.delete.new.self c.self.inside.reserved.txns c.self.inside.reserved.places _ _ c.self.invariant c.in_err-delete.ensures

@@ -4,7 +4,7 @@ use Rattle.escrow_machine.specs.declared.reply.Reply.TheVariants as reply
 use Rattle.escrow_machine.specs.Turn.{after_drop}
 use Rattle.escrow_core.specs.Inside.{seen_of}
 use Rattle.escrow_core.proofs.Dropping.{may_drop}
-use Rattle.escrow_core.proofs.Serving.{MayWrite, early_serves, failure_serves, write_keeps, write_serves}
+use Rattle.escrow_core.proofs.Serving.{MayWrite, early_serves, failure_serves, unwritten_keeps, write_keeps, write_serves}
 use Rattle.escrow_core.proofs.database.Database.drop_table.Given as given
 use Rattle.escrow_core.proofs.database.Database.drop_table.Goals as goal
 use Rattle.escrow_core.proofs.database.Database.drop_table.Goals.{After-drop_table}
@@ -18,27 +18,32 @@ drop_table-requires g c = (c.args.name, rw (← c.self.view_is) at c.in_ok-place
 
 -- nothing refuses it
 may : (g : given.Over) (c : After-drop_table g)
-    → MayWrite g.S.Store c.args.session (statement.Drop c.args.name) (seen_of c.self.inside.tables c.self.inside.open) (reply.Dropped c.args.name) (after_drop (seen_of c.self.inside.tables c.self.inside.open).state c.args.name)
+    → MayWrite g.S.Store c.args.session (statement.Drop c.args.name) (seen_of c.self.inside.tables c.self.inside.reserved.txns) (reply.Dropped c.args.name) (after_drop (seen_of c.self.inside.tables c.self.inside.reserved.txns).state c.args.name)
 may g c =
-    may_drop g.S.Store c.args.session c.args.name (seen_of c.self.inside.tables c.self.inside.open) (rw (← c.self.view_is) at (sym c.in_ok-place.ensures.early))
+    may_drop g.S.Store c.args.session c.args.name (seen_of c.self.inside.tables c.self.inside.reserved.txns) (rw (← c.self.view_is) at (sym c.in_ok-place.ensures.early))
 
 pub returns-in_err-drop_table : goal.returns-in_err-drop_table
 returns-in_err-drop_table g c =
-    let d = seen_of c.self.inside.tables c.self.inside.open in
+    let d = seen_of c.self.inside.tables c.self.inside.reserved.txns in
     rw (← c.self.view_is)
-    (failure_serves g.S.Store c.args.session (statement.Drop c.args.name) c.self.inside.tables c.drop_table.new.self c.self.inside.open (reply.Dropped c.args.name) (after_drop d.state c.args.name)
+    (failure_serves g.S.Store c.args.session (statement.Drop c.args.name) c.self.inside.tables c.drop_table.new.self c.self.inside.reserved.txns (reply.Dropped c.args.name) (after_drop d.state c.args.name)
     (may g (goal.at.returns-in_err-drop_table g c).After-drop_table) c.from_residual-in_err-drop_table.result c.in_err-drop_table.field-0.0 c.from_residual-in_err-drop_table.ensures.1
     (c.in_err-drop_table.ensures c.args.name (rw (← c.self.view_is) at c.in_ok-place.ensures.place)))
 
 pub invariant_of-self-2 : goal.invariant_of-self-2
 invariant_of-self-2 g c =
-    let d = seen_of c.self.inside.tables c.self.inside.open in
-    write_keeps g.S.Store c.args.session (statement.Drop c.args.name) c.self.inside.tables c.drop_table.new.self c.self.inside.open (reply.Dropped c.args.name) (after_drop d.state c.args.name)
-    (may g (goal.at.invariant_of-self-2 g c).After-drop_table) c.self.invariant (c.in_ok-drop_table.ensures c.args.name (rw (← c.self.view_is) at c.in_ok-place.ensures.place))
+    let d = seen_of c.self.inside.tables c.self.inside.reserved.txns in
+    write_keeps g.S.Store c.args.session (statement.Drop c.args.name) c.self.inside.tables c.drop_table.new.self c.self.inside.reserved.txns (reply.Dropped c.args.name) (after_drop d.state c.args.name)
+    (may g (goal.at.invariant_of-self-2 g c).After-drop_table) c.self.inside.reserved.places c.self.invariant (c.in_ok-drop_table.ensures c.args.name (rw (← c.self.view_is) at c.in_ok-place.ensures.place))
 
 pub returns : goal.returns
 returns g c =
-    let d = seen_of c.self.inside.tables c.self.inside.open in
+    let d = seen_of c.self.inside.tables c.self.inside.reserved.txns in
     rw (← c.self.view_is)
-    (write_serves g.S.Store c.args.session (statement.Drop c.args.name) c.self.inside.tables c.drop_table.new.self c.self.inside.open (reply.Dropped c.args.name) (after_drop d.state c.args.name)
+    (write_serves g.S.Store c.args.session (statement.Drop c.args.name) c.self.inside.tables c.drop_table.new.self c.self.inside.reserved.txns (reply.Dropped c.args.name) (after_drop d.state c.args.name)
     (may g (goal.at.returns g c).After-drop_table) (c.in_ok-drop_table.ensures c.args.name (rw (← c.self.view_is) at c.in_ok-place.ensures.place)))
+
+pub invariant_of-self : goal.invariant_of-self
+invariant_of-self g c =
+    unwritten_keeps g.S.Store c.self.inside.tables c.drop_table.new.self c.self.inside.reserved.txns c.self.inside.reserved.places _ _ c.self.invariant
+    (c.in_err-drop_table.ensures c.args.name (rw (← c.self.view_is) at c.in_ok-place.ensures.place))

@@ -9,7 +9,7 @@ use Rattle.escrow_machine.specs.State.{State}
 use Rattle.escrow_machine.proofs.Refusals.{none_there}
 use Rattle.escrow_core.specs.Inside.{seen_of}
 use Rattle.escrow_core.proofs.Inserting.{IsNew, is_made, made_row, may_insert, room_left, row_exists, row_refused}
-use Rattle.escrow_core.proofs.Serving.{HasLooked, early_since, failure_serves, late_refused, look_refused, refusal_serves, since_look, write_keeps, write_serves}
+use Rattle.escrow_core.proofs.Serving.{HasLooked, early_since, failure_serves, late_refused, look_refused, refusal_serves, since_look, unwritten_keeps, write_keeps, write_serves}
 use Rattle.escrow_core.proofs.database.Database.insert.Given as given
 use Rattle.escrow_core.proofs.database.Database.insert.Goals as goal
 use Rattle.escrow_core.proofs.database.Database.insert.Goals.{After-count}
@@ -32,7 +32,7 @@ returns-then-branch g c =
     (λ u. row_exists d.state c.args.session text c.in_ok-place.row c.in_ok-place.ensures.row c.in_ok-place.ensures.early (sym (c.in_ok-stands.ensures.told u) ∙ c.if-branch.true))
 
 -- the row was looked for
-looked : (g : given.Over) (c : After-count g) → HasLooked g.S.Store c.args.session (statement.Insert c.args.text.now) c.args.self.now (seen_of c.self.inside.tables c.self.inside.open)
+looked : (g : given.Over) (c : After-count g) → HasLooked g.S.Store c.args.session (statement.Insert c.args.text.now) c.args.self.now (seen_of c.self.inside.tables c.self.inside.reserved.txns)
 looked g c = record {
   looks = rw (← c.self.view_is) at c.in_ok-stands.ensures.looks;
   opened = rw (← c.self.view_is) at c.in_ok-stands.ensures.open;
@@ -45,9 +45,9 @@ placed : (g : given.Over) (c : After-count g) → place_named c.self.inside.tabl
 placed g c = subst (λ (s : State). place_named s.catalog c.args.text.now.table ≡ Some c.in_ok-place.place) (sym (looked g c).looks.same) c.in_ok-place.ensures.place
 
 -- no row has its name
-is_new : (g : given.Over) (c : After-count g) → IsNew g.S.Store (seen_of c.self.inside.tables c.self.inside.open) c.args.session c.args.text.now c.in_ok-place.row c.table.result.now c.count.result
+is_new : (g : given.Over) (c : After-count g) → IsNew g.S.Store (seen_of c.self.inside.tables c.self.inside.reserved.txns) c.args.session c.args.text.now c.in_ok-place.row c.table.result.now c.count.result
 is_new g c =
-    let d = seen_of c.self.inside.tables c.self.inside.open in
+    let d = seen_of c.self.inside.tables c.self.inside.reserved.txns in
     let text = c.args.text.now in
     let row = c.in_ok-place.row in
     let same = sym (looked g c).looks.same in
@@ -64,11 +64,11 @@ is_new g c =
 pub row_refusal-requires-clause-fits : goal.row_refusal-requires-clause-fits
 row_refusal-requires-clause-fits g c =
     let new = is_new g (goal.at.row_refusal-requires-clause-fits g c).After-count in
-    made_row (seen_of c.self.inside.tables c.self.inside.open).state c.args.text.now c.in_ok-place.row c.table.result.now new.named new.made
+    made_row (seen_of c.self.inside.tables c.self.inside.reserved.txns).state c.args.text.now c.in_ok-place.row c.table.result.now new.named new.made
 
 pub returns-in-Some : goal.returns-in-Some
 returns-in-Some g c =
-    let d = seen_of c.self.inside.tables c.self.inside.open in
+    let d = seen_of c.self.inside.tables c.self.inside.reserved.txns in
     let text = c.args.text.now in
     let asked = statement.Insert text in
     let at = (goal.at.returns-in-Some g c).After-count in
@@ -79,45 +79,48 @@ returns-in-Some g c =
 
 pub insert-requires-clause-place : goal.insert-requires-clause-place
 insert-requires-clause-place g c =
-    let s : State = (seen_of c.self.inside.tables c.self.inside.open).state in
+    let s : State = (seen_of c.self.inside.tables c.self.inside.reserved.txns).state in
     let at = (goal.at.insert-requires-clause-place g c).After-count in
     subst (λ (n : _). place_named s.catalog n ≡ Some c.in_ok-place.place) (sym (is_made s c.args.text.now c.in_ok-place.row (is_new g at).made).table_name) (placed g at)
 
 pub insert-requires-clause-fits : goal.insert-requires-clause-fits
 insert-requires-clause-fits g c =
-    let s : State = (seen_of c.self.inside.tables c.self.inside.open).state in
+    let s : State = (seen_of c.self.inside.tables c.self.inside.reserved.txns).state in
     (is_made s c.args.text.now c.in_ok-place.row (is_new g (goal.at.insert-requires-clause-fits g c).After-count).made).has_table
 
 pub insert-requires-clause-room : goal.insert-requires-clause-room
 insert-requires-clause-room g c =
-    let d = seen_of c.self.inside.tables c.self.inside.open in
+    let d = seen_of c.self.inside.tables c.self.inside.reserved.txns in
     room_left g.S.Store d c.args.session c.args.text.now c.in_ok-place.row c.table.result.now c.count.result (is_new g (goal.at.insert-requires-clause-room g c).After-count) (sym c.in_default.is ∙ c.row_refusal.ensures)
 
 pub returns-in_err-insert : goal.returns-in_err-insert
 returns-in_err-insert g c =
-    let d = seen_of c.self.inside.tables c.self.inside.open in
+    let d = seen_of c.self.inside.tables c.self.inside.reserved.txns in
     let text = c.args.text.now in
     let asked = statement.Insert text in
     let at = (goal.at.returns-in_err-insert g c).After-count in
     let may = may_insert g.S.Store d c.args.session text c.in_ok-place.row c.table.result.now c.count.result (is_new g at) (sym c.in_default.is ∙ c.row_refusal.ensures) in
-    since_look g.S.Store c.args.session asked c.args.self.now d (looked g at) (seen_of c.insert.new.self c.self.inside.open) _
-    (failure_serves g.S.Store c.args.session asked c.self.inside.tables c.insert.new.self c.self.inside.open _ _ may
+    since_look g.S.Store c.args.session asked c.args.self.now d (looked g at) (seen_of c.insert.new.self c.self.inside.reserved.txns) _
+    (failure_serves g.S.Store c.args.session asked c.self.inside.tables c.insert.new.self c.self.inside.reserved.txns _ _ may
     c.from_residual-in_err-insert.result c.in_err-insert.field-0.0 c.from_residual-in_err-insert.ensures.1 c.in_err-insert.ensures)
 
 pub invariant_of-self-2 : goal.invariant_of-self-2
 invariant_of-self-2 g c =
-    let d = seen_of c.self.inside.tables c.self.inside.open in
+    let d = seen_of c.self.inside.tables c.self.inside.reserved.txns in
     let text = c.args.text.now in
     let at = (goal.at.invariant_of-self-2 g c).After-count in
     let may = may_insert g.S.Store d c.args.session text c.in_ok-place.row c.table.result.now c.count.result (is_new g at) (sym c.in_default.is ∙ c.row_refusal.ensures) in
-    write_keeps g.S.Store c.args.session (statement.Insert text) c.self.inside.tables c.insert.new.self c.self.inside.open _ _ may c.self.invariant c.in_ok-insert.ensures
+    write_keeps g.S.Store c.args.session (statement.Insert text) c.self.inside.tables c.insert.new.self c.self.inside.reserved.txns _ _ may c.self.inside.reserved.places c.self.invariant c.in_ok-insert.ensures
 
 pub returns : goal.returns
 returns g c =
-    let d = seen_of c.self.inside.tables c.self.inside.open in
+    let d = seen_of c.self.inside.tables c.self.inside.reserved.txns in
     let text = c.args.text.now in
     let asked = statement.Insert text in
     let at = (goal.at.returns g c).After-count in
     let may = may_insert g.S.Store d c.args.session text c.in_ok-place.row c.table.result.now c.count.result (is_new g at) (sym c.in_default.is ∙ c.row_refusal.ensures) in
-    since_look g.S.Store c.args.session asked c.args.self.now d (looked g at) (seen_of c.insert.new.self c.self.inside.open) reply.Inserted
-    (write_serves g.S.Store c.args.session asked c.self.inside.tables c.insert.new.self c.self.inside.open _ _ may c.in_ok-insert.ensures)
+    since_look g.S.Store c.args.session asked c.args.self.now d (looked g at) (seen_of c.insert.new.self c.self.inside.reserved.txns) reply.Inserted
+    (write_serves g.S.Store c.args.session asked c.self.inside.tables c.insert.new.self c.self.inside.reserved.txns _ _ may c.in_ok-insert.ensures)
+
+pub invariant_of-self : goal.invariant_of-self
+invariant_of-self g c = unwritten_keeps g.S.Store c.self.inside.tables c.insert.new.self c.self.inside.reserved.txns c.self.inside.reserved.places _ _ c.self.invariant c.in_err-insert.ensures

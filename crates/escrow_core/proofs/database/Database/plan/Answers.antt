@@ -8,7 +8,7 @@ use Rattle.escrow_core.proofs.database.Database.plan.Goals as goal
 
 pub returns-in-Err-clause-refused : goal.returns-in-Err-clause-refused
 returns-in-Err-clause-refused g c = λ session.
-    let s : State = (seen_of c.self.inside.tables c.self.inside.open).state in
+    let s : State = (seen_of c.self.inside.tables c.self.inside.reserved.txns).state in
     let same : s ≡ c.args.self.now.state = ap (λ (d : Seen _). d.state) c.self.view_is in
     let text = c.args.text.now in
     let table = c.table.result.now in

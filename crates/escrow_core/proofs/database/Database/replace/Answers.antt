@@ -1,4 +1,4 @@
-use Rattle.std.proofs.Common.{◌≡◌, ◌∙◌, false, IsSome, Some, refl, sym, subst}
+use Rattle.std.proofs.Common.{◌≡◌, ◌∙◌, false, IsSome, Some, sym, subst}
 use Rattle.escrow_num.specs.declared.refusal.Refusal.TheVariants as refusal
 use Rattle.escrow_sql.specs.declared.statement.Statement.TheVariants as statement
 use Rattle.escrow_schema.specs.declared.plan.Plan.TheVariants as plan
@@ -9,8 +9,8 @@ use Rattle.escrow_machine.specs.State.{State, is_open}
 use Rattle.escrow_machine.proofs.Refusals.{none_there}
 use Rattle.escrow_core.specs.Inside.{seen_of}
 use Rattle.escrow_core.proofs.Planned.{planned_early}
-use Rattle.escrow_core.proofs.Serving.{HasLooked, failure_serves, handed_on, look_failed, look_refused, refused, since_look, write_keeps, write_serves}
-use Rattle.escrow_core.proofs.Updating.{MayReplace, may_write, plain_lacks, plain_open, replaced_fit}
+use Rattle.escrow_core.proofs.Serving.{HasLooked, failure_serves, handed_on, look_failed, look_refused, refused, since_look, unwritten_keeps, write_keeps, write_serves}
+use Rattle.escrow_core.proofs.Updating.{MayReplace, may_write, plain_asks, plain_lacks, plain_open, plain_takes, replaced_fit}
 use Rattle.escrow_core.proofs.database.Database.replace.Given as given
 use Rattle.escrow_core.proofs.database.Database.replace.Goals as goal
 use Rattle.escrow_core.proofs.database.Database.replace.Goals.{After-as_slice}
@@ -28,28 +28,29 @@ returns-in_err-stands g c =
     let text = c.args.text.now in
     let early = planned_early d.state c.args.session text (plan.Plain c.args.key c.args.values) c.requires.plan in
     handed_on g.S.Store c.args.session (statement.Update text) d c.stands.new.self c.from_residual.result _ c.from_residual.ensures.1
-    (look_failed g.S.Store c.args.session (statement.Update text) d c.stands.new.self c.in_err-stands.field-0.0 c.stands.ensures.looks refl early refl)
+    (look_failed g.S.Store c.args.session (statement.Update text) d c.stands.new.self c.in_err-stands.field-0.0 c.stands.ensures.looks (plain_asks d.state c.args.session text c.args.key c.args.values c.requires.plan) early
+    (plain_takes d.state c.args.session text c.args.key c.args.values c.requires.plan c.in_err-stands.field-0.0))
 
 pub returns-then-not-branch : goal.returns-then-not-branch
 returns-then-not-branch g c =
     let d = c.args.self.now in
     let text = c.args.text.now in
     let early = planned_early d.state c.args.session text (plan.Plain c.args.key c.args.values) c.requires.plan in
-    look_refused g.S.Store c.args.session (statement.Update text) d c.stands.new.self refusal.NoSuchRow c.stands.ensures.looks refl early
+    look_refused g.S.Store c.args.session (statement.Update text) d c.stands.new.self refusal.NoSuchRow c.stands.ensures.looks (plain_asks d.state c.args.session text c.args.key c.args.values c.requires.plan) early
     (λ u. plain_lacks d.state c.args.session text c.args.key c.args.values c.requires.plan (sym c.is_open.ensures ∙ c.if-is_open.false)
     (none_there (row_named d.state.rows (row_name text.table c.args.key)) (sym (c.in_ok-stands.ensures.told u) ∙ c.if-not-branch.true)))
 
 -- the row was looked for
-looked : (g : given.Over) (c : After-as_slice g) → HasLooked g.S.Store c.args.session (statement.Update c.args.text.now) c.args.self.now (seen_of c.self.inside.tables c.self.inside.open)
+looked : (g : given.Over) (c : After-as_slice g) → HasLooked g.S.Store c.args.session (statement.Update c.args.text.now) c.args.self.now (seen_of c.self.inside.tables c.self.inside.reserved.txns)
 looked g c = record {
   looks = rw (← c.self.view_is) at c.in_ok-stands.ensures.looks;
   opened = rw (← c.self.view_is) at c.in_ok-stands.ensures.open;
-  asks = refl;
+  asks = plain_asks c.args.self.now.state c.args.session c.args.text.now c.args.key c.args.values c.requires.plan;
   early = planned_early c.args.self.now.state c.args.session c.args.text.now (plan.Plain c.args.key c.args.values) c.requires.plan;
 }
 
 -- it stands, and no transaction is open
-may : (g : given.Over) (c : After-as_slice g) → MayReplace g.S.Store (seen_of c.self.inside.tables c.self.inside.open) c.args.session c.args.text.now c.args.key c.as_slice.result.now
+may : (g : given.Over) (c : After-as_slice g) → MayReplace g.S.Store (seen_of c.self.inside.tables c.self.inside.reserved.txns) c.args.session c.args.text.now c.args.key c.as_slice.result.now
 may g c =
     let text = c.args.text.now in
     let name = row_name text.table c.args.key in
@@ -63,33 +64,36 @@ may g c =
 pub set_plain-requires-clause-fits : goal.set_plain-requires-clause-fits
 set_plain-requires-clause-fits g c =
     let at = (goal.at.set_plain-requires-clause-fits g c).After-as_slice in
-    replaced_fit g.S.Store (seen_of c.self.inside.tables c.self.inside.open) c.args.session c.args.text.now c.args.key c.as_slice.result.now (may g at) c.self.invariant
+    replaced_fit g.S.Store (seen_of c.self.inside.tables c.self.inside.reserved.txns) c.args.session c.args.text.now c.args.key c.as_slice.result.now (may g at) c.self.invariant.kept
 
 pub returns-in_err-set_plain : goal.returns-in_err-set_plain
 returns-in_err-set_plain g c =
-    let d = seen_of c.self.inside.tables c.self.inside.open in
+    let d = seen_of c.self.inside.tables c.self.inside.reserved.txns in
     let text = c.args.text.now in
     let asked = statement.Update text in
     let at = (goal.at.returns-in_err-set_plain g c).After-as_slice in
     let writes = may_write g.S.Store d c.args.session text c.args.key c.as_slice.result.now (may g at) in
-    since_look g.S.Store c.args.session asked c.args.self.now d (looked g at) (seen_of c.set_plain.new.self c.self.inside.open) _
-    (failure_serves g.S.Store c.args.session asked c.self.inside.tables c.set_plain.new.self c.self.inside.open _ _ writes
+    since_look g.S.Store c.args.session asked c.args.self.now d (looked g at) (seen_of c.set_plain.new.self c.self.inside.reserved.txns) _
+    (failure_serves g.S.Store c.args.session asked c.self.inside.tables c.set_plain.new.self c.self.inside.reserved.txns _ _ writes
     c.from_residual-in_err-set_plain.result c.in_err-set_plain.field-0.0 c.from_residual-in_err-set_plain.ensures.1 c.in_err-set_plain.ensures)
 
 pub invariant_of-self-2 : goal.invariant_of-self-2
 invariant_of-self-2 g c =
-    let d = seen_of c.self.inside.tables c.self.inside.open in
+    let d = seen_of c.self.inside.tables c.self.inside.reserved.txns in
     let text = c.args.text.now in
     let at = (goal.at.invariant_of-self-2 g c).After-as_slice in
     let writes = may_write g.S.Store d c.args.session text c.args.key c.as_slice.result.now (may g at) in
-    write_keeps g.S.Store c.args.session (statement.Update text) c.self.inside.tables c.set_plain.new.self c.self.inside.open _ _ writes c.self.invariant c.in_ok-set_plain.ensures
+    write_keeps g.S.Store c.args.session (statement.Update text) c.self.inside.tables c.set_plain.new.self c.self.inside.reserved.txns _ _ writes c.self.inside.reserved.places c.self.invariant c.in_ok-set_plain.ensures
 
 pub returns : goal.returns
 returns g c =
-    let d = seen_of c.self.inside.tables c.self.inside.open in
+    let d = seen_of c.self.inside.tables c.self.inside.reserved.txns in
     let text = c.args.text.now in
     let asked = statement.Update text in
     let at = (goal.at.returns g c).After-as_slice in
     let writes = may_write g.S.Store d c.args.session text c.args.key c.as_slice.result.now (may g at) in
-    since_look g.S.Store c.args.session asked c.args.self.now d (looked g at) (seen_of c.set_plain.new.self c.self.inside.open) reply.Updated
-    (write_serves g.S.Store c.args.session asked c.self.inside.tables c.set_plain.new.self c.self.inside.open _ _ writes c.in_ok-set_plain.ensures)
+    since_look g.S.Store c.args.session asked c.args.self.now d (looked g at) (seen_of c.set_plain.new.self c.self.inside.reserved.txns) reply.Updated
+    (write_serves g.S.Store c.args.session asked c.self.inside.tables c.set_plain.new.self c.self.inside.reserved.txns _ _ writes c.in_ok-set_plain.ensures)
+
+pub invariant_of-self : goal.invariant_of-self
+invariant_of-self g c = unwritten_keeps g.S.Store c.self.inside.tables c.set_plain.new.self c.self.inside.reserved.txns c.self.inside.reserved.places _ _ c.self.invariant c.in_err-set_plain.ensures

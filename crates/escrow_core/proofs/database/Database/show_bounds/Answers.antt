@@ -1,22 +1,70 @@
-use Rattle.std.proofs.Common.{◌≡◌, Some, ap, refl, sym, subst, ◌∙◌}
+use Rattle.std.specs.Prelude.{◌≡◌, false, Some, [], length}
+use Rattle.std.proofs.Common.{ap, refl, sym, subst, ◌∙◌}
 use Rattle.escrow_num.specs.declared.refusal.Refusal.TheVariants as refusal
+use Rattle.escrow_num.specs.declared.value.RowName.{RowName}
 use Rattle.escrow_sql.specs.declared.statement.Statement.TheVariants as statement
+use Rattle.escrow_bounds.specs.Counts.{Counts}
+use Rattle.escrow_bounds.specs.Held.{CountsJust, of_row}
+use Rattle.escrow_bounds.specs.Kept.{Kept}
+use Rattle.escrow_bounds.specs.Places.{place_at}
 use Rattle.escrow_schema.specs.Catalog.{place_named, table_named}
+use Rattle.escrow_schema.specs.Column.{reservables}
+use Rattle.escrow_schema.specs.declared.table.TableDef.{TableDef}
 use Rattle.escrow_machine.specs.Asked.{named_by}
-use Rattle.escrow_machine.specs.Bounds.{bounds_in}
-use Rattle.escrow_machine.specs.State.{State}
-use Rattle.escrow_machine.proofs.Sessions.{open_ones}
-use Rattle.escrow_core.specs.Inside.{seen_of}
+use Rattle.escrow_machine.specs.Bounds.{bounds_in, bounds_over}
+use Rattle.escrow_machine.specs.State.{State, is_reserved}
+use Rattle.escrow_machine.proofs.Safe.{some_at}
+use Rattle.escrow_core.specs.Inside.{IsOfTable, amounts_named, seen_of}
 use Rattle.escrow_core.specs.Seen.{Seen}
-use Rattle.escrow_core.specs.Serves.{Serves}
+use Rattle.escrow_core.proofs.Places.{from_some, reserved_placed}
 use Rattle.escrow_core.proofs.Queries.{bounds_answers, bounds_lack}
-use Rattle.escrow_core.proofs.Serving.{early_refused, left_by, look_answered, look_refused}
+use Rattle.escrow_core.proofs.Serving.{answered, early_refused, left_by, look_answered, look_refused}
+use Rattle.escrow_core.proofs.Shown.{bounds_same, free_same}
+use Rattle.escrow_core.proofs.database.Database.show_bounds.Given as given
 use Rattle.escrow_core.proofs.database.Database.show_bounds.Goals as goal
+use Rattle.escrow_core.proofs.database.Database.show_bounds.Goals.{After-bounds}
 
 pub returns-in_err-place : goal.returns-in_err-place
 returns-in_err-place g c = λ session.
     rw (left_by _ _ c.from_residual.ensures.1)
     (early_refused g.S.Store session (statement.ShowBounds c.args.text.now) c.args.self.now c.in_err-place.field-0.0 (sym (c.in_err-place.ensures.early session)))
+
+-- the table of the row that is named
+named : (g : given.Over) (c : After-bounds g) → table_named c.self.inside.tables.catalog c.args.text.now.table ≡ Some c.table-table.result.now
+named g c = c.table-table.ensures.named c.args.text.now.table (rw (← c.self.view_is) at c.in_ok-place.ensures.place)
+
+-- where the row is reserved its place is of that table
+of_table : (g : given.Over) (c : After-bounds g) → (place : Kept) → place_at c.self.inside.reserved.places (record { table = c.args.text.now.table; key = c.in_ok-value_of.field-0 }) ≡ Some place → IsOfTable c.table-table.result.now place
+of_table g c place at =
+    some_at (λ (t : TableDef). IsOfTable t place) (table_named c.self.inside.tables.catalog c.args.text.now.table) c.table-table.result.now (named g c)
+    (c.self.invariant.of_tables (record { table = c.args.text.now.table; key = c.in_ok-value_of.field-0 }) place at)
+
+pub row_bounds-requires-clause-of_table : goal.row_bounds-requires-clause-of_table
+row_bounds-requires-clause-of_table g c =
+    let at_bounds = (goal.at.row_bounds-requires-clause-of_table g c).After-bounds in
+    rw c.bounds.ensures.places (λ place at. of_table g at_bounds place at)
+
+pub returns-then-is_reserved : goal.returns-then-is_reserved
+returns-then-is_reserved g c = λ session.
+    let d = seen_of c.self.inside.tables c.self.inside.reserved.txns in
+    let text = c.args.text.now in
+    let name : RowName = record { table = text.table; key = c.in_ok-value_of.field-0 } in
+    let places = c.self.inside.reserved.places in
+    let reservations = c.self.inside.reserved.txns.reservations in
+    let at_bounds = (goal.at.returns-then-is_reserved g c).After-bounds in
+    let table = c.table-table.result.now in
+    let early = rw (← c.self.view_is) at (sym (c.in_ok-place.ensures.early session)) in
+    let there = reserved_placed reservations places name c.self.invariant.placed (sym c.is_reserved.ensures ∙ c.if-is_reserved.true) in
+    let is_name : name ≡ named_by text.table text.row = ap (λ k. record { table = text.table; key = k }) c.in_ok-value_of.ensures in
+    rw (← c.self.view_is)
+    (from_some (place_at places name) there (λ place at.
+    let counts : Counts place (of_row name reservations) = subst (λ p. CountsJust p (of_row name reservations)) at (c.bounds.ensures.counted.counts name) in
+    let at_now = rw (← c.bounds.ensures.places) at at in
+    let of = of_table g at_bounds place at in
+    let shown = c.in_ok-row_bounds.ensures place (of_row name reservations) at_now counts ∙ bounds_same table place.amounts name reservations c.table-table.ensures.table of.amounts in
+    rw (shown, is_name)
+    (answered g.S.Store session (statement.ShowBounds text) d _ refl early refl
+    (λ clean. bounds_answers d.state session text table place.amounts early (named g at_bounds) (subst (λ (n : RowName). amounts_named d.state.rows n ≡ Some place.amounts) is_name (c.self.invariant.amounts clean name place at))))))
 
 pub returns-in_default : goal.returns-in_default
 returns-in_default g c = λ session.
@@ -26,23 +74,27 @@ returns-in_default g c = λ session.
     look_refused g.S.Store session (statement.ShowBounds text) d c.amounts.new.self refusal.NoSuchRow c.amounts.ensures.looks refl early
     (λ u. bounds_lack d.state session text early (rw (c.in_default.is, c.in_ok-value_of.ensures) at (c.in_ok-amounts.ensures.told u)))
 
-pub row_bounds-requires-clause-open : goal.row_bounds-requires-clause-open
-row_bounds-requires-clause-open g c = open_ones (seen_of c.self.inside.tables c.self.inside.open).state c.self.invariant.orderly
-
 pub returns : goal.returns
 returns g c = λ session.
     let d = c.args.self.now in
     let mid = c.amounts.new.self in
     let text = c.args.text.now in
-    let table = c.table-table.result.now in
+    let table = c.table-table-2.result.now in
+    let key_name : RowName = record { table = text.table; key = c.in_ok-value_of.field-0 } in
     let name = named_by text.table text.row in
     let amounts = c.in-Some.amounts in
     let early = sym (c.in_ok-place.ensures.early session) in
-    let same : (seen_of c.self.inside.tables c.self.inside.open).state ≡ d.state = ap (λ (v : Seen _). v.state) c.self.view_is ∙ c.amounts.ensures.looks.same in
-    let place = subst (λ (s : State). place_named s.catalog text.table ≡ Some c.in_ok-place.place) (sym same) c.in_ok-place.ensures.place in
-    let shown : table_named d.state.catalog text.table ≡ Some table → Serves g.S.Store session (statement.ShowBounds text) d (bounds_in d.state.reservations table name amounts) mid =
-    λ named. look_answered g.S.Store session (statement.ShowBounds text) d mid _ c.amounts.ensures.looks refl early refl
-    (λ u. bounds_answers d.state session text table amounts early named (sym (rw (c.in-Some.is, c.in_ok-value_of.ensures) at (c.in_ok-amounts.ensures.told u)))) in
-    rw (c.in_ok-row_bounds.ensures, c.in_ok-value_of.ensures, c.as_slice.ensures)
-    (subst (λ (s : State). table_named s.catalog text.table ≡ Some table → Serves g.S.Store session (statement.ShowBounds text) d (bounds_in s.reservations table name amounts) mid)
-    (sym same) shown (c.table-table.ensures.named text.table place))
+    let is_name : key_name ≡ name = ap (λ k. record { table = text.table; key = k }) c.in_ok-value_of.ensures in
+    let same : (seen_of c.self-2.inside.tables c.self-2.inside.reserved.txns).state ≡ d.state = ap (λ (v : Seen _). v.state) c.self-2.view_is ∙ c.amounts.ensures.looks.same in
+    let placed = subst (λ (s : State). place_named s.catalog text.table ≡ Some c.in_ok-place.place) (sym same) c.in_ok-place.ensures.place in
+    let named_now : table_named d.state.catalog text.table ≡ Some table = subst (λ (s : State). table_named s.catalog text.table ≡ Some table) same (c.table-table-2.ensures.named text.table placed) in
+    let many : length amounts ≡ length (reservables table.columns) =
+    some_at (λ (t : TableDef). length amounts ≡ length (reservables t.columns)) (table_named d.state.catalog text.table) table named_now (rw c.in-Some.is at c.in_ok-amounts.ensures.many) in
+    let free : is_reserved d.state name ≡ false =
+    subst (λ (n : RowName). is_reserved d.state n ≡ false) is_name
+    (subst (λ (v : Seen _). is_reserved v.state key_name ≡ false) c.self.view_is (sym c.is_reserved.ensures ∙ c.if-is_reserved.false)) in
+    let shown : c.in_ok-free_bounds.field-0 ≡ bounds_in d.state.reservations table name amounts =
+    c.in_ok-free_bounds.ensures ∙ ap (bounds_over [] table) c.as_slice.ensures ∙ free_same table amounts name d.state.reservations c.table-table-2.ensures.table many free in
+    rw shown
+    (look_answered g.S.Store session (statement.ShowBounds text) d mid _ c.amounts.ensures.looks refl early refl
+    (λ u. bounds_answers d.state session text table amounts early named_now (sym (rw (c.in-Some.is, c.in_ok-value_of.ensures) at (c.in_ok-amounts.ensures.told u)))))

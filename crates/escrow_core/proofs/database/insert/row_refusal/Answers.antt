@@ -1,21 +1,17 @@
-use Rattle.std.proofs.Common.{◌≡◌, ◌≤◌, length, [], ◌∙◌, rules, option_map, ap}
+use Rattle.std.proofs.Common.{◌≡◌, [], ◌∙◌, rules, option_map, ap}
 use Rattle.escrow_num.specs.declared.refusal.Refusal.TheVariants as refusal
 use Rattle.escrow_checks.specs.Grant.{broken}
-use Rattle.escrow_core.specs.declared.spreads.TheConstants.{MOST_CHECKS}
-use Rattle.escrow_schema.proofs.LawLemmas.{few_checks}
 use Rattle.escrow_core.proofs.Inserting.{unfull}
 use Rattle.escrow_machine.proofs.Shapes.{covered}
 use Rattle.escrow_core.proofs.database.insert.row_refusal.Goals as goal
 
-pub first_breach-requires-clause-covered : goal.first_breach-requires-clause-covered
-first_breach-requires-clause-covered c = rw (c.as_slice.ensures, c.as_slice-2.ensures) (covered c.args.table.now c.args.row.now.amounts c.requires.table c.requires.fits.amounts)
+pub first_breach-requires : goal.first_breach-requires
+first_breach-requires c = rw (c.as_slice.ensures, c.as_slice-2.ensures) (covered c.args.table.now c.args.row.now.amounts c.requires.table c.requires.fits.amounts)
 
 pub returns : goal.returns
 returns c =
     let checks = c.args.table.now.checks in
     let amounts = c.args.row.now.amounts in
-    let slice = c.as_slice.result.now in
-    let few : length slice ≤ MOST_CHECKS = rw c.as_slice.ensures (few_checks c.args.table.now c.requires.table) in
-    let breach : c.first_breach.result ≡ broken checks amounts [] [] = rw (c.as_slice.ensures, c.as_slice-2.ensures) at (c.first_breach.ensures [] (c.no_spreads.ensures slice few)) in
+    let breach : c.first_breach.result ≡ broken checks amounts [] [] = rw (c.as_slice.ensures, c.as_slice-2.ensures) at c.first_breach.ensures in
     let told : c.map.result ≡ option_map refusal.Check c.first_breach.result = search rules in
     unfull c.args.count (broken checks amounts [] []) c.map.result c.if-count-ge-MAX_ROWS.false (told ∙ ap (option_map refusal.Check) breach)

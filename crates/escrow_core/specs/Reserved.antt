@@ -1,0 +1,52 @@
+-- Helps: what is open in a database, beside the places of the rows that it reserves.
+use Rattle.std.specs.Prelude.{◌≡◌, ℕ, ℤ, true, false, Option, Some, None, is_some, option_map, List, [], ◌∷◌, map}
+use Rattle.std.specs.List.{AllByRecursion, list_any}
+use Rattle.escrow_num.specs.declared.refusal.Refusal.{Refusal}
+use Rattle.escrow_num.specs.declared.refusal.Refusal.TheVariants as refusal
+use Rattle.escrow_num.specs.declared.reservation.Reservation.{Reservation}
+use Rattle.escrow_num.specs.declared.value.RowName.{RowName}
+use Rattle.escrow_num.specs.Order.{same_row}
+use Rattle.escrow_num.specs.Refusal.{first_refusal}
+use Rattle.escrow_num.specs.Reservation.{counted}
+use Rattle.escrow_checks.specs.Grant.{broken}
+use Rattle.escrow_bounds.specs.Held.{of_row, CountsAll}
+use Rattle.escrow_bounds.specs.Kept.{Kept, checks_of}
+use Rattle.escrow_bounds.specs.Places.{Places, place_at}
+use Rattle.escrow_journal.specs.Open.{Open, nothing_open, grant_refusal}
+use Rattle.escrow_machine.specs.Walked.{IsShort}
+
+-- what is open, and the places
+pub record Reserved : Type 0 where
+  pub txns : Open
+  pub places : Places
+
+-- nothing is open, and no row has a place
+abbrev pub nothing : Reserved
+nothing = record { txns = nothing_open; places = [] }
+
+-- each place counts just the open reservations of its row, and each of these changes at most as many columns as
+-- a check has coefficients
+pub record AreCounted (r : Reserved) : Type 0 where
+  pub counts : CountsAll r.places r.txns.reservations
+  pub short : AllByRecursion IsShort r.txns.reservations
+
+-- just the rows that have an open reservation have a place
+abbrev pub ArePlaced : List Reservation → Places → Type 0
+ArePlaced reservations places = (row : RowName) → is_some (place_at places row) ≡ list_any (λ r. same_row r.row row) reservations
+
+-- why a session isn't granted changes of a row, by its place: it holds as many reservations as it may, there are no
+-- more ids, or the first check that they could break
+abbrev pub reason_against : ℕ → Kept → RowName → List (Option ℤ) → Open → Option Refusal
+reason_against session place row changes o = first_refusal (
+    grant_refusal session o
+    ∷ option_map refusal.Check (broken (checks_of place.checks) place.amounts (counted changes) (of_row row o.reservations))
+    ∷ [])
+
+-- the place of a row is given back where no open reservation is of it, and else all stays
+pub record Releases (reservations : List Reservation) (row : RowName) (old new : Places) : Type 0 where
+  pub free : list_any (λ r. same_row r.row row) reservations ≡ false → place_at new row ≡ None
+  pub reserved : list_any (λ r. same_row r.row row) reservations ≡ true → new ≡ old
+
+-- these are the amounts that the places of the reservations' rows have, beside each
+abbrev pub AreAmounts : Places → List Reservation → List (List ℤ) → Type 0
+AreAmounts places reservations amounts = map (λ r. option_map (λ (place : Kept). place.amounts) (place_at places r.row)) reservations ≡ map Some amounts

@@ -1,0 +1,273 @@
+ghost use Rattle.std.specs.Prelude.{◌≡◌, ◌++◌, ◌∷◌, [], true, false, Some, None, List, length, map, option_copied, option_map};
+ghost use Rattle.std.specs.List.{AllByRecursion};
+ghost use Rattle.escrow_num.specs.declared.reservation.Reservation.{Reservation as Held};
+ghost use Rattle.escrow_num.specs.declared.session.End.TheVariants.{Rollback};
+ghost use Rattle.escrow_bounds.specs.Counts.{is_counting};
+ghost use Rattle.escrow_bounds.specs.Ended.{AreEnded};
+ghost use Rattle.escrow_bounds.specs.Held.{AllCount, CountsAll};
+ghost use Rattle.escrow_bounds.specs.Places.{place_at, OthersStay};
+ghost use Rattle.escrow_journal.specs.Open.{cut_back};
+ghost use Rattle.escrow_journal.specs.Reservations.{own};
+ghost use Rattle.escrow_machine.specs.Walked.{IsShort};
+
+use escrow_bounds::{Bounds, counted};
+use escrow_checks::Check;
+use escrow_num::{Amount, Changes, End, Name, Refusal, Reservation, RowName, Session};
+use escrow_txn::TxnTable;
+use std::alloc::{AllocError, Global};
+use std::marker::Model;
+
+/// What is open in a database: the transactions of its sessions, and beside them a place for each row
+/// that they reserve, with the sums of its reservations. Each place counts just the open reservations of
+/// its row, whatever call is made.
+#[derive(Debug, Drop)]
+pub(crate) struct Reserved {
+    txns: TxnTable,
+    bounds: Bounds,
+}
+
+impl Model for Reserved {
+    ghost use Rattle.escrow_core.specs.Reserved.{Reserved, AreCounted};
+
+    ghost Value = { Reserved };
+
+    ghost view = { λ r. record { txns = r.txns; places = r.bounds } };
+
+    ghost invariant = { λ r. AreCounted (record { txns = r.txns; places = r.bounds }) };
+}
+
+impl Reserved {
+    ghost use Rattle.std.specs.Prelude.{◌⊎◌, ◌<◌, ◌≤◌, IfOk, IfErr, IfSome, IsSome, OnOk, OnErr, Err, bytes_eq};
+    ghost use Rattle.std.specs.List.{list_any};
+    ghost use Rattle.escrow_num.specs.Order.{same_row};
+    ghost use Rattle.escrow_num.specs.Reservation.{counted};
+    ghost use Rattle.escrow_checks.specs.Form.{IsCovered};
+    ghost use Rattle.escrow_checks.specs.declared.coefficients.TheConstants.Coefficients.{MAX_LEN};
+    ghost use Rattle.escrow_checks.specs.declared.spread.TheConstants.Spread.{MAX_OPEN};
+    ghost use Rattle.escrow_bounds.specs.Counts.{IsNew, TakesIn};
+    ghost use Rattle.escrow_bounds.specs.Kept.{Kept};
+    ghost use Rattle.escrow_bounds.specs.Places.{Becomes};
+    ghost use Rattle.escrow_journal.specs.Open.{ended, grant_refusal, granted, released, saved, savepoint_refusal};
+    ghost use Rattle.escrow_core.specs.Reserved.{AreAmounts, AreCounted, ArePlaced, Releases, nothing, reason_against};
+
+    /// Nothing is open. Out of memory is the only error.
+    pub(crate) fn new(alloc: Global) -> Result<Self, AllocError>
+        ensures { IfOk result (λ r. r ≡ nothing) }
+    {
+        Ok(Reserved {
+            txns: TxnTable::new(alloc)?,
+            bounds: Bounds::new(alloc),
+        })
+    }
+
+    /// The open transactions.
+    pub(crate) fn txns(&self) -> &TxnTable
+        ensures { result.now ≡ self.now.txns }
+    {
+        &self.txns
+    }
+
+    /// The places of the rows that are reserved. Each counts just the open reservations of its row.
+    pub(crate) fn bounds(&self) -> &Bounds
+        ensures places { result.now ≡ self.now.places }
+        ensures counted { AreCounted self.now }
+    {
+        &self.bounds
+    }
+
+    /// Whether an open reservation, of any session, is of a row.
+    pub(crate) fn is_reserved(&self, row: &RowName) -> bool
+        ensures { result ≡ list_any (λ r. same_row r.row row.now) self.now.txns.reservations }
+    {
+        self.bounds.is_reserved(row)
+    }
+
+    /// Whether an open reservation, of any session, is of a row of a table.
+    pub(crate) fn is_table_reserved(&self, table: Name) -> bool
+        requires { ArePlaced self.now.txns.reservations self.now.places }
+        ensures { result ≡ list_any (λ r. bytes_eq r.row.table table) self.now.txns.reservations }
+    {
+        self.bounds.has_place_in(table)
+    }
+
+    /// The committed amounts of the row of each reservation that a session holds, in order of grant. Want of
+    /// memory is the only error.
+    pub(crate) fn amounts_of(
+        &self,
+        alloc: Global,
+        session: Session,
+    ) -> Result<Vec<&[Amount]>, AllocError>
+        ensures { IfOk result (λ all. AreAmounts self.now.places (own session self.now.txns.reservations) (map (λ amounts. amounts.now) all.items)) }
+    {
+        let reservations = self.txns.journal(session).all();
+        let mut all = Vec::with_capacity(alloc, reservations.len())?;
+        for r in reservations {
+            all.push(self.amounts_at(&r.row))?;
+        }
+        Ok(all)
+    }
+
+    /// The committed amounts of a row that has a place.
+    fn amounts_at(&self, row: &RowName) -> &[Amount]
+        requires { IsSome (place_at self.now.places row.now) }
+        ensures { Some result.now ≡ option_map (λ place. place.amounts) (place_at self.now.places row.now) }
+    {
+        self.bounds.amounts(row).unwrap()
+    }
+
+    /// Makes a place for a row that has none, with its committed amounts and the checks of its table.
+    /// Want of memory is the only error, and leaves all places.
+    pub(crate) fn make_place(
+        &mut self,
+        row: &RowName,
+        amounts: &[Amount],
+        checks: &[Check],
+    ) -> Result<(), AllocError>
+        requires covered { AllByRecursion (λ check. IsCovered check.coeffs amounts.now) checks.now }
+        requires few { length amounts.now ≤ MAX_LEN }
+        requires new { place_at self.old.places row.now ≡ None }
+        ensures txns { self.new.txns ≡ self.old.txns }
+        ensures made { OnOk result ((place : Kept) × (place_at self.new.places row.now ≡ Some place) × IsNew amounts.now checks.now place) }
+        ensures others { OthersStay row.now self.old.places self.new.places }
+        ensures err { OnErr result (self.new ≡ self.old) }
+    {
+        self.bounds.reserve(row, amounts, checks)
+    }
+
+    /// Grants a session a reservation of changes of a row that has a place, unless there is a reason against it: it
+    /// holds as many as it may, there are no more ids, or some choice of the open reservations, this one among them, would break
+    /// a check. It takes the next id, and is the last of the open ones. Answers its id. Where it is refused nothing changes, but
+    /// that a place that counts nothing is given back, and no id is taken.
+    pub(crate) fn grant(
+        &mut self,
+        session: Session,
+        row: RowName,
+        changes: Changes,
+    ) -> Result<u64, Refusal>
+        requires placed { IsSome (place_at self.old.places row) }
+        requires short { length changes ≤ MAX_LEN }
+        requires room { grant_refusal session self.old.txns ≡ None → length self.old.txns.reservations < MAX_OPEN }
+        ensures id { IfOk result (λ id. id ≡ self.old.txns.next_id) }
+        ensures free { OnOk result ((place : Kept) → place_at self.old.places row ≡ Some place → reason_against session place row changes self.old.txns ≡ None) }
+        ensures granted { OnOk result (self.new.txns ≡ granted session row changes self.old.txns) }
+        ensures takes { OnOk result (Becomes (TakesIn (counted changes)) (place_at self.old.places row) (place_at self.new.places row)) }
+        ensures reason { IfErr result (λ e. (place : Kept) → place_at self.old.places row ≡ Some place → (reason_against session place row changes self.old.txns ≡ Some e) ⊎ (e ≡ Refusal.Memory)) }
+        ensures refused { OnErr result (self.new.txns ≡ self.old.txns) }
+        ensures releases { OnErr result (Releases self.old.txns.reservations row self.old.places self.new.places) }
+        ensures others { OthersStay row self.old.places self.new.places }
+    {
+        if let Some(refusal) = self.refusal(session, &row, changes.as_slice()) {
+            give_back(&mut self.bounds, row);
+            return Err(refusal);
+        }
+        match self.txns.grant(session, row, changes) {
+            Ok(id) => {
+                if let Some(r) = last_of(&self.txns, session) {
+                    let amounts = counted(r.changes.as_slice());
+                    self.bounds.add(&r.row, &amounts[..r.changes.len()]);
+                }
+                Ok(id)
+            }
+            Err(failed) => {
+                give_back(&mut self.bounds, failed.value);
+                Err(Refusal::Memory)
+            }
+        }
+    }
+
+    /// Why a session isn't granted changes of a row that has a place, if it isn't.
+    fn refusal(
+        &self,
+        session: Session,
+        row: &RowName,
+        changes: &[Option<Amount>],
+    ) -> Option<Refusal>
+        requires placed { IsSome (place_at self.now.places row.now) }
+        requires short { length changes.now ≤ MAX_LEN }
+        ensures { (place : Kept) → place_at self.now.places row.now ≡ Some place → result ≡ reason_against session place row.now changes.now self.now.txns }
+    {
+        if let Some(refusal) = self.txns.grant_refusal(session) {
+            return Some(refusal);
+        }
+        let amounts = counted(changes);
+        self.bounds
+            .verdict(row, &amounts[..changes.len()])
+            .map(Refusal::Check)
+    }
+
+    /// Ends a session's transaction: a commit moves its changes into the amounts of the places. A place
+    /// that then counts nothing is given back. Answers how many reservations it held. Takes no memory.
+    pub(crate) fn end(&mut self, session: Session, end: End) -> u32
+        ensures count { result ≡ length (own session self.old.txns.reservations) }
+        ensures txns { self.new.txns ≡ ended session self.old.txns }
+        ensures places { AreEnded end (own session self.old.txns.reservations) self.old.places self.new.places }
+        ensures placed { ArePlaced self.old.txns.reservations self.old.places → ArePlaced self.new.txns.reservations self.new.places }
+    {
+        let journal = self.txns.journal(session);
+        // That there are few enough reservations to be counted is told with its session.
+        let _ = journal.session();
+        let count = journal.all().len() as u32;
+        self.bounds.remove_all(journal.all(), end);
+        self.txns.take_all(session);
+        count
+    }
+
+    /// Takes a session back to its savepoint of a name. Answers how many reservations were dropped, or
+    /// `None`, exactly where there is no such savepoint, and then nothing changes. Takes no memory.
+    pub(crate) fn cut(&mut self, session: Session, name: Name) -> Option<u32>
+        ensures count { result ≡ released session name self.old.txns }
+        ensures txns { self.new.txns ≡ cut_back session name self.old.txns }
+        ensures places { (ended : List Held) × AreEnded Rollback ended self.old.places self.new.places }
+        ensures placed { ArePlaced self.old.txns.reservations self.old.places → ArePlaced self.new.txns.reservations self.new.places }
+    {
+        release_after(&self.txns, &mut self.bounds, session, name);
+        self.txns.cut(session, name)
+    }
+
+    /// Makes a savepoint of a session. Where it is refused nothing changes.
+    pub(crate) fn mark(&mut self, session: Session, name: Name) -> Result<(), Refusal>
+        ensures saved { OnOk result (self.new ≡ record self.old { txns = saved session name self.old.txns }) }
+        ensures unchanged { OnErr result (self.new ≡ self.old) }
+        ensures refused { IfSome (savepoint_refusal session name self.old.txns) (λ e. result ≡ Err e) }
+        ensures only { IfErr result (λ e. (savepoint_refusal session name self.old.txns ≡ Some e) ⊎ (e ≡ Refusal.Memory)) }
+    {
+        self.txns.mark(session, name)
+    }
+
+    /// Drops all that is open; the next id is 1. Takes no memory.
+    pub(crate) fn clear(&mut self)
+        ensures { self.new ≡ nothing }
+    {
+        self.txns.clear();
+        self.bounds.clear();
+    }
+}
+
+/// The last reservation that a session holds.
+fn last_of(txns: &TxnTable, session: Session) -> Option<&Reservation>
+    ensures { (earlier : List Held) (r : Held) → txns.now.reservations ≡ earlier ++ r ∷ [] → r.session ≡ session → option_copied result ≡ Some r }
+{
+    txns.journal(session).all().last()
+}
+
+/// Counts the reservations of a session no more that came after its savepoint of a name, if there is one.
+fn release_after(txns: &TxnTable, bounds: &mut Bounds, session: Session, name: Name)
+    requires counts { CountsAll bounds.old txns.now.reservations }
+    requires short { AllByRecursion IsShort txns.now.reservations }
+    ensures counts { CountsAll bounds.new (cut_back session name txns.now).reservations }
+    ensures places { (ended : List Held) × AreEnded Rollback ended bounds.old bounds.new }
+    ensures counting { AllCount bounds.old → AllCount bounds.new }
+{
+    if let Some(later) = txns.after(session, name) {
+        bounds.remove_all(later, End::Rollback);
+    }
+}
+
+/// Gives back the place of a row, whose reservation was refused, if it counts nothing.
+fn give_back(bounds: &mut Bounds, row: RowName)
+    ensures empty { is_counting (place_at bounds.old row) ≡ false → place_at bounds.new row ≡ None }
+    ensures counting { is_counting (place_at bounds.old row) ≡ true → bounds.new ≡ bounds.old }
+    ensures others { OthersStay row bounds.old bounds.new }
+{
+    bounds.release(&row);
+}
