@@ -206,14 +206,14 @@ module _ {S : Type 0} (g : Ghosts S) (session : ℕ) (asked : Statement) where
   late_refused d r asks early is = answered d (reply.Refused r) asks early refl (λ u. refused_serves d.state session asked r (is u))
 
   -- what is served after a look at the store is served from before it
-  pub after_look : (old mid new : Seen S) (answer : Reply) → Looks g old mid → (HasCleanDisk (state g mid.store) → IsTrue (state g mid.store).is_open)
+  pub after_look : (old mid new : Seen S) (answer : Reply) → Looks g old mid → (HasCleanDisk (state g mid.store) → IsTrue (state g old.store).is_open → IsTrue (state g mid.store).is_open)
       → asks_store old.state session asked ≡ true → PassesEarly old.state session asked → Serves g session asked mid answer new → Serves g session asked old answer new
-  after_look old mid new answer looks opened asks early serves =
+  after_look old mid new answer looks stays asks early serves =
       let crashes = survives_then (state g old.store) (state g mid.store) (state g new.store) (λ _. ⊥) _
       (λ trees. IsTrue (state g old.store).is_open → AreAfter old.state session asked trees)
       (λ clean trees none. absurd none)
-      (λ clean trees k. λ _.
-      subst (λ (s : State). AreAfter s session asked trees) looks.same (k (opened (still_clean _ _ _ serves.survives clean))))
+      (λ clean trees k. λ was_open.
+      subst (λ (s : State). AreAfter s session asked trees) looks.same (k (stays (still_clean _ _ _ serves.survives clean) was_open)))
       looks.survives serves.survives in
       served old new answer asks early
       (λ clean. subst (λ (s : State). StepOrRefusal s session asked answer new.state) looks.same (serves.event clean))
@@ -354,14 +354,14 @@ module _ {S : Type 0} (g : Ghosts S) (session : ℕ) (asked : Statement) where
 -- the store was looked at for a statement that asks it, and that nothing refuses early
 pub record HasLooked {S : Type 0} (g : Ghosts S) (session : ℕ) (asked : Statement) (old mid : Seen S) : Type 0 where
   pub looks : Looks g old mid
-  pub opened : HasCleanDisk (state g mid.store) → IsTrue (state g mid.store).is_open
+  pub stays : HasCleanDisk (state g mid.store) → IsTrue (state g old.store).is_open → IsTrue (state g mid.store).is_open
   pub asks : asks_store old.state session asked ≡ true
   pub early : PassesEarly old.state session asked
 
 module _ {S : Type 0} (g : Ghosts S) (session : ℕ) (asked : Statement) (old mid : Seen S) (looked : HasLooked g session asked old mid) where
   -- what is served from then on
   pub since_look : (new : Seen S) (answer : Reply) → Serves g session asked mid answer new → Serves g session asked old answer new
-  since_look new answer serves = after_look g session asked old mid new answer looked.looks looked.opened looked.asks looked.early serves
+  since_look new answer serves = after_look g session asked old mid new answer looked.looks looked.stays looked.asks looked.early serves
 
   pub early_since : PassesEarly mid.state session asked
   early_since = still_passes old.state mid.state session asked looked.looks.same looked.early

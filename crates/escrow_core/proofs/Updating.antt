@@ -329,12 +329,12 @@ module _ {S : Type 0} (g : Ghosts S) (session : ℕ) (text : UpdateText) (name :
           (place_refuses mid.state session text name changes planned_now place orderly of_table (read clean) r why))
 
       -- granted: the store stays
-      pub first_granted : (HasCleanDisk (state g mid.store) → IsTrue (state g mid.store).is_open) → reason_against session place name changes (open_in mid.state) ≡ None
+      pub first_granted : (HasCleanDisk (state g mid.store) → IsTrue (state g old.store).is_open → IsTrue (state g mid.store).is_open) → reason_against session place name changes (open_in mid.state) ≡ None
           → Serves g session (statement.Update text) old (reply.Reserved mid.state.next_id) (record { store = mid.store; state = with_open mid.state (txn.granted session name changes (open_in mid.state)) })
-      first_granted opened none =
+      first_granted stays none =
           let new : Seen S = record { store = mid.store; state = with_open mid.state (txn.granted session name changes (open_in mid.state)) } in
           let still_first : is_reserved mid.state name ≡ false = subst (λ (s : State). is_reserved s name ≡ false) (sym looks.same) first in
-          after_look g session (statement.Update text) old mid new (reply.Reserved mid.state.next_id) looks opened asks early
+          after_look g session (statement.Update text) old mid new (reply.Reserved mid.state.next_id) looks stays asks early
           (served g session (statement.Update text) mid new (reply.Reserved mid.state.next_id) (asks_first mid.state session text name changes planned_now still_first)
           (passes mid.state session text name changes planned_now)
           (λ clean. grant_step mid.state session text name changes planned_now (place_accepts mid.state session text name changes planned_now place orderly of_table (read clean) none))

@@ -1,5 +1,5 @@
 -- Helps: what the fields of a database hold, and keep.
-use Rattle.std.specs.Prelude.{◌≡◌, ℤ, Option, Some, option_map, IsSomeAnd, List, length}
+use Rattle.std.specs.Prelude.{◌≡◌, ℤ, Option, Some, option_map, IfSome, IsSomeAnd, List, length}
 use Rattle.sqlite.specs.Held.{state}
 use Rattle.sqlite.specs.State.{HasCleanDisk}
 use Rattle.sqlite_trees.specs.declared.store.Store.{Ghosts}
@@ -13,6 +13,7 @@ use Rattle.escrow_bounds.specs.Places.{Places, place_at}
 use Rattle.escrow_machine.specs.Rows.{row_named}
 use Rattle.escrow_tables.specs.Committed.{Committed}
 use Rattle.escrow_journal.specs.Open.{Open}
+use Rattle.escrow_core.specs.declared.recent.ReadRow.{ReadRow}
 use Rattle.escrow_core.specs.Reserved.{ArePlaced}
 use Rattle.escrow_core.specs.Seen.{Seen, IsKept}
 
@@ -46,6 +47,14 @@ AreOfTables catalog places = (row : RowName) (place : Kept) → place_at places 
 abbrev pub HaveAmounts : List Row → Places → Type 0
 HaveAmounts rows places = (row : RowName) (place : Kept) → place_at places row ≡ Some place → amounts_named rows row ≡ Some place.amounts
 
+-- what was read of a row has an amount for each RESERVABLE column of its table
+abbrev pub IsKnown : List TableDef → Option ReadRow → Type 0
+IsKnown catalog read = IfSome read (λ r. IsSomeAnd (table_named catalog r.name.table) (λ table. length r.amounts ≡ length (reservables table.columns)))
+
+-- and they are its committed amounts
+abbrev pub IsRead : List Row → Option ReadRow → Type 0
+IsRead rows read = IfSome read (λ r. amounts_named rows r.name ≡ Some r.amounts)
+
 -- What a database keeps: its state, as far as the disk allows; and places, just of the rows that have an open
 -- reservation, each with the checks of its table and, while the disk has returned what was written, the committed
 -- amounts of its row.
@@ -54,3 +63,9 @@ pub record Keeps {S : Type 0} (g : Ghosts S) (d : Seen S) (places : Places) : Ty
   pub placed : ArePlaced d.state.reservations places
   pub of_tables : AreOfTables d.state.catalog places
   pub amounts : HasCleanDisk (state g d.store) → HaveAmounts d.state.rows places
+
+-- and beside it what was read last of a row
+pub record Holds {S : Type 0} (g : Ghosts S) (d : Seen S) (places : Places) (recent : Option ReadRow) : Type 0 where
+  pub keeps : Keeps g d places
+  pub known : IsKnown d.state.catalog recent
+  pub read : HasCleanDisk (state g d.store) → IsRead d.state.rows recent

@@ -14,6 +14,7 @@ mod settle;
 mod show;
 mod update;
 
+use crate::recent::Recent;
 use crate::reserved::Reserved;
 use escrow_machine::Reply;
 use escrow_num::{Refusal, Session};
@@ -26,15 +27,16 @@ use std::marker::Model;
 /// A database: its tables and their committed rows, in a store that SQLite writes to; the open
 /// reservations and savepoints of all sessions, and the id that the next reservation takes. A fault that
 /// shuts the store takes nothing from these. Beside the reservations it keeps what they can do to each row
-/// that they reserve, so that no statement walks them.
+/// that they reserve, so that no grant walks them; and the amounts that were read last of a row.
 #[derive(Drop)]
 pub struct Database<S: Alter> {
     tables: Tables<S>,
     reserved: Reserved,
+    recent: Recent,
 }
 
 impl<S: Alter> Model for Database<S> {
-    ghost use Rattle.escrow_core.specs.Inside.{seen_of, Keeps};
+    ghost use Rattle.escrow_core.specs.Inside.{seen_of, Holds};
     ghost use Rattle.escrow_core.specs.Seen.{Seen, seen_code};
 
     ghost Value = { Seen S };
@@ -43,7 +45,7 @@ impl<S: Alter> Model for Database<S> {
 
     ghost view = { λ d. seen_of d.tables d.reserved.txns };
 
-    ghost invariant = { λ d. Keeps S.Store (seen_of d.tables d.reserved.txns) d.reserved.places };
+    ghost invariant = { λ d. Holds S.Store (seen_of d.tables d.reserved.txns) d.reserved.places d.recent };
 }
 
 impl<S: Alter> Database<S> {
@@ -77,7 +79,11 @@ impl<S: Alter> Database<S> {
         // What its type knows of the tables is told where they are counted.
         let _ = tables.len();
         match Reserved::new(alloc) {
-            Ok(reserved) => Ok(Database { tables, reserved }),
+            Ok(reserved) => Ok(Database {
+                tables,
+                reserved,
+                recent: Recent::new(),
+            }),
             Err(_) => Err(AllocFailed { value: tables }),
         }
     }

@@ -9,6 +9,7 @@
 mod bounds;
 mod database;
 mod journal;
+mod recent;
 mod reserved;
 
 pub use database::Database;

@@ -35,6 +35,7 @@ impl<S: Alter> Database<S> {
         if self.reserved.is_reserved(&name) {
             return Err(Refusal::RowReserved);
         }
+        self.recent.forget();
         self.tables.delete(place, &name)?;
         Ok(Reply::Deleted)
     }

@@ -18,6 +18,7 @@ impl<S: Alter> Database<S> {
         ensures { Serves S.Store session (Statement.Drop name) self.old (answer_of result) self.new }
     {
         let place = self.check_drop(session, name)?;
+        self.recent.forget();
         self.tables.drop_table(place)?;
         Ok(Reply::Dropped(name))
     }

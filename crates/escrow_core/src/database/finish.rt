@@ -66,6 +66,7 @@ impl<S: Alter> Database<S> {
             return Ok(self.reserved.end(session, End::Rollback));
         }
         let amounts = self.reserved.amounts_of(alloc, session)?;
+        self.recent.forget();
         let written = self.tables.apply(alloc, reservations, &amounts);
         drop(amounts);
         match written {

@@ -45,6 +45,7 @@ impl<S: Alter> Database<S> {
         ) {
             return Err(refusal);
         }
+        self.recent.forget();
         self.tables.insert(alloc, place, &row)?;
         Ok(Reply::Inserted)
     }

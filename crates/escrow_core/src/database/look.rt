@@ -1,10 +1,13 @@
+ghost use Rattle.std.specs.Prelude.{◌≡◌, IfOk};
+
 use crate::database::Database;
+use crate::recent::ReadRow;
 use escrow_num::{Amount, Failure, Name, RowName, Seq, Value};
 use sqlite::Alter;
-use std::alloc::Global;
+use std::alloc::{AllocError, Global};
 
 impl<S: Alter> Database<S> {
-    ghost use Rattle.std.specs.Prelude.{◌≡◌, Some, IsSomeAnd, IsTrue, IfOk, IfSome, OnOk, is_some, length, map, option_map};
+    ghost use Rattle.std.specs.Prelude.{Some, IsSomeAnd, IsTrue, IfSome, OnOk, is_some, length, map, option_map};
     ghost use Rattle.sqlite.specs.Held.{state};
     ghost use Rattle.sqlite.specs.State.{HasCleanDisk};
     ghost use Rattle.escrow_num.specs.Ascending.{IsAscending};
@@ -15,7 +18,8 @@ impl<S: Alter> Database<S> {
     ghost use Rattle.escrow_machine.specs.Rows.{row_named, rows_of, row_before};
 
     /// The amounts of the committed row of a name, one for each RESERVABLE column in column order, if there is
-    /// such a row; all rows are in order. The place is that of its table.
+    /// such a row; all rows are in order. The place is that of its table. The store is asked unless it is
+    /// the row that was read last.
     pub(crate) fn amounts(
         &mut self,
         alloc: Global,
@@ -27,9 +31,37 @@ impl<S: Alter> Database<S> {
         ensures many { IfOk result (λ found. IfSome found (λ amounts. IsSomeAnd (table_named self.old.state.catalog name.now.table) (λ table. length amounts ≡ length (reservables table.columns)))) }
         ensures order { HasCleanDisk (state S.Store self.new.store) → IsAscending row_before self.old.state.rows }
         ensures looks { Looks S.Store self.old self.new }
-        ensures open { HasCleanDisk (state S.Store self.new.store) → OnOk result (IsTrue (state S.Store self.new.store).is_open) }
+        ensures stays { HasCleanDisk (state S.Store self.new.store) → OnOk result (IsTrue (state S.Store self.old.store).is_open → IsTrue (state S.Store self.new.store).is_open) }
     {
-        self.tables.amounts(alloc, place, name)
+        if let Some(amounts) = self.recent.amounts(name) {
+            return Ok(Some(copied(alloc, amounts)?));
+        }
+        self.read(alloc, place, name)
+    }
+
+    /// The amounts of a row, which are read, and are then those that were read last.
+    fn read(
+        &mut self,
+        alloc: Global,
+        place: usize,
+        name: &RowName,
+    ) -> Result<Option<Seq<Amount>>, Failure>
+        requires { place_named self.old.state.catalog name.now.table ≡ Some place }
+        ensures told { HasCleanDisk (state S.Store self.new.store) → IfOk result (λ found. found ≡ option_map (λ row. row.amounts) (row_named self.old.state.rows name.now)) }
+        ensures many { IfOk result (λ found. IfSome found (λ amounts. IsSomeAnd (table_named self.old.state.catalog name.now.table) (λ table. length amounts ≡ length (reservables table.columns)))) }
+        ensures order { HasCleanDisk (state S.Store self.new.store) → IsAscending row_before self.old.state.rows }
+        ensures looks { Looks S.Store self.old self.new }
+        ensures stays { HasCleanDisk (state S.Store self.new.store) → OnOk result (IsTrue (state S.Store self.old.store).is_open → IsTrue (state S.Store self.new.store).is_open) }
+    {
+        let Some(amounts) = self.tables.amounts(alloc, place, name)? else {
+            return Ok(None);
+        };
+        let row = ReadRow {
+            name: name.copy(alloc)?,
+            amounts: copied(alloc, amounts.as_slice())?,
+        };
+        self.recent.remember(row);
+        Ok(Some(amounts))
     }
 
     /// Whether the committed row of a name stands; all rows are in order. The place is that of its table.
@@ -43,7 +75,7 @@ impl<S: Alter> Database<S> {
         ensures told { HasCleanDisk (state S.Store self.new.store) → IfOk result (λ stands. stands ≡ is_some (row_named self.old.state.rows name.now)) }
         ensures order { HasCleanDisk (state S.Store self.new.store) → IsAscending row_before self.old.state.rows }
         ensures looks { Looks S.Store self.old self.new }
-        ensures open { HasCleanDisk (state S.Store self.new.store) → OnOk result (IsTrue (state S.Store self.new.store).is_open) }
+        ensures stays { HasCleanDisk (state S.Store self.new.store) → OnOk result (IsTrue (state S.Store self.old.store).is_open → IsTrue (state S.Store self.new.store).is_open) }
     {
         Ok(self.amounts(alloc, place, name)?.is_some())
     }
@@ -80,4 +112,11 @@ impl<S: Alter> Database<S> {
     {
         self.tables.all_values(alloc, place, table)
     }
+}
+
+/// A copy of amounts. Want of memory is the only error.
+fn copied(alloc: Global, amounts: &[Amount]) -> Result<Seq<Amount>, AllocError>
+    ensures { IfOk result (λ copy. copy ≡ amounts.now) }
+{
+    Ok(Seq::from_vec(Vec::from_slice(alloc, amounts)?))
 }

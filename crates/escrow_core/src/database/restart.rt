@@ -28,6 +28,7 @@ impl<S: Alter> Database<S> {
     {
         self.tables.verify(alloc)?;
         self.reserved.clear();
+        self.recent.forget();
         Ok(())
     }
 }

@@ -145,6 +145,7 @@ impl<S: Alter> Database<S> {
         if !self.stands(alloc, place, &name)? {
             return Err(Refusal::NoSuchRow);
         }
+        self.recent.forget();
         self.tables
             .set_plain(alloc, place, &name, values.as_slice())?;
         Ok(Reply::Updated)

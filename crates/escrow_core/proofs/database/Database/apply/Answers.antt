@@ -21,10 +21,13 @@ mine : (g : given.Over) (c : After-is_empty g) → c.all-reservations.result.now
 mine g c = c.all-reservations.ensures ∙ c.journal.ensures.reservations ∙ ap (λ (o : Open). own c.args.session o.reservations) c.txns.ensures
 
 pub invariant_of-self : goal.invariant_of-self
-invariant_of-self g c =
-    rw c.end.ensures.txns
-    (just_ended_keeps g.S.Store c.args.session c.self.inside.tables c.self.inside.reserved.txns c.self.inside.reserved.places c.end.new.self.places c.self.invariant
-    c.end.ensures.places (rw c.end.ensures.txns at (c.end.ensures.placed c.self.invariant.placed)))
+invariant_of-self g c = record {
+  keeps = rw c.end.ensures.txns
+      (just_ended_keeps g.S.Store c.args.session c.self.inside.tables c.self.inside.reserved.txns c.self.inside.reserved.places c.end.new.self.places c.self.invariant.keeps
+      c.end.ensures.places (rw c.end.ensures.txns at (c.end.ensures.placed c.self.invariant.keeps.placed)));
+  known = c.self.invariant.known;
+  read = c.self.invariant.read;
+}
 
 pub returns-then-is_empty-clause-done : goal.returns-then-is_empty-clause-done
 returns-then-is_empty-clause-done g c =
@@ -64,20 +67,28 @@ apply-written-requires-clause-given g c = λ clean.
     let at = (goal.at.apply-written-requires-clause-given g c).After-is_empty in
     rw (mine g at, c.deref.ensures.value)
     (are_given c.self.inside.tables.rows c.self.inside.reserved.places (own c.args.session c.self.inside.reserved.txns.reservations) (map (λ amounts. amounts.now) c.in_ok-amounts.amounts.items)
-    (c.self.invariant.amounts clean) c.in_ok-amounts.ensures)
+    (c.self.invariant.keeps.amounts clean) c.in_ok-amounts.ensures)
 
 pub invariant_of-self-in-Ok : goal.invariant_of-self-in-Ok
 invariant_of-self-in-Ok g c =
-    let at = (goal.at.invariant_of-self-in-Ok g c).After-is_empty in
-    let writes = rw (mine g at, c.in-Ok.is) at c.apply-written.ensures in
-    rw c.end-in-Ok.ensures.txns
-    (committed_keeps g.S.Store c.args.session c.self.inside.tables c.self.inside.reserved.txns c.apply-written.new.self c.self.inside.reserved.places c.end-in-Ok.new.self.places c.self.invariant writes
-    c.end-in-Ok.ensures.places (rw c.end-in-Ok.ensures.txns at (c.end-in-Ok.ensures.placed c.self.invariant.placed)))
+    rw c.forget.ensures (record {
+      keeps = (let at = (goal.at.invariant_of-self-in-Ok g c).After-is_empty in
+          let writes = rw (mine g at, c.in-Ok.is) at c.apply-written.ensures in
+          rw c.end-in-Ok.ensures.txns
+          (committed_keeps g.S.Store c.args.session c.self.inside.tables c.self.inside.reserved.txns c.apply-written.new.self c.self.inside.reserved.places c.end-in-Ok.new.self.places c.self.invariant.keeps writes
+          c.end-in-Ok.ensures.places (rw c.end-in-Ok.ensures.txns at (c.end-in-Ok.ensures.placed c.self.invariant.keeps.placed))));
+      known = tt;
+      read = λ _. tt;
+    })
 
 pub invariant_of-self-in-Err : goal.invariant_of-self-in-Err
 invariant_of-self-in-Err g c =
-    let writes = rw c.in-Err.is at c.apply-written.ensures in
-    unwritten_keeps g.S.Store c.self.inside.tables c.apply-written.new.self c.self.inside.reserved.txns c.self.inside.reserved.places _ _ c.self.invariant writes
+    rw c.forget.ensures (record {
+      keeps = (let writes = rw c.in-Err.is at c.apply-written.ensures in
+          unwritten_keeps g.S.Store c.self.inside.tables c.apply-written.new.self c.self.inside.reserved.txns c.self.inside.reserved.places _ _ c.self.invariant.keeps writes);
+      known = tt;
+      read = λ _. tt;
+    })
 
 pub returns-in-Ok-clause-done : goal.returns-in-Ok-clause-done
 returns-in-Ok-clause-done g c =

@@ -4,7 +4,7 @@ use Rattle.escrow_core.proofs.Dropping.{left_to_reserved}
 use Rattle.escrow_core.proofs.database.Database.check_drop.Goals as goal
 
 pub is_table_reserved-requires : goal.is_table_reserved-requires
-is_table_reserved-requires g c = c.self.invariant.placed
+is_table_reserved-requires g c = c.self.invariant.keeps.placed
 
 pub returns-then-is_table_reserved-clause-early : goal.returns-then-is_table_reserved-clause-early
 returns-then-is_table_reserved-clause-early g c =

@@ -42,8 +42,12 @@ returns-in_err-create g c =
 
 pub invariant_of-self-2 : goal.invariant_of-self-2
 invariant_of-self-2 g c =
-    write_keeps g.S.Store c.args.session (statement.Create c.args.text.now) c.self.inside.tables c.create.new.self c.self.inside.reserved.txns _ _ (may g (goal.at.invariant_of-self-2 g c).After-create)
-    c.self.inside.reserved.places c.self.invariant c.in_ok-create.ensures
+    rw c.forget.ensures (record {
+      keeps = write_keeps g.S.Store c.args.session (statement.Create c.args.text.now) c.self.inside.tables c.create.new.self c.self.inside.reserved.txns _ _ (may g (goal.at.invariant_of-self-2 g c).After-create)
+          c.self.inside.reserved.places c.self.invariant.keeps c.in_ok-create.ensures;
+      known = tt;
+      read = λ _. tt;
+    })
 
 pub returns : goal.returns
 returns g c =
@@ -51,4 +55,9 @@ returns g c =
     (write_serves g.S.Store c.args.session (statement.Create c.args.text.now) c.self.inside.tables c.create.new.self c.self.inside.reserved.txns _ _ (may g (goal.at.returns g c).After-create) c.in_ok-create.ensures)
 
 pub invariant_of-self : goal.invariant_of-self
-invariant_of-self g c = unwritten_keeps g.S.Store c.self.inside.tables c.create.new.self c.self.inside.reserved.txns c.self.inside.reserved.places _ _ c.self.invariant c.in_err-create.ensures
+invariant_of-self g c =
+    rw c.forget.ensures (record {
+      keeps = unwritten_keeps g.S.Store c.self.inside.tables c.create.new.self c.self.inside.reserved.txns c.self.inside.reserved.places _ _ c.self.invariant.keeps c.in_err-create.ensures;
+      known = tt;
+      read = λ _. tt;
+    })

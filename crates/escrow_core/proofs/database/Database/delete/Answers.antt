@@ -33,7 +33,7 @@ returns-then-not-branch g c =
 looked : (g : given.Over) (c : After-is_reserved g) → HasLooked g.S.Store c.args.session (statement.Delete c.args.text.now) c.args.self.now (seen_of c.self.inside.tables c.self.inside.reserved.txns)
 looked g c = record {
   looks = rw (← c.self.view_is) at c.in_ok-stands.ensures.looks;
-  opened = rw (← c.self.view_is) at c.in_ok-stands.ensures.open;
+  stays = rw (← c.self.view_is) at c.in_ok-stands.ensures.stays;
   asks = refl;
   early = sym c.in_ok-place.ensures.early;
 }
@@ -78,8 +78,12 @@ returns-in_err-delete g c =
 
 pub invariant_of-self-2 : goal.invariant_of-self-2
 invariant_of-self-2 g c =
-    let at = (goal.at.invariant_of-self-2 g c).After-is_reserved in
-    write_keeps g.S.Store c.args.session (statement.Delete c.args.text.now) c.self.inside.tables c.delete.new.self c.self.inside.reserved.txns _ _ (may g at c.if-is_reserved.false) c.self.inside.reserved.places c.self.invariant c.in_ok-delete.ensures
+    rw c.forget.ensures (record {
+      keeps = (let at = (goal.at.invariant_of-self-2 g c).After-is_reserved in
+          write_keeps g.S.Store c.args.session (statement.Delete c.args.text.now) c.self.inside.tables c.delete.new.self c.self.inside.reserved.txns _ _ (may g at c.if-is_reserved.false) c.self.inside.reserved.places c.self.invariant.keeps c.in_ok-delete.ensures);
+      known = tt;
+      read = λ _. tt;
+    })
 
 pub returns : goal.returns
 returns g c =
@@ -89,4 +93,9 @@ returns g c =
     (write_serves g.S.Store c.args.session asked c.self.inside.tables c.delete.new.self c.self.inside.reserved.txns _ _ (may g at c.if-is_reserved.false) c.in_ok-delete.ensures)
 
 pub invariant_of-self : goal.invariant_of-self
-invariant_of-self g c = unwritten_keeps g.S.Store c.self.inside.tables c.delete.new.self c.self.inside.reserved.txns c.self.inside.reserved.places _ _ c.self.invariant c.in_err-delete.ensures
+invariant_of-self g c =
+    rw c.forget.ensures (record {
+      keeps = unwritten_keeps g.S.Store c.self.inside.tables c.delete.new.self c.self.inside.reserved.txns c.self.inside.reserved.places _ _ c.self.invariant.keeps c.in_err-delete.ensures;
+      known = tt;
+      read = λ _. tt;
+    })

@@ -32,9 +32,13 @@ returns-in_err-drop_table g c =
 
 pub invariant_of-self-2 : goal.invariant_of-self-2
 invariant_of-self-2 g c =
-    let d = seen_of c.self.inside.tables c.self.inside.reserved.txns in
-    write_keeps g.S.Store c.args.session (statement.Drop c.args.name) c.self.inside.tables c.drop_table.new.self c.self.inside.reserved.txns (reply.Dropped c.args.name) (after_drop d.state c.args.name)
-    (may g (goal.at.invariant_of-self-2 g c).After-drop_table) c.self.inside.reserved.places c.self.invariant (c.in_ok-drop_table.ensures c.args.name (rw (← c.self.view_is) at c.in_ok-place.ensures.place))
+    rw c.forget.ensures (record {
+      keeps = (let d = seen_of c.self.inside.tables c.self.inside.reserved.txns in
+          write_keeps g.S.Store c.args.session (statement.Drop c.args.name) c.self.inside.tables c.drop_table.new.self c.self.inside.reserved.txns (reply.Dropped c.args.name) (after_drop d.state c.args.name)
+          (may g (goal.at.invariant_of-self-2 g c).After-drop_table) c.self.inside.reserved.places c.self.invariant.keeps (c.in_ok-drop_table.ensures c.args.name (rw (← c.self.view_is) at c.in_ok-place.ensures.place)));
+      known = tt;
+      read = λ _. tt;
+    })
 
 pub returns : goal.returns
 returns g c =
@@ -45,5 +49,9 @@ returns g c =
 
 pub invariant_of-self : goal.invariant_of-self
 invariant_of-self g c =
-    unwritten_keeps g.S.Store c.self.inside.tables c.drop_table.new.self c.self.inside.reserved.txns c.self.inside.reserved.places _ _ c.self.invariant
-    (c.in_err-drop_table.ensures c.args.name (rw (← c.self.view_is) at c.in_ok-place.ensures.place))
+    rw c.forget.ensures (record {
+      keeps = unwritten_keeps g.S.Store c.self.inside.tables c.drop_table.new.self c.self.inside.reserved.txns c.self.inside.reserved.places _ _ c.self.invariant.keeps
+          (c.in_err-drop_table.ensures c.args.name (rw (← c.self.view_is) at c.in_ok-place.ensures.place));
+      known = tt;
+      read = λ _. tt;
+    })

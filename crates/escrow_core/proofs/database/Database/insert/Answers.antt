@@ -35,7 +35,7 @@ returns-then-branch g c =
 looked : (g : given.Over) (c : After-count g) → HasLooked g.S.Store c.args.session (statement.Insert c.args.text.now) c.args.self.now (seen_of c.self.inside.tables c.self.inside.reserved.txns)
 looked g c = record {
   looks = rw (← c.self.view_is) at c.in_ok-stands.ensures.looks;
-  opened = rw (← c.self.view_is) at c.in_ok-stands.ensures.open;
+  stays = rw (← c.self.view_is) at c.in_ok-stands.ensures.stays;
   asks = refl;
   early = c.in_ok-place.ensures.early;
 }
@@ -106,11 +106,15 @@ returns-in_err-insert g c =
 
 pub invariant_of-self-2 : goal.invariant_of-self-2
 invariant_of-self-2 g c =
-    let d = seen_of c.self.inside.tables c.self.inside.reserved.txns in
-    let text = c.args.text.now in
-    let at = (goal.at.invariant_of-self-2 g c).After-count in
-    let may = may_insert g.S.Store d c.args.session text c.in_ok-place.row c.table.result.now c.count.result (is_new g at) (sym c.in_default.is ∙ c.row_refusal.ensures) in
-    write_keeps g.S.Store c.args.session (statement.Insert text) c.self.inside.tables c.insert.new.self c.self.inside.reserved.txns _ _ may c.self.inside.reserved.places c.self.invariant c.in_ok-insert.ensures
+    rw c.forget.ensures (record {
+      keeps = (let d = seen_of c.self.inside.tables c.self.inside.reserved.txns in
+          let text = c.args.text.now in
+          let at = (goal.at.invariant_of-self-2 g c).After-count in
+          let may = may_insert g.S.Store d c.args.session text c.in_ok-place.row c.table.result.now c.count.result (is_new g at) (sym c.in_default.is ∙ c.row_refusal.ensures) in
+          write_keeps g.S.Store c.args.session (statement.Insert text) c.self.inside.tables c.insert.new.self c.self.inside.reserved.txns _ _ may c.self.inside.reserved.places c.self.invariant.keeps c.in_ok-insert.ensures);
+      known = tt;
+      read = λ _. tt;
+    })
 
 pub returns : goal.returns
 returns g c =
@@ -123,4 +127,9 @@ returns g c =
     (write_serves g.S.Store c.args.session asked c.self.inside.tables c.insert.new.self c.self.inside.reserved.txns _ _ may c.in_ok-insert.ensures)
 
 pub invariant_of-self : goal.invariant_of-self
-invariant_of-self g c = unwritten_keeps g.S.Store c.self.inside.tables c.insert.new.self c.self.inside.reserved.txns c.self.inside.reserved.places _ _ c.self.invariant c.in_err-insert.ensures
+invariant_of-self g c =
+    rw c.forget.ensures (record {
+      keeps = unwritten_keeps g.S.Store c.self.inside.tables c.insert.new.self c.self.inside.reserved.txns c.self.inside.reserved.places _ _ c.self.invariant.keeps c.in_err-insert.ensures;
+      known = tt;
+      read = λ _. tt;
+    })

@@ -44,7 +44,7 @@ returns-then-not-branch g c =
 looked : (g : given.Over) (c : After-as_slice g) → HasLooked g.S.Store c.args.session (statement.Update c.args.text.now) c.args.self.now (seen_of c.self.inside.tables c.self.inside.reserved.txns)
 looked g c = record {
   looks = rw (← c.self.view_is) at c.in_ok-stands.ensures.looks;
-  opened = rw (← c.self.view_is) at c.in_ok-stands.ensures.open;
+  stays = rw (← c.self.view_is) at c.in_ok-stands.ensures.stays;
   asks = plain_asks c.args.self.now.state c.args.session c.args.text.now c.args.key c.args.values c.requires.plan;
   early = planned_early c.args.self.now.state c.args.session c.args.text.now (plan.Plain c.args.key c.args.values) c.requires.plan;
 }
@@ -64,7 +64,7 @@ may g c =
 pub set_plain-requires-clause-fits : goal.set_plain-requires-clause-fits
 set_plain-requires-clause-fits g c =
     let at = (goal.at.set_plain-requires-clause-fits g c).After-as_slice in
-    replaced_fit g.S.Store (seen_of c.self.inside.tables c.self.inside.reserved.txns) c.args.session c.args.text.now c.args.key c.as_slice.result.now (may g at) c.self.invariant.kept
+    replaced_fit g.S.Store (seen_of c.self.inside.tables c.self.inside.reserved.txns) c.args.session c.args.text.now c.args.key c.as_slice.result.now (may g at) c.self.invariant.keeps.kept
 
 pub returns-in_err-set_plain : goal.returns-in_err-set_plain
 returns-in_err-set_plain g c =
@@ -79,11 +79,15 @@ returns-in_err-set_plain g c =
 
 pub invariant_of-self-2 : goal.invariant_of-self-2
 invariant_of-self-2 g c =
-    let d = seen_of c.self.inside.tables c.self.inside.reserved.txns in
-    let text = c.args.text.now in
-    let at = (goal.at.invariant_of-self-2 g c).After-as_slice in
-    let writes = may_write g.S.Store d c.args.session text c.args.key c.as_slice.result.now (may g at) in
-    write_keeps g.S.Store c.args.session (statement.Update text) c.self.inside.tables c.set_plain.new.self c.self.inside.reserved.txns _ _ writes c.self.inside.reserved.places c.self.invariant c.in_ok-set_plain.ensures
+    rw c.forget.ensures (record {
+      keeps = (let d = seen_of c.self.inside.tables c.self.inside.reserved.txns in
+          let text = c.args.text.now in
+          let at = (goal.at.invariant_of-self-2 g c).After-as_slice in
+          let writes = may_write g.S.Store d c.args.session text c.args.key c.as_slice.result.now (may g at) in
+          write_keeps g.S.Store c.args.session (statement.Update text) c.self.inside.tables c.set_plain.new.self c.self.inside.reserved.txns _ _ writes c.self.inside.reserved.places c.self.invariant.keeps c.in_ok-set_plain.ensures);
+      known = tt;
+      read = λ _. tt;
+    })
 
 pub returns : goal.returns
 returns g c =
@@ -96,4 +100,9 @@ returns g c =
     (write_serves g.S.Store c.args.session asked c.self.inside.tables c.set_plain.new.self c.self.inside.reserved.txns _ _ writes c.in_ok-set_plain.ensures)
 
 pub invariant_of-self : goal.invariant_of-self
-invariant_of-self g c = unwritten_keeps g.S.Store c.self.inside.tables c.set_plain.new.self c.self.inside.reserved.txns c.self.inside.reserved.places _ _ c.self.invariant c.in_err-set_plain.ensures
+invariant_of-self g c =
+    rw c.forget.ensures (record {
+      keeps = unwritten_keeps g.S.Store c.self.inside.tables c.set_plain.new.self c.self.inside.reserved.txns c.self.inside.reserved.places _ _ c.self.invariant.keeps c.in_err-set_plain.ensures;
+      known = tt;
+      read = λ _. tt;
+    })

@@ -18,18 +18,18 @@ planned g c = record {
 }
 
 there : (g : given.Over) (c : After-grant g) → IsSome (place_at c.self.inside.reserved.places c.args.name)
-there g c = reserved_placed c.self.inside.reserved.txns.reservations c.self.inside.reserved.places c.args.name c.self.invariant.placed (rw (← c.self.view_is) at c.requires.beside)
+there g c = reserved_placed c.self.inside.reserved.txns.reservations c.self.inside.reserved.places c.args.name c.self.invariant.keeps.placed (rw (← c.self.view_is) at c.requires.beside)
 
 pub grant-requires-clause-short : goal.grant-requires-clause-short
 grant-requires-clause-short g c =
     let s : State = (seen_of c.self.inside.tables c.self.inside.reserved.txns).state in
-    short_plan s c.args.text.now c.args.name.key c.args.changes c.self.invariant.kept.orderly (rw (← c.self.view_is) at c.requires.plan)
+    short_plan s c.args.text.now c.args.name.key c.args.changes c.self.invariant.keeps.kept.orderly (rw (← c.self.view_is) at c.requires.plan)
 
 pub grant-requires-clause-room : goal.grant-requires-clause-room
 grant-requires-clause-room g c =
     let s : State = (seen_of c.self.inside.tables c.self.inside.reserved.txns).state in
     let of_session : IsSession c.args.session = rw c.get.ensures.value at c.get.ensures.within in
-    room_for_one s c.args.session c.args.text.now c.args.name.key c.args.changes c.self.invariant.kept.orderly of_session (rw (← c.self.view_is) at c.requires.plan)
+    room_for_one s c.args.session c.args.text.now c.args.name.key c.args.changes c.self.invariant.keeps.kept.orderly of_session (rw (← c.self.view_is) at c.requires.plan)
 
 pub returns-in_err-id : goal.returns-in_err-id
 returns-in_err-id g c =
@@ -38,18 +38,21 @@ returns-in_err-id g c =
     let at_grant = (goal.at.returns-in_err-id g c).After-grant in
     rw (← c.self.view_is, c.in_err-id.ensures.refused, left_by _ _ c.from_residual.ensures.1)
     (from_some (place_at places c.args.name) (there g at_grant) (λ place at.
-    beside_refused g.S.Store c.args.session c.args.text.now c.args.name c.args.changes d places (planned g at_grant) c.self.invariant place at c.in_err-id.field-0.0 (c.in_err-id.ensures.reason place at)))
+    beside_refused g.S.Store c.args.session c.args.text.now c.args.name c.args.changes d places (planned g at_grant) c.self.invariant.keeps place at c.in_err-id.field-0.0 (c.in_err-id.ensures.reason place at)))
 
 pub invariant_of-self-2 : goal.invariant_of-self-2
-invariant_of-self-2 g c =
-    let d = seen_of c.self.inside.tables c.self.inside.reserved.txns in
-    let places = c.self.inside.reserved.places in
-    let at_grant = (goal.at.invariant_of-self-2 g c).After-grant in
-    let of_session : IsSession c.args.session = rw c.get.ensures.value at c.get.ensures.within in
-    rw c.in_ok-id.ensures.granted
-    (from_some (place_at places c.args.name) (there g at_grant) (λ place at.
-    grant_keeps g.S.Store c.args.session c.args.text.now c.args.name c.args.changes d places c.grant.new.self.places (planned g at_grant) c.self.invariant.kept of_session place at
-    (λ other _. c.self.invariant.placed other) c.self.invariant.of_tables c.self.invariant.amounts (c.in_ok-id.ensures.free place at) c.in_ok-id.ensures.takes c.in_ok-id.ensures.others))
+invariant_of-self-2 g c = record {
+  keeps = (let d = seen_of c.self.inside.tables c.self.inside.reserved.txns in
+      let places = c.self.inside.reserved.places in
+      let at_grant = (goal.at.invariant_of-self-2 g c).After-grant in
+      let of_session : IsSession c.args.session = rw c.get.ensures.value at c.get.ensures.within in
+      rw c.in_ok-id.ensures.granted
+      (from_some (place_at places c.args.name) (there g at_grant) (λ place at.
+      grant_keeps g.S.Store c.args.session c.args.text.now c.args.name c.args.changes d places c.grant.new.self.places (planned g at_grant) c.self.invariant.keeps.kept of_session place at
+      (λ other _. c.self.invariant.keeps.placed other) c.self.invariant.keeps.of_tables c.self.invariant.keeps.amounts (c.in_ok-id.ensures.free place at) c.in_ok-id.ensures.takes c.in_ok-id.ensures.others)));
+  known = c.self.invariant.known;
+  read = c.self.invariant.read;
+}
 
 pub returns : goal.returns
 returns g c =
@@ -58,4 +61,4 @@ returns g c =
     let at_grant = (goal.at.returns g c).After-grant in
     rw (← c.self.view_is, c.in_ok-id.ensures.id, c.in_ok-id.ensures.granted)
     (from_some (place_at places c.args.name) (there g at_grant) (λ place at.
-    beside_granted g.S.Store c.args.session c.args.text.now c.args.name c.args.changes d places (planned g at_grant) c.self.invariant place at (c.in_ok-id.ensures.free place at)))
+    beside_granted g.S.Store c.args.session c.args.text.now c.args.name c.args.changes d places (planned g at_grant) c.self.invariant.keeps place at (c.in_ok-id.ensures.free place at)))

@@ -65,7 +65,7 @@ free : (g : given.Over) (c : In_ok-make_place g) → is_reserved (seen_of c.self
 free g c = subst (λ (s : State). is_reserved s c.args.name ≡ false) (sym (looked g c).same) c.requires.first
 
 none : (g : given.Over) (c : In_ok-make_place g) → place_at c.self.inside.reserved.places c.args.name ≡ None
-none g c = none_placed c.self.inside.reserved.txns.reservations c.self.inside.reserved.places c.args.name c.self.invariant.placed (free g c)
+none g c = none_placed c.self.inside.reserved.txns.reservations c.self.inside.reserved.places c.args.name c.self.invariant.keeps.placed (free g c)
 
 read : (g : given.Over) (c : In_ok-make_place g) → HasCleanDisk (state g.S.Store c.self.inside.tables.store) → amounts_named c.self.inside.tables.rows c.args.name ≡ Some c.in-Some.amounts
 read g c clean =
@@ -80,14 +80,14 @@ returns-in_err-make_place g c =
 pub grant-requires-clause-short : goal.grant-requires-clause-short
 grant-requires-clause-short g c =
     let at = (goal.at.grant-requires-clause-short g c).In_ok-make_place in
-    short_plan (seen_of c.self.inside.tables c.self.inside.reserved.txns).state c.args.text.now c.args.name.key c.args.changes c.self.invariant.kept.orderly (planned g at).plan
+    short_plan (seen_of c.self.inside.tables c.self.inside.reserved.txns).state c.args.text.now c.args.name.key c.args.changes c.self.invariant.keeps.kept.orderly (planned g at).plan
 
 pub grant-requires-clause-room : goal.grant-requires-clause-room
 grant-requires-clause-room g c =
     let at = (goal.at.grant-requires-clause-room g c).In_ok-make_place in
     let of_session : IsSession c.args.session = rw c.get.ensures.value at c.get.ensures.within in
     rw c.make_place.ensures.txns
-    (room_for_one (seen_of c.self.inside.tables c.self.inside.reserved.txns).state c.args.session c.args.text.now c.args.name.key c.args.changes c.self.invariant.kept.orderly of_session (planned g at).plan)
+    (room_for_one (seen_of c.self.inside.tables c.self.inside.reserved.txns).state c.args.session c.args.text.now c.args.name.key c.args.changes c.self.invariant.keeps.kept.orderly of_session (planned g at).plan)
 
 -- the place that was made: of its table, with the row's amounts
 record IsMade (g : given.Over) (c : In_ok-make_place g) : Type 0 where
@@ -113,13 +113,16 @@ made g c =
 
 -- a refusal gives it back
 pub invariant_of-self-in_err-id : goal.invariant_of-self-in_err-id
-invariant_of-self-in_err-id g c =
-    let at = (goal.at.invariant_of-self-in_err-id g c).In_ok-make_place in
-    let reservations = c.self.inside.reserved.txns.reservations in
-    let releases = rw c.make_place.ensures.txns at c.in_err-id.ensures.releases in
-    rw (c.in_err-id.ensures.refused, c.make_place.ensures.txns)
-    (same_keeps g.S.Store (seen_of c.self.inside.tables c.self.inside.reserved.txns) c.self.inside.reserved.places c.grant.new.self.places c.self.invariant
-    (refused_same reservations c.args.name c.self.inside.reserved.places c.make_place.new.self.places c.grant.new.self.places (free g at) (none g at) c.make_place.ensures.others releases c.in_err-id.ensures.others))
+invariant_of-self-in_err-id g c = record {
+  keeps = (let at = (goal.at.invariant_of-self-in_err-id g c).In_ok-make_place in
+      let reservations = c.self.inside.reserved.txns.reservations in
+      let releases = rw c.make_place.ensures.txns at c.in_err-id.ensures.releases in
+      rw (c.in_err-id.ensures.refused, c.make_place.ensures.txns)
+      (same_keeps g.S.Store (seen_of c.self.inside.tables c.self.inside.reserved.txns) c.self.inside.reserved.places c.grant.new.self.places c.self.invariant.keeps
+      (refused_same reservations c.args.name c.self.inside.reserved.places c.make_place.new.self.places c.grant.new.self.places (free g at) (none g at) c.make_place.ensures.others releases c.in_err-id.ensures.others)));
+  known = c.self.invariant.known;
+  read = c.self.invariant.read;
+}
 
 pub returns-in_err-id : goal.returns-in_err-id
 returns-in_err-id g c =
@@ -131,25 +134,28 @@ returns-in_err-id g c =
     subst (λ (o : Open). (reason_against c.args.session is.place c.args.name c.args.changes o ≡ Some r) ⊎ (r ≡ refusal.Memory)) c.make_place.ensures.txns (c.in_err-id.ensures.reason is.place is.at) in
     rw (c.in_err-id.ensures.refused, c.make_place.ensures.txns, left_by _ _ c.from_residual-in_err-id.ensures.1)
     (first_refused g.S.Store c.args.session c.args.text.now c.args.name c.args.changes c.args.self.now d (record { table = c.requires.table; plan = c.requires.plan }) c.requires.first (looked g at)
-    is.place c.self.invariant.kept.orderly is.of_table is.read r why)
+    is.place c.self.invariant.keeps.kept.orderly is.of_table is.read r why)
 
 pub invariant_of-self-2 : goal.invariant_of-self-2
-invariant_of-self-2 g c =
-    let at = (goal.at.invariant_of-self-2 g c).In_ok-make_place in
-    let d = seen_of c.self.inside.tables c.self.inside.reserved.txns in
-    let is = made g at in
-    let old = c.self.inside.reserved.places in
-    let mid = c.make_place.new.self.places in
-    let of_session : IsSession c.args.session = rw c.get.ensures.value at c.get.ensures.within in
-    let granted : reason_against c.args.session is.place c.args.name c.args.changes c.self.inside.reserved.txns ≡ None =
-    subst (λ (o : Open). reason_against c.args.session is.place c.args.name c.args.changes o ≡ None) c.make_place.ensures.txns (c.in_ok-id.ensures.free is.place is.at) in
-    rw (c.in_ok-id.ensures.granted, c.make_place.ensures.txns)
-    (grant_keeps g.S.Store c.args.session c.args.text.now c.args.name c.args.changes d mid c.grant.new.self.places (planned g at) c.self.invariant.kept of_session is.place is.at
-    (λ other differs. ap (λ (p : Option Kept). is_some p) (c.make_place.ensures.others other differs) ∙ c.self.invariant.placed other)
-    (made_tables d.state.catalog c.args.name c.table.result.now c.in-Some.amounts is.place old mid (named g (goal.at.In_ok-make_place g at).After-as_slice) (many g (goal.at.In_ok-make_place g at).After-as_slice)
-    is.at is.new c.make_place.ensures.others c.self.invariant.of_tables)
-    (λ clean. made_amounts d.state.rows c.args.name c.in-Some.amounts c.table.result.now.checks is.place old mid (read g at clean) is.at is.new c.make_place.ensures.others (c.self.invariant.amounts clean))
-    granted c.in_ok-id.ensures.takes c.in_ok-id.ensures.others)
+invariant_of-self-2 g c = record {
+  keeps = (let at = (goal.at.invariant_of-self-2 g c).In_ok-make_place in
+      let d = seen_of c.self.inside.tables c.self.inside.reserved.txns in
+      let is = made g at in
+      let old = c.self.inside.reserved.places in
+      let mid = c.make_place.new.self.places in
+      let of_session : IsSession c.args.session = rw c.get.ensures.value at c.get.ensures.within in
+      let granted : reason_against c.args.session is.place c.args.name c.args.changes c.self.inside.reserved.txns ≡ None =
+      subst (λ (o : Open). reason_against c.args.session is.place c.args.name c.args.changes o ≡ None) c.make_place.ensures.txns (c.in_ok-id.ensures.free is.place is.at) in
+      rw (c.in_ok-id.ensures.granted, c.make_place.ensures.txns)
+      (grant_keeps g.S.Store c.args.session c.args.text.now c.args.name c.args.changes d mid c.grant.new.self.places (planned g at) c.self.invariant.keeps.kept of_session is.place is.at
+      (λ other differs. ap (λ (p : Option Kept). is_some p) (c.make_place.ensures.others other differs) ∙ c.self.invariant.keeps.placed other)
+      (made_tables d.state.catalog c.args.name c.table.result.now c.in-Some.amounts is.place old mid (named g (goal.at.In_ok-make_place g at).After-as_slice) (many g (goal.at.In_ok-make_place g at).After-as_slice)
+      is.at is.new c.make_place.ensures.others c.self.invariant.keeps.of_tables)
+      (λ clean. made_amounts d.state.rows c.args.name c.in-Some.amounts c.table.result.now.checks is.place old mid (read g at clean) is.at is.new c.make_place.ensures.others (c.self.invariant.keeps.amounts clean))
+      granted c.in_ok-id.ensures.takes c.in_ok-id.ensures.others));
+  known = c.self.invariant.known;
+  read = c.self.invariant.read;
+}
 
 pub returns : goal.returns
 returns g c =
@@ -160,4 +166,4 @@ returns g c =
     subst (λ (o : Open). reason_against c.args.session is.place c.args.name c.args.changes o ≡ None) c.make_place.ensures.txns (c.in_ok-id.ensures.free is.place is.at) in
     rw (c.in_ok-id.ensures.id, c.in_ok-id.ensures.granted, c.make_place.ensures.txns)
     (first_granted g.S.Store c.args.session c.args.text.now c.args.name c.args.changes c.args.self.now d (record { table = c.requires.table; plan = c.requires.plan }) c.requires.first (looked g at)
-    is.place c.self.invariant.kept.orderly is.of_table is.read (rw (← c.self.view_is) at c.in_ok-amounts.ensures.open) granted)
+    is.place c.self.invariant.keeps.kept.orderly is.of_table is.read (rw (← c.self.view_is) at c.in_ok-amounts.ensures.stays) granted)

@@ -25,21 +25,24 @@ returns-in_err-mark g c =
     (savepoint_refuses s session name r (same_reason _ c.mark.result _ c.mark.ensures.refused c.in_err-mark.was) c.in_err-mark.ensures.only))
 
 pub invariant_of-self-2 : goal.invariant_of-self-2
-invariant_of-self-2 g c =
-    let d = seen_of c.self.inside.tables c.self.inside.reserved.txns in
-    let s = d.state in
-    let session = c.args.session in
-    let name = c.args.name in
-    let of_session : IsSession session = rw c.get.ensures.value at c.get.ensures.within in
-    let none : savepoint_refusal session name (open_in s) ≡ None = no_reason _ c.mark.result _ c.in_ok-mark.was c.mark.ensures.refused in
-    let room = savepoint_room s session name (savepoint_accepted s session name none) in
-    rw c.in_ok-mark.ensures.saved (record {
-      kept = apart_keeps g.S.Store d (after_savepoint s session name) c.self.invariant.kept
-          (savepoint_orderly s session name c.self.invariant.kept.orderly of_session room) (λ valid. savepoint_valid s session name valid of_session room);
-      placed = c.self.invariant.placed;
-      of_tables = c.self.invariant.of_tables;
-      amounts = c.self.invariant.amounts;
-    })
+invariant_of-self-2 g c = record {
+  keeps = (let d = seen_of c.self.inside.tables c.self.inside.reserved.txns in
+      let s = d.state in
+      let session = c.args.session in
+      let name = c.args.name in
+      let of_session : IsSession session = rw c.get.ensures.value at c.get.ensures.within in
+      let none : savepoint_refusal session name (open_in s) ≡ None = no_reason _ c.mark.result _ c.in_ok-mark.was c.mark.ensures.refused in
+      let room = savepoint_room s session name (savepoint_accepted s session name none) in
+      rw c.in_ok-mark.ensures.saved (record {
+        kept = apart_keeps g.S.Store d (after_savepoint s session name) c.self.invariant.keeps.kept
+            (savepoint_orderly s session name c.self.invariant.keeps.kept.orderly of_session room) (λ valid. savepoint_valid s session name valid of_session room);
+        placed = c.self.invariant.keeps.placed;
+        of_tables = c.self.invariant.keeps.of_tables;
+        amounts = c.self.invariant.keeps.amounts;
+      }));
+  known = c.self.invariant.known;
+  read = c.self.invariant.read;
+}
 
 pub returns : goal.returns
 returns g c =

@@ -37,7 +37,7 @@ named g c = c.table-table.ensures.named c.args.text.now.table (rw (← c.self.vi
 of_table : (g : given.Over) (c : After-bounds g) → (place : Kept) → place_at c.self.inside.reserved.places (record { table = c.args.text.now.table; key = c.in_ok-value_of.field-0 }) ≡ Some place → IsOfTable c.table-table.result.now place
 of_table g c place at =
     some_at (λ (t : TableDef). IsOfTable t place) (table_named c.self.inside.tables.catalog c.args.text.now.table) c.table-table.result.now (named g c)
-    (c.self.invariant.of_tables (record { table = c.args.text.now.table; key = c.in_ok-value_of.field-0 }) place at)
+    (c.self.invariant.keeps.of_tables (record { table = c.args.text.now.table; key = c.in_ok-value_of.field-0 }) place at)
 
 pub row_bounds-requires-clause-of_table : goal.row_bounds-requires-clause-of_table
 row_bounds-requires-clause-of_table g c =
@@ -54,7 +54,7 @@ returns-then-is_reserved g c = λ session.
     let at_bounds = (goal.at.returns-then-is_reserved g c).After-bounds in
     let table = c.table-table.result.now in
     let early = rw (← c.self.view_is) at (sym (c.in_ok-place.ensures.early session)) in
-    let there = reserved_placed reservations places name c.self.invariant.placed (sym c.is_reserved.ensures ∙ c.if-is_reserved.true) in
+    let there = reserved_placed reservations places name c.self.invariant.keeps.placed (sym c.is_reserved.ensures ∙ c.if-is_reserved.true) in
     let is_name : name ≡ named_by text.table text.row = ap (λ k. record { table = text.table; key = k }) c.in_ok-value_of.ensures in
     rw (← c.self.view_is)
     (from_some (place_at places name) there (λ place at.
@@ -64,7 +64,7 @@ returns-then-is_reserved g c = λ session.
     let shown = c.in_ok-row_bounds.ensures place (of_row name reservations) at_now counts ∙ bounds_same table place.amounts name reservations c.table-table.ensures.table of.amounts in
     rw (shown, is_name)
     (answered g.S.Store session (statement.ShowBounds text) d _ refl early refl
-    (λ clean. bounds_answers d.state session text table place.amounts early (named g at_bounds) (subst (λ (n : RowName). amounts_named d.state.rows n ≡ Some place.amounts) is_name (c.self.invariant.amounts clean name place at))))))
+    (λ clean. bounds_answers d.state session text table place.amounts early (named g at_bounds) (subst (λ (n : RowName). amounts_named d.state.rows n ≡ Some place.amounts) is_name (c.self.invariant.keeps.amounts clean name place at))))))
 
 pub returns-in_default : goal.returns-in_default
 returns-in_default g c = λ session.
