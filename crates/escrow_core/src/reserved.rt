@@ -136,7 +136,8 @@ impl Reserved {
 
     /// Grants a session a reservation of changes of a row that has a place, unless there is a reason against it: it
     /// holds as many as it may, there are no more ids, or some choice of the open reservations, this one among them, would break
-    /// a check. It takes the next id, and is the last of the open ones. Answers its id. Where it is refused nothing changes, but
+    /// a check. A reason is answered however little memory there is; where there is none, want of memory is the only error. What is
+    /// granted takes the next id, and is the last of the open ones. Answers its id. Where it is refused nothing changes, but
     /// that a place that counts nothing is given back, and no id is taken.
     pub(crate) fn grant(
         &mut self,
@@ -151,7 +152,8 @@ impl Reserved {
         ensures free { OnOk result ((place : Kept) → place_at self.old.places row ≡ Some place → reason_against session place row changes self.old.txns ≡ None) }
         ensures granted { OnOk result (self.new.txns ≡ granted session row changes self.old.txns) }
         ensures takes { OnOk result (Becomes (TakesIn (counted changes)) (place_at self.old.places row) (place_at self.new.places row)) }
-        ensures reason { IfErr result (λ e. (place : Kept) → place_at self.old.places row ≡ Some place → (reason_against session place row changes self.old.txns ≡ Some e) ⊎ (e ≡ Refusal.Memory)) }
+        ensures against { (place : Kept) → place_at self.old.places row ≡ Some place → IfSome (reason_against session place row changes self.old.txns) (λ e. result ≡ Err e) }
+        ensures only { IfErr result (λ e. (place : Kept) → place_at self.old.places row ≡ Some place → (reason_against session place row changes self.old.txns ≡ Some e) ⊎ (e ≡ Refusal.Memory)) }
         ensures refused { OnErr result (self.new.txns ≡ self.old.txns) }
         ensures releases { OnErr result (Releases self.old.txns.reservations row self.old.places self.new.places) }
         ensures others { OthersStay row self.old.places self.new.places }

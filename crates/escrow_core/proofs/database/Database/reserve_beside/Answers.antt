@@ -38,7 +38,7 @@ returns-in_err-id g c =
     let at_grant = (goal.at.returns-in_err-id g c).After-grant in
     rw (← c.self.view_is, c.in_err-id.ensures.refused, left_by _ _ c.from_residual.ensures.1)
     (from_some (place_at places c.args.name) (there g at_grant) (λ place at.
-    beside_refused g.S.Store c.args.session c.args.text.now c.args.name c.args.changes d places (planned g at_grant) c.self.invariant.keeps place at c.in_err-id.field-0.0 (c.in_err-id.ensures.reason place at)))
+    beside_refused g.S.Store c.args.session c.args.text.now c.args.name c.args.changes d places (planned g at_grant) c.self.invariant.keeps place at c.in_err-id.field-0.0 (c.in_err-id.ensures.only place at)))
 
 pub invariant_of-self-2 : goal.invariant_of-self-2
 invariant_of-self-2 g c = record {

@@ -131,7 +131,7 @@ returns-in_err-id g c =
     let is = made g at in
     let r = c.in_err-id.field-0.0 in
     let why : (reason_against c.args.session is.place c.args.name c.args.changes c.self.inside.reserved.txns ≡ Some r) ⊎ (r ≡ refusal.Memory) =
-    subst (λ (o : Open). (reason_against c.args.session is.place c.args.name c.args.changes o ≡ Some r) ⊎ (r ≡ refusal.Memory)) c.make_place.ensures.txns (c.in_err-id.ensures.reason is.place is.at) in
+    subst (λ (o : Open). (reason_against c.args.session is.place c.args.name c.args.changes o ≡ Some r) ⊎ (r ≡ refusal.Memory)) c.make_place.ensures.txns (c.in_err-id.ensures.only is.place is.at) in
     rw (c.in_err-id.ensures.refused, c.make_place.ensures.txns, left_by _ _ c.from_residual-in_err-id.ensures.1)
     (first_refused g.S.Store c.args.session c.args.text.now c.args.name c.args.changes c.args.self.now d (record { table = c.requires.table; plan = c.requires.plan }) c.requires.first (looked g at)
     is.place c.self.invariant.keeps.kept.orderly is.of_table is.read r why)
