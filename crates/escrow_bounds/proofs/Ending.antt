@@ -5,6 +5,7 @@ use Rattle.std.proofs.lemmas.Bool.{cond-false}
 use Rattle.std.proofs.lemmas.List.{take_more, take_all, drop_more, drop_all}
 use Rattle.escrow_num.specs.declared.reservation.Reservation.{Reservation}
 use Rattle.escrow_num.specs.declared.session.End.{End}
+use Rattle.escrow_num.specs.declared.session.End.TheVariants as end
 use Rattle.escrow_num.specs.declared.value.RowName.{RowName}
 use Rattle.escrow_num.specs.Order.{same_row}
 use Rattle.escrow_num.specs.Reservation.{counted}
@@ -12,7 +13,7 @@ use Rattle.escrow_bounds.specs.Counts.{Counts, is_counting, GivesBack}
 use Rattle.escrow_bounds.specs.Ended.{HasEnded, AreEnded}
 use Rattle.escrow_bounds.specs.Held.{of_row, CountsJust, CountsAll, AllCount}
 use Rattle.escrow_bounds.specs.Kept.{Kept}
-use Rattle.escrow_bounds.specs.Moved.{amounts_after, amounts_after_all}
+use Rattle.escrow_bounds.specs.Moved.{all_moved, amounts_after, amounts_after_all}
 use Rattle.escrow_bounds.specs.Places.{Places, place_at, OthersStay, Becomes}
 use Rattle.escrow_bounds.proofs.Counting.{release_counting}
 use Rattle.escrow_bounds.proofs.Kept.{length-after}
@@ -29,6 +30,30 @@ length-after_all end amounts (changes ∷ ended) = length-after_all end (amounts
 pub after_all-append : (end : End) (amounts : List ℤ) (first second : List (List ℤ)) → amounts_after_all end amounts (first ++ second) ≡ amounts_after_all end (amounts_after_all end amounts first) second
 after_all-append end amounts [] second = refl
 after_all-append end amounts (changes ∷ first) second = after_all-append end (amounts_after end amounts changes) first second
+
+-- those of a row, and then what one more reservation does
+pub after_one : (row : RowName) (amounts : List ℤ) (ended : List Reservation) (i : ℕ) (r : Reservation) → i < length ended → r ≡ get_or ended i r
+    → amounts_after_all end.Commit (amounts_after_all end.Commit amounts (of_row row (take i ended))) (of_row row (r ∷ [])) ≡ amounts_after_all end.Commit amounts (of_row row (take (i + 1) ended))
+after_one row amounts ended i r within is =
+    let more : take (i + 1) ended ≡ take i ended ++ r ∷ [] = take_more ended i r within ∙ ap (λ (q : Reservation). take i ended ++ q ∷ []) (sym is) in
+    sym (
+        ap (λ (done : List Reservation). amounts_after_all end.Commit amounts (of_row row done)) more
+        ∙ ap (λ (ended : List (List ℤ)). amounts_after_all end.Commit amounts ended) (of_append row (take i ended) (r ∷ []))
+        ∙ after_all-append end.Commit amounts (of_row row (take i ended)) (of_row row (r ∷ []))
+    )
+
+-- of the row: its changes are added
+pub own_moved : (row : RowName) (amounts : List ℤ) (r : Reservation) → true ≡ same_row row r.row → all_moved amounts (counted r.changes) ≡ amounts_after_all end.Commit amounts (of_row row (r ∷ []))
+own_moved row amounts r same = rw (← same) refl
+
+-- of another: nothing is
+pub other_stays : (row : RowName) (amounts : List ℤ) (r : Reservation) → false ≡ same_row row r.row → amounts ≡ amounts_after_all end.Commit amounts (of_row row (r ∷ []))
+other_stays row amounts r apart = rw (← apart) refl
+
+-- all have ended
+pub after_last : (row : RowName) (amounts : List ℤ) (ended : List Reservation) (i : ℕ) → length ended ≤ i
+    → amounts_after_all end.Commit amounts (of_row row (take i ended)) ≡ amounts_after_all end.Commit amounts (of_row row ended)
+after_last row amounts ended i past = ap (λ (done : List Reservation). amounts_after_all end.Commit amounts (of_row row done)) (take_all i ended past)
 
 -- ---- places
 

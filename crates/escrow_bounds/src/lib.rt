@@ -13,3 +13,4 @@ mod tracked;
 
 pub use bounds::Bounds;
 pub use changes::counted;
+pub use place::commit_amounts;

@@ -7,13 +7,15 @@ ghost use Rattle.escrow_checks.specs.declared.coefficients.TheConstants.Coeffici
 ghost use Rattle.escrow_checks.specs.declared.spread.TheConstants.Spread.{MAX_OPEN};
 ghost use Rattle.escrow_bounds.specs.Columns.{unit_form, column_check, column_checks};
 ghost use Rattle.escrow_bounds.specs.Counts.{HaveSums, Counts, IsNew, TakesIn, GivesBack};
+ghost use Rattle.escrow_bounds.specs.Held.{of_row};
 ghost use Rattle.escrow_bounds.specs.Kept.{checks_of};
-ghost use Rattle.escrow_bounds.specs.Moved.{moved, all_moved};
+ghost use Rattle.escrow_bounds.specs.Moved.{moved, all_moved, amounts_after_all};
 ghost use Rattle.escrow_bounds.specs.declared.tracked.Tracked.{Tracked};
 
+use crate::changes::counted;
 use crate::tracked::{Tracked, first_breach, give_back, push_check, take_in};
 use escrow_checks::{Check, Coefficients};
-use escrow_num::{Amount, Breach, End, Name, Span, Wide};
+use escrow_num::{Amount, Breach, End, Name, Reservation, RowName, Span, Wide};
 use std::alloc::{AllocError, Global};
 use std::marker::Model;
 
@@ -161,6 +163,20 @@ fn column_check(columns: usize, place: usize) -> Check
         name: Name::new(b"COLUMN").unwrap(),
         coeffs: Coefficients::unit(columns, place),
         span: Span { lo: None, hi: None },
+    }
+}
+
+/// Adds to the amounts of a row what reservations of it change, as their COMMIT does, one after another.
+/// Those of other rows add nothing.
+pub fn commit_amounts(amounts: &mut [Amount], row: &RowName, reservations: &[Reservation])
+    requires { AllByRecursion (λ r. length r.changes ≤ MAX_LEN) reservations.now }
+    ensures { amounts.new ≡ amounts_after_all End.Commit amounts.old (of_row row.now reservations.now) }
+{
+    for r in reservations {
+        if row.is_same(&r.row) {
+            let changes = counted(r.changes.as_slice());
+            move_all(amounts, &changes[..r.changes.len()]);
+        }
     }
 }
 

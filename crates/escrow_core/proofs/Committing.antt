@@ -23,7 +23,16 @@ use Rattle.escrow_num.specs.Refusal.{refusal_for}
 use Rattle.escrow_journal.specs.Open.{Open, ended}
 use Rattle.escrow_machine.specs.declared.reply.Reply.{Reply}
 use Rattle.escrow_machine.specs.declared.reply.Reply.TheVariants as reply
-use Rattle.escrow_core.specs.Inside.{seen_of, amounts_named, AreOfTables, HaveAmounts, Keeps}
+use Rattle.sqlite.specs.Held.{state}
+use Rattle.sqlite.specs.State.{HasCleanDisk}
+use Rattle.escrow_schema.specs.Catalog.{table_named}
+use Rattle.escrow_schema.specs.Column.{reservables}
+use Rattle.escrow_schema.specs.declared.table.TableDef.{TableDef}
+use Rattle.escrow_bounds.specs.Held.{of_row}
+use Rattle.escrow_bounds.proofs.Ending.{length-after_all}
+use Rattle.escrow_machine.proofs.Safe.{some_weaker}
+use Rattle.escrow_core.specs.declared.recent.ReadRow.{ReadRow}
+use Rattle.escrow_core.specs.Inside.{seen_of, amounts_named, committed_by, AreOfTables, HaveAmounts, IsKnown, IsRead, Keeps}
 use Rattle.escrow_core.specs.Reserved.{AreAmounts, ArePlaced}
 use Rattle.escrow_core.specs.Serves.{Serves}
 use Rattle.escrow_machine.specs.Accepted.{PassesEarly}
@@ -34,7 +43,7 @@ use Rattle.escrow_machine.specs.Turn.{turn_of, after_commit, after_rollback}
 use Rattle.escrow_machine.specs.Valid.{IsValid}
 use Rattle.escrow_machine.proofs.Applying.{applied_none}
 use Rattle.escrow_core.proofs.Served.{commit_serves}
-use Rattle.escrow_core.proofs.Places.{commits_amounts, ended_tables, rollbacks_amounts}
+use Rattle.escrow_core.proofs.Places.{committed_amounts, commits_amounts, ended_tables, rollbacks_amounts}
 use Rattle.escrow_core.proofs.Serving.{apart_keeps, fails, refused, served_apart, still_clean, wrote, write_failed, wrote_keeps}
 use Rattle.escrow_machine.proofs.ValidEnds.{commit_orderly, commit_valid, rollback_orderly, rollback_valid}
 
@@ -64,6 +73,17 @@ changes_none : (s : State) (session : ℕ) → own session s.reservations ≡ []
 changes_none s session none =
     let same : applied s.rows (own session s.reservations) ≡ s.rows = subst (λ (mine : List Reservation). applied s.rows mine ≡ s.rows) (sym none) (applied_none s.rows) in
     ap (λ (rows : List Row). record (after_rollback s session) { rows = rows }) same
+
+-- what was read of a row, when reservations are committed
+known_after : (catalog : List TableDef) (reservations : List Reservation) (recent : Option ReadRow) → IsKnown catalog recent → IsKnown catalog (option_map (committed_by reservations) recent)
+known_after catalog reservations None known = tt
+known_after catalog reservations (Some r) known =
+    some_weaker (λ (t : TableDef). length r.amounts ≡ length (reservables t.columns)) (λ (t : TableDef). length (committed_by reservations r).amounts ≡ length (reservables t.columns)) (table_named catalog r.name.table)
+    (λ t many. length-after_all end.Commit r.amounts (of_row r.name reservations) ∙ many) known
+
+read_after : (s : State) (session : ℕ) (recent : Option ReadRow) → IsValid s → IsRead s.rows recent → IsRead (applied s.rows (own session s.reservations)) (option_map (committed_by (own session s.reservations)) recent)
+read_after s session None valid read = tt
+read_after s session (Some r) valid read = committed_amounts s session r.name r.amounts valid read
 
 module _ {S : Type 0} (g : Ghosts S) (session : ℕ) (t : Committed S) (o : Open) where
   -- the session holds no reservation
@@ -107,6 +127,20 @@ module _ {S : Type 0} (g : Ghosts S) (session : ℕ) (t : Committed S) (o : Open
               let valid : IsValid s = record { orderly = keeps.kept.orderly; safe_rows = keeps.kept.safe_rows was } in
               subst (λ rs. HaveAmounts rs places) (sym (writes.done_rows refl clean)) (commits_amounts s session old places valid are (keeps.amounts was));
         }
+
+    -- what was read of a row has what is committed
+    pub committed_known : (recent : Option ReadRow) → IsKnown t.catalog recent → Writes g t new true t.catalog (applied t.rows (own session o.reservations))
+        → IsKnown new.catalog (option_map (committed_by (own session o.reservations)) recent)
+    committed_known recent known writes =
+        subst (λ c. IsKnown c (option_map (committed_by (own session o.reservations)) recent)) (sym (writes.done_catalog refl)) (known_after t.catalog (own session o.reservations) recent known)
+
+    pub committed_read : (old : Places) (recent : Option ReadRow) → Keeps g (seen_of t o) old → (HasCleanDisk (state g t.store) → IsRead t.rows recent)
+        → Writes g t new true t.catalog (applied t.rows (own session o.reservations)) → HasCleanDisk (state g new.store) → IsRead new.rows (option_map (committed_by (own session o.reservations)) recent)
+    committed_read old recent keeps read writes clean =
+        let s : State = (seen_of t o).state in
+        let was = still_clean _ _ _ writes.survives clean in
+        let valid : IsValid s = record { orderly = keeps.kept.orderly; safe_rows = keeps.kept.safe_rows was } in
+        subst (λ rs. IsRead rs (option_map (committed_by (own session o.reservations)) recent)) (sym (writes.done_rows refl clean)) (read_after s session recent valid (read was))
 
     -- the store refused: the transaction goes on
     pub not_committed : (f : Failure) → nat_lt 0 (length (own session o.reservations)) ≡ true → Writes g t new false t.catalog (applied t.rows (own session o.reservations))

@@ -3,12 +3,16 @@ use Rattle.std.specs.Prelude.{◌≡◌, ℤ, Option, Some, option_map, IfSome, 
 use Rattle.sqlite.specs.Held.{state}
 use Rattle.sqlite.specs.State.{HasCleanDisk}
 use Rattle.sqlite_trees.specs.declared.store.Store.{Ghosts}
+use Rattle.escrow_num.specs.declared.reservation.Reservation.{Reservation}
 use Rattle.escrow_num.specs.declared.row.Row.{Row}
+use Rattle.escrow_num.specs.declared.session.End.TheVariants as end
 use Rattle.escrow_num.specs.declared.value.RowName.{RowName}
 use Rattle.escrow_schema.specs.declared.table.TableDef.{TableDef}
 use Rattle.escrow_schema.specs.Catalog.{table_named}
 use Rattle.escrow_schema.specs.Column.{reservables}
+use Rattle.escrow_bounds.specs.Held.{of_row}
 use Rattle.escrow_bounds.specs.Kept.{Kept, checks_of}
+use Rattle.escrow_bounds.specs.Moved.{amounts_after_all}
 use Rattle.escrow_bounds.specs.Places.{Places, place_at}
 use Rattle.escrow_machine.specs.Rows.{row_named}
 use Rattle.escrow_tables.specs.Committed.{Committed}
@@ -54,6 +58,10 @@ IsKnown catalog read = IfSome read (λ r. IsSomeAnd (table_named catalog r.name.
 -- and they are its committed amounts
 abbrev pub IsRead : List Row → Option ReadRow → Type 0
 IsRead rows read = IfSome read (λ r. amounts_named rows r.name ≡ Some r.amounts)
+
+-- what was read of a row, when reservations are committed: those that are of it are in its amounts
+abbrev pub committed_by : List Reservation → ReadRow → ReadRow
+committed_by reservations r = record r { amounts = amounts_after_all end.Commit r.amounts (of_row r.name reservations) }
 
 -- What a database keeps: its state, as far as the disk allows; and places, just of the rows that have an open
 -- reservation, each with the checks of its table and, while the disk has returned what was written, the committed

@@ -90,14 +90,15 @@ impl Reserved {
         self.bounds.has_place_in(table)
     }
 
-    /// The committed amounts of the row of each reservation that a session holds, in order of grant. Want of
-    /// memory is the only error.
+    /// The committed amounts of the row of each reservation that a session holds, in order of grant; each changes
+    /// few enough columns. Want of memory is the only error.
     pub(crate) fn amounts_of(
         &self,
         alloc: Global,
         session: Session,
     ) -> Result<Vec<&[Amount]>, AllocError>
-        ensures { IfOk result (λ all. AreAmounts self.now.places (own session self.now.txns.reservations) (map (λ amounts. amounts.now) all.items)) }
+        ensures amounts { IfOk result (λ all. AreAmounts self.now.places (own session self.now.txns.reservations) (map (λ amounts. amounts.now) all.items)) }
+        ensures short { OnOk result (AllByRecursion IsShort (own session self.now.txns.reservations)) }
     {
         let reservations = self.txns.journal(session).all();
         let mut all = Vec::with_capacity(alloc, reservations.len())?;

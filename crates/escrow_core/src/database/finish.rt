@@ -66,12 +66,17 @@ impl<S: Alter> Database<S> {
             return Ok(self.reserved.end(session, End::Rollback));
         }
         let amounts = self.reserved.amounts_of(alloc, session)?;
-        self.recent.forget();
         let written = self.tables.apply(alloc, reservations, &amounts);
         drop(amounts);
         match written {
-            Ok(()) => Ok(self.reserved.end(session, End::Commit)),
-            Err(failure) => Err(failure),
+            Ok(()) => {
+                self.recent.commit(reservations);
+                Ok(self.reserved.end(session, End::Commit))
+            }
+            Err(failure) => {
+                self.recent.forget();
+                Err(failure)
+            }
         }
     }
 

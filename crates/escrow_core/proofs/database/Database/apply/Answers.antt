@@ -10,7 +10,7 @@ use Rattle.escrow_sql.specs.declared.statement.Statement.TheVariants as statemen
 use Rattle.escrow_machine.specs.declared.reply.Reply.TheVariants as reply
 use Rattle.escrow_core.specs.Inside.{seen_of}
 use Rattle.escrow_core.specs.Serves.{Serves}
-use Rattle.escrow_core.proofs.Committing.{as_many, commit_wants, committed, committed_keeps, failed_so, given as are_given, holds_none, holds_some, just_ended, just_ended_keeps, not_committed}
+use Rattle.escrow_core.proofs.Committing.{as_many, commit_wants, committed, committed_keeps, committed_known, committed_read, failed_so, given as are_given, holds_none, holds_some, just_ended, just_ended_keeps, not_committed}
 use Rattle.escrow_core.proofs.Serving.{unwritten_keeps}
 use Rattle.escrow_core.proofs.database.Database.apply.Given as given
 use Rattle.escrow_core.proofs.database.Database.apply.Goals as goal
@@ -59,7 +59,7 @@ apply-written-requires-clause-many g c =
     let at = (goal.at.apply-written-requires-clause-many g c).After-is_empty in
     let items = c.in_ok-amounts.amounts.items in
     ap length c.deref.ensures.value ∙ sym (length-map items (λ amounts. amounts.now))
-    ∙ as_many c.self.inside.reserved.places (own c.args.session c.self.inside.reserved.txns.reservations) (map (λ amounts. amounts.now) items) c.in_ok-amounts.ensures
+    ∙ as_many c.self.inside.reserved.places (own c.args.session c.self.inside.reserved.txns.reservations) (map (λ amounts. amounts.now) items) c.in_ok-amounts.ensures.amounts
     ∙ sym (ap length (mine g at))
 
 pub apply-written-requires-clause-given : goal.apply-written-requires-clause-given
@@ -67,19 +67,25 @@ apply-written-requires-clause-given g c = λ clean.
     let at = (goal.at.apply-written-requires-clause-given g c).After-is_empty in
     rw (mine g at, c.deref.ensures.value)
     (are_given c.self.inside.tables.rows c.self.inside.reserved.places (own c.args.session c.self.inside.reserved.txns.reservations) (map (λ amounts. amounts.now) c.in_ok-amounts.amounts.items)
-    (c.self.invariant.keeps.amounts clean) c.in_ok-amounts.ensures)
+    (c.self.invariant.keeps.amounts clean) c.in_ok-amounts.ensures.amounts)
 
 pub invariant_of-self-in-Ok : goal.invariant_of-self-in-Ok
 invariant_of-self-in-Ok g c =
-    rw c.forget.ensures (record {
-      keeps = (let at = (goal.at.invariant_of-self-in-Ok g c).After-is_empty in
-          let writes = rw (mine g at, c.in-Ok.is) at c.apply-written.ensures in
+    let at = (goal.at.invariant_of-self-in-Ok g c).After-is_empty in
+    let writes = rw (mine g at, c.in-Ok.is) at c.apply-written.ensures in
+    rw (c.commit.ensures, mine g at) (record {
+      keeps = (
           rw c.end-in-Ok.ensures.txns
           (committed_keeps g.S.Store c.args.session c.self.inside.tables c.self.inside.reserved.txns c.apply-written.new.self c.self.inside.reserved.places c.end-in-Ok.new.self.places c.self.invariant.keeps writes
           c.end-in-Ok.ensures.places (rw c.end-in-Ok.ensures.txns at (c.end-in-Ok.ensures.placed c.self.invariant.keeps.placed))));
-      known = tt;
-      read = λ _. tt;
+      known = committed_known g.S.Store c.args.session c.self.inside.tables c.self.inside.reserved.txns c.apply-written.new.self c.self.inside.recent c.self.invariant.known writes;
+      read = committed_read g.S.Store c.args.session c.self.inside.tables c.self.inside.reserved.txns c.apply-written.new.self c.self.inside.reserved.places c.self.inside.recent c.self.invariant.keeps c.self.invariant.read writes;
     })
+
+pub commit-requires : goal.commit-requires
+commit-requires g c =
+    let at = (goal.at.commit-requires g c).After-is_empty in
+    rw (mine g at) c.in_ok-amounts.ensures.short
 
 pub invariant_of-self-in-Err : goal.invariant_of-self-in-Err
 invariant_of-self-in-Err g c =

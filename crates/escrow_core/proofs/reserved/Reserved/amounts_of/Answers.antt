@@ -6,7 +6,7 @@ use Rattle.escrow_num.proofs.Items.{all_at}
 use Rattle.escrow_bounds.specs.Places.{place_at}
 use Rattle.escrow_journal.specs.Reservations.{own}
 use Rattle.escrow_core.specs.Reserved.{AreAmounts}
-use Rattle.escrow_core.proofs.Counted.{amounts_more, own_placed}
+use Rattle.escrow_core.proofs.Counted.{amounts_more, own_placed, short_own}
 use Rattle.escrow_core.proofs.reserved.Reserved.amounts_of.Goals as goal
 
 pub loop-r-init : goal.loop-r-init
@@ -28,9 +28,12 @@ loop-r-preserved c =
     rw c.in_ok-push.ensures.items
     (amounts_more (λ amounts. amounts.now) places c.all-reservations.result.now c.loop-r.all.items c.loop-r.r-index c.r-item.result c.amounts_at.result c.loop-r-test.true c.r-item.is (sym c.amounts_at.ensures) c.loop-r.invariant)
 
-pub returns : goal.returns
-returns c =
+pub returns-clause-amounts : goal.returns-clause-amounts
+returns-clause-amounts c =
     let items = c.all-reservations.result.now in
     let past : length items ≤ c.loop-r.r-index = omega (arith, c.loop-r-test.false) in
     let is : items ≡ own c.args.session c.self.inside.txns.reservations = c.all-reservations.ensures ∙ c.journal.ensures.reservations in
     subst (λ (rs : List Reservation). AreAmounts c.args.self.now.places rs (map (λ amounts. amounts.now) c.loop-r.all.items)) (take_all c.loop-r.r-index items past ∙ is ∙ ap (λ r. own c.args.session r.txns.reservations) c.self.view_is) c.loop-r.invariant
+
+pub returns-clause-short : goal.returns-clause-short
+returns-clause-short c = rw (← c.self.view_is) (short_own c.args.session c.self.inside.txns.reservations c.self.invariant.short)
