@@ -37,9 +37,9 @@ pub after_one : (row : RowName) (amounts : List ℤ) (ended : List Reservation) 
 after_one row amounts ended i r within is =
     let more : take (i + 1) ended ≡ take i ended ++ r ∷ [] = take_more ended i r within ∙ ap (λ (q : Reservation). take i ended ++ q ∷ []) (sym is) in
     sym (
-        ap (λ (done : List Reservation). amounts_after_all end.Commit amounts (of_row row done)) more
-        ∙ ap (λ (ended : List (List ℤ)). amounts_after_all end.Commit amounts ended) (of_append row (take i ended) (r ∷ []))
-        ∙ after_all-append end.Commit amounts (of_row row (take i ended)) (of_row row (r ∷ []))
+    ap (λ (done : List Reservation). amounts_after_all end.Commit amounts (of_row row done)) more
+    ∙ ap (λ (ended : List (List ℤ)). amounts_after_all end.Commit amounts ended) (of_append row (take i ended) (r ∷ []))
+    ∙ after_all-append end.Commit amounts (of_row row (take i ended)) (of_row row (r ∷ []))
     )
 
 -- of the row: its changes are added
