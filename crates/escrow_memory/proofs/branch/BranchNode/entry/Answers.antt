@@ -1,0 +1,21 @@
+use Rattle.std.proofs.Common.{◌+◌, ◌<◌, ◌≤◌, [], length, get_or, refl, sym, ap, ◌∙◌, arith}
+use Rattle.std.proofs.lemmas.Option.{slice_get_read}
+use Rattle.escrow_memory.specs.Children.{children_rows}
+use Rattle.escrow_memory.proofs.Splicing.{flat_map-at}
+use Rattle.escrow_memory.proofs.branch.BranchNode.entry.Goals as goal
+
+-- the entry at the place in the child that `find` answers is the branch's
+pub returns : goal.returns
+returns g c =
+    let rows = g.N.Node.rows in
+    let children = c.args.self.now.children.items in
+    let child = c.index.result.now in
+    let place = c.find-place.result.0 in
+    let left = c.find-place.result.1 in
+    let found = rw c.as_slice.ensures.value at c.find-place.ensures in
+    let here : place < length children = found.found (omega arith) in
+    let within : left + 1 ≤ length (rows child.node.value) = rw (slice_get_read children (length children) place child refl here c.index.ensures) at found.inside in
+    c.entry.ensures
+    ∙ ap (λ node. get_or (rows node) left []) c.deref.ensures
+    ∙ sym (flat_map-at (λ other. rows other.node.value) children place left child [] here c.index.ensures (omega arith))
+    ∙ ap (λ at. get_or (children_rows rows children) at []) (sym found.before)

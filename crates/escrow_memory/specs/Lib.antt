@@ -1,0 +1,11 @@
+pub mod Children
+pub mod Edit
+pub mod Empty
+pub mod Held
+pub mod Laws
+pub mod Leaf
+pub mod Probe
+pub mod Rows
+pub mod Slot
+pub mod Store
+pub mod Trees

@@ -1,0 +1,281 @@
+//! Branches.
+ghost use Rattle.std.specs.Prelude.{◌≡◌, ◌+◌, ◌<◌, ◌≤◌, ◌++◌, ◌∷◌, [], take, drop, length, slice_get, None, IfOk, OnOk, IfSome};
+ghost use Rattle.sqlite_record.specs.Record.{decode};
+ghost use Rattle.escrow_memory.specs.Children.{children_rows, AreCounted};
+ghost use Rattle.escrow_memory.specs.Rows.{spliced, entry_rows, next_rows};
+
+use crate::child::Child;
+use crate::node::Node;
+use crate::probe::Probe;
+use std::alloc::{AllocError, Global};
+use std::mem;
+
+/// A branch of more children is divided.
+const MAX_CHILDREN: usize = 32;
+
+/// Nodes in order, none of which is empty.
+#[derive(Drop)]
+pub(crate) struct Branch<N: Node> {
+    children: Vec<Child<N>>,
+    total: usize,
+    ghost counted: { AreCounted N.rows children.items },
+    ghost summed: { total ≡ length (children_rows N.rows children.items) },
+}
+
+/// How many entries the first children have.
+fn len_before<N: Node>(children: &[Child<N>], place: usize, total: usize) -> usize
+    requires counted { AreCounted N.rows children.now }
+    requires summed { total ≡ length (children_rows N.rows children.now) }
+    requires within { place ≤ length children.now }
+    ensures { result ≡ length (children_rows N.rows (take place children.now)) }
+{
+    let mut before = 0;
+    for child in &children[..place] {
+        before += child.len;
+    }
+    before
+}
+
+/// The child that has an entry, and the entry's place in it. With `cut` 0 it may be the place behind the
+/// child's last entry.
+fn find<N: Node>(children: &[Child<N>], at: usize, cut: usize) -> (usize, usize)
+    requires counted { AreCounted N.rows children.now }
+    requires within { at + cut ≤ length (children_rows N.rows children.now) }
+    requires one { cut ≤ 1 }
+    ensures before { at ≡ length (children_rows N.rows (take result.0 children.now)) + result.1 }
+    ensures inside { IfSome (slice_get children.now result.0) (λ child. result.1 + cut ≤ length (N.rows child.node.value)) }
+    ensures none { slice_get children.now result.0 ≡ None → children.now ≡ [] }
+    ensures found { 0 < cut → result.0 < length children.now }
+    ensures place { result.0 ≤ length children.now }
+{
+    let mut place = 0;
+    let mut left = at;
+    while place < children.len() {
+        let len = children[place].len;
+        if left <= len - cut {
+            break;
+        }
+        left -= len;
+        place += 1;
+    }
+    (place, left)
+}
+
+/// Puts the second part of a divided child behind the first.
+fn add_next<N: Node>(
+    alloc: Global,
+    children: &mut Vec<Child<N>>,
+    place: usize,
+    next: Option<N>,
+) -> Result<(), AllocError>
+    requires { place < length children.old.items }
+    ensures rows { OnOk result (children_rows N.rows children.new.items ≡ children_rows N.rows (take (place + 1) children.old.items) ++ next_rows N.rows next ++ children_rows N.rows (drop (place + 1) children.old.items)) }
+    ensures front { OnOk result (take (place + 1) children.new.items ≡ take (place + 1) children.old.items) }
+    ensures back { OnOk result (AreCounted N.rows (drop (place + 1) children.old.items) → AreCounted N.rows (drop (place + 1) children.new.items)) }
+{
+    match next {
+        Some(node) if node.len() > 0 => {
+            children.insert(place + 1, Child::of(alloc, node)?)?;
+        }
+        _ => {}
+    }
+    Ok(())
+}
+
+/// Joins a child and the next where both are small.
+fn join_small<N: Node>(
+    alloc: Global,
+    children: &mut Vec<Child<N>>,
+    place: usize,
+) -> Result<(), AllocError>
+    requires { AreCounted N.rows children.old.items }
+    ensures rows { OnOk result (children_rows N.rows children.new.items ≡ children_rows N.rows children.old.items) }
+    ensures counted { OnOk result (AreCounted N.rows children.new.items) }
+{
+    if place < children.len().saturating_sub(1)
+        && children[place].node.is_small()
+        && children[place + 1].node.is_small()
+    {
+        let next = children.remove(place + 1);
+        children[place].join(alloc, &next.node)?;
+    }
+    Ok(())
+}
+
+/// Takes out and puts in as [`Node::splice`], in one child.
+fn splice_child<N: Node>(
+    alloc: Global,
+    children: &mut Vec<Child<N>>,
+    place: usize,
+    at: usize,
+    cut: usize,
+    new: Option<&[u8]>,
+) -> Result<(), AllocError>
+    requires counted { AreCounted N.rows children.old.items }
+    requires inside { IfSome (slice_get children.old.items place) (λ child. at + cut ≤ length (N.rows child.node.value)) }
+    requires place { place < length children.old.items }
+    requires one { cut ≤ 1 }
+    ensures rows { OnOk result (children_rows N.rows children.new.items ≡ spliced (length (children_rows N.rows (take place children.old.items)) + at) cut (entry_rows new.entry) (children_rows N.rows children.old.items)) }
+    ensures counted { OnOk result (AreCounted N.rows children.new.items) }
+{
+    let next = children[place].splice(alloc, at, cut, new)?;
+    add_next(alloc, children, place, next)?;
+    if children[place].len == 0 {
+        children.remove(place);
+    }
+    Ok(())
+}
+
+impl<N: Node> Branch<N> {
+    /// No entries. Takes no memory.
+    pub(crate) fn new(alloc: Global) -> Branch<N>
+        ensures { result.children.items ≡ [] }
+    {
+        Branch {
+            children: Vec::new(alloc),
+            total: 0,
+        }
+    }
+
+    /// The branch without an entry at a place, or with all, and with a new one there, or none; and
+    /// which child it was.
+    pub(crate) fn edited(
+        self,
+        alloc: Global,
+        at: usize,
+        cut: usize,
+        new: Option<&[u8]>,
+    ) -> Result<(Branch<N>, usize), AllocError>
+        requires within { at + cut ≤ length (children_rows N.rows self.children.items) }
+        requires one { cut ≤ 1 }
+        ensures { IfOk result (λ done. children_rows N.rows done.0.children.items ≡ spliced at cut (entry_rows new.entry) (children_rows N.rows self.children.items)) }
+    {
+        let Branch {
+            mut children,
+            total,
+        } = self;
+        let added = usize::from(new.is_some());
+        let total = (total - cut).checked_add(added).ok_or(AllocError)?;
+        let (place, within) = find(children.as_slice(), at, cut);
+        if place < children.len() {
+            splice_child(alloc, &mut children, place, within, cut, new)?;
+            if added == 0 {
+                join_small(alloc, &mut children, place)?;
+                join_small(alloc, &mut children, place.saturating_sub(1))?;
+            }
+        } else if let Some(entry) = new {
+            children.push(Child::of(alloc, N::of_one(alloc, entry)?)?)?;
+        }
+        Ok((Branch { children, total }, place))
+    }
+
+    /// The branch, in two where it is too large. Where the newest child is the last, as where entries
+    /// come in order, the first part is as full as a branch may be.
+    fn divided(self, newest: usize) -> Result<(Branch<N>, Option<Branch<N>>), AllocError>
+        ensures { IfOk result (λ parts. children_rows N.rows parts.0.children.items ++ next_rows (λ branch. children_rows N.rows branch.children.items) parts.1 ≡ children_rows N.rows self.children.items) }
+    {
+        let Branch {
+            mut children,
+            total,
+        } = self;
+        let len = children.len();
+        if len <= MAX_CHILDREN {
+            return Ok((Branch { children, total }, None));
+        }
+        let middle = if newest < len - 2 { len / 2 } else { len - 1 };
+        let before = len_before(children.as_slice(), middle, total);
+        let behind = children.split_off(middle)?;
+        let first = Branch {
+            children,
+            total: before,
+        };
+        let second = Branch {
+            children: behind,
+            total: total - before,
+        };
+        Ok((first, Some(second)))
+    }
+}
+
+impl<N: Node> Node for Branch<N> {
+    ghost rows = { λ branch. children_rows N.rows branch.children.items };
+
+    fn len(&self) -> usize {
+        self.total
+    }
+
+    fn is_small(&self) -> bool {
+        self.children.len() <= MAX_CHILDREN / 4
+    }
+
+    fn entry(&self, at: usize) -> &[u8] {
+        let (place, within) = find(self.children.as_slice(), at, 1);
+        self.children[place].node.entry(within)
+    }
+
+    fn last(&self) -> &[u8] {
+        self.children[self.children.len() - 1].node.last()
+    }
+
+    fn seek(&self, probe: Probe<'_>) -> (usize, Option<&[u8]>) {
+        if self.children.is_empty() {
+            return (0, None);
+        }
+        let mut low = 0;
+        let mut high = self.children.len() - 1;
+        while low < high {
+            let middle = low + (high - low) / 2;
+            if probe.passes(self.children[middle].node.last()) {
+                low = middle + 1;
+            } else {
+                high = middle;
+            }
+        }
+        let before = len_before(self.children.as_slice(), low, self.total);
+        let (within, found) = self.children[low].node.seek(probe);
+        (before + within, found)
+    }
+
+    fn of_one(alloc: Global, entry: &[u8]) -> Result<Branch<N>, AllocError> {
+        let (branch, _) = Branch::new(alloc).edited(alloc, 0, 0, Some(entry))?;
+        Ok(branch)
+    }
+
+    fn copy(&self, alloc: Global) -> Result<Branch<N>, AllocError> {
+        let mut children = Vec::with_capacity(alloc, self.children.len())?;
+        for child in &self.children {
+            children.push(child.share()?)?;
+        }
+        Ok(Branch {
+            children,
+            total: self.total,
+        })
+    }
+
+    fn splice(
+        &mut self,
+        alloc: Global,
+        at: usize,
+        cut: usize,
+        new: Option<&[u8]>,
+    ) -> Result<Option<Branch<N>>, AllocError> {
+        let branch = mem::replace(self, Branch::new(alloc));
+        let (branch, place) = branch.edited(alloc, at, cut, new)?;
+        let (first, second) = branch.divided(place)?;
+        *self = first;
+        Ok(second)
+    }
+
+    fn join(&mut self, alloc: Global, next: &Branch<N>) -> Result<(), AllocError> {
+        let Branch {
+            mut children,
+            total,
+        } = mem::replace(self, Branch::new(alloc));
+        let total = total.checked_add(next.total).ok_or(AllocError)?;
+        for child in &next.children {
+            children.push(child.share()?)?;
+        }
+        *self = Branch { children, total };
+        Ok(())
+    }
+}

@@ -1,0 +1,82 @@
+//! Children of branches.
+ghost use Rattle.std.specs.Prelude.{◌≡◌, ◌+◌, ◌≤◌, ◌++◌, length, IfOk, OnOk};
+ghost use Rattle.escrow_memory.specs.Rows.{spliced, entry_rows, next_rows};
+
+use crate::node::Node;
+use std::alloc::{AllocError, Global};
+use std::rc::Rc;
+
+/// A node that may have several owners, and how many entries it has. A node is written in place where
+/// it has one owner, and a copy of it where it has several.
+#[derive(Drop)]
+pub(crate) struct Child<N: Node> {
+    pub(crate) len: usize,
+    pub(crate) node: Rc<N>,
+}
+
+impl<N: Node> Child<N> {
+    pub(crate) fn of(alloc: Global, node: N) -> Result<Child<N>, AllocError>
+        ensures node { IfOk result (λ child. child.node.value ≡ node) }
+        ensures len { IfOk result (λ child. child.len ≡ length (N.rows node)) }
+    {
+        let len = node.len();
+        Ok(Child {
+            len,
+            node: Rc::new(alloc, node)?,
+        })
+    }
+
+    /// One more owner of the node.
+    pub(crate) fn share(&self) -> Result<Child<N>, AllocError>
+        ensures node { IfOk result (λ child. child.node.value ≡ self.now.node.value) }
+        ensures len { IfOk result (λ child. child.len ≡ self.now.len) }
+    {
+        Ok(Child {
+            len: self.len,
+            node: self.node.clone()?,
+        })
+    }
+
+    /// As [`Node::splice`]. What an error leaves is not said.
+    pub(crate) fn splice(
+        &mut self,
+        alloc: Global,
+        at: usize,
+        cut: usize,
+        new: Option<&[u8]>,
+    ) -> Result<Option<N>, AllocError>
+        requires within { at + cut ≤ length (N.rows self.old.node.value) }
+        requires one { cut ≤ 1 }
+        ensures ok { IfOk result (λ next. N.rows self.new.node.value ++ next_rows N.rows next ≡ spliced at cut (entry_rows new.entry) (N.rows self.old.node.value)) }
+        ensures len { OnOk result (self.new.len ≡ length (N.rows self.new.node.value)) }
+    {
+        let next = match Rc::get_mut(&mut self.node) {
+            Some(node) => node.splice(alloc, at, cut, new)?,
+            None => {
+                let mut copy = self.node.copy(alloc)?;
+                let next = copy.splice(alloc, at, cut, new)?;
+                self.node = Rc::new(alloc, copy)?;
+                next
+            }
+        };
+        self.len = self.node.len();
+        Ok(next)
+    }
+
+    /// As [`Node::join`]. What an error leaves is not said.
+    pub(crate) fn join(&mut self, alloc: Global, next: &N) -> Result<(), AllocError>
+        ensures ok { OnOk result (N.rows self.new.node.value ≡ N.rows self.old.node.value ++ N.rows next.now) }
+        ensures len { OnOk result (self.new.len ≡ length (N.rows self.new.node.value)) }
+    {
+        match Rc::get_mut(&mut self.node) {
+            Some(node) => node.join(alloc, next)?,
+            None => {
+                let mut copy = self.node.copy(alloc)?;
+                copy.join(alloc, next)?;
+                self.node = Rc::new(alloc, copy)?;
+            }
+        }
+        self.len = self.node.len();
+        Ok(())
+    }
+}

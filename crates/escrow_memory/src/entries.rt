@@ -1,0 +1,156 @@
+//! The entries of a tree.
+ghost use Rattle.std.specs.Prelude.{◌≡◌, ◌+◌, ◌<◌, ◌≤◌, [], length, slice_index_or, count_by, IfOk, IfSome, IsTrue, OnOk, OnErr, None};
+ghost use Rattle.sqlite_record.specs.Record.{decode};
+ghost use Rattle.sqlite_trees.specs.Probe.{IsPlaceOf};
+ghost use Rattle.escrow_memory.specs.Children.{children_rows};
+ghost use Rattle.escrow_memory.specs.Rows.{spliced, entry_rows, IsCut};
+ghost use Rattle.escrow_memory.specs.Probe.{passes};
+
+use crate::branch::Branch;
+use crate::node::Node;
+use crate::probe::Probe;
+use std::alloc::{AllocError, Global};
+use std::cell::Cell;
+use std::marker::Model;
+use std::mem;
+
+/// The entries of a tree, in order, under a branch that is never divided.
+#[derive(Drop)]
+pub(crate) struct Entries<N: Node> {
+    root: Branch<N>,
+    /// The place that was found last.
+    near: Cell<usize>,
+    /// Whether it was the place that was found before, or the next to it: then the one that is asked may be, too.
+    is_run: Cell<bool>,
+}
+
+impl<N: Node> Model for Entries<N> {
+    ghost use Rattle.std.specs.Prelude.{List};
+    ghost use Rattle.escrow_memory.specs.Children.{children_rows};
+    ghost use Rattle.sqlite_value.specs.Order.{Row as RowValue};
+
+    ghost Value = { List RowValue };
+
+    ghost view = { λ entries. children_rows N.rows entries.root.children.items };
+}
+
+impl<N: Node> Entries<N> {
+    /// No entries. Takes no memory.
+    pub(crate) fn new(alloc: Global) -> Entries<N>
+        ensures { result ≡ [] }
+    {
+        Entries {
+            root: Branch::new(alloc),
+            near: Cell::new(0),
+            is_run: Cell::new(false),
+        }
+    }
+
+    /// The same entries, in the same nodes below the first.
+    pub(crate) fn copy(&self, alloc: Global) -> Result<Entries<N>, AllocError>
+        ensures { IfOk result (λ entries. entries ≡ self.now) }
+    {
+        Ok(Entries {
+            root: self.root.copy(alloc)?,
+            near: Cell::new(self.near.get()),
+            is_run: Cell::new(self.is_run.get()),
+        })
+    }
+
+    /// How many there are.
+    pub(crate) fn len(&self) -> usize
+        ensures { result ≡ length self.now }
+    {
+        self.root.len()
+    }
+
+    /// The entry at a place, if there are so many.
+    pub(crate) fn get(&self, at: usize) -> Option<&[u8]>
+        ensures some { IfSome result (λ entry. (at < length self.now) × (decode entry.now ≡ slice_index_or self.now at [])) }
+        ensures none { result ≡ None → length self.now ≤ at }
+    {
+        if at < self.root.len() {
+            Some(self.root.entry(at))
+        } else {
+            None
+        }
+    }
+
+    /// Whether no entry from a place on passes.
+    fn fails_from(&self, probe: Probe<'_>, at: usize) -> bool
+        requires { IsCut (passes probe) self.now }
+        ensures { IsTrue result → count_by (passes probe.entry) self.now ≤ at }
+    {
+        match self.get(at) {
+            Some(entry) => !probe.passes(entry),
+            None => true,
+        }
+    }
+
+    /// Whether each entry before a place passes.
+    fn passes_before(&self, probe: Probe<'_>, at: usize) -> bool
+        requires { IsCut (passes probe) self.now }
+        ensures { IsTrue result → at ≤ count_by (passes probe.entry) self.now }
+    {
+        if at == 0 {
+            return true;
+        }
+        match self.get(at - 1) {
+            Some(entry) => probe.passes(entry),
+            None => false,
+        }
+    }
+
+    /// Whether a place is that behind the entries that pass.
+    fn is_place(&self, probe: Probe<'_>, at: usize) -> bool
+        requires { IsCut (passes probe) self.now }
+        ensures { IsTrue result → IsPlaceOf (passes probe.entry) self.now at }
+    {
+        self.fails_from(probe, at) && self.passes_before(probe, at)
+    }
+
+    /// The place behind the entries that pass, and the entry that stands there, if one does. Where the last
+    /// two that were asked stood side by side, as where a table is gone through, it is looked for there first.
+    pub(crate) fn seek(&self, probe: Probe<'_>) -> (usize, Option<&[u8]>)
+        requires { IsCut (passes probe) self.now }
+        ensures place { IsPlaceOf (passes probe.entry) self.now result.0 }
+        ensures some { IfSome result.1 (λ entry. (result.0 < length self.now) × (decode entry.now ≡ slice_index_or self.now result.0 [])) }
+        ensures none { result.1 ≡ None → length self.now ≤ result.0 }
+    {
+        let near = self.near.get();
+        let next = near.saturating_add(1);
+        if self.is_run.get() {
+            if self.is_place(probe, near) {
+                return (near, self.get(near));
+            }
+            if self.is_place(probe, next) {
+                self.near.set(next);
+                return (next, self.get(next));
+            }
+        }
+        let (at, found) = self.root.seek(probe);
+        self.is_run.set(at == near || at == next);
+        self.near.set(at);
+        (at, found)
+    }
+
+    /// Takes out an entry at a place, or none, and puts a new one there, or none. An error leaves no
+    /// entries.
+    pub(crate) fn splice(
+        &mut self,
+        alloc: Global,
+        at: usize,
+        cut: usize,
+        new: Option<&[u8]>,
+    ) -> Result<(), AllocError>
+        requires within { at + cut ≤ length self.old }
+        requires one { cut ≤ 1 }
+        ensures ok { OnOk result (self.new ≡ spliced at cut (entry_rows new.entry) self.old) }
+        ensures err { OnErr result (self.new ≡ []) }
+    {
+        let root = mem::replace(&mut self.root, Branch::new(alloc));
+        let (root, _) = root.edited(alloc, at, cut, new)?;
+        self.root = root;
+        Ok(())
+    }
+}

@@ -1,0 +1,66 @@
+//! What the nodes of a tree have in common.
+ghost use Rattle.std.specs.Prelude.{◌≡◌, ◌+◌, ◌-◌, ◌<◌, ◌≤◌, ◌++◌, ◌∷◌, [], List, length, slice_index_or, count_by, None, IfOk, OnOk, OnErr, IfSome};
+ghost use Rattle.sqlite_value.specs.Order.{Row as RowValue};
+ghost use Rattle.sqlite_record.specs.Record.{decode};
+ghost use Rattle.escrow_memory.specs.Rows.{spliced, entry_rows, next_rows, IsCut};
+ghost use Rattle.escrow_memory.specs.Probe.{passes};
+
+use crate::probe::Probe;
+use std::alloc::{AllocError, Global};
+
+/// A run of a tree's entries, in order. An entry is a row in SQLite's record format.
+pub(crate) trait Node: Sized + Drop {
+    // the rows that its entries read as
+    ghost rows: { Self → List RowValue };
+
+    /// How many entries it has.
+    fn len(&self) -> usize
+        ensures { result ≡ length (rows self.now) };
+
+    /// Whether it is small enough that two of them are joined.
+    fn is_small(&self) -> bool;
+
+    /// The entry at a place.
+    fn entry(&self, at: usize) -> &[u8]
+        requires { at < length (rows self.now) }
+        ensures { decode result.now ≡ slice_index_or (rows self.now) at [] };
+
+    /// The last entry.
+    fn last(&self) -> &[u8]
+        requires { 0 < length (rows self.now) }
+        ensures { decode result.now ≡ slice_index_or (rows self.now) (length (rows self.now) - 1) [] };
+
+    /// How many entries pass, and the entry behind them, if there is one.
+    fn seek(&self, probe: Probe<'_>) -> (usize, Option<&[u8]>)
+        requires { IsCut (passes probe) (rows self.now) }
+        ensures place { result.0 ≡ count_by (passes probe.entry) (rows self.now) }
+        ensures some { IfSome result.1 (λ entry. (result.0 < length (rows self.now)) × (decode entry.now ≡ slice_index_or (rows self.now) result.0 [])) }
+        ensures none { result.1 ≡ None → length (rows self.now) ≤ result.0 };
+
+    /// A node of one entry.
+    fn of_one(alloc: Global, entry: &[u8]) -> Result<Self, AllocError>
+        ensures { IfOk result (λ node. rows node ≡ decode entry.now ∷ []) };
+
+    /// A copy, which shares the nodes below it.
+    fn copy(&self, alloc: Global) -> Result<Self, AllocError>
+        ensures { IfOk result (λ node. rows node ≡ rows self.now) };
+
+    /// Takes out an entry at a place, or none, and puts a new one there, or none. A node that
+    /// became too large is divided: its second part is answered. An error leaves it empty.
+    fn splice(
+        &mut self,
+        alloc: Global,
+        at: usize,
+        cut: usize,
+        new: Option<&[u8]>,
+    ) -> Result<Option<Self>, AllocError>
+        requires within { at + cut ≤ length (rows self.old) }
+        requires one { cut ≤ 1 }
+        ensures ok { IfOk result (λ next. rows self.new ++ next_rows rows next ≡ spliced at cut (entry_rows new.entry) (rows self.old)) }
+        ensures err { OnErr result (rows self.new ≡ []) };
+
+    /// Takes the entries of the node behind it. An error leaves it empty.
+    fn join(&mut self, alloc: Global, next: &Self) -> Result<(), AllocError>
+        ensures ok { OnOk result (rows self.new ≡ rows self.old ++ rows next.now) }
+        ensures err { OnErr result (rows self.new ≡ []) };
+}

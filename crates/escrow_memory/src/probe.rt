@@ -1,0 +1,51 @@
+//! Tests by which a place in a tree is found.
+ghost use Rattle.std.specs.Prelude.{◌≡◌};
+ghost use Rattle.sqlite_value.specs.Value.{owned};
+ghost use Rattle.sqlite_record.specs.Record.{decode};
+ghost use Rattle.sqlite_trees.specs.Tree.{rowid};
+
+use sqlite_record::compare::{with_key, with_row};
+use sqlite_record::fields::Fields;
+use sqlite_value::keys::Order;
+use sqlite_value::order::compare;
+use sqlite_value::row::Row;
+use sqlite_value::value::ValueRef;
+
+/// A test that the entries of a tree pass up to some place, and fail from there on.
+#[derive(Clone, Copy, Debug)]
+pub(crate) enum Probe<'a> {
+    /// The entry is below the key, over the key's columns.
+    BelowKey(Order, &'a Row),
+    /// The entry isn't above the key, over the key's columns.
+    UpToKey(Order, &'a Row),
+    /// The entry's rowid is below this one.
+    BelowRowid(ValueRef<'a>),
+    /// The entry is below this one.
+    BelowEntry(Order, &'a Row),
+}
+
+/// The first value of an entry, which is the rowid of a table's; NULL where it has none.
+#[inline(always)]
+pub(crate) fn rowid_of(entry: &[u8]) -> ValueRef<'_>
+    ensures { owned result ≡ rowid (decode entry.now) }
+{
+    let mut fields = Fields::new(entry);
+    fields.next().unwrap_or(ValueRef::Null)
+}
+
+impl Probe<'_> {
+    ghost use Rattle.escrow_memory.specs.Probe.{passes};
+
+    /// Whether an entry passes.
+    #[inline(always)]
+    pub(crate) fn passes(self, entry: &[u8]) -> bool
+        ensures { result ≡ passes self.entry (decode entry.now) }
+    {
+        match self {
+            Probe::BelowKey(order, key) => with_key(order, entry, key).is_lt(),
+            Probe::UpToKey(order, key) => !with_key(order, entry, key).is_gt(),
+            Probe::BelowRowid(id) => compare(rowid_of(entry), id).is_lt(),
+            Probe::BelowEntry(order, other) => with_row(order, entry, other).is_lt(),
+        }
+    }
+}
