@@ -6,9 +6,10 @@ ghost use Rattle.escrow_cells.specs.Tables.{no_schema};
 ghost use Rattle.escrow_rows.specs.Answers.{IsUsable};
 ghost use Rattle.escrow_server.specs.Program.{file_of};
 
+use escrow_memory::BlockStore;
 use escrow_num::Failure;
 use escrow_tables::Unverified;
-use sqlite::{Alter, Connection, Error, ErrorCode, File, FileStore, MemStore, Options, Unknown};
+use sqlite::{Alter, Connection, Error, ErrorCode, File, FileStore, Options, Unknown};
 use sqlite_std_file::OpenError;
 use std::alloc::{AllocError, Global};
 use std::hash::{BuildHasher, RandomState};
@@ -109,17 +110,14 @@ pub trait OpenStore<S: Alter> {
 #[derive(Clone, Copy, Debug)]
 pub struct InMemory;
 
-impl OpenStore<MemStore> for InMemory {
+impl OpenStore<BlockStore> for InMemory {
     ghost use Rattle.std.specs.Prelude.{◌≡◌};
     ghost use Rattle.escrow_cells.specs.Tables.{no_schema};
 
     ghost may_hold = { λ _ _ db. db.schema ≡ no_schema };
 
-    fn open(&self, alloc: Global, _place: u8) -> Result<Connection<MemStore>, OpenFault> {
-        match Connection::open_in_memory(alloc) {
-            Ok(connection) => Ok(connection),
-            Err(_) => Err(OpenFault::Memory),
-        }
+    fn open(&self, alloc: Global, _place: u8) -> Result<Connection<BlockStore>, OpenFault> {
+        Ok(escrow_memory::open(alloc)?)
     }
 }
 

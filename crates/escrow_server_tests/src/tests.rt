@@ -8,15 +8,15 @@ mod streams;
 mod words;
 
 use escrow_core::Database;
+use escrow_memory::BlockStore;
 use escrow_server::{ServeFault, serve_script};
 use escrow_tables::open_store;
-use sqlite::{Connection, MemStore};
 use std::alloc::Global;
 use std::io::{Read, Write};
 
 /// A database without tables, over a store in memory.
-fn empty_database(alloc: Global) -> Option<Database<MemStore>> {
-    let conn = Connection::open_in_memory(alloc).ok()?;
+fn empty_database(alloc: Global) -> Option<Database<BlockStore>> {
+    let conn = escrow_memory::open(alloc).ok()?;
     let tables = open_store(alloc, conn).ok()?;
     Database::open(alloc, tables).ok()
 }

@@ -1,10 +1,10 @@
 //! Ends of transactions, restarts and lists of events, by the calls of a database that no script makes.
 use escrow_core::{Database, Event, Failure, Reply, Settled, Stop};
+use escrow_memory::BlockStore;
 use escrow_num::{End, Name, Session};
 use escrow_reply::render_lines;
 use escrow_sql::{Request, Statement, parse};
 use escrow_tables::open_store;
-use sqlite::{Connection, MemStore};
 use std::process::Abort;
 use std::test::Fail;
 
@@ -176,7 +176,7 @@ fn assert_lines(rt: &(impl Abort + AllocGlobal), reply: &Reply, want: &str) -> R
 /// Serves statements one after another, and compares their replies.
 fn serve(
     rt: &(impl Abort + AllocGlobal),
-    database: &mut Database<MemStore>,
+    database: &mut Database<BlockStore>,
     cases: &[Served],
 ) -> Result<(), Fail> {
     for (number, text, want) in cases {
@@ -188,9 +188,9 @@ fn serve(
 }
 
 /// A database over a store in memory, with the account.
-fn account(rt: &(impl Abort + AllocGlobal)) -> Result<Database<MemStore>, Fail> {
+fn account(rt: &(impl Abort + AllocGlobal)) -> Result<Database<BlockStore>, Fail> {
     let alloc = rt.alloc();
-    let conn = Connection::open_in_memory(alloc)?;
+    let conn = escrow_memory::open(alloc)?;
     let tables = open_store(alloc, conn).ok().expect(rt, "a store");
     let mut database = Database::open(alloc, tables).ok().expect(rt, "a database");
     serve(rt, &mut database, &ACCOUNT)?;
@@ -205,7 +205,7 @@ fn entry(rt: &impl Abort, (number, end): (u8, End)) -> (Session, End) {
 /// Settles a plan behind the three reservations.
 fn assert_settled(
     rt: &(impl Abort + AllocGlobal),
-    database: &mut Database<MemStore>,
+    database: &mut Database<BlockStore>,
     plan: Plan,
 ) -> Result<(), Fail> {
     serve(rt, database, &THREE_OPEN)?;
@@ -234,7 +234,7 @@ fn settle_orders(rt: HostRuntime) -> Result<(), Fail> {
 /// the store.
 fn settle_within(
     rt: &(impl Abort + AllocGlobal),
-    database: &mut Database<MemStore>,
+    database: &mut Database<BlockStore>,
     limit: u64,
 ) -> Result<Settled, Stop> {
     let back = entry(rt, (1, End::Rollback));

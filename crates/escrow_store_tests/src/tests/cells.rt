@@ -4,8 +4,9 @@ use super::stores::{
     cells, closed, contents, count, done, empty, keys, listed, make, opened, refused, tables,
 };
 use escrow_cells::{Datum, Step, failure_of};
+use escrow_memory::BlockStore;
 use escrow_num::Failure;
-use sqlite::{Alter, Connection, Error, MemStore};
+use sqlite::{Alter, Connection, Error};
 use std::alloc::Global;
 use std::fs;
 use std::test::Fail;
@@ -269,7 +270,7 @@ const READ: [Step<'static>; 6] = [
 /// Tables and places, and how many cells there are.
 const COUNTS: [(i64, i64, usize); 5] = [(1, 1, 2), (1, 2, 1), (1, 4, 0), (2, 1, 1), (3, 1, 0)];
 
-fn begin(conn: &mut Connection<MemStore>) -> Result<usize, Error> {
+fn begin(conn: &mut Connection<BlockStore>) -> Result<usize, Error> {
     conn.execute("BEGIN", &[])
 }
 
@@ -344,7 +345,7 @@ const LIMITED: [(Step<'static>, bool, &str); 6] = [
 ];
 
 /// Does a step under a limit of steps of SQLite.
-fn within(conn: &mut Connection<MemStore>, step: Step<'_>, limit: u64) -> Result<(), Failure> {
+fn within(conn: &mut Connection<BlockStore>, step: Step<'_>, limit: u64) -> Result<(), Failure> {
     conn.set_step_limit(Some(limit));
     let result = done(conn, &[step]);
     conn.set_step_limit(None);
@@ -355,7 +356,7 @@ fn within(conn: &mut Connection<MemStore>, step: Step<'_>, limit: u64) -> Result
 /// store.
 fn is_refused(
     alloc: Global,
-    conn: &mut Connection<MemStore>,
+    conn: &mut Connection<BlockStore>,
     step: Step<'_>,
 ) -> Result<bool, Failure> {
     let before = contents(alloc, conn)?;

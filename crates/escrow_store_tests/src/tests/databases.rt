@@ -1,11 +1,12 @@
 //! Databases over stores, asked by texts. These have no clause, so that the proof of a test does not carry
 //! the state of each call.
 use escrow_core::Database;
+use escrow_memory::BlockStore;
 use escrow_num::{Refusal, Session};
 use escrow_reply::render;
 use escrow_sql::{Request, parse};
 use escrow_tables::open_store;
-use sqlite::{Alter, Connection, MemStore};
+use sqlite::{Alter, Connection};
 use std::alloc::Global;
 use std::process::Abort;
 use std::test::Fail;
@@ -35,9 +36,9 @@ pub fn over<S: Alter + Drop>(alloc: Global, conn: Connection<S>) -> Result<Datab
 }
 
 /// A database with an account, over a store in memory.
-pub fn account<R: Abort + AllocGlobal>(rt: &R) -> Result<Database<MemStore>, Fail> {
+pub fn account<R: Abort + AllocGlobal>(rt: &R) -> Result<Database<BlockStore>, Fail> {
     let alloc = rt.alloc();
-    let conn = Connection::open_in_memory(alloc)?;
+    let conn = escrow_memory::open(alloc)?;
     let mut database = over(alloc, conn).ok().expect(rt, "a database");
     ask_all(rt, &mut database, 1, &ACCOUNT)?;
     Ok(database)

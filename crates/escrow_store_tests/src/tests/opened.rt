@@ -2,9 +2,10 @@
 use super::databases::{ask_all, over};
 use super::stores::{done, empty};
 use escrow_cells::{Datum, Step, failure_of};
+use escrow_memory::BlockStore;
 use escrow_num::{Failure, Refusal};
 use escrow_tables::open_store;
-use sqlite::{Connection, Error, MemStore};
+use sqlite::{Connection, Error};
 use std::alloc::Global;
 use std::test::Fail;
 
@@ -70,13 +71,13 @@ const META: [&str; 2] = [
 ];
 
 /// Executes a statement of SQL.
-fn execute(conn: &mut Connection<MemStore>, text: &str) -> Result<(), Error> {
+fn execute(conn: &mut Connection<BlockStore>, text: &str) -> Result<(), Error> {
     conn.execute(text, &[])?;
     Ok(())
 }
 
 /// The store with the account, changed by a statement of SQL.
-fn changed(alloc: Global, change: &str) -> Result<Connection<MemStore>, Failure> {
+fn changed(alloc: Global, change: &str) -> Result<Connection<BlockStore>, Failure> {
     let mut conn = empty(alloc)?;
     done(&mut conn, &ACCOUNT)?;
     execute(&mut conn, change).map_err(failure_of)?;
@@ -84,7 +85,7 @@ fn changed(alloc: Global, change: &str) -> Result<Connection<MemStore>, Failure>
 }
 
 /// The number of the refusal to open a store, or 0 where it is opened.
-fn refusal(alloc: Global, conn: Connection<MemStore>) -> u8 {
+fn refusal(alloc: Global, conn: Connection<BlockStore>) -> u8 {
     match open_store(alloc, conn) {
         Ok(_) => 0,
         Err(fault) => Refusal::from(fault.cause).number(),
@@ -92,7 +93,7 @@ fn refusal(alloc: Global, conn: Connection<MemStore>) -> u8 {
 }
 
 /// The connection to a store that isn't opened.
-fn handed_back(alloc: Global, conn: Connection<MemStore>) -> Option<Connection<MemStore>> {
+fn handed_back(alloc: Global, conn: Connection<BlockStore>) -> Option<Connection<BlockStore>> {
     match open_store(alloc, conn) {
         Ok(_) => None,
         Err(fault) => Some(fault.connection),
@@ -108,7 +109,7 @@ fn what_is_no_store_is_refused(rt: HostRuntime) -> Result<(), Fail> {
         let conn = changed(alloc, change)?;
         assert_eq!(rt; refusal(alloc, conn), want, "{change}");
     }
-    let mut conn = Connection::open_in_memory(alloc)?;
+    let mut conn = escrow_memory::open(alloc)?;
     for text in META {
         execute(&mut conn, text)?;
     }

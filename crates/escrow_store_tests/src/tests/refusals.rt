@@ -1,7 +1,7 @@
 //! What is refused by a store changes nothing.
 use super::databases::{account, ask, ask_all, is_text};
 use escrow_core::Database;
-use sqlite::MemStore;
+use escrow_memory::BlockStore;
 use std::process::Abort;
 use std::test::Fail;
 
@@ -158,7 +158,7 @@ fn refuse_at_each_limit<R: Abort + AllocGlobal>(rt: &R, write: &Write) -> Result
 /// Whether a statement is served under a limit. Else it is refused by the store.
 fn is_served<R: Abort + AllocGlobal>(
     rt: &R,
-    database: &mut Database<MemStore>,
+    database: &mut Database<BlockStore>,
     write: &Write,
     limit: u64,
 ) -> Result<bool, Fail> {

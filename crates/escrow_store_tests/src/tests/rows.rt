@@ -4,11 +4,11 @@ ghost use Rattle.escrow_schema.specs.Definition.{IsTable};
 
 use super::databases::{ask_all, over};
 use escrow_cells::create;
+use escrow_memory::BlockStore;
 use escrow_num::{Failure, Refusal, Row};
 use escrow_rows::{RowStore, StoredTable};
 use escrow_schema::{define, fit_row};
 use escrow_sql::{Request, Statement, parse};
-use sqlite::{Connection, MemStore};
 use std::alloc::Global;
 use std::process::Abort;
 use std::test::Fail;
@@ -37,7 +37,7 @@ fn row(alloc: Global, table: &StoredTable, text: &str) -> Result<Row, Refusal>
 /// Puts the row that an INSERT makes.
 fn put(
     alloc: Global,
-    store: &mut RowStore<MemStore>,
+    store: &mut RowStore<BlockStore>,
     table: &StoredTable,
     text: &str,
 ) -> Result<(), Refusal>
@@ -54,7 +54,7 @@ fn put(
 }
 
 /// The tables that a store lists: numbers and names.
-fn listed(alloc: Global, store: &mut RowStore<MemStore>) -> Result<String, Failure> {
+fn listed(alloc: Global, store: &mut RowStore<BlockStore>) -> Result<String, Failure> {
     let mut text = String::new(alloc);
     for table in store.tables(alloc)?.as_slice() {
         let name = table.name.as_str();
@@ -66,7 +66,7 @@ fn listed(alloc: Global, store: &mut RowStore<MemStore>) -> Result<String, Failu
 
 /// How many rows each of two tables has.
 fn counts(
-    store: &mut RowStore<MemStore>,
+    store: &mut RowStore<BlockStore>,
     first: &StoredTable,
     second: &StoredTable,
 ) -> Result<(usize, usize), Failure> {
@@ -78,7 +78,7 @@ fn counts(
 /// Puts a table.
 fn put_table(
     alloc: Global,
-    store: &mut RowStore<MemStore>,
+    store: &mut RowStore<BlockStore>,
     table: &StoredTable,
 ) -> Result<(), Refusal>
     requires { IsTable table.now.table }
@@ -92,7 +92,7 @@ fn put_table(
 /// Puts two tables, with two rows and with one.
 fn fill(
     alloc: Global,
-    store: &mut RowStore<MemStore>,
+    store: &mut RowStore<BlockStore>,
 ) -> Result<(StoredTable, StoredTable), Refusal> {
     let define_a = "CREATE TABLE A (ID NUMBER(3) PRIMARY KEY, N NUMBER(3) RESERVABLE)";
     let a = stored(alloc, 7, define_a)?;
@@ -130,14 +130,17 @@ const FOUND: [(&str, &str); 7] = [
 ];
 
 /// The rows of an empty store in memory.
-fn row_store(alloc: Global) -> Result<RowStore<MemStore>, Failure> {
-    let mut conn = Connection::open_in_memory(alloc)?;
+fn row_store(alloc: Global) -> Result<RowStore<BlockStore>, Failure> {
+    let mut conn = escrow_memory::open(alloc)?;
+    if !conn.is_autocommit() {
+        return Err(Failure::Store);
+    }
     create(&mut conn)?;
     Ok(RowStore::over(conn))
 }
 
 /// A store with two tables in memory.
-fn filled(alloc: Global) -> Result<(RowStore<MemStore>, StoredTable, StoredTable), Failure> {
+fn filled(alloc: Global) -> Result<(RowStore<BlockStore>, StoredTable, StoredTable), Failure> {
     let mut store = row_store(alloc)?;
     match fill(alloc, &mut store) {
         Ok((a, b)) => Ok((store, a, b)),

@@ -3,13 +3,14 @@
 use escrow_cells::{
     Datum, Sink, Step, count_keys, create, failure_of, key_cells, row_cells, run, table_cells, tabs,
 };
+use escrow_memory::BlockStore;
 use escrow_num::Failure;
-use sqlite::{Alter, Connection, Error, File, FileStore, MemStore, Row};
+use sqlite::{Alter, Connection, Error, File, FileStore, Row};
 use std::alloc::Global;
 
 /// An empty store in memory.
-pub fn empty(alloc: Global) -> Result<Connection<MemStore>, Failure> {
-    let mut conn = Connection::open_in_memory(alloc)?;
+pub fn empty(alloc: Global) -> Result<Connection<BlockStore>, Failure> {
+    let mut conn = escrow_memory::open(alloc)?;
     make(&mut conn)?;
     Ok(conn)
 }
