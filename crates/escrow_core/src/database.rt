@@ -20,7 +20,7 @@ use escrow_machine::Reply;
 use escrow_num::{Refusal, Session};
 use escrow_sql::Statement;
 use escrow_tables::Tables;
-use sqlite::Alter;
+use sqlite::{Alter, Connection};
 use std::alloc::{AllocFailed, Global};
 use std::marker::Model;
 
@@ -86,6 +86,14 @@ impl<S: Alter> Database<S> {
             }),
             Err(_) => Err(AllocFailed { value: tables }),
         }
+    }
+
+    /// The connection to the store; what is open is dropped. Makes no store call.
+    pub fn into_connection(self) -> Connection<S>
+        ensures same { result ≡ self.store }
+        ensures outside { result.in_transaction ≡ false }
+    {
+        self.tables.into_connection()
     }
 
     /// The id that the next reservation takes, or `None` where there are no more ids. While the disk has

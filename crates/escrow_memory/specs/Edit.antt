@@ -10,6 +10,8 @@ use Rattle.sqlite_trees.specs.View.{is_int, IsStorable}
 use Rattle.escrow_memory.specs.declared.tree.Edit.{Edit}
 use Rattle.escrow_memory.specs.declared.tree.Edit.TheVariants.{Put, Delete, Insert, Remove}
 
+-- the rows of a tree after a write to it: a row is put in place of that of its rowid, or goes by it; an entry is
+-- inserted in its order, or removed
 abbrev pub edited : Edit → List Row → List Row
 edited (Put row) = put_row row.now
 edited (Delete id) = without_rowid id

@@ -1,5 +1,5 @@
 -- A line that comes in pieces.
-use Rattle.std.proofs.Common.{◌≡◌, ℕ, zero, suc, ◌+◌, ◌-◌, ◌≤◌, ◌<◌, min, List, [], ◌∷◌, ◌++◌, length, take, drop, arith, refl, sym, ap, subst, ◌∙◌, Bool, true, false, not, ◌&&◌, nat_lt, eqb, length-append, Option, Some, None}
+use Rattle.std.proofs.Common.{◌≡◌, ℕ, zero, suc, ◌+◌, ◌-◌, ◌≤◌, ◌<◌, min, List, [], ◌∷◌, ◌++◌, length, take, drop, arith, refl, sym, ap, ap₂, subst, ◌∙◌, Bool, true, false, not, ◌&&◌, nat_lt, eqb, length-append, Option, Some, None}
 use Rattle.std.specs.Prelude.{⊤}
 use Rattle.std.specs.List.{slice_range, position_or_len}
 use Rattle.std.proofs.Math.Seq.{take-append-add}
@@ -9,7 +9,7 @@ use Rattle.std.proofs.lemmas.List.{nil_from_length, take_all, take_min, drop-tak
 use Rattle.escrow_server.specs.Line.{onto_first, lines_of}
 use Rattle.std.specs.Io.KnownBytes.{Consumes, IsAtEnd}
 use Rattle.escrow_server.specs.declared.limits.TheConstants.{MAX_LINE}
-use Rattle.escrow_server.specs.Script.{is_feed, left, has_line, Spends, TakesLine, Moves}
+use Rattle.escrow_server.specs.Script.{is_feed, left, has_line, HasEnded, Spends, TakesLine, Moves}
 
 -- what is kept of a line and the bytes behind it
 pub keeps : (line bytes : List ℕ) (most room : ℕ) → room + length line ≡ most → line ++ take (min room (length bytes)) bytes ≡ take most (line ++ bytes)
@@ -225,6 +225,15 @@ pub in_hand_taken : (found : Bool) (reads : ℕ) (unread rest line kept : List �
 in_hand_taken found reads unread rest line kept is_false moved has =
     let none : nat_lt (position_or_len is_feed unread) (length unread) ≡ false = sym moved.is_found ∙ is_false in
     and_false (nat_lt 0 reads) (rw none at has)
+
+-- behind a script's end there is no line
+pub takes_none : (kept unread : List ℕ) (remaining : Option (List ℕ)) → HasEnded unread remaining → TakesLine false (left unread remaining) (left unread remaining) kept
+takes_none kept unread None over = tt
+takes_none kept unread (Some rest) over = let none : unread ++ rest ≡ [] = ap₂ (λ (u r : List ℕ). u ++ r) over.0 over.1 in (ap lines_of none, none)
+
+-- nor is one in hand
+pub none_in_hand : (reads : ℕ) (unread : List ℕ) → unread ≡ [] → has_line reads unread ≡ true → ⊥
+none_in_hand reads unread none has = and_false (nat_lt 0 reads) (subst (λ (u : List ℕ). has_line reads u ≡ true) none has)
 
 pub spends_more : (bytes mid rest : Option (List ℕ)) (old now new : ℕ) → Spends bytes mid old now → Spends mid rest now new → Spends bytes rest old new
 spends_more None mid rest old now new a b = tt

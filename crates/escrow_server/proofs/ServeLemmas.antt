@@ -249,7 +249,7 @@ stopped_writing why states new script rest old_bytes mid_bytes new_bytes gathere
 
 -- of a fault that isn't the writer's, nothing is left to write
 pub leaves_nothing : (why : ServeFault) → why ≢ fault.Write → Leaves why []
-leaves_nothing fault.Read other = refl
+leaves_nothing (fault.Read cause) other = refl
 leaves_nothing fault.Write other = absurd (other refl)
 leaves_nothing fault.Memory other = tt
 

@@ -97,7 +97,7 @@ pub record ServesWhole (script : List ℕ) (states new : List State) (old_bytes 
 
 -- after a fault of the reader no reply is left to write, and after one of the writer some of one is
 abbrev pub Leaves : ServeFault → List ℕ → Type 0
-Leaves serve_fault.Read unwritten = unwritten ≡ []
+Leaves (serve_fault.Read cause) unwritten = unwritten ≡ []
 Leaves serve_fault.Write unwritten = 0 < length unwritten
 Leaves serve_fault.Memory unwritten = ⊤
 

@@ -51,6 +51,14 @@ SaysWhy old_bytes new_bytes = (text : List ℕ) × WritesFront old_bytes new_byt
 abbrev pub WritesNothing : Option (List ℕ) → Option (List ℕ) → Type 0
 WritesNothing old_bytes new_bytes = Appends old_bytes new_bytes []
 
+-- stores that can't be closed were told of, as far as the writer took it
+abbrev pub TellsOfStores : Option (List ℕ) → Option (List ℕ) → Type 0
+TellsOfStores old_bytes new_bytes = (text : List ℕ) × WritesFront old_bytes new_bytes (codes "escrowd: the store of " ++ text)
+
+-- nothing was said, or of stores alone that can't be closed
+abbrev pub IsQuiet : Option (List ℕ) → Option (List ℕ) → Type 0
+IsQuiet old_bytes new_bytes = WritesNothing old_bytes new_bytes ⊎ TellsOfStores old_bytes new_bytes
+
 -- the exit status where the words of the command line can't be had: 2 where one isn't UTF-8, otherwise 1
 abbrev pub unread_status : ErrorKind → ℕ
 unread_status error.InvalidData = 2

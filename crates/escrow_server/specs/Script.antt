@@ -1,6 +1,6 @@
 -- Helps: how the lines of a script are read.
 use Rattle.std.specs.Prelude.{◌≡◌, ℕ, ◌+◌, ◌==◌, ◌&&◌, Bool, true, false, nat_lt, Option, Some, None, List, [], ◌∷◌, ◌++◌, length, take, drop, ⊤}
-use Rattle.std.specs.Io.KnownBytes.{prepend_known}
+use Rattle.std.specs.Io.KnownBytes.{prepend_known, IsAtEnd}
 use Rattle.std.specs.List.{position_or_len}
 use Rattle.escrow_server.specs.Line.{lines_of}
 use Rattle.escrow_server.specs.declared.limits.TheConstants.{MAX_LINE}
@@ -17,6 +17,10 @@ has_line reads unread = nat_lt 0 reads && nat_lt (position_or_len is_feed unread
 -- where these are known
 abbrev pub left : List ℕ → Option (List ℕ) → Option (List ℕ)
 left unread remaining = prepend_known unread remaining
+
+-- a script has nothing left: all that was read is taken, and its reader is at its end
+abbrev pub HasEnded : List ℕ → Option (List ℕ) → Type 0
+HasEnded unread remaining = (unread ≡ []) × IsAtEnd remaining
 
 -- what a reader gave, where its bytes are known, was taken from what a script may still have
 abbrev pub Spends : Option (List ℕ) → Option (List ℕ) → ℕ → ℕ → Type 0

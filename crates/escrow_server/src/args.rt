@@ -159,7 +159,9 @@ again by the next run. Without --store everything is gone at the end.
 
 Exit status: 0 when all was served and written, 1 when the script can't be read,
 a reply can't be written or memory is short, 2 for wrong arguments, 3 when a
-store can't be opened, in which case nothing was read.";
+store can't be opened, in which case nothing was read.
+
+escrowd 1.0, proved with rattle-kit-13f logic dac8208d650f15bf";
 
 /// The arguments that the values ask, or what is wrong with a value.
 fn asked(alloc: Global, matches: &ArgMatches<'_>) -> Result<Args, ArgFault>

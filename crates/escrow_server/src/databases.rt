@@ -9,19 +9,21 @@ ghost use Rattle.escrow_server.specs.Program.{run_status, AreFound, IsFound, Sta
 use crate::fault::RunFault;
 use crate::limits::MAX_DATABASES;
 use crate::names::database_name;
-use crate::stores::{OpenFault, OpenStore};
+use crate::site::Site;
+use crate::stores::{CloseFault, OpenFault, OpenStore, Opened, close};
 use escrow_core::Database;
 use escrow_tables::open_store;
-use sqlite::{Alter, Connection};
+use sqlite::{Alter, Connection, File, FileStore};
 use std::alloc::Global;
 
-/// Opens so many databases, each over the store at its place, one after another. Those that were opened
-/// before one that can't be are left in `databases`.
+/// Opens so many databases, each over the store at its place, one after another, and notes where their files
+/// are. Those that were opened before one that can't be are left in `databases`.
 pub(crate) fn open_databases<S: Alter + Drop, O: OpenStore<S>>(
     alloc: Global,
     stores: &O,
     count: u8,
     databases: &mut Vec<Database<S>>,
+    sites: &mut Vec<Option<Site>>,
 ) -> Result<(), RunFault>
     requires few { count ≤ MAX_DATABASES }
     requires none { databases.old.items ≡ [] }
@@ -29,8 +31,13 @@ pub(crate) fn open_databases<S: Alter + Drop, O: OpenStore<S>>(
     ensures len { OnOk result (vec_len databases.new ≡ count) }
     ensures kind { IfErr result (λ fault. run_status fault ≡ 3) }
 {
+    // What is opened has to be closed, so room for it is made before.
+    let room = usize::from(count);
+    let Ok(()) = databases.reserve(room).and(sites.reserve(room)) else {
+        return Err(unopened(0, OpenFault::Memory));
+    };
     for place in 0..count {
-        match open_database(alloc, stores, place) {
+        match open_database(alloc, stores, place, sites) {
             Ok(database) => {
                 if databases.push(database).is_err() {
                     return Err(unopened(place, OpenFault::Memory));
@@ -54,29 +61,71 @@ fn unopened(place: u8, cause: OpenFault) -> RunFault
     }
 }
 
-/// Opens the database at a place.
+/// Opens the database at a place, and notes where its files are. Those of one that is refused are left as they
+/// were.
 fn open_database<S: Alter + Drop, O: OpenStore<S>>(
     alloc: Global,
     stores: &O,
     place: u8,
+    sites: &mut Vec<Option<Site>>,
 ) -> Result<Database<S>, OpenFault>
     ensures { IfOk result (λ d. HasCleanDisk (state S.Store d.store) → IsFound (O.may_hold stores.now place) d.state) }
 {
-    let connection = stores.open(alloc, place)?;
-    over(alloc, connection)
+    let Opened { connection, site } = stores.open(alloc, place)?;
+    match over(alloc, connection) {
+        Ok(database) => {
+            if sites.push(site).is_err() {
+                return Err(OpenFault::Memory);
+            }
+            Ok(database)
+        }
+        Err((cause, connection)) => {
+            // While its files are open nobody else uses them.
+            if let Some(site) = &site {
+                stores.put_back(site);
+            }
+            drop(connection);
+            Err(cause)
+        }
+    }
 }
 
 /// The database of what a store holds: its tables and rows, or none where it has no objects. Nothing is
-/// open in it.
-fn over<S: Alter + Drop>(alloc: Global, connection: Connection<S>) -> Result<Database<S>, OpenFault>
+/// open in it. Where it is refused the connection is handed back.
+fn over<S: Alter + Drop>(
+    alloc: Global,
+    connection: Connection<S>,
+) -> Result<Database<S>, (OpenFault, Connection<S>)>
     ensures found { IfOk result (λ d. HasCleanDisk (state S.Store d.store) → StartsAs (state S.Store connection).now d.state) }
     ensures usable { IfOk result (λ d. HasCleanDisk (state S.Store d.store) → IsUsable (state S.Store connection)) }
 {
     match open_store(alloc, connection) {
         Ok(tables) => match Database::open(alloc, tables) {
             Ok(database) => Ok(database),
-            Err(_) => Err(OpenFault::Memory),
+            Err(failed) => Err((OpenFault::Memory, failed.value.into_connection())),
         },
-        Err(fault) => Err(OpenFault::from(fault.cause)),
+        Err(fault) => Err((OpenFault::from(fault.cause), fault.connection)),
     }
+}
+
+/// Why stores aren't closed, by the places of their databases.
+pub(crate) type Unclosed = [Option<CloseFault>; MAX_DATABASES as usize];
+
+/// Closes the stores of databases, each in its files, and answers why some of them aren't closed.
+pub(crate) fn close_databases(
+    rt: &HostRuntime,
+    mut databases: Vec<Database<FileStore<File>>>,
+    sites: &[Option<Site>],
+) -> Unclosed {
+    let mut unclosed = [None; MAX_DATABASES as usize];
+    while let Some(database) = databases.pop() {
+        let place = databases.len();
+        let site = sites.get(place).and_then(Option::as_ref);
+        if let Err(fault) = close(rt, database.into_connection(), site) {
+            if let Some(slot) = unclosed.get_mut(place) {
+                *slot = Some(fault);
+            }
+        }
+    }
+    unclosed
 }

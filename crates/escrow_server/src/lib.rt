@@ -16,12 +16,14 @@ mod names;
 mod program;
 mod script;
 mod serve;
+mod site;
 mod stores;
 mod unread;
 
 pub use args::{ArgFault, Args, Mode, read_args};
-pub use fault::ServeFault;
+pub use fault::{ReadFault, ServeFault};
 pub use limits::{MAX_DATABASES, MAX_LINE, MAX_READS, MAX_SCRIPT};
 pub use program::run_program;
 pub use serve::serve_script;
-pub use stores::{InFiles, InMemory, OpenFault, OpenStore};
+pub use site::Site;
+pub use stores::{CloseFault, InFiles, InMemory, OpenFault, OpenStore, Opened};

@@ -1,18 +1,20 @@
-ghost use Rattle.std.specs.Prelude.{◌≡◌, ◌≢◌, ◌⊎◌, ◌≤◌, ◌++◌, ℕ, List, Some, None, map, take, codes, [], IfErr, IfSome, IsSome, OnOk};
+ghost use Rattle.std.specs.Prelude.{◌≡◌, ◌≢◌, ◌⊎◌, ◌≤◌, ◌<◌, ◌++◌, ℕ, List, Some, None, map, take, codes, [], IfErr, IfSome, IsSome, OnOk};
 ghost use Rattle.std.specs.Io.KnownBytes.{IsAtEnd, Keeps};
 ghost use Rattle.std.specs.Process.{exit_status};
 ghost use Rattle.escrow_machine.specs.State.{State};
 ghost use Rattle.escrow_server.specs.declared.args.Args.{Args};
 ghost use Rattle.escrow_server.specs.Args.{asked_by, fault_status, refused_status};
 ghost use Rattle.escrow_server.specs.Output.{states_of, HaveCleanDisks, ServesWhole};
-ghost use Rattle.escrow_server.specs.Program.{help_of, run_status, unread_status, AreFound, EndsOverFiles, EndsScript, SaysWhy, Stops, WritesFront, WritesNothing};
+ghost use Rattle.escrow_server.specs.Program.{help_of, run_status, unread_status, AreFound, EndsOverFiles, EndsScript, IsQuiet, SaysWhy, Stops, TellsOfStores, WritesFront, WritesNothing};
 
 use crate::args::{ArgFault, Args, read_args};
-use crate::databases::open_databases;
+use crate::databases::{Unclosed, close_databases, open_databases};
 use crate::fault::RunFault;
 use crate::limits::MAX_DATABASES;
+use crate::names::database_name;
 use crate::serve::{serve_script, write_whole};
-use crate::stores::{InFiles, InMemory, OpenStore, file_of};
+use crate::site::Site;
+use crate::stores::{CloseFault, InFiles, InMemory, OpenStore, file_of};
 use escrow_core::Database;
 use sqlite::Alter;
 use std::alloc::{AllocError, Global};
@@ -24,7 +26,8 @@ use std::{env, io};
 
 /// Runs the program: reads the words of its command line from `line`, opens the databases that they ask, in
 /// memory or in files, and serves the script that comes from `input`, with the replies to `output`. Help
-/// goes to `output` too, and why the program ends early to `errors`.
+/// goes to `output` too, and why the program ends early to `errors`. At the end, and where the program ends early,
+/// the stores in files are closed; one that can't be is told of on `errors`, and doesn't change the status.
 ///
 /// Exit status: 0 when all was served and written, and for help; 1 when the script can't be read, a
 /// reply can't be written or memory is short; 2 for wrong arguments, one that isn't UTF-8 among them;
@@ -36,8 +39,9 @@ pub fn run_program<E: Env, R: Read, W: Write, F: Write>(
     output: &mut W,
     errors: &mut F,
 ) -> ExitCode
-    // Status 0 comes without a word on `errors`, and any other with one, as far as it is taken.
-    ensures silent { exit_status result ≡ 0 → WritesNothing (F.contents errors.old) (F.contents errors.new) }
+    // Status 0 comes without a word on `errors`, or with one of stores that can't be closed, and any other with
+    // one, as far as it is taken.
+    ensures quiet { exit_status result ≡ 0 → IsQuiet (F.contents errors.old) (F.contents errors.new) }
     ensures said { exit_status result ≢ 0 → SaysWhy (F.contents errors.old) (F.contents errors.new) }
 {
     let status = match words(rt.alloc(), line) {
@@ -89,7 +93,9 @@ fn run_words<S: AsStr, R: Read, W: Write, F: Write>(
     ensures unread { asked_by (map S.text words.now) ≡ None → Keeps (R.remaining input.old) (R.remaining input.new) }
     ensures unserved { asked_by (map S.text words.now) ≡ None → result ≢ 0 → WritesNothing (W.contents output.old) (W.contents output.new) }
 
-    ensures silent { result ≡ 0 → WritesNothing (F.contents errors.old) (F.contents errors.new) }
+    ensures silent { (args : Args) → asked_by (map S.text words.now) ≡ Some args → args.path ≡ None → result ≡ 0
+        → WritesNothing (F.contents errors.old) (F.contents errors.new) }
+    ensures quiet { result ≡ 0 → IsQuiet (F.contents errors.old) (F.contents errors.new) }
     ensures said { result ≢ 0 → SaysWhy (F.contents errors.old) (F.contents errors.new) }
 {
     match read_args(rt.alloc(), words) {
@@ -112,10 +118,12 @@ fn run_args<R: Read, W: Write, F: Write>(
         EndsScript args.now.databases result script (R.remaining input.new) (W.contents output.old) (W.contents output.new)) }
     ensures files { IfSome (R.remaining input.old) (λ script.
         EndsOverFiles result script (R.remaining input.new) (W.contents output.old) (W.contents output.new)) }
-    ensures silent { result ≡ 0 → WritesNothing (F.contents errors.old) (F.contents errors.new) }
+    ensures silent { args.now.path ≡ None → result ≡ 0 → WritesNothing (F.contents errors.old) (F.contents errors.new) }
+    ensures quiet { result ≡ 0 → IsQuiet (F.contents errors.old) (F.contents errors.new) }
     ensures said { result ≢ 0 → SaysWhy (F.contents errors.old) (F.contents errors.new) }
 {
     let alloc = rt.alloc();
+    let mut sites = Vec::new(alloc);
     match &args.path {
         None => {
             let mut databases = Vec::new(alloc);
@@ -124,10 +132,11 @@ fn run_args<R: Read, W: Write, F: Write>(
                 &InMemory,
                 args.databases,
                 &mut databases,
+                &mut sites,
                 input,
                 output,
             );
-            status_of(alloc, errors, None, served)
+            status_in_memory(alloc, errors, served)
         }
         Some(path) => {
             let path = path.as_str();
@@ -137,20 +146,24 @@ fn run_args<R: Read, W: Write, F: Write>(
                 &InFiles { rt, path },
                 args.databases,
                 &mut databases,
+                &mut sites,
                 input,
                 output,
             );
-            status_of(alloc, errors, Some(path), served)
+            let unclosed = close_databases(rt, databases, sites.as_slice());
+            status_over_files(alloc, errors, path, served, &unclosed)
         }
     }
 }
 
-/// Opens so many stores, and serves the script in the databases over them, which are left in `databases`.
+/// Opens so many stores, and serves the script in the databases over them, which are left in `databases`, and where
+/// their files are in `sites`.
 fn serve_stores<S: Alter + Drop, O: OpenStore<S>, R: Read, W: Write>(
     alloc: Global,
     stores: &O,
     count: u8,
     databases: &mut Vec<Database<S>>,
+    sites: &mut Vec<Option<Site>>,
     input: &mut R,
     output: &mut W,
 ) -> Result<(), RunFault>
@@ -168,7 +181,7 @@ fn serve_stores<S: Alter + Drop, O: OpenStore<S>, R: Read, W: Write>(
     ensures end { OnOk result (IfSome (R.remaining input.old) (λ script. IsAtEnd (R.remaining input.new))) }
     ensures unopened { IfErr result (λ fault. run_status fault ≡ 3 → Keeps (R.remaining input.old) (R.remaining input.new) × WritesNothing (W.contents output.old) (W.contents output.new)) }
 {
-    open_databases(alloc, stores, count, databases)?;
+    open_databases(alloc, stores, count, databases, sites)?;
     serve_script(alloc, databases, input, output)?;
     Ok(())
 }
@@ -199,13 +212,8 @@ fn print_help<W: Write>(output: &mut W, text: &str)
 /// What is said where memory is short.
 const NO_MEMORY: &str = "out of memory\n";
 
-/// The exit status of what was served, in stores at a path or in memory. Says why where that isn't all.
-fn status_of<F: Write>(
-    alloc: Global,
-    errors: &mut F,
-    path: Option<&str>,
-    served: Result<(), RunFault>,
-) -> u8
+/// The exit status of what was served in memory. Says why where that isn't all.
+fn status_in_memory<F: Write>(alloc: Global, errors: &mut F, served: Result<(), RunFault>) -> u8
     ensures ok { OnOk served (result ≡ 0) }
     ensures err { IfErr served (λ fault. result ≡ run_status fault) }
     ensures silent { result ≡ 0 → WritesNothing (F.contents errors.old) (F.contents errors.new) }
@@ -213,17 +221,46 @@ fn status_of<F: Write>(
 {
     match served {
         Ok(()) => 0,
-        Err(fault) => stop(alloc, errors, path, fault),
+        Err(fault) => {
+            let text = explained(alloc, None, fault);
+            stop(errors, fault, text)
+        }
+    }
+}
+
+/// The exit status of what was served over files. Says why where that isn't all, and which stores aren't
+/// closed.
+fn status_over_files<F: Write>(
+    alloc: Global,
+    errors: &mut F,
+    path: &str,
+    served: Result<(), RunFault>,
+    unclosed: &Unclosed,
+) -> u8
+    ensures ok { OnOk served (result ≡ 0) }
+    ensures err { IfErr served (λ fault. result ≡ run_status fault) }
+    ensures quiet { result ≡ 0 → IsQuiet (F.contents errors.old) (F.contents errors.new) }
+    ensures said { result ≢ 0 → SaysWhy (F.contents errors.old) (F.contents errors.new) }
+{
+    match served {
+        Ok(()) => {
+            tell_unclosed(alloc, errors, path, unclosed);
+            0
+        }
+        Err(fault) => {
+            let text = explained_whole(alloc, path, fault, unclosed);
+            stop(errors, fault, text)
+        }
     }
 }
 
 /// Says why a script isn't served to its end, and answers the exit status.
-fn stop<F: Write>(alloc: Global, errors: &mut F, path: Option<&str>, fault: RunFault) -> u8
+fn stop<F: Write>(errors: &mut F, fault: RunFault, text: Result<String, AllocError>) -> u8
     ensures status { result ≡ run_status fault }
     ensures failed { 1 ≤ result }
     ensures said { SaysWhy (F.contents errors.old) (F.contents errors.new) }
 {
-    match explained(alloc, path, fault) {
+    match text {
         Ok(text) => say_why(errors, text.as_str()),
         Err(_) => say_why(errors, NO_MEMORY),
     }
@@ -248,12 +285,77 @@ fn explained(alloc: Global, path: Option<&str>, fault: RunFault) -> Result<Strin
     }
 }
 
+/// Why a script isn't served to its end, and below it which stores aren't closed.
+fn explained_whole(
+    alloc: Global,
+    path: &str,
+    fault: RunFault,
+    unclosed: &Unclosed,
+) -> Result<String, AllocError> {
+    let mut text = explained(alloc, Some(path), fault)?;
+    let told = unclosed_text(alloc, path, unclosed)?;
+    text.push_str(told.as_str())?;
+    Ok(text)
+}
+
+/// What begins the line of a store that isn't closed.
+const STORE: &str = "escrowd: the store of ";
+
+/// Tells which stores aren't closed, if any.
+fn tell_unclosed<F: Write>(alloc: Global, errors: &mut F, path: &str, unclosed: &Unclosed)
+    ensures { IsQuiet (F.contents errors.old) (F.contents errors.new) }
+{
+    match unclosed_text(alloc, path, unclosed) {
+        Ok(text) => {
+            if let Some(rest) = text.as_str().strip_prefix(STORE) {
+                say(errors, STORE, rest);
+            }
+        }
+        Err(_) => say(errors, STORE, "a database can't be closed\n"),
+    }
+}
+
+/// The stores that aren't closed, a line each.
+fn unclosed_text(alloc: Global, path: &str, unclosed: &Unclosed) -> Result<String, AllocError> {
+    let mut text = String::new(alloc);
+    for place in 0..MAX_DATABASES {
+        if let Some(cause) = unclosed[usize::from(place)] {
+            let line = unclosed_line(alloc, path, place, cause)?;
+            text.push_str(line.as_str())?;
+        }
+    }
+    Ok(text)
+}
+
+/// The line of the store at a place, which isn't closed.
+fn unclosed_line(
+    alloc: Global,
+    path: &str,
+    place: u8,
+    cause: CloseFault,
+) -> Result<String, AllocError>
+    requires { place < MAX_DATABASES }
+{
+    let database = database_name(usize::from(place));
+    let file = file_of(alloc, path, place)?;
+    format!(in alloc;
+        "{STORE}{database}, `{file}`, can't be closed, and what was committed last stands in `{file}-wal`: {cause}\n"
+    )
+}
+
 /// Writes the program's name, a colon and a text. Where they can't be written, nothing is left to
 /// say it to.
 fn say_why<F: Write>(errors: &mut F, text: &str)
     ensures { WritesFront (F.contents errors.old) (F.contents errors.new) (codes "escrowd: " ++ text.now) }
 {
-    if write_whole(errors, b"escrowd: ").is_ok() {
+    say(errors, "escrowd: ", text);
+}
+
+/// Writes a head and a text, as far as they are taken.
+fn say<F: Write>(errors: &mut F, head: &str, text: &str)
+    ensures { WritesFront (F.contents errors.old) (F.contents errors.new) (head.now ++ text.now) }
+{
+    if write_whole(errors, head.as_bytes()).is_ok() {
         let _ = write_whole(errors, text.as_bytes());
     }
 }

@@ -1,10 +1,10 @@
-ghost use Rattle.std.specs.Prelude.{◌≡◌, ◌≢◌, ◌≤◌, ◌<◌, ◌+◌, ◌++◌, [], length, take, true, vec_len, IfOk, IfErr, OnOk};
+ghost use Rattle.std.specs.Prelude.{◌≡◌, ◌≢◌, ◌≤◌, ◌<◌, ◌+◌, ◌++◌, [], length, take, true, false, vec_len, IfOk, IfErr, OnOk};
 ghost use Rattle.std.specs.List.{position_or_len};
 ghost use Rattle.std.specs.Io.KnownBytes.{Consumes, IsAtEnd};
 ghost use Rattle.escrow_server.specs.Script.{is_feed};
 ghost use Rattle.escrow_server.specs.declared.limits.TheConstants.{MAX_LINE, MAX_SCRIPT};
 
-use crate::fault::ServeFault;
+use crate::fault::{ReadFault, ServeFault};
 use crate::limits::{MAX_LINE, MAX_READS, MAX_SCRIPT};
 use crate::unread::Unread;
 use memchr::memchr;
@@ -20,22 +20,25 @@ pub(crate) struct Script {
     line: Vec<u8>,
     bytes_left: usize,
     reads_left: usize,
+    // The reader has said that it is at its end, and isn't asked again.
+    has_ended: bool,
     ghost short: { vec_len line ≤ MAX_LINE + 1 },
     ghost few: { bytes_left ≤ MAX_SCRIPT },
 }
 
 impl Script {
-    ghost use Rattle.escrow_server.specs.Script.{left, has_line, Spends, TakesLine, Moves};
+    ghost use Rattle.escrow_server.specs.Script.{left, has_line, HasEnded, Spends, TakesLine, Moves};
 
     /// A script of which nothing is read.
     pub(crate) fn new(alloc: Global) -> Result<Script, AllocError>
-        ensures { IfOk result (λ s. (s.unread ≡ []) × (s.bytes_left ≡ MAX_SCRIPT)) }
+        ensures { IfOk result (λ s. (s.unread ≡ []) × (s.bytes_left ≡ MAX_SCRIPT) × (s.has_ended ≡ false)) }
     {
         Ok(Script {
             unread: Unread::new(alloc)?,
             line: Vec::new(alloc),
             bytes_left: MAX_SCRIPT,
             reads_left: MAX_READS,
+            has_ended: false,
         })
     }
 
@@ -57,8 +60,9 @@ impl Script {
     }
 
     /// Takes the next line, and answers whether there was one. A line that is in hand is taken, or memory
-    /// is refused.
+    /// is refused. A reader that has said that it is at its end isn't asked again: at a terminal it would go on.
     pub(crate) fn next_line<R: Read>(&mut self, reader: &mut R) -> Result<bool, ServeFault>
+        requires ended { self.old.has_ended ≡ true → HasEnded self.old.unread (R.remaining reader.old) }
         ensures taken { IfOk result (λ found. TakesLine found (left self.old.unread (R.remaining reader.old))
             (left self.new.unread (R.remaining reader.new)) self.new.line.items) }
         ensures less { IfOk result (λ found. found ≡ true →
@@ -66,19 +70,24 @@ impl Script {
         ensures spent { OnOk result (Spends (R.remaining reader.old) (R.remaining reader.new) self.old.bytes_left self.new.bytes_left) }
         ensures in_hand { IfOk result (λ found. has_line self.old.reads_left self.old.unread ≡ true → found ≡ true) }
         ensures cause { IfErr result (λ fault. has_line self.old.reads_left self.old.unread ≡ true → fault ≡ ServeFault.Memory) }
+        ensures ended { IfOk result (λ _. self.new.has_ended ≡ true → HasEnded self.new.unread (R.remaining reader.new)) }
         // The writer has no part in it.
         ensures kind { IfErr result (λ fault. fault ≢ ServeFault.Write) }
     {
+        if self.has_ended {
+            return Ok(false);
+        }
         self.line.clear();
         while self.reads_left > 0 {
             if self.take_front()? {
                 return Ok(true);
             }
             if self.fill(reader)? == 0 {
+                self.has_ended = true;
                 return Ok(!self.line.is_empty());
             }
         }
-        Err(ServeFault::Read)
+        Err(ServeFault::Read(ReadFault::TooLong))
     }
 
     /// Moves the unread bytes up to a line feed into the line, and answers whether there was one.
@@ -89,6 +98,7 @@ impl Script {
             vec_len self.new.line + length self.new.unread < vec_len self.old.line + length self.old.unread) }
         ensures bytes { self.new.bytes_left ≡ self.old.bytes_left }
         ensures reads { self.new.reads_left ≡ self.old.reads_left }
+        ensures ended { self.new.has_ended ≡ self.old.has_ended }
     {
         let bytes = self.unread.as_slice();
         let len = line_len(bytes);
@@ -108,12 +118,13 @@ impl Script {
         ensures line { self.new.line ≡ self.old.line }
         ensures bytes { IfOk result (λ count. self.new.bytes_left + count ≡ self.old.bytes_left) }
         ensures reads { self.new.reads_left + 1 ≡ self.old.reads_left }
-        ensures kind { IfErr result (λ fault. fault ≡ ServeFault.Read) }
+        ensures ended { self.new.has_ended ≡ self.old.has_ended }
+        ensures kind { IfErr result (λ fault. fault ≢ ServeFault.Write) }
     {
         self.reads_left -= 1;
         let count = self.unread.fill(reader)?;
         if count > self.bytes_left {
-            return Err(ServeFault::Read);
+            return Err(ServeFault::Read(ReadFault::TooLong));
         }
         self.bytes_left -= count;
         Ok(count)

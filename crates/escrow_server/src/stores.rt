@@ -6,6 +6,7 @@ ghost use Rattle.escrow_cells.specs.Tables.{no_schema};
 ghost use Rattle.escrow_rows.specs.Answers.{IsUsable};
 ghost use Rattle.escrow_server.specs.Program.{file_of};
 
+use crate::site::Site;
 use escrow_memory::BlockStore;
 use escrow_num::Failure;
 use escrow_tables::Unverified;
@@ -13,7 +14,7 @@ use sqlite::{Alter, Connection, Error, ErrorCode, File, FileStore, Options, Unkn
 use sqlite_std_file::OpenError;
 use std::alloc::{AllocError, Global};
 use std::hash::{BuildHasher, RandomState};
-use std::io;
+use std::io::{self, ErrorKind};
 use thiserror::Error as FaultError;
 
 /// Why a store isn't opened.
@@ -28,6 +29,9 @@ pub enum OpenFault {
     /// A folder or a device stands there, or the file has several names.
     #[error("it is no plain file, or it has several names")]
     NoFile,
+    /// The system gives no permission.
+    #[error("permission denied: the file has to be readable and writable, and its folder too, where a log is made beside it")]
+    Denied,
     /// The system doesn't open it.
     #[error("{0}")]
     System(io::Error),
@@ -63,11 +67,19 @@ impl From<OpenError> for OpenFault {
             OpenError::OutOfMemory => OpenFault::Memory,
             OpenError::Busy => OpenFault::InUse,
             OpenError::HotJournal => OpenFault::Journal,
-            OpenError::Io(error) => match error.kind() {
-                io::ErrorKind::OutOfMemory => OpenFault::Memory,
-                io::ErrorKind::Unsupported => OpenFault::NoFile,
-                _ => OpenFault::System(error),
-            },
+            OpenError::Io(error) => OpenFault::from(error),
+        }
+    }
+}
+
+impl From<io::Error> for OpenFault {
+    fn from(error: io::Error) -> OpenFault {
+        match error.kind() {
+            ErrorKind::OutOfMemory => OpenFault::Memory,
+            ErrorKind::Unsupported => OpenFault::NoFile,
+            ErrorKind::PermissionDenied | ErrorKind::ReadOnlyFilesystem => OpenFault::Denied,
+            ErrorKind::StorageFull => OpenFault::Full,
+            _ => OpenFault::System(error),
         }
     }
 }
@@ -96,14 +108,50 @@ impl From<Unverified> for OpenFault {
     }
 }
 
+/// Why a store isn't closed. What was committed stands, in its two files together.
+#[derive(Clone, Copy, Debug, FaultError)]
+pub enum CloseFault {
+    /// Memory was refused.
+    #[error("out of memory")]
+    Memory,
+    /// The disk is full.
+    #[error("the disk is full")]
+    Full,
+    /// It can't be read or written.
+    #[error("it can't be read or written")]
+    Store,
+}
+
+impl From<Error> for CloseFault {
+    fn from(error: Error) -> CloseFault {
+        match error {
+            Error::SqliteFailure(ErrorCode::OutOfMemory) => CloseFault::Memory,
+            Error::SqliteFailure(ErrorCode::DiskFull) => CloseFault::Full,
+            _ => CloseFault::Store,
+        }
+    }
+}
+
+/// What was opened, and where its files are, if it has any.
+#[derive(Drop)]
+pub struct Opened<C> {
+    /// The connection to the store.
+    pub connection: C,
+    /// Its files.
+    pub site: Option<Site>,
+}
+
 /// What opens the stores of databases.
 pub trait OpenStore<S: Alter> {
     // What the store of the database at a place may hold as it is opened.
     ghost may_hold: { Self → ℕ → Database → Type 0 };
 
     /// Opens the store of the database at a place, counted from 0.
-    fn open(&self, alloc: Global, place: u8) -> Result<Connection<S>, OpenFault>
-        ensures { IfOk result (λ c. IsUsable (state S.Store c) → may_hold self.now place (state S.Store c).now) };
+    fn open(&self, alloc: Global, place: u8) -> Result<Opened<Connection<S>>, OpenFault>
+        ensures { IfOk result (λ o. IsUsable (state S.Store o.connection) → may_hold self.now place (state S.Store o.connection).now) };
+
+    /// Leaves the files of a store that is refused as they were before it was opened. They have to be open still.
+    fn put_back(&self, site: &Site);
 }
 
 /// Stores in memory, which hold nothing at first.
@@ -116,9 +164,15 @@ impl OpenStore<BlockStore> for InMemory {
 
     ghost may_hold = { λ _ _ db. db.schema ≡ no_schema };
 
-    fn open(&self, alloc: Global, _place: u8) -> Result<Connection<BlockStore>, OpenFault> {
-        Ok(escrow_memory::open(alloc)?)
+    fn open(&self, alloc: Global, _place: u8) -> Result<Opened<Connection<BlockStore>>, OpenFault> {
+        let connection = escrow_memory::open(alloc)?;
+        Ok(Opened {
+            connection,
+            site: None,
+        })
     }
+
+    fn put_back(&self, _site: &Site) {}
 }
 
 /// Stores in files, of which no contract knows what they hold.
@@ -135,12 +189,25 @@ impl OpenStore<FileStore<File>> for InFiles<'_> {
 
     ghost may_hold = { λ _ _ _. ⊤ };
 
-    fn open(&self, alloc: Global, place: u8) -> Result<Connection<FileStore<File>>, OpenFault> {
+    fn open(
+        &self,
+        alloc: Global,
+        place: u8,
+    ) -> Result<Opened<Connection<FileStore<File>>>, OpenFault> {
         if !is_path(self.path) {
             return Err(OpenFault::Path);
         }
         let file = file_of(alloc, self.path, place)?;
-        open_file(self.rt, file.as_str())
+        let mut site = Site::look(self.rt, file.as_str())?;
+        let connection = open_file(self.rt, file.as_str(), &mut site)?;
+        Ok(Opened {
+            connection,
+            site: Some(site),
+        })
+    }
+
+    fn put_back(&self, site: &Site) {
+        site.put_back(self.rt);
     }
 }
 
@@ -164,15 +231,65 @@ pub(crate) fn file_of(alloc: Global, path: &str, place: u8) -> Result<String, Al
 }
 
 /// Opens a file, or makes it. It is supposed of the disk that a write which a crash stops leaves each byte as it
-/// was or as it was to be.
-fn open_file(rt: &HostRuntime, path: &str) -> Result<Connection<FileStore<File>>, OpenFault> {
-    let files = sqlite_std_file::open(rt, path, Unknown)?;
+/// was or as it was to be. Where it is refused, its folder stays as it was, but where the system itself fails
+/// between the making of the two files.
+fn open_file(
+    rt: &HostRuntime,
+    path: &str,
+    site: &mut Site,
+) -> Result<Connection<FileStore<File>>, OpenFault> {
+    test_site(rt, site)?;
     let Ok(random) = RandomState::new(rt) else {
         return Err(OpenFault::Store);
     };
     let options = Options::new(random.hash_one(&0u8));
+    let files = sqlite_std_file::open(rt, path, Unknown)?;
+    site.look_again(rt);
     match Connection::open_files_with(rt.alloc(), files, options, false) {
         Ok(connection) => Ok(connection),
-        Err((error, _)) => Err(OpenFault::from(error)),
+        Err((error, left)) => {
+            // While the files are open nobody else uses them.
+            let files = left.into_files();
+            site.put_back(rt);
+            drop(files);
+            Err(OpenFault::from(error))
+        }
+    }
+}
+
+/// Refuses what would be refused anyway, before a file is made beside it, and a file of a single byte, which
+/// would be made a store.
+fn test_site(rt: &HostRuntime, site: &Site) -> Result<(), OpenFault> {
+    if site.is_one_byte(rt)? {
+        return Err(OpenFault::Foreign);
+    }
+    if site.is_blocked(rt)? {
+        return Err(OpenFault::NoFile);
+    }
+    if site.has_journal_alone(rt)? {
+        return Err(OpenFault::Journal);
+    }
+    Ok(())
+}
+
+/// Closes a store: copies its log into its database, and takes it away.
+pub(crate) fn close(
+    rt: &HostRuntime,
+    connection: Connection<FileStore<File>>,
+    site: Option<&Site>,
+) -> Result<(), CloseFault> {
+    match connection.close_files() {
+        Ok(files) => {
+            // While the files are open nobody else uses them.
+            if let Some(site) = site {
+                site.remove_log(rt);
+            }
+            drop(files);
+            Ok(())
+        }
+        Err((error, store)) => {
+            drop(store.close());
+            Err(CloseFault::from(error))
+        }
     }
 }

@@ -1,7 +1,7 @@
-ghost use Rattle.std.specs.Prelude.{◌≡◌, [], length, drop, IfOk, IfErr, OnOk};
+ghost use Rattle.std.specs.Prelude.{◌≡◌, [], length, drop, IfOk, OnOk};
 ghost use Rattle.std.specs.Io.KnownBytes.{Consumes, IsAtEnd};
 
-use crate::fault::ServeFault;
+use crate::fault::ReadFault;
 use std::alloc::{AllocError, Global};
 use std::io::Read;
 use std::marker::Model;
@@ -59,16 +59,13 @@ impl Unread {
 
     /// Reads the next bytes, once all are taken, and answers how many. There are none at the
     /// reader's end alone.
-    pub(crate) fn fill<R: Read>(&mut self, reader: &mut R) -> Result<usize, ServeFault>
+    pub(crate) fn fill<R: Read>(&mut self, reader: &mut R) -> Result<usize, ReadFault>
         requires { self.old ≡ [] }
         ensures read { OnOk result (Consumes (R.remaining reader.old) (R.remaining reader.new) self.new) }
         ensures count { IfOk result (λ count. count ≡ length self.new) }
         ensures end { IfOk result (λ count. count ≡ 0 → IsAtEnd (R.remaining reader.new)) }
-        ensures kind { IfErr result (λ fault. fault ≡ ServeFault.Read) }
     {
-        let Ok(count) = reader.read(self.chunk.as_mut_slice()) else {
-            return Err(ServeFault::Read);
-        };
+        let count = reader.read(self.chunk.as_mut_slice())?;
         self.from = 0;
         self.to = count;
         Ok(count)

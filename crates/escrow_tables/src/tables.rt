@@ -5,7 +5,7 @@ use escrow_num::Name;
 use escrow_rows::RowStore;
 use escrow_schema::TableDef;
 use escrow_verify::Counted;
-use sqlite::Alter;
+use sqlite::{Alter, Connection};
 use std::alloc::Global;
 use std::marker::Model;
 use std::snapshot::Snapshot;
@@ -38,7 +38,7 @@ impl<S: Alter> Model for Tables<S> {
 }
 
 impl<S: Alter> Tables<S> {
-    ghost use Rattle.std.specs.Prelude.{◌≡◌, ◌↔◌, ◌<◌, ℕ, List, [], Some, length, is_some, IfSome, IsTrue, option_copied};
+    ghost use Rattle.std.specs.Prelude.{◌≡◌, ◌↔◌, ◌<◌, ℕ, false, List, [], Some, length, is_some, IfSome, IsTrue, option_copied};
     ghost use Rattle.sqlite.specs.Held.{state};
     ghost use Rattle.sqlite.specs.State.{HasCleanDisk};
     ghost use Rattle.sqlite_trees.specs.Tree.{Trees};
@@ -61,6 +61,14 @@ impl<S: Alter> Tables<S> {
             store,
             tables: Vec::new(alloc),
         }
+    }
+
+    /// The connection to the store. Makes no store call.
+    pub fn into_connection(self) -> Connection<S>
+        ensures same { result ≡ self.store }
+        ensures outside { result.in_transaction ≡ false }
+    {
+        self.store.into_connection()
     }
 
     /// How many tables there are. Makes no store call. The catalog is one at any time, and the rows are

@@ -1,9 +1,10 @@
 //! Stores in files: what a path gives when it is opened, and opened again, and why one isn't.
-use super::program::assert_run;
-use escrow_server::{InFiles, OpenStore};
-use sqlite::Connection;
+use super::program::{Broken, CommandLine, assert_run};
+use escrow_server::{CloseFault, InFiles, OpenFault, OpenStore, run_program};
+use sqlite::{Connection, Error, ErrorCode};
 use std::fs;
-use std::process::Abort;
+use std::io::{self, Read};
+use std::process::{Abort, ExitCode};
 use std::test::Fail;
 
 /// Runs over one file, one after another: the script, and the replies. Each finds what the ones before it
@@ -26,7 +27,7 @@ const AGAIN: [(&str, &str); 3] = [
 ];
 
 /// Paths at which no store is opened, and what is said of each.
-const UNOPENED: [(&str, &str); 7] = [
+const UNOPENED: [(&str, &str); 10] = [
     (
         "",
         "escrowd: the store of bank, ``, can't be opened: a path may not be empty, nor be `:memory:`, nor begin with `file:`\n",
@@ -55,7 +56,39 @@ const UNOPENED: [(&str, &str); 7] = [
         "files_paths/note.db",
         "escrowd: the store of bank, `files_paths/note.db`, can't be opened: it is no store of escrowd's: something else is in it, or it was damaged\n",
     ),
+    (
+        "files_paths/byte.db",
+        "escrowd: the store of bank, `files_paths/byte.db`, can't be opened: it is no store of escrowd's: something else is in it, or it was damaged\n",
+    ),
+    (
+        "files_paths/gone.db",
+        "escrowd: the store of bank, `files_paths/gone.db`, can't be opened: SQLite was stopped while it wrote there: open it with sqlite3 once, then here\n",
+    ),
+    (
+        "files_paths/log.db",
+        "escrowd: the store of bank, `files_paths/log.db`, can't be opened: it is no plain file, or it has several names\n",
+    ),
 ];
+
+/// What stands in the folder of these paths at the end, in order of name.
+const STANDING: &str =
+    " -.db byte.db b\u{e4}nk \u{1f4b0}.db empty.db folder.db gone.db-journal log.db-wal made.db note.db";
+
+/// What stands in a folder, each name behind a blank.
+fn names(rt: &HostRuntime, folder: &str) -> Result<String, Fail> {
+    let mut found = Vec::new(rt.alloc());
+    for entry in fs::read_dir(rt, folder)? {
+        let entry = entry?;
+        found.push(String::from_str(rt.alloc(), entry.file_name())?)?;
+    }
+    found.sort_unstable();
+    let mut text = String::new(rt.alloc());
+    for name in found.as_slice() {
+        text.push_str(" ")?;
+        text.push_str(name.as_str())?;
+    }
+    Ok(text)
+}
 
 /// Makes an empty folder for a test's files.
 fn fresh(rt: &HostRuntime, folder: &str) -> Result<(), Fail> {
@@ -78,8 +111,8 @@ fn assert_stored<A: Abort>(
     assert_run(rt, to, &words, script.as_bytes(), status, replies, errors)
 }
 
-/// A path that doesn't exist is made, and an empty file is a store without tables. Where no store is opened,
-/// nothing is read, and nothing written.
+/// A path that doesn't exist is made, and an empty file is a store without tables. At the end each is one file.
+/// Where no store is opened, nothing is read, nothing written, and nothing made.
 #[test]
 fn paths(rt: HostRuntime) -> Result<(), Fail> {
     fresh(&rt, "files_paths")?;
@@ -87,6 +120,9 @@ fn paths(rt: HostRuntime) -> Result<(), Fail> {
     fs::create_dir(&rt, "files_paths/folder.db")?;
     let note = b"this is no database, but a note of some length that was put here\n";
     fs::write(&rt, "files_paths/note.db", note)?;
+    fs::write(&rt, "files_paths/byte.db", b"b")?;
+    fs::write(&rt, "files_paths/gone.db-journal", b"journal")?;
+    fs::create_dir(&rt, "files_paths/log.db-wal")?;
     for path in [
         "files_paths/made.db",
         "files_paths/empty.db",
@@ -100,8 +136,11 @@ fn paths(rt: HostRuntime) -> Result<(), Fail> {
     for (path, errors) in UNOPENED {
         assert_stored(&rt, &rt, path, "bank.1: COMMIT\n", 3, "", errors)?;
     }
+    assert_eq!(rt; names(&rt, "files_paths")?.as_str(), STANDING);
     let kept = fs::read(&rt, "files_paths/note.db")?;
     assert_eq!(rt; kept.as_slice(), note.as_slice());
+    let kept = fs::read(&rt, "files_paths/byte.db")?;
+    assert_eq!(rt; kept.as_slice(), b"b".as_slice());
     fs::remove_dir_all(&rt, "files_paths")?;
     Ok(())
 }
@@ -131,6 +170,10 @@ fn several_databases(rt: HostRuntime) -> Result<(), Fail> {
     assert!(rt; fs::metadata(&rt, "files_several/many.db.1").is_err());
 
     // The second file is a folder: the first one is opened, and nothing is served.
+    assert_eq!(rt;
+        names(&rt, "files_several")?.as_str(),
+        " many.db many.db.2 many.db.3"
+    );
     fs::create_dir(&rt, "files_several/two.db.2")?;
     let words = [
         b"escrowd".as_slice(),
@@ -149,6 +192,7 @@ fn several_databases(rt: HostRuntime) -> Result<(), Fail> {
         "",
         "escrowd: the store of bank2, `files_several/two.db.2`, can't be opened: it is no plain file, or it has several names\n",
     )?;
+    assert!(rt; !fs::exists(&rt, "files_several/two.db-wal")?);
     fs::remove_dir_all(&rt, "files_several")?;
     Ok(())
 }
@@ -181,7 +225,10 @@ fn stores_of_others(rt: HostRuntime) -> Result<(), Fail> {
         ),
     ] {
         changed(&rt, path, sql).expect(&rt, "a change");
+        let before = fs::read(&rt, path)?;
         assert_stored(&rt, &rt, path, script, 3, "", errors)?;
+        let after = fs::read(&rt, path)?;
+        assert!(rt; before.as_slice() == after.as_slice());
     }
 
     let path = "files_others/used.db";
@@ -191,5 +238,135 @@ fn stores_of_others(rt: HostRuntime) -> Result<(), Fail> {
         "escrowd: the store of bank, `files_others/used.db`, can't be opened: another program has it open\n";
     assert_stored(&rt, &rt, path, script, 3, "", errors)?;
     fs::remove_dir_all(&rt, "files_others")?;
+    Ok(())
+}
+
+/// A store that was closed opens alone: a copy of its one file has its rows. One whose program was stopped has
+/// them in two files, and is one again after the next run.
+#[test]
+fn one_file_at_rest(rt: HostRuntime) -> Result<(), Fail> {
+    fresh(&rt, "files_rest")?;
+    let path = "files_rest/bank.db";
+    let [(made, replies), _, (select, _)] = AGAIN;
+    let rows = "bank.1> ID | N\nbank.1> 1 | 10\nbank.1> OK rows 1\n";
+    assert_stored(&rt, &rt, path, made, 0, replies, "")?;
+    assert_eq!(rt; names(&rt, "files_rest")?.as_str(), " bank.db");
+    fs::copy(&rt, path, "files_rest/copy.db")?;
+    assert_stored(&rt, &rt, "files_rest/copy.db", select, 0, rows, "")?;
+
+    // A fault closes the store too.
+    let words = [b"escrowd".as_slice(), b"run", b"--store", path.as_bytes()];
+    let line = CommandLine { words: &words };
+    let mut said = Vec::new(rt.alloc());
+    let mut input = b"bank.1: UPDATE T SET N = N + 5 WHERE ID = 1\nbank.1: COMMIT\n".as_slice();
+    let code = run_program(&rt, &line, &mut input, &mut Broken, &mut said);
+    assert!(rt; code == ExitCode::FAILURE);
+    assert_eq!(rt; names(&rt, "files_rest")?.as_str(), " bank.db copy.db");
+    fs::remove_dir_all(&rt, "files_rest")?;
+    Ok(())
+}
+
+/// Gives a script, and cuts off the log of a store meanwhile, so that the store can't be closed.
+#[derive(Drop)]
+struct Cutting<'a> {
+    rt: &'a HostRuntime,
+    script: &'a [u8],
+    log: &'a str,
+}
+
+impl Read for Cutting<'_> {
+    fn read(&mut self, buf: &mut [u8]) -> io::Result<usize> {
+        fs::write(self.rt, self.log, b"")?;
+        self.script.read(buf)
+    }
+}
+
+/// What is said of the store that can't be closed.
+const UNCLOSED: &str =
+    "escrowd: the store of bank, `files_unclosed/bank.db`, can't be closed, and what was committed last stands in `files_unclosed/bank.db-wal`: it can't be read or written\n";
+
+/// A store that can't be closed is told of, and the status stays: 0 where all was served, and 1 behind a fault.
+#[test]
+fn unclosed(rt: HostRuntime) -> Result<(), Fail> {
+    fresh(&rt, "files_unclosed")?;
+    let words = [
+        b"escrowd".as_slice(),
+        b"run",
+        b"--store",
+        b"files_unclosed/bank.db",
+    ];
+    let line = CommandLine { words: &words };
+    let mut output = Vec::new(rt.alloc());
+    let mut said = Vec::new(rt.alloc());
+    let mut reader = Cutting {
+        rt: &rt,
+        script: b"bank.1: COMMIT\n",
+        log: "files_unclosed/bank.db-wal",
+    };
+    let code = run_program(&rt, &line, &mut reader, &mut output, &mut said);
+    assert!(rt; code == ExitCode::SUCCESS);
+    assert_eq!(rt; str::from_utf8(said.as_slice())?, UNCLOSED);
+    assert_eq!(rt; output.as_slice(), b"bank.1> OK committed 0\n".as_slice());
+
+    fresh(&rt, "files_unclosed")?;
+    said.clear();
+    reader.script = b"bank.1: COMMIT\n";
+    let code = run_program(&rt, &line, &mut reader, &mut Broken, &mut said);
+    assert!(rt; code == ExitCode::FAILURE);
+    let told = str::from_utf8(said.as_slice())?;
+    let rest = told.strip_prefix("escrowd: a reply can't be written\n");
+    assert!(rt; rest == Some(UNCLOSED), "{told}");
+    fs::remove_dir_all(&rt, "files_unclosed")?;
+    Ok(())
+}
+
+/// What is said of errors of the system's at which a store isn't opened, by their numbers.
+const SYSTEM: [(i32, &str); 6] = [
+    (
+        13,
+        "permission denied: the file has to be readable and writable, and its folder too, where a log is made beside it",
+    ),
+    (
+        30,
+        "permission denied: the file has to be readable and writable, and its folder too, where a log is made beside it",
+    ),
+    (28, "the disk is full"),
+    (12, "out of memory"),
+    (95, "it is no plain file, or it has several names"),
+    (5, "Input/output error (os error 5)"),
+];
+
+/// What is said of SQLite's refusals at which a store isn't opened, and at which one isn't closed.
+const SQLITE: [(ErrorCode, &str, &str); 4] = [
+    (ErrorCode::OutOfMemory, "out of memory", "out of memory"),
+    (ErrorCode::DiskFull, "the disk is full", "the disk is full"),
+    (
+        ErrorCode::DatabaseCorrupt,
+        "it is no store of escrowd's: something else is in it, or it was damaged",
+        "it can't be read or written",
+    ),
+    (
+        ErrorCode::SystemIoFailure,
+        "it can't be read or written",
+        "it can't be read or written",
+    ),
+];
+
+#[test]
+fn texts(rt: HostRuntime) -> Result<(), Fail> {
+    let alloc = rt.alloc();
+    for (number, want) in SYSTEM {
+        let fault = OpenFault::from(io::Error::from_raw_os_error(number));
+        let text = format!(in alloc; "{fault}")?;
+        assert_eq!(rt; text.as_str(), want);
+    }
+    for (code, unopened, unclosed) in SQLITE {
+        let fault = OpenFault::from(Error::SqliteFailure(code));
+        let text = format!(in alloc; "{fault}")?;
+        assert_eq!(rt; text.as_str(), unopened);
+        let fault = CloseFault::from(Error::SqliteFailure(code));
+        let text = format!(in alloc; "{fault}")?;
+        assert_eq!(rt; text.as_str(), unclosed);
+    }
     Ok(())
 }

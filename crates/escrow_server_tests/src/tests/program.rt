@@ -7,8 +7,8 @@ use std::test::Fail;
 
 /// A command line of these words.
 #[derive(Drop)]
-struct CommandLine<'a> {
-    words: &'a [&'a [u8]],
+pub(super) struct CommandLine<'a> {
+    pub(super) words: &'a [&'a [u8]],
 }
 
 impl Env for CommandLine<'_> {
@@ -34,11 +34,21 @@ impl Env for CommandLine<'_> {
 
 /// A stream that takes and gives nothing.
 #[derive(Drop)]
-struct Broken;
+pub(super) struct Broken;
 
 impl Read for Broken {
     fn read(&mut self, _buf: &mut [u8]) -> io::Result<usize> {
         Err(Error::from(ErrorKind::Other))
+    }
+}
+
+/// A reader that fails with an error of the system's.
+#[derive(Drop)]
+struct Failing(i32);
+
+impl Read for Failing {
+    fn read(&mut self, _buf: &mut [u8]) -> io::Result<usize> {
+        Err(Error::from_raw_os_error(self.0))
     }
 }
 
@@ -154,7 +164,7 @@ fn broken_streams(rt: HostRuntime) -> Result<(), Fail> {
     let code = run_program(&rt, &line, &mut Broken, &mut output, &mut said);
     assert!(rt; code == ExitCode::FAILURE);
     assert!(rt; output.is_empty());
-    let read = "escrowd: the script can't be read, or is longer than 16777216 bytes\n";
+    let read = "escrowd: the script can't be read: other error\n";
     assert_eq!(rt; said.as_slice(), read.as_bytes());
 
     said.clear();
@@ -167,5 +177,43 @@ fn broken_streams(rt: HostRuntime) -> Result<(), Fail> {
     let code = run_program(&rt, &line, &mut Broken, &mut output, &mut Broken);
     assert!(rt; code == ExitCode::FAILURE);
     assert!(rt; output.is_empty());
+    Ok(())
+}
+
+/// Errors of the system at which a script ends, and what is said of each.
+const UNREAD: [(i32, &str); 3] = [
+    (
+        9,
+        "escrowd: the script can't be read: standard input is closed\n",
+    ),
+    (
+        21,
+        "escrowd: the script can't be read: standard input is a folder\n",
+    ),
+    (
+        5,
+        "escrowd: the script can't be read: Input/output error (os error 5)\n",
+    ),
+];
+
+/// What can't be read is told apart, and so is a script that is too long.
+#[test]
+fn unread_scripts(rt: HostRuntime) -> Result<(), Fail> {
+    let alloc = rt.alloc();
+    let line = CommandLine { words: &RUN };
+    for (number, errors) in UNREAD {
+        let mut output = Vec::new(alloc);
+        let mut said = Vec::new(alloc);
+        let code = run_program(&rt, &line, &mut Failing(number), &mut output, &mut said);
+        assert!(rt; code == ExitCode::FAILURE);
+        assert_eq!(rt; str::from_utf8(said.as_slice())?, errors);
+    }
+    let mut output = Vec::new(alloc);
+    let mut said = Vec::new(alloc);
+    let mut endless = io::repeat(b'-');
+    let code = run_program(&rt, &line, &mut endless, &mut output, &mut said);
+    assert!(rt; code == ExitCode::FAILURE);
+    let errors = "escrowd: the script can't be read: it is longer than 16777216 bytes\n";
+    assert_eq!(rt; str::from_utf8(said.as_slice())?, errors);
     Ok(())
 }

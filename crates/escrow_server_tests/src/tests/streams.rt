@@ -1,6 +1,6 @@
 //! Readers and writers: slow ones, those that fail, and the longest script.
 use super::serve;
-use escrow_server::ServeFault;
+use escrow_server::{ReadFault, ServeFault};
 use std::io::{Error, ErrorKind, Read, Result, Write};
 use std::test::Fail;
 
@@ -86,6 +86,51 @@ fn byte_before(left: usize, line: usize) -> u8 {
         .unwrap_or(b' ')
 }
 
+/// Gives what stands in front, says that it ends, and gives the rest where it is asked again, as a terminal does
+/// behind ^D.
+#[derive(Drop)]
+struct Terminal<'a> {
+    front: &'a [u8],
+    rest: &'a [u8],
+    has_ended: bool,
+}
+
+impl Read for Terminal<'_> {
+    fn read(&mut self, buf: &mut [u8]) -> Result<usize> {
+        if self.has_ended {
+            return self.rest.read(buf);
+        }
+        self.has_ended = self.front.is_empty();
+        self.front.read(buf)
+    }
+}
+
+/// The end of input ends a script, at the head of a line and behind half of one, which is served.
+#[test]
+fn end_of_input(rt: HostRuntime) -> std::result::Result<(), Fail> {
+    let alloc = rt.alloc();
+    for (front, replies) in [
+        ("", ""),
+        ("bank.1: COMMIT\n", "bank.1> OK committed 0\n"),
+        ("bank.1: COMMIT", "bank.1> OK committed 0\n"),
+        (
+            "bank.1: COMMIT\nbank.2: ROLL",
+            "bank.1> OK committed 0\nbank.2> ERR 11 syntax column 2\n",
+        ),
+    ] {
+        let mut reader = Terminal {
+            front: front.as_bytes(),
+            rest: b"bank.3: COMMIT\n",
+            has_ended: false,
+        };
+        let mut out = Vec::new(alloc);
+        let served = serve(alloc, &mut reader, &mut out);
+        assert!(rt; served.is_ok());
+        assert_eq!(rt; str::from_utf8(out.as_slice())?, replies);
+    }
+    Ok(())
+}
+
 /// How many bytes the replies have to the lines that came whole in so many bytes of the script.
 fn written_after(bytes: usize) -> usize {
     match bytes {
@@ -111,7 +156,7 @@ fn failing_readers(rt: HostRuntime) -> std::result::Result<(), Fail> {
         };
         let mut out = Vec::new(alloc);
         let served = serve(alloc, &mut reader, &mut out);
-        assert_eq!(rt; served, Err(ServeFault::Read));
+        assert!(rt; matches!(served, Err(ServeFault::Read(ReadFault::System(_)))));
         assert_eq!(rt; str::from_utf8(out.as_slice())?, prefix);
     }
     Ok(())
@@ -131,7 +176,7 @@ fn failing_writers(rt: HostRuntime) -> std::result::Result<(), Fail> {
             calls: 0,
         };
         let served = serve(alloc, &mut SCRIPT.as_bytes(), &mut writer);
-        assert_eq!(rt; served, Err(ServeFault::Write));
+        assert!(rt; matches!(served, Err(ServeFault::Write)));
         assert_eq!(rt; str::from_utf8(writer.taken.as_slice())?, prefix);
     }
     Ok(())
@@ -173,14 +218,17 @@ fn one_write_a_read(rt: HostRuntime) -> std::result::Result<(), Fail> {
 #[test]
 fn longest_script(rt: HostRuntime) -> std::result::Result<(), Fail> {
     let alloc = rt.alloc();
-    for (left, line, want, replies) in [
-        (16_777_216, 4096, Ok(()), "bank.1> OK committed 0\n"),
-        (16_777_217, 4096, Err(ServeFault::Read), ""),
-        (usize::MAX, usize::MAX, Err(ServeFault::Read), ""),
+    for (left, line, is_served, replies) in [
+        (16_777_216, 4096, true, "bank.1> OK committed 0\n"),
+        (16_777_217, 4096, false, ""),
+        (usize::MAX, usize::MAX, false, ""),
     ] {
         let mut out = Vec::new(alloc);
-        let served = serve(alloc, &mut LongReader { left, line }, &mut out);
-        assert_eq!(rt; served, want);
+        match serve(alloc, &mut LongReader { left, line }, &mut out) {
+            Ok(()) => assert!(rt; is_served),
+            Err(ServeFault::Read(ReadFault::TooLong)) => assert!(rt; !is_served),
+            Err(_) => assert!(rt; false, "another fault"),
+        }
         assert_eq!(rt; str::from_utf8(out.as_slice())?, replies);
     }
     Ok(())

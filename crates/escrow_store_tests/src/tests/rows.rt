@@ -132,9 +132,6 @@ const FOUND: [(&str, &str); 7] = [
 /// The rows of an empty store in memory.
 fn row_store(alloc: Global) -> Result<RowStore<BlockStore>, Failure> {
     let mut conn = escrow_memory::open(alloc)?;
-    if !conn.is_autocommit() {
-        return Err(Failure::Store);
-    }
     create(&mut conn)?;
     Ok(RowStore::over(conn))
 }

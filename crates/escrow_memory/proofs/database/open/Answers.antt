@@ -6,8 +6,8 @@ use Rattle.escrow_memory.specs.Store.{block_view}
 use Rattle.escrow_memory.proofs.Emptiness.{lists_none}
 use Rattle.escrow_memory.proofs.database.open.Goals as goal
 
-pub returns-in-Ok : goal.returns-in-Ok
-returns-in-Ok c =
+pub returns-in-Ok-clause-empty : goal.returns-in-Ok-clause-empty
+returns-in-Ok-clause-empty c =
     let clean = no_doubt true refl in
     let (opened, live) = c.in-Ok.ensures.opens clean in
     let (sound, _) = live opened.is_open in

@@ -12,7 +12,7 @@ returns-in-None-clause-memory g c = λ none.
     let count = c.args.args.now.databases in
     let new = c.serve_stores-served.new.databases.items in
     let served = c.serve_stores-served.ensures in
-    ends_in_memory c.serve_stores-served.result c.status_of.result count (AreFound (λ _ db. db.schema ≡ no_schema) count) (states_of new)
+    ends_in_memory c.serve_stores-served.result c.status_in_memory.result count (AreFound (λ _ db. db.schema ≡ no_schema) count) (states_of new)
     (g.R.Read.remaining c.args.input.now) (g.R.Read.remaining c.serve_stores-served.new.input) (g.W.Write.contents c.args.output.now) (g.W.Write.contents c.serve_stores-served.new.output)
-    (found_empty count) c.status_of.ensures.ok c.status_of.ensures.err
+    (found_empty count) c.status_in_memory.ensures.ok c.status_in_memory.ensures.err
     (served.served (memory_are_clean new)) (served.stopped (memory_are_clean new))

@@ -1,4 +1,5 @@
-use Rattle.std.proofs.Common.{rules, [], ◌++◌, subst, refl, ◌∙◌}
+use Rattle.std.proofs.Common.{rules, [], ◌++◌, subst, refl, sym, ◌∙◌}
+use Rattle.std.proofs.lemmas.Bool.{true≢false}
 use Rattle.escrow_server.specs.declared.fault.ServeFault.TheVariants as fault
 use Rattle.escrow_server.specs.Output.{states_of}
 use Rattle.escrow_server.specs.Script.{left, has_line}
@@ -23,6 +24,7 @@ loop-replies-init g c =
       stands = stands_begun g.S.Store c.args.databases.now.items (g.R.Read.remaining c.args.reader.now) (g.W.Write.contents c.args.writer.now) c.in_ok-script.script.unread c.new-replies.result.items
           made.0 c.new-replies.ensures.items;
       waits = λ _. c.new-replies.ensures.items;
+      ended = λ over. absurd (true≢false (sym over ∙ made.2));
       spent = search rules;
     }
 
@@ -106,6 +108,7 @@ loop-replies-preserved-in-loop-replies g c =
       count = served.len ∙ c.loop-replies.invariant.count;
       stands = written;
       waits = λ _. wrote.none;
+      ended = next.ended;
       spent = spends_more _ _ _ MAX_SCRIPT c.loop-replies.script.bytes_left c.next_line.new.self.bytes_left c.loop-replies.invariant.spent next.spent;
     }
 
@@ -126,6 +129,7 @@ loop-replies-preserved g c =
       count = served.len ∙ c.loop-replies.invariant.count;
       stands = stands;
       waits = λ none. absurd (read_without c.has_line.result (has_line c.next_line.new.self.reads_left c.next_line.new.self.unread) c.has_line.ensures c.if-not-has_line.false none);
+      ended = next.ended;
       spent = spends_more _ _ _ MAX_SCRIPT c.loop-replies.script.bytes_left c.next_line.new.self.bytes_left c.loop-replies.invariant.spent next.spent;
     }
 

@@ -1,8 +1,22 @@
 use Rattle.std.proofs.Common.{◌≡◌, ◌++◌, ℕ, length, arith, not, sym, subst, ◌∙◌}
+use Rattle.std.proofs.lemmas.Bool.{true≢false}
+use Rattle.std.proofs.lemmas.List.{nil_from_length}
 use Rattle.escrow_server.specs.Script.{Spends}
 use Rattle.std.specs.Prelude.{vec_len}
-use Rattle.escrow_server.proofs.ScriptLemmas.{in_hand_taken, turn_takes, turn_goes_on, turn_reads, turn_ends, some_by_test, none_by_test, spends_more, spends_read}
+use Rattle.escrow_server.proofs.ScriptLemmas.{in_hand_taken, turn_takes, turn_goes_on, turn_reads, turn_ends, some_by_test, none_by_test, none_in_hand, spends_more, spends_none, spends_read, takes_none}
 use Rattle.escrow_server.proofs.script.Script.next_line.Goals as goal
+
+pub returns-then-self-clause-taken : goal.returns-then-self-clause-taken
+returns-then-self-clause-taken g c =
+    takes_none c.args.self.now.line.items c.args.self.now.unread (g.R.Read.remaining c.args.reader.now) (c.requires.ended c.if-self.true)
+
+pub returns-then-self-clause-in_hand : goal.returns-then-self-clause-in_hand
+returns-then-self-clause-in_hand g c = λ has.
+    let over = c.requires.ended c.if-self.true in
+    absurd (none_in_hand c.args.self.now.reads_left c.args.self.now.unread over.0 has)
+
+pub returns-then-self-clause-spent : goal.returns-then-self-clause-spent
+returns-then-self-clause-spent g c = spends_none (g.R.Read.remaining c.args.reader.now) c.args.self.now.bytes_left
 
 pub returns-then-branch-clause-taken : goal.returns-then-branch-clause-taken
 returns-then-branch-clause-taken g c =
@@ -45,6 +59,7 @@ loop-self-preserved g c =
       spent =
           spends_more _ _ _ c.args.self.now.bytes_left c.loop-self.self.bytes_left c.fill.new.self.bytes_left c.loop-self.invariant.spent
           (spends_read _ _ c.fill.new.self.unread c.loop-self.self.bytes_left c.fill.new.self.bytes_left c.in_ok-fill.field-0 read.read read.count (read.bytes ∙ turn.bytes));
+      going = read.ended ∙ turn.ended ∙ c.loop-self.invariant.going;
       in_hand = λ has. absurd (in_hand_taken c.in_ok-take_front.field-0 c.loop-self.self.reads_left c.loop-self.self.unread _ _ _ c.if-branch.false turn.moved (c.loop-self.invariant.in_hand has));
       fewer = omega (arith, read.count, read.bytes, turn.bytes, turn.less, same_len);
     }
@@ -60,3 +75,12 @@ returns-then-branch-eq0-clause-spent g c =
     let read = c.in_ok-fill.ensures in
     spends_more _ _ _ c.args.self.now.bytes_left c.loop-self.self.bytes_left c.fill.new.self.bytes_left c.loop-self.invariant.spent
     (spends_read _ _ c.fill.new.self.unread c.loop-self.self.bytes_left c.fill.new.self.bytes_left c.in_ok-fill.field-0 read.read read.count (read.bytes ∙ turn.bytes))
+
+pub returns-then-branch-clause-ended : goal.returns-then-branch-clause-ended
+returns-then-branch-clause-ended g c = λ over.
+    absurd (true≢false (sym over ∙ (c.in_ok-take_front.ensures.ended ∙ c.loop-self.invariant.going)))
+
+pub returns-then-branch-eq0-clause-ended : goal.returns-then-branch-eq0-clause-ended
+returns-then-branch-eq0-clause-ended g c = λ _.
+    let read = c.in_ok-fill.ensures in
+    (nil_from_length c.fill.new.self.unread (omega (arith, read.count, c.if-branch-eq0.true)), read.end c.if-branch-eq0.true)
