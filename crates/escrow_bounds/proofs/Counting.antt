@@ -8,7 +8,7 @@ use Rattle.std.proofs.Math.Dec.{eqb-suc-zero}
 use Rattle.escrow_num.specs.declared.reservation.Reservation.{Reservation}
 use Rattle.escrow_num.specs.declared.value.RowName.{RowName}
 use Rattle.escrow_num.specs.Order.{same_row}
-use Rattle.escrow_num.specs.Reservation.{counted}
+use Rattle.escrow_num.specs.Reservation.{deltas}
 use Rattle.escrow_num.proofs.Items.{Has}
 use Rattle.escrow_num.proofs.Orders.{row_same, same_row_itself}
 use Rattle.escrow_bounds.specs.Counts.{is_counting, TakesIn}
@@ -59,7 +59,7 @@ any_of_row row [] = refl
 any_of_row row (r ∷ held) =
     let rest = list_any (λ (q : Reservation). same_row q.row row) held in
     ap (λ (b : Bool). b || rest) (row_either_way r.row row)
-    ∙ any_one (same_row row r.row) rest (counted r.changes) (of_row row held) (any_of_row row held)
+    ∙ any_one (same_row row r.row) rest (deltas r.changes) (of_row row held) (any_of_row row held)
 
 counting_any : (place : Option Kept) (reservations : List (List ℤ)) → CountsJust place reservations → is_counting place ≡ is_any reservations
 counting_any None reservations counts = sym (ap is_any counts)

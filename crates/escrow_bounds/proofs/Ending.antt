@@ -8,7 +8,7 @@ use Rattle.escrow_num.specs.declared.session.End.{End}
 use Rattle.escrow_num.specs.declared.session.End.TheVariants as end
 use Rattle.escrow_num.specs.declared.value.RowName.{RowName}
 use Rattle.escrow_num.specs.Order.{same_row}
-use Rattle.escrow_num.specs.Reservation.{counted}
+use Rattle.escrow_num.specs.Reservation.{deltas}
 use Rattle.escrow_bounds.specs.Counts.{Counts, is_counting, GivesBack}
 use Rattle.escrow_bounds.specs.Ended.{HasEnded, AreEnded}
 use Rattle.escrow_bounds.specs.Held.{of_row, CountsJust, CountsAll, AllCount}
@@ -43,7 +43,7 @@ after_one row amounts ended i r within is =
     )
 
 -- of the row: its changes are added
-pub own_moved : (row : RowName) (amounts : List ℤ) (r : Reservation) → true ≡ same_row row r.row → all_moved amounts (counted r.changes) ≡ amounts_after_all end.Commit amounts (of_row row (r ∷ []))
+pub own_moved : (row : RowName) (amounts : List ℤ) (r : Reservation) → true ≡ same_row row r.row → all_moved amounts (deltas r.changes) ≡ amounts_after_all end.Commit amounts (of_row row (r ∷ []))
 own_moved row amounts r same = rw (← same) refl
 
 -- of another: nothing is
@@ -83,7 +83,7 @@ there_is None changes reservations counts = absurd (cc)
 there_is (Some kept) changes reservations counts = (kept, refl, counts)
 
 -- the first of the reservations is counted by the place of its row
-pub counted_first : (places : Places) (r : Reservation) (rest : List Reservation) (changes : List ℤ) → changes ≡ counted r.changes → CountsAll places (r ∷ rest)
+pub counted_first : (places : Places) (r : Reservation) (rest : List Reservation) (changes : List ℤ) → changes ≡ deltas r.changes → CountsAll places (r ∷ rest)
     → (place : Kept) × (before after : List (List ℤ)) × (place_at places r.row ≡ Some place) × Counts place (before ++ changes ∷ after)
 counted_first places r rest changes is counts =
     let others = of_row r.row rest in
@@ -93,7 +93,7 @@ counted_first places r rest changes is counts =
 
 -- places when a reservation is removed and its place is released
 pub record IsRemoved (end : End) (r : Reservation) (old mid new : Places) : Type 0 where
-  pub gives : Becomes (GivesBack end (counted r.changes)) (place_at old r.row) (place_at mid r.row)
+  pub gives : Becomes (GivesBack end (deltas r.changes)) (place_at old r.row) (place_at mid r.row)
   pub removed : OthersStay r.row old mid
   pub empty : is_counting (place_at mid r.row) ≡ false → place_at new r.row ≡ None
   pub counting : is_counting (place_at mid r.row) ≡ true → new ≡ mid
@@ -110,15 +110,15 @@ removed_counting end r old mid new is all =
 removed_own : (end : End) (r : Reservation) (old mid new : Places) (rest : List Reservation) → IsRemoved end r old mid new → CountsAll old (r ∷ rest) → (place : Kept) → place_at new r.row ≡ Some place
     → (before : Kept) × (place_at old r.row ≡ Some before) × HasEnded end (of_row r.row (r ∷ [])) before place
 removed_own end r old mid new rest is counts place at =
-    let known = counted_first old r rest (counted r.changes) refl counts in
+    let known = counted_first old r rest (deltas r.changes) refl counts in
     let before = known.0 in
     let given = is.gives before known.3 in
     split (is_counting (place_at mid r.row))
     (λ some.
     let there : place_at mid r.row ≡ Some place = sym (ap (λ (places : Places). place_at places r.row) (is.counting some)) ∙ at in
     let same : given.0 ≡ place = cc (given.1, there) in
-    let own : of_row r.row (r ∷ []) ≡ counted r.changes ∷ [] = own_more r [] [] in
-    let ended : HasEnded end (counted r.changes ∷ []) before given.0 = record { checks = given.2.checks; amounts = given.2.amounts } in (
+    let own : of_row r.row (r ∷ []) ≡ deltas r.changes ∷ [] = own_more r [] [] in
+    let ended : HasEnded end (deltas r.changes ∷ []) before given.0 = record { checks = given.2.checks; amounts = given.2.amounts } in (
       before,
       known.3,
       subst (λ (kept : Kept). HasEnded end (of_row r.row (r ∷ [])) before kept) same
@@ -130,7 +130,7 @@ removed_other : (end : End) (r : Reservation) (old mid new : Places) → IsRemov
     → (before : Kept) × (place_at old other ≡ Some before) × HasEnded end (of_row other (r ∷ [])) before place
 removed_other end r old mid new is other apart place at =
     let there : place_at old other ≡ Some place = sym (is.removed other apart) ∙ sym (is.released other apart) ∙ at in
-    let none : of_row other (r ∷ []) ≡ [] = cond-false (same_row other r.row) (counted r.changes ∷ []) [] (other_way r.row other apart) in
+    let none : of_row other (r ∷ []) ≡ [] = cond-false (same_row other r.row) (deltas r.changes ∷ []) [] (other_way r.row other apart) in
     let ended : HasEnded end [] place place = record { checks = refl; amounts = refl } in
     (place, there, subst (λ (zs : List (List ℤ)). HasEnded end zs place place) (sym none) ended)
 
@@ -142,8 +142,8 @@ removed_ended end r old mid new rest is counts =
 -- ---- one end after another
 
 -- what is listed in place of a reservation's changes
-pub shown_is : (amounts : List ℤ) (n : ℕ) (shown changes : List (Option ℤ)) → n ≡ length changes → shown ≡ changes → take (length shown) amounts ≡ counted shown → take n amounts ≡ counted changes
-shown_is amounts n shown changes many same is = ap (λ (k : ℕ). take k amounts) (many ∙ ap length (sym same)) ∙ is ∙ ap counted same
+pub shown_is : (amounts : List ℤ) (n : ℕ) (shown changes : List (Option ℤ)) → n ≡ length changes → shown ≡ changes → take (length shown) amounts ≡ deltas shown → take n amounts ≡ deltas changes
+shown_is amounts n shown changes many same is = ap (λ (k : ℕ). take k amounts) (many ∙ ap length (sym same)) ∙ is ∙ ap deltas same
 
 -- the next is the first of those that are left
 pub next_counted : (places : Places) (ended rest : List Reservation) (i : ℕ) (r : Reservation) → i < length ended → r ≡ get_or ended i r → CountsAll places (drop i ended ++ rest)

@@ -12,7 +12,7 @@ use Rattle.escrow_num.specs.declared.session.End.{End}
 use Rattle.escrow_num.specs.declared.span.Side.{Side}
 use Rattle.escrow_num.specs.declared.value.RowName.{RowName}
 use Rattle.escrow_num.specs.Order.{same_row}
-use Rattle.escrow_num.specs.Reservation.{counted, changes_at}
+use Rattle.escrow_num.specs.Reservation.{deltas, changes_at}
 use Rattle.escrow_num.specs.Span.{first_broken_of, first_of_two}
 use Rattle.escrow_num.proofs.Orders.{row_same, same_row_itself}
 use Rattle.escrow_checks.specs.declared.check.Check.{Check}
@@ -45,11 +45,11 @@ rises_one coeffs false own all some is = omega (arith, ints, clamps, form_nil co
 
 falls_same : (coeffs : List ℤ) (row : RowName) (held : List Reservation) → falls coeffs (map (changes_at row) held) ≡ falls coeffs (of_row row held)
 falls_same coeffs row [] = refl
-falls_same coeffs row (r ∷ held) = falls_one coeffs (same_row row r.row) (counted r.changes) (map (changes_at row) held) (of_row row held) (falls_same coeffs row held)
+falls_same coeffs row (r ∷ held) = falls_one coeffs (same_row row r.row) (deltas r.changes) (map (changes_at row) held) (of_row row held) (falls_same coeffs row held)
 
 rises_same : (coeffs : List ℤ) (row : RowName) (held : List Reservation) → rises coeffs (map (changes_at row) held) ≡ rises coeffs (of_row row held)
 rises_same coeffs row [] = refl
-rises_same coeffs row (r ∷ held) = rises_one coeffs (same_row row r.row) (counted r.changes) (map (changes_at row) held) (of_row row held) (rises_same coeffs row held)
+rises_same coeffs row (r ∷ held) = rises_one coeffs (same_row row r.row) (deltas r.changes) (map (changes_at row) held) (of_row row held) (rises_same coeffs row held)
 
 pub same_extremes : (coeffs amounts : List ℤ) (row : RowName) (held : List Reservation) → IsCovered coeffs amounts
     → (least coeffs amounts (map (changes_at row) held) ≡ least coeffs amounts (of_row row held))
@@ -93,18 +93,18 @@ append_one false own xs ys all is = is
 
 pub of_append : (row : RowName) (before after : List Reservation) → of_row row (before ++ after) ≡ of_row row before ++ of_row row after
 of_append row [] after = refl
-of_append row (r ∷ before) after = append_one (same_row row r.row) (counted r.changes) (of_row row before) (of_row row after) (of_row row (before ++ after)) (of_append row before after)
+of_append row (r ∷ before) after = append_one (same_row row r.row) (deltas r.changes) (of_row row before) (of_row row after) (of_row row (before ++ after)) (of_append row before after)
 
 -- the reservations of its own row are one more, and those of another row are the same
-pub own_more : (r : Reservation) (before after : List Reservation) → of_row r.row (before ++ r ∷ after) ≡ of_row r.row before ++ counted r.changes ∷ of_row r.row after
+pub own_more : (r : Reservation) (before after : List Reservation) → of_row r.row (before ++ r ∷ after) ≡ of_row r.row before ++ deltas r.changes ∷ of_row r.row after
 own_more r before after =
     of_append r.row before (r ∷ after)
-    ∙ ap (λ (zs : List (List ℤ)). of_row r.row before ++ zs) (cond-true (same_row r.row r.row) (counted r.changes ∷ of_row r.row after) (of_row r.row after) (same_row_itself r.row))
+    ∙ ap (λ (zs : List (List ℤ)). of_row r.row before ++ zs) (cond-true (same_row r.row r.row) (deltas r.changes ∷ of_row r.row after) (of_row r.row after) (same_row_itself r.row))
 
 other_same : (row : RowName) (r : Reservation) (before after : List Reservation) → same_row row r.row ≡ false → of_row row (before ++ r ∷ after) ≡ of_row row (before ++ after)
 other_same row r before after apart =
     of_append row before (r ∷ after)
-    ∙ ap (λ (zs : List (List ℤ)). of_row row before ++ zs) (cond-false (same_row row r.row) (counted r.changes ∷ of_row row after) (of_row row after) apart)
+    ∙ ap (λ (zs : List (List ℤ)). of_row row before ++ zs) (cond-false (same_row row r.row) (deltas r.changes ∷ of_row row after) (of_row row after) apart)
     ∙ sym (of_append row before after)
 
 -- the places of other rows count what they counted
@@ -143,11 +143,11 @@ added changes xs ys (Some old) after counts there becomes =
     subst (λ (p : Option Kept). CountsJust p (xs ++ changes ∷ ys)) (sym new.1) (new.2.counts xs ys counts)
 
 pub add_counts : (old new : Places) (r : Reservation) (before after : List Reservation) → CountsAll old (before ++ after) → IsSome (place_at old r.row)
-    → Becomes (TakesIn (counted r.changes)) (place_at old r.row) (place_at new r.row)
+    → Becomes (TakesIn (deltas r.changes)) (place_at old r.row) (place_at new r.row)
     → OthersStay r.row old new → CountsAll new (before ++ r ∷ after)
 add_counts old new r before after counts there becomes others =
     let was = subst (λ (zs : List (List ℤ)). CountsJust (place_at old r.row) zs) (of_append r.row before after) (counts r.row) in
-    let own = added (counted r.changes) (of_row r.row before) (of_row r.row after) (place_at old r.row) (place_at new r.row) was there becomes in
+    let own = added (deltas r.changes) (of_row r.row before) (of_row r.row after) (place_at old r.row) (place_at new r.row) was there becomes in
     each_row (λ (other : RowName). CountsJust (place_at new other) (of_row other (before ++ r ∷ after))) r.row
     (subst (λ (zs : List (List ℤ)). CountsJust (place_at new r.row) zs) (sym (own_more r before after)) own)
     (λ other apart. others_count old new r.row other (before ++ after) (before ++ r ∷ after) counts others apart (other_same other r before after (other_way r.row other apart)))
@@ -163,11 +163,11 @@ removed end changes xs ys (Some old) after counts becomes =
     subst (λ (p : Option Kept). CountsJust p (xs ++ ys)) (sym new.1) (new.2.counts xs ys counts)
 
 pub remove_counts : (end : End) (old new : Places) (r : Reservation) (before after : List Reservation) → CountsAll old (before ++ r ∷ after)
-    → Becomes (GivesBack end (counted r.changes)) (place_at old r.row) (place_at new r.row)
+    → Becomes (GivesBack end (deltas r.changes)) (place_at old r.row) (place_at new r.row)
     → OthersStay r.row old new → CountsAll new (before ++ after)
 remove_counts end old new r before after counts becomes others =
     let was = subst (λ (zs : List (List ℤ)). CountsJust (place_at old r.row) zs) (own_more r before after) (counts r.row) in
-    let own = removed end (counted r.changes) (of_row r.row before) (of_row r.row after) (place_at old r.row) (place_at new r.row) was becomes in
+    let own = removed end (deltas r.changes) (of_row r.row before) (of_row r.row after) (place_at old r.row) (place_at new r.row) was becomes in
     each_row (λ (other : RowName). CountsJust (place_at new other) (of_row other (before ++ after))) r.row
     (subst (λ (zs : List (List ℤ)). CountsJust (place_at new r.row) zs) (sym (of_append r.row before after)) own)
     (λ other apart. others_count old new r.row other (before ++ r ∷ after) (before ++ after) counts others apart (sym (other_same other r before after (other_way r.row other apart))))

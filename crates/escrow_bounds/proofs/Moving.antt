@@ -3,7 +3,7 @@ use Rattle.std.proofs.Common.{◌≡◌, ℕ, zero, suc, ◌+◌, ℤ, pos, ◌+
 use Rattle.std.proofs.lemmas.Int.{ints}
 use Rattle.std.proofs.lemmas.List.{map_more}
 use Rattle.escrow_num.specs.Amount.{is_amount}
-use Rattle.escrow_num.specs.Reservation.{counted}
+use Rattle.escrow_num.specs.Reservation.{deltas}
 use Rattle.escrow_bounds.specs.Moved.{moved, all_moved}
 
 pub length-all_moved : (amounts changes : List ℤ) → length (all_moved amounts changes) ≡ length amounts
@@ -55,6 +55,6 @@ moved_end (a ∷ rest) (c ∷ changes) (suc place) past = ap (λ (ys : List ℤ)
 
 -- the changes that count, one more of them
 pub counted_push : (changes : List (Option ℤ)) (i : ℕ) (o : Option ℤ) (done : List ℤ) → i < length changes → o ≡ get_or changes i o
-    → done ≡ counted (take i changes) → done ++ unwrap_or o (pos 0) ∷ [] ≡ counted (take (i + 1) changes)
+    → done ≡ deltas (take i changes) → done ++ unwrap_or o (pos 0) ∷ [] ≡ deltas (take (i + 1) changes)
 counted_push changes i o done below at is =
     rw (is, at) (sym (map_more (λ (c : Option ℤ). unwrap_or c (pos 0)) changes i o below))

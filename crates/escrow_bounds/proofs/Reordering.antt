@@ -7,7 +7,7 @@ use Rattle.std.proofs.lemmas.List.{nil_from_length}
 use Rattle.escrow_num.specs.declared.reservation.Reservation.{Reservation}
 use Rattle.escrow_num.specs.declared.value.RowName.{RowName}
 use Rattle.escrow_num.specs.Order.{same_row}
-use Rattle.escrow_num.specs.Reservation.{counted}
+use Rattle.escrow_num.specs.Reservation.{deltas}
 use Rattle.escrow_checks.specs.Form.{form}
 use Rattle.escrow_checks.specs.Spread.{falls, rises, AreContributions}
 use Rattle.escrow_bounds.specs.declared.tracked.Tracked.{Tracked}
@@ -72,8 +72,8 @@ behind false x all some rest is = is
 
 parted_one : (row : RowName) (r : Reservation) (all some rest : List Reservation) (passes : Bool) → Alike (of_row row all) (of_row row some ++ of_row row rest)
     → Alike (of_row row (r ∷ all)) (of_row row (cond passes (r ∷ some) some) ++ of_row row (cond (not passes) (r ∷ rest) rest))
-parted_one row r all some rest true is = front (same_row row r.row) (counted r.changes) (of_row row all) (of_row row some) (of_row row rest) is
-parted_one row r all some rest false is = behind (same_row row r.row) (counted r.changes) (of_row row all) (of_row row some) (of_row row rest) is
+parted_one row r all some rest true is = front (same_row row r.row) (deltas r.changes) (of_row row all) (of_row row some) (of_row row rest) is
+parted_one row r all some rest false is = behind (same_row row r.row) (deltas r.changes) (of_row row all) (of_row row some) (of_row row rest) is
 
 -- those that pass a test and then the others are counted like all
 parted : (test : Reservation → Bool) (row : RowName) (held : List Reservation)

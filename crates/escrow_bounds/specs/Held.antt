@@ -3,7 +3,7 @@ use Rattle.std.specs.Prelude.{◌≡◌, ◌<◌, if◌then◌else◌, ℤ, Opti
 use Rattle.escrow_num.specs.declared.reservation.Reservation.{Reservation}
 use Rattle.escrow_num.specs.declared.value.RowName.{RowName}
 use Rattle.escrow_num.specs.Order.{same_row}
-use Rattle.escrow_num.specs.Reservation.{counted}
+use Rattle.escrow_num.specs.Reservation.{deltas}
 use Rattle.escrow_bounds.specs.Counts.{Counts}
 use Rattle.escrow_bounds.specs.Kept.{Kept}
 use Rattle.escrow_bounds.specs.Places.{Places, place_at}
@@ -11,7 +11,7 @@ use Rattle.escrow_bounds.specs.Places.{Places, place_at}
 -- the changes of the open reservations that are of a row, in their order
 abbrev pub of_row : RowName → List Reservation → List (List ℤ)
 of_row row [] = []
-of_row row (r ∷ held) = if same_row row r.row then counted r.changes ∷ of_row row held else of_row row held
+of_row row (r ∷ held) = if same_row row r.row then deltas r.changes ∷ of_row row held else of_row row held
 
 -- a place counts just these reservations; where there is no place, there are none
 abbrev pub CountsJust : Option Kept → List (List ℤ) → Type 0

@@ -4,7 +4,7 @@ use Rattle.std.specs.List.{AllByRecursion}
 use Rattle.escrow_num.specs.declared.reservation.Reservation.{Reservation}
 use Rattle.escrow_num.specs.declared.session.End.{End}
 use Rattle.escrow_num.specs.declared.value.RowName.{RowName}
-use Rattle.escrow_num.specs.Reservation.{counted, changes_at}
+use Rattle.escrow_num.specs.Reservation.{deltas, changes_at}
 use Rattle.escrow_checks.specs.declared.check.Check.{Check}
 use Rattle.escrow_checks.specs.Extremes.{least, greatest}
 use Rattle.escrow_checks.specs.Form.{IsCovered}
@@ -47,14 +47,14 @@ ReserveCounts =
 abbrev pub AddCounts : Type 0
 AddCounts =
     (old new : Places) (r : Reservation) (before after : List Reservation) → CountsAll old (before ++ after) → IsSome (place_at old r.row)
-    → Becomes (TakesIn (counted r.changes)) (place_at old r.row) (place_at new r.row)
+    → Becomes (TakesIn (deltas r.changes)) (place_at old r.row) (place_at new r.row)
     → OthersStay r.row old new → CountsAll new (before ++ r ∷ after)
 
 -- `remove` counts one less, in any order of ends
 abbrev pub RemoveCounts : Type 0
 RemoveCounts =
     (end : End) (old new : Places) (r : Reservation) (before after : List Reservation) → CountsAll old (before ++ r ∷ after)
-    → Becomes (GivesBack end (counted r.changes)) (place_at old r.row) (place_at new r.row)
+    → Becomes (GivesBack end (deltas r.changes)) (place_at old r.row) (place_at new r.row)
     → OthersStay r.row old new → CountsAll new (before ++ after)
 
 -- `release` drops no place that counts

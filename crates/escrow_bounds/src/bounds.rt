@@ -14,7 +14,7 @@ ghost use Rattle.escrow_bounds.specs.Kept.{Kept, checks_of};
 ghost use Rattle.escrow_bounds.specs.Places.{place_at, OthersStay, Becomes};
 ghost use Rattle.escrow_bounds.specs.declared.tracked.Tracked.{Tracked};
 
-use crate::changes::counted;
+use crate::changes::deltas;
 use crate::place::Place;
 use escrow_checks::Check;
 use escrow_num::{Amount, Breach, End, Name, Reservation, RowName, Wide};
@@ -213,7 +213,7 @@ impl Bounds {
         ensures ends { AreEnded end (r.now ∷ []) self.old self.new }
         ensures counting { AllCount self.old → AllCount self.new }
     {
-        let amounts = counted(r.changes.as_slice());
+        let amounts = deltas(r.changes.as_slice());
         self.remove(&r.row, &amounts[..r.changes.len()], end);
         self.release(&r.row);
     }

@@ -1,6 +1,6 @@
 //! What the changes of a reservation add, in place.
 ghost use Rattle.std.specs.Prelude.{◌≡◌, ◌≤◌, length, take};
-ghost use Rattle.escrow_num.specs.Reservation.{counted};
+ghost use Rattle.escrow_num.specs.Reservation.{deltas};
 ghost use Rattle.escrow_checks.specs.declared.coefficients.TheConstants.Coefficients.{MAX_LEN};
 
 use escrow_checks::Coefficients;
@@ -8,9 +8,9 @@ use escrow_num::Amount;
 
 /// What changes add, column by column, in place: nothing where the UPDATE doesn't assign the column.
 /// They stand before what isn't used.
-pub fn counted(changes: &[Option<Amount>]) -> [Amount; Coefficients::MAX_LEN]
+pub fn deltas(changes: &[Option<Amount>]) -> [Amount; Coefficients::MAX_LEN]
     requires { length changes.now ≤ MAX_LEN }
-    ensures { take (length changes.now) result ≡ counted changes.now }
+    ensures { take (length changes.now) result ≡ deltas changes.now }
 {
     let mut amounts = [Amount::ZERO; Coefficients::MAX_LEN];
     for (i, change) in changes.iter().enumerate() {

@@ -12,5 +12,5 @@ mod place;
 mod tracked;
 
 pub use bounds::Bounds;
-pub use changes::counted;
+pub use changes::deltas;
 pub use place::commit_amounts;

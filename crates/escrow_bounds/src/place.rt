@@ -12,7 +12,7 @@ ghost use Rattle.escrow_bounds.specs.Kept.{checks_of};
 ghost use Rattle.escrow_bounds.specs.Moved.{moved, all_moved, amounts_after_all};
 ghost use Rattle.escrow_bounds.specs.declared.tracked.Tracked.{Tracked};
 
-use crate::changes::counted;
+use crate::changes::deltas;
 use crate::tracked::{Tracked, first_breach, give_back, push_check, take_in};
 use escrow_checks::{Check, Coefficients};
 use escrow_num::{Amount, Breach, End, Name, Reservation, RowName, Span, Wide};
@@ -174,7 +174,7 @@ pub fn commit_amounts(amounts: &mut [Amount], row: &RowName, reservations: &[Res
 {
     for r in reservations {
         if row.is_same(&r.row) {
-            let changes = counted(r.changes.as_slice());
+            let changes = deltas(r.changes.as_slice());
             move_all(amounts, &changes[..r.changes.len()]);
         }
     }

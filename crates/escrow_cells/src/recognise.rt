@@ -33,6 +33,7 @@ fn has_tables(schema: &Schema) -> bool
     are_first(first, second, third)
 }
 
+/// Whether three tables are META, TAB and CELL.
 fn are_first(first: &Table, second: &Table, third: &Table) -> bool
     ensures { IsTrue result ↔ ((first.now ≡ meta) × (second.now ≡ tab) × (third.now ≡ cell)) }
 {
@@ -46,6 +47,7 @@ fn has_no_keys(tables: &[Table]) -> bool
     tables.iter().all(|table| table.references.is_empty())
 }
 
+/// Whether a table is META, as its text makes it.
 fn is_meta(table: &Table) -> bool
     ensures { IsTrue result ↔ (table.now ≡ meta) }
 {
@@ -55,6 +57,7 @@ fn is_meta(table: &Table) -> bool
         && is_unruled(table)
 }
 
+/// Whether a table is TAB, as its text makes it.
 fn is_tab(table: &Table) -> bool
     ensures { IsTrue result ↔ (table.now ≡ tab) }
 {
@@ -64,6 +67,7 @@ fn is_tab(table: &Table) -> bool
         && is_unruled(table)
 }
 
+/// Whether a table is CELL, as its text makes it.
 fn is_cell(table: &Table) -> bool
     ensures { IsTrue result ↔ (table.now ≡ cell) }
 {
@@ -73,6 +77,7 @@ fn is_cell(table: &Table) -> bool
         && is_unruled(table)
 }
 
+/// Whether a table has this name, and its rows stand in the tree of this number.
 fn is_named(table: &Table, name: &str, tree: u32) -> bool
     ensures { IsTrue result ↔ ((table.now.name ≡ name.now) × (table.now.tree ≡ tree)) }
 {
@@ -90,6 +95,7 @@ fn is_keyed(table: &Table, key: Option<usize>, primary: &[usize], unique: &[usiz
         && is_plain(table.orders.as_slice())
 }
 
+/// Whether these are the places of the one key.
 fn is_only(keys: &[Items<usize>], places: &[usize]) -> bool
     ensures { IsTrue result ↔ (keys.now ≡ places.now ∷ []) }
 {
@@ -109,6 +115,7 @@ fn is_plain(orders: &[Order]) -> bool
     *order == Order::PLAIN
 }
 
+/// Whether these are the columns of META.
 fn are_meta_columns(columns: &[Column]) -> bool
     ensures { IsTrue result ↔ (columns.now ≡ meta.columns) }
 {
@@ -118,6 +125,7 @@ fn are_meta_columns(columns: &[Column]) -> bool
     is_column(k, "K", Kind::Text, true) && is_column(v, "V", Kind::Integer, true)
 }
 
+/// Whether these are the columns of TAB.
 fn are_tab_columns(columns: &[Column]) -> bool
     ensures { IsTrue result ↔ (columns.now ≡ tab.columns) }
 {
@@ -129,6 +137,7 @@ fn are_tab_columns(columns: &[Column]) -> bool
         && is_column(ddl, "DDL", Kind::Text, true)
 }
 
+/// Whether these are the columns of CELL.
 fn are_cell_columns(columns: &[Column]) -> bool
     ensures { IsTrue result ↔ (columns.now ≡ cell.columns) }
 {
@@ -158,6 +167,7 @@ fn is_strict(column: &Column) -> bool
     column.is_strict && is_null(&column.default) && column.collation == Collation::Binary
 }
 
+/// Whether a value is NULL.
 fn is_null(value: &Value) -> bool
     ensures { IsTrue result ↔ (value.now ≡ Null) }
 {
@@ -175,6 +185,7 @@ fn is_unruled(table: &Table) -> bool
         && !table.is_counted
 }
 
+/// Whether there are no terms.
 fn is_empty(terms: &Terms) -> bool
     ensures { IsTrue result ↔ (terms.now ≡ []) }
 {

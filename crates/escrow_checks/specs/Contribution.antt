@@ -1,4 +1,4 @@
--- Helps: how great the sums of a check can grow. These bounds keep each sum wide; what is granted
+-- Believed: how great the sums of a check can grow. These bounds keep each sum wide; what is granted
 -- doesn't rest on them.
 use Rattle.std.specs.Prelude.{ℕ, ℤ, pos, neg_ℤ, ◌*◌, ◌^◌, ◌≤ℤ◌}
 

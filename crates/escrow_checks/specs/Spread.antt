@@ -1,5 +1,5 @@
--- Helps: what open reservations add, by its sign, from which the extremes are computed with no choice
--- formed. The grant rule is defined without it.
+-- Believed where sums are kept (`Counts` of escrow_bounds): what open reservations add, by its sign, from which the
+-- extremes are computed with no choice formed. The grant rule is defined without it.
 use Rattle.std.specs.Prelude.{◌≡◌, ℤ, pos, ◌+ℤ◌, List, [], ◌∷◌, ◌++◌}
 use Rattle.std.specs.Int.{int_min, int_max}
 use Rattle.std.specs.List.{AllByRecursion}

@@ -37,7 +37,7 @@ use Rattle.escrow_core.specs.Reserved.{AreAmounts, ArePlaced}
 use Rattle.escrow_core.specs.Serves.{Serves}
 use Rattle.escrow_machine.specs.Accepted.{PassesEarly}
 use Rattle.escrow_machine.specs.State.{State}
-use Rattle.escrow_machine.specs.Rows.{applied}
+use Rattle.escrow_schema.specs.Rows.{applied}
 use Rattle.escrow_machine.specs.Step.{step, StepOrRefusal}
 use Rattle.escrow_machine.specs.Turn.{turn_of, after_commit, after_rollback}
 use Rattle.escrow_machine.specs.Valid.{IsValid}

@@ -16,7 +16,7 @@ use Rattle.escrow_machine.specs.Asked.{named_by}
 use Rattle.escrow_core.specs.Seen.{Seen}
 use Rattle.escrow_machine.specs.Accepted.{IsRefusal, PassesEarly}
 use Rattle.escrow_machine.specs.State.{State, is_reserved}
-use Rattle.escrow_machine.specs.Rows.{row_named, without_row}
+use Rattle.escrow_schema.specs.Rows.{row_named, without_row}
 use Rattle.escrow_machine.specs.Step.{step}
 use Rattle.escrow_machine.specs.Turn.{turn_of}
 use Rattle.escrow_machine.proofs.LawsChanges.{other_found}

@@ -16,7 +16,7 @@ use Rattle.escrow_schema.specs.Catalog.{table_named}
 use Rattle.escrow_machine.specs.declared.reply.Reply.TheVariants as reply
 use Rattle.escrow_core.specs.Seen.{Seen}
 use Rattle.escrow_machine.specs.Accepted.{PassesEarly}
-use Rattle.escrow_machine.specs.Rows.{row_named, without_rows_of}
+use Rattle.escrow_schema.specs.Rows.{row_named, without_rows_of}
 use Rattle.escrow_machine.specs.State.{State, is_open, is_reserved, is_table_reserved}
 use Rattle.escrow_machine.specs.Step.{step}
 use Rattle.escrow_machine.specs.Turn.{turn_of, after_drop}

@@ -30,7 +30,7 @@ use Rattle.escrow_core.specs.Inside.{amounts_named}
 use Rattle.escrow_core.specs.Seen.{Seen}
 use Rattle.escrow_machine.specs.Accepted.{IsAccepted, IsRefusal, PassesEarly}
 use Rattle.escrow_machine.specs.State.{State}
-use Rattle.escrow_machine.specs.Rows.{row_before, row_named, rows_of, with_row, HasTable}
+use Rattle.escrow_schema.specs.Rows.{row_before, row_named, rows_of, with_row, HasTable}
 use Rattle.escrow_machine.specs.Step.{step}
 use Rattle.escrow_machine.specs.Turn.{turn_of}
 use Rattle.escrow_machine.proofs.Put.{with_row_put}

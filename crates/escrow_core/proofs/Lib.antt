@@ -1,6 +1,6 @@
 pub mod Breaches
 pub mod Committing
-pub mod Counted
+pub mod Counting
 pub mod Creating
 pub mod Deleting
 pub mod Dropping

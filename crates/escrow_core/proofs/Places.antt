@@ -13,7 +13,7 @@ use Rattle.escrow_num.specs.declared.session.End.{End}
 use Rattle.escrow_num.specs.declared.session.End.TheVariants as end
 use Rattle.escrow_num.specs.declared.value.RowName.{RowName}
 use Rattle.escrow_num.specs.Order.{same_row}
-use Rattle.escrow_num.specs.Reservation.{counted, changes_at}
+use Rattle.escrow_num.specs.Reservation.{deltas, changes_at}
 use Rattle.escrow_num.proofs.Items.{Has, all_has, find_has}
 use Rattle.escrow_num.proofs.Orders.{row_same, same_row_itself}
 use Rattle.escrow_checks.specs.declared.check.Check.{Check}
@@ -35,7 +35,7 @@ use Rattle.escrow_bounds.specs.Places.{Places, place_at, Becomes, OthersStay}
 use Rattle.escrow_journal.specs.Open.{Open, granted}
 use Rattle.escrow_journal.specs.Reservations.{own}
 use Rattle.escrow_bounds.proofs.Moving.{length-all_moved}
-use Rattle.escrow_machine.specs.Rows.{row_named, row_after, changes_to, applied, HasTable}
+use Rattle.escrow_schema.specs.Rows.{row_named, row_after, changes_to, applied, HasTable}
 use Rattle.escrow_machine.specs.State.{State, is_reserved}
 use Rattle.escrow_machine.specs.Valid.{IsValid}
 use Rattle.escrow_machine.proofs.Changes.{changed_nil, all_changed_push, all_changed_later}
@@ -187,7 +187,7 @@ module _ (row : RowName) (amounts : List ℤ) where
   commits_add [] done fronts = ap with_changes (sym (append-nil done))
   commits_add (r ∷ rest) done fronts =
       let joined : (done ++ r ∷ []) ++ rest ≡ done ++ r ∷ rest = append_assoc done (r ∷ []) rest in
-      next_ended (same_row row r.row) (with_changes done) (with_changes (done ++ r ∷ [])) (counted r.changes) (of_row row rest) (one_more done r) (fronts (done ++ r ∷ []) rest joined)
+      next_ended (same_row row r.row) (with_changes done) (with_changes (done ++ r ∷ [])) (deltas r.changes) (of_row row rest) (one_more done r) (fronts (done ++ r ∷ []) rest joined)
       ∙ commits_add rest (done ++ r ∷ []) (λ front back is. fronts front back (is ∙ joined))
       ∙ ap with_changes joined
 

@@ -21,7 +21,7 @@ use Rattle.escrow_machine.specs.Journal.{journal_reply}
 use Rattle.escrow_machine.specs.Accepted.{IsAccepted, IsRefusal, PassesEarly}
 use Rattle.escrow_core.specs.Serving.{is_known}
 use Rattle.escrow_machine.specs.State.{State}
-use Rattle.escrow_machine.specs.Rows.{row_named, row_before}
+use Rattle.escrow_schema.specs.Rows.{row_named, row_before}
 use Rattle.escrow_machine.specs.Step.{StepOrRefusal}
 use Rattle.escrow_machine.specs.Turn.{turn_of}
 use Rattle.escrow_rows.proofs.OneRow.{rows_named}

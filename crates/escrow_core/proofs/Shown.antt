@@ -6,7 +6,7 @@ use Rattle.std.proofs.lemmas.Bool.{cond-false, or_parts}
 use Rattle.std.proofs.lemmas.List.{length-map}
 use Rattle.escrow_num.specs.declared.reservation.Reservation.{Reservation}
 use Rattle.escrow_num.specs.declared.row.Row.{Row}
-use Rattle.escrow_num.specs.Reservation.{changes_at, counted}
+use Rattle.escrow_num.specs.Reservation.{changes_at, deltas}
 use Rattle.escrow_checks.specs.declared.check.Check.{Check}
 use Rattle.escrow_checks.specs.Checks.{unit_of}
 use Rattle.escrow_checks.specs.Condition.{amount_of}
@@ -35,7 +35,7 @@ use Rattle.escrow_machine.specs.declared.reply.ColumnBounds.{ColumnBounds}
 use Rattle.escrow_machine.proofs.BoundsLemmas.{names_shown, split}
 use Rattle.escrow_machine.proofs.Shapes.{covered}
 use Rattle.escrow_machine.specs.State.{State}
-use Rattle.escrow_machine.specs.Rows.{row_named, row_before}
+use Rattle.escrow_schema.specs.Rows.{row_named, row_before}
 use Rattle.escrow_core.proofs.Queries.{selects_one}
 
 -- columns and rows of the table are what a SELECT shows
@@ -124,7 +124,7 @@ free_list : (row : RowName) (held : List Reservation) → list_any (λ r. same_r
 free_list row [] free = refl
 free_list row (r ∷ held) free =
     let tests = or_parts (same_row r.row row) (list_any (λ x. same_row x.row row) held) free in
-    cond-false (same_row row r.row) (counted r.changes ∷ of_row row held) (of_row row held) (other_way r.row row tests.0) ∙ free_list row held tests.1
+    cond-false (same_row row r.row) (deltas r.changes ∷ of_row row held) (of_row row held) (other_way r.row row tests.0) ∙ free_list row held tests.1
 
 pub free_same : (table : TableDef) (amounts : List ℤ) (row : RowName) (held : List Reservation) → IsTable table → length amounts ≡ length (reservables table.columns)
     → list_any (λ r. same_row r.row row) held ≡ false → bounds_over [] table amounts ≡ bounds_in held table row amounts

@@ -6,7 +6,7 @@ use Rattle.escrow_num.specs.declared.value.RowName.{RowName}
 use Rattle.escrow_num.specs.Order.{same_row}
 use Rattle.escrow_num.proofs.Items.{find_has}
 use Rattle.escrow_num.proofs.Orders.{row_same}
-use Rattle.escrow_machine.specs.Rows.{row_named}
+use Rattle.escrow_schema.specs.Rows.{row_named}
 use Rattle.escrow_core.specs.Inside.{amounts_named}
 
 -- a row stands under a name, and has these amounts

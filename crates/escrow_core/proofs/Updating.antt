@@ -16,7 +16,7 @@ use Rattle.escrow_num.specs.declared.row.Row.{Row}
 use Rattle.escrow_num.specs.declared.value.RowName.{RowName}
 use Rattle.escrow_num.specs.declared.value.Value.{Value}
 use Rattle.escrow_num.specs.Order.{same_row}
-use Rattle.escrow_num.specs.Reservation.{counted, changes_at}
+use Rattle.escrow_num.specs.Reservation.{deltas, changes_at}
 use Rattle.escrow_num.specs.Refusal.{refuse_if, first_refusal, refusal_for}
 use Rattle.escrow_num.specs.Session.{IsSession}
 use Rattle.escrow_sql.specs.declared.statement.UpdateText.{UpdateText}
@@ -42,7 +42,7 @@ use Rattle.escrow_journal.specs.declared.journal.TheConstants.Journal.{MAX_RESER
 use Rattle.escrow_journal.specs.Reservations.{own}
 use Rattle.escrow_journal.specs.Open.{grant_refusal}
 use Rattle.escrow_journal.specs.Open as txn
-use Rattle.escrow_machine.specs.Rows.{HasTable, row_named, with_plain, with_values}
+use Rattle.escrow_schema.specs.Rows.{HasTable, row_named, with_plain, with_values}
 use Rattle.escrow_machine.specs.declared.reply.Reply.TheVariants as reply
 use Rattle.escrow_machine.specs.Asked.{plan_of, row_name, reservation_from, reserves_beside}
 use Rattle.escrow_machine.specs.Accepted.{IsAccepted, IsRefusal, PassesEarly}
@@ -199,10 +199,10 @@ reason_is : (s : State) (session : ℕ) (name : RowName) (table : TableDef) (pla
 reason_is s session name table place changes named is_table of_table has =
     let row = standing s.rows name place.amounts has in
     let reason = grant_refusal session (open_in s) in
-    let breach : List ℤ → RowName → Option Refusal = λ zs n. option_map refusal.Check (broken table.checks zs (counted changes) (map (changes_at n) s.reservations)) in
-    let same : broken table.checks place.amounts (counted changes) (map (changes_at name) s.reservations) ≡ broken (checks_of place.checks) place.amounts (counted changes) (of_row name s.reservations) =
-    same_grant_rule table.checks place.amounts (counted changes) name s.reservations (covered table place.amounts is_table of_table.amounts)
-    ∙ ap (λ (checks : List Check). broken checks place.amounts (counted changes) (of_row name s.reservations)) (sym of_table.checks) in
+    let breach : List ℤ → RowName → Option Refusal = λ zs n. option_map refusal.Check (broken table.checks zs (deltas changes) (map (changes_at n) s.reservations)) in
+    let same : broken table.checks place.amounts (deltas changes) (map (changes_at name) s.reservations) ≡ broken (checks_of place.checks) place.amounts (deltas changes) (of_row name s.reservations) =
+    same_grant_rule table.checks place.amounts (deltas changes) name s.reservations (covered table place.amounts is_table of_table.amounts)
+    ∙ ap (λ (checks : List Check). broken checks place.amounts (deltas changes) (of_row name s.reservations)) (sym of_table.checks) in
     rw (row.found, named) refl ∙ ap₂ (λ (zs : List ℤ) (n : RowName). first_refusal (reason ∷ breach zs n ∷ [])) row.has row.named
     ∙ ap (λ (o : Option Breach). first_refusal (reason ∷ option_map refusal.Check o ∷ [])) same
 
@@ -253,7 +253,7 @@ module _ (s : State) (session : ℕ) (text : UpdateText) (name : RowName) (chang
   not_the_store place r why is = elim why [
     | inl first ↦ (let none : failure_of_refusal r ≡ None =
         no_failure (nat_le MAX_RESERVATIONS (length (own session s.reservations))) (nat_lt MAX_ID s.next_id)
-        (broken (checks_of place.checks) place.amounts (counted changes) (of_row name s.reservations)) r first in absurd (cc))
+        (broken (checks_of place.checks) place.amounts (deltas changes) (of_row name s.reservations)) r first in absurd (cc))
     | inr memory ↦ (let wanted : failure_of_refusal r ≡ Some failure.Memory = ap failure_of_refusal memory in absurd (cc))
   ]
 
@@ -348,12 +348,12 @@ module _ {S : Type 0} (g : Ghosts S) (session : ℕ) (text : UpdateText) (name :
       → ((other : RowName) → same_row name other ≡ false → is_some (place_at old other) ≡ is_reserved d.state other)
       → AreOfTables d.state.catalog old → (HasCleanDisk (state g d.store) → HaveAmounts d.state.rows old)
       → reason_against session place name changes (open_in d.state) ≡ None
-      → Becomes (TakesIn (counted changes)) (place_at old name) (place_at new name) → OthersStay name old new
+      → Becomes (TakesIn (deltas changes)) (place_at old name) (place_at new name) → OthersStay name old new
       → Keeps g (record { store = d.store; state = with_open d.state (txn.granted session name changes (open_in d.state)) }) new
   grant_keeps place at others_placed of_tables amounts none becomes others =
       let s = d.state in
       let there : IsSome (place_at old name) = ap (λ (p : Option Kept). is_some p) at in
-      let left : grant_refusal session (open_in s) ≡ None = (passed (grant_refusal session (open_in s)) (option_map refusal.Check (broken (checks_of place.checks) place.amounts (counted changes) (of_row name s.reservations)) ∷ []) none).first in
+      let left : grant_refusal session (open_in s) ≡ None = (passed (grant_refusal session (open_in s)) (option_map refusal.Check (broken (checks_of place.checks) place.amounts (deltas changes) (of_row name s.reservations)) ∷ []) none).first in
       let free = is_free session (open_in s) left in
       let same = named_so text.table name planned.table in
       let orderly : IsOrderly s.catalog (s.reservations ++ reservation_from s session (row_name text.table name.key) changes ∷ []) s.savepoints (s.next_id + 1) =
@@ -367,9 +367,9 @@ module _ {S : Type 0} (g : Ghosts S) (session : ℕ) (text : UpdateText) (name :
               let valid : IsValid s = record { orderly = kept.orderly; safe_rows = kept.safe_rows clean } in
               (reserved_valid s session text name.key changes valid of_session planned.plan (accepted clean)).safe_rows;
         });
-        placed = granted_placed session name changes (open_in s) old new others_placed (becomes_some (place_at old name) (place_at new name) (counted changes) there becomes) others;
-        of_tables = taken_tables s.catalog name (counted changes) old new there becomes others of_tables;
-        amounts = λ clean. taken_amounts s.rows name (counted changes) old new there becomes others (amounts clean);
+        placed = granted_placed session name changes (open_in s) old new others_placed (becomes_some (place_at old name) (place_at new name) (deltas changes) there becomes) others;
+        of_tables = taken_tables s.catalog name (deltas changes) old new there becomes others of_tables;
+        amounts = λ clean. taken_amounts s.rows name (deltas changes) old new there becomes others (amounts clean);
       }
 
 -- where each row has the place that it had, what is kept stays

@@ -14,7 +14,7 @@ use Rattle.escrow_bounds.specs.Held.{of_row}
 use Rattle.escrow_bounds.specs.Kept.{Kept, checks_of}
 use Rattle.escrow_bounds.specs.Moved.{amounts_after_all}
 use Rattle.escrow_bounds.specs.Places.{Places, place_at}
-use Rattle.escrow_machine.specs.Rows.{row_named}
+use Rattle.escrow_schema.specs.Rows.{row_named}
 use Rattle.escrow_tables.specs.Committed.{Committed}
 use Rattle.escrow_journal.specs.Open.{Open}
 use Rattle.escrow_core.specs.declared.recent.ReadRow.{ReadRow}

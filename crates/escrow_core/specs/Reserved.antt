@@ -7,7 +7,7 @@ use Rattle.escrow_num.specs.declared.reservation.Reservation.{Reservation}
 use Rattle.escrow_num.specs.declared.value.RowName.{RowName}
 use Rattle.escrow_num.specs.Order.{same_row}
 use Rattle.escrow_num.specs.Refusal.{first_refusal}
-use Rattle.escrow_num.specs.Reservation.{counted}
+use Rattle.escrow_num.specs.Reservation.{deltas}
 use Rattle.escrow_checks.specs.Grant.{broken}
 use Rattle.escrow_bounds.specs.Held.{of_row, CountsAll}
 use Rattle.escrow_bounds.specs.Kept.{Kept, checks_of}
@@ -39,7 +39,7 @@ ArePlaced reservations places = (row : RowName) → is_some (place_at places row
 abbrev pub reason_against : ℕ → Kept → RowName → List (Option ℤ) → Open → Option Refusal
 reason_against session place row changes o = first_refusal (
     grant_refusal session o
-    ∷ option_map refusal.Check (broken (checks_of place.checks) place.amounts (counted changes) (of_row row o.reservations))
+    ∷ option_map refusal.Check (broken (checks_of place.checks) place.amounts (deltas changes) (of_row row o.reservations))
     ∷ [])
 
 -- the place of a row is given back where no open reservation is of it, and else all stays

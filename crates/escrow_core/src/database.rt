@@ -65,7 +65,7 @@ impl<S: Alter> Database<S> {
     ghost use Rattle.escrow_machine.specs.State.{is_open, opened};
     ghost use Rattle.escrow_machine.specs.Step.{IsStep, StepOrRefusal};
     ghost use Rattle.escrow_machine.specs.Valid.{IsValid};
-    ghost use Rattle.escrow_machine.specs.Rows.{MeetsChecks};
+    ghost use Rattle.escrow_schema.specs.Rows.{MeetsChecks};
 
     /// A database of tables and rows that were committed, in which nothing is open and the next id is 1.
     /// Each row has to meet the checks of its table. Out of memory is the only error, and hands the

@@ -6,11 +6,11 @@
 //! where the statement may fail, and the state is equal.
 #![tactic(auto)]
 
-mod bounds;
 mod database;
-mod journal;
 mod recent;
 mod reserved;
+mod shown_bounds;
+mod shown_journal;
 
 pub use database::Database;
 pub use escrow_machine::{

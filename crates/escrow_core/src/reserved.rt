@@ -10,7 +10,7 @@ ghost use Rattle.escrow_journal.specs.Open.{cut_back};
 ghost use Rattle.escrow_journal.specs.Reservations.{own};
 ghost use Rattle.escrow_machine.specs.Walked.{IsShort};
 
-use escrow_bounds::{Bounds, counted};
+use escrow_bounds::{Bounds, deltas};
 use escrow_checks::Check;
 use escrow_num::{Amount, Changes, End, Name, Refusal, Reservation, RowName, Session};
 use escrow_txn::TxnTable;
@@ -40,7 +40,7 @@ impl Reserved {
     ghost use Rattle.std.specs.Prelude.{◌⊎◌, ◌<◌, ◌≤◌, IfOk, IfErr, IfSome, IsSome, OnOk, OnErr, Err, bytes_eq};
     ghost use Rattle.std.specs.List.{list_any};
     ghost use Rattle.escrow_num.specs.Order.{same_row};
-    ghost use Rattle.escrow_num.specs.Reservation.{counted};
+    ghost use Rattle.escrow_num.specs.Reservation.{deltas};
     ghost use Rattle.escrow_checks.specs.Form.{IsCovered};
     ghost use Rattle.escrow_checks.specs.declared.coefficients.TheConstants.Coefficients.{MAX_LEN};
     ghost use Rattle.escrow_checks.specs.declared.spread.TheConstants.Spread.{MAX_OPEN};
@@ -152,7 +152,7 @@ impl Reserved {
         ensures id { IfOk result (λ id. id ≡ self.old.txns.next_id) }
         ensures free { OnOk result ((place : Kept) → place_at self.old.places row ≡ Some place → reason_against session place row changes self.old.txns ≡ None) }
         ensures granted { OnOk result (self.new.txns ≡ granted session row changes self.old.txns) }
-        ensures takes { OnOk result (Becomes (TakesIn (counted changes)) (place_at self.old.places row) (place_at self.new.places row)) }
+        ensures takes { OnOk result (Becomes (TakesIn (deltas changes)) (place_at self.old.places row) (place_at self.new.places row)) }
         ensures against { (place : Kept) → place_at self.old.places row ≡ Some place → IfSome (reason_against session place row changes self.old.txns) (λ e. result ≡ Err e) }
         ensures only { IfErr result (λ e. (place : Kept) → place_at self.old.places row ≡ Some place → (reason_against session place row changes self.old.txns ≡ Some e) ⊎ (e ≡ Refusal.Memory)) }
         ensures refused { OnErr result (self.new.txns ≡ self.old.txns) }
@@ -166,7 +166,7 @@ impl Reserved {
         match self.txns.grant(session, row, changes) {
             Ok(id) => {
                 if let Some(r) = last_of(&self.txns, session) {
-                    let amounts = counted(r.changes.as_slice());
+                    let amounts = deltas(r.changes.as_slice());
                     self.bounds.add(&r.row, &amounts[..r.changes.len()]);
                 }
                 Ok(id)
@@ -192,7 +192,7 @@ impl Reserved {
         if let Some(refusal) = self.txns.grant_refusal(session) {
             return Some(refusal);
         }
-        let amounts = counted(changes);
+        let amounts = deltas(changes);
         self.bounds
             .verdict(row, &amounts[..changes.len()])
             .map(Refusal::Check)

@@ -8,7 +8,7 @@ use Rattle.escrow_num.specs.declared.reservation.Reservation.{Reservation}
 use Rattle.escrow_num.specs.declared.row.Row.{Row}
 use Rattle.escrow_num.specs.declared.value.Value.{Value}
 use Rattle.escrow_num.specs.Refusal.{refuse_if, first_refusal}
-use Rattle.escrow_num.specs.Reservation.{counted}
+use Rattle.escrow_num.specs.Reservation.{deltas}
 use Rattle.escrow_sql.specs.declared.statement.CreateText.{CreateText}
 use Rattle.escrow_sql.specs.declared.statement.RowText.{RowText}
 use Rattle.escrow_sql.specs.declared.statement.InsertText.{InsertText}
@@ -30,7 +30,7 @@ use Rattle.escrow_journal.specs.Reservations.{own_savepoints}
 use Rattle.escrow_journal.specs.Savepoints.{without_savepoint}
 use Rattle.escrow_machine.specs.Accepted.{IsAccepted}
 use Rattle.escrow_machine.specs.State.{State, open_in, is_open, is_reserved, is_table_reserved}
-use Rattle.escrow_machine.specs.Rows.{row_named, rows_of, changes_to}
+use Rattle.escrow_schema.specs.Rows.{row_named, rows_of, changes_to}
 use Rattle.escrow_machine.specs.Turn.{turn_of, update_refusals}
 use Rattle.escrow_machine.specs.Asked.{new_row, insert_breach, plan_of, plan_refusal_of, row_name, reservation_from, breach_of, named_by, key_refusal_of}
 use Rattle.escrow_journal.proofs.Free.{IsFree, is_free}
@@ -205,7 +205,7 @@ pub record ReserveStands (s : State) (session : ℕ) (text : UpdateText) (key : 
   pub row : Row
   pub found : row_named s.rows (row_name text.table key) ≡ Some row
   pub free : IsFree session (open_in s)
-  pub safe : broken table.checks row.amounts (counted changes) (map (changes_to row) s.reservations) ≡ None
+  pub safe : broken table.checks row.amounts (deltas changes) (map (changes_to row) s.reservations) ≡ None
 
 -- the plan that stands is the one that is named
 same_plan : (s : State) (text : UpdateText) (asked : Plan) (p : UpdatePlan s text) → plan_of s text ≡ Some asked → planned p.table text ≡ Ok asked
@@ -228,8 +228,8 @@ reserve_stands s session text key changes is accepted =
     let kept = passed breach [] free.others in
     let row = some_there (row_named s.rows name) (failed (is_none (row_named s.rows name)) refusal.NoSuchRow stands.first) in
     let none_broken : breach_of s r ≡ None = unbroken (breach_of s r) kept.first in
-    let in_table : option_and_then (λ (x : Row). broken p.table.checks x.amounts (counted changes) (map (changes_to x) s.reservations)) (row_named s.rows name) ≡ None =
-    subst (λ (o : Option TableDef). option_and_then (λ (t : TableDef). option_and_then (λ (x : Row). broken t.checks x.amounts (counted changes) (map (changes_to x) s.reservations)) (row_named s.rows name)) o ≡ None)
+    let in_table : option_and_then (λ (x : Row). broken p.table.checks x.amounts (deltas changes) (map (changes_to x) s.reservations)) (row_named s.rows name) ≡ None =
+    subst (λ (o : Option TableDef). option_and_then (λ (t : TableDef). option_and_then (λ (x : Row). broken t.checks x.amounts (deltas changes) (map (changes_to x) s.reservations)) (row_named s.rows name)) o ≡ None)
     p.named none_broken in
     record {
       table = p.table;
@@ -238,7 +238,7 @@ reserve_stands s session text key changes is accepted =
       row = row.0;
       found = row.1;
       free = is_free session (open_in s) free.first;
-      safe = subst (λ (o : Option Row). option_and_then (λ (x : Row). broken p.table.checks x.amounts (counted changes) (map (changes_to x) s.reservations)) o ≡ None) row.1 in_table;
+      safe = subst (λ (o : Option Row). option_and_then (λ (x : Row). broken p.table.checks x.amounts (deltas changes) (map (changes_to x) s.reservations)) o ≡ None) row.1 in_table;
     }
 
 -- plain values that are replaced

@@ -5,13 +5,13 @@ use Rattle.std.specs.Prelude.{map}
 use Rattle.escrow_num.specs.declared.row.Row.{Row}
 use Rattle.escrow_num.specs.declared.value.RowName.{RowName}
 use Rattle.escrow_num.specs.declared.reservation.Reservation.{Reservation}
-use Rattle.escrow_num.specs.Reservation.{counted, changes_at}
-use Rattle.escrow_machine.specs.Rows.{applied}
+use Rattle.escrow_num.specs.Reservation.{deltas, changes_at}
+use Rattle.escrow_schema.specs.Rows.{applied}
 use Rattle.escrow_num.specs.Order.{same_row}
 
 -- the changes that count, one more of them
 pub counted_push : (changes : List (Option ℤ)) (i : ℕ) (o : Option ℤ) (done : List ℤ) → i < length changes → o ≡ get_or changes i o
-    → done ≡ counted (take i changes) → done ++ unwrap_or o (pos 0) ∷ [] ≡ counted (take (i + 1) changes)
+    → done ≡ deltas (take i changes) → done ++ unwrap_or o (pos 0) ∷ [] ≡ deltas (take (i + 1) changes)
 counted_push changes i o done below at is =
     rw (is, at) (sym (map_more (λ (c : Option ℤ). unwrap_or c (pos 0)) changes i o below))
 
@@ -26,7 +26,7 @@ pub changes_more : (name : RowName) (reservations : List Reservation) (i : ℕ) 
 changes_more name reservations i r below at = rw (take_more reservations i r below, ← at) (map-append (changes_at name) (take i reservations) (r ∷ []))
 
 -- a reservation changes its own row
-pub changes_own : (name : RowName) (r : Reservation) → same_row name r.row ≡ true → changes_at name r ≡ counted r.changes
+pub changes_own : (name : RowName) (r : Reservation) → same_row name r.row ≡ true → changes_at name r ≡ deltas r.changes
 changes_own name r same = rw same refl
 
 -- and no other one

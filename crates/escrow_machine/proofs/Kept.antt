@@ -14,7 +14,7 @@ use Rattle.escrow_schema.specs.Catalog.{IsCatalog, table_named}
 use Rattle.escrow_schema.specs.Column.{reservables}
 use Rattle.escrow_schema.specs.Fit.{IsRowOf}
 use Rattle.escrow_machine.specs.State.{State}
-use Rattle.escrow_machine.specs.Rows.{row_after, applied, HasTable, MeetsChecks, row_before}
+use Rattle.escrow_schema.specs.Rows.{row_after, applied, HasTable, MeetsChecks, row_before}
 use Rattle.escrow_machine.specs.Valid.{IsValid, IsOrderly, IsReservationIn, AreSafeRows, HasRow}
 use Rattle.escrow_machine.proofs.Choices.{IsChoice, choices_all}
 use Rattle.escrow_machine.proofs.Lengths.{length-filter_filter}

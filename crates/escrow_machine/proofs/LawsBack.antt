@@ -10,7 +10,7 @@ use Rattle.escrow_num.specs.declared.reservation.Savepoint.{Savepoint}
 use Rattle.escrow_num.specs.declared.row.Row.{Row}
 use Rattle.escrow_num.specs.declared.value.Value.{Value}
 use Rattle.escrow_num.specs.Refusal.{refuse_if, first_refusal}
-use Rattle.escrow_num.specs.Reservation.{counted}
+use Rattle.escrow_num.specs.Reservation.{deltas}
 use Rattle.escrow_num.proofs.Ascending.{ascending_filter}
 use Rattle.escrow_num.proofs.Items.{Has, all_has}
 use Rattle.escrow_sql.specs.declared.statement.Statement.TheVariants as statement
@@ -29,7 +29,7 @@ use Rattle.escrow_machine.specs.Asked.{plan_of, plan_refusal_of, row_name, reser
 use Rattle.escrow_machine.specs.Laws.{BackAtOnceChangesNothing, BackRefusesNothing}
 use Rattle.escrow_machine.specs.Accepted.{IsAccepted}
 use Rattle.escrow_machine.specs.State.{State, open_in}
-use Rattle.escrow_machine.specs.Rows.{changes_to}
+use Rattle.escrow_schema.specs.Rows.{changes_to}
 use Rattle.escrow_machine.specs.Step.{step}
 use Rattle.escrow_machine.specs.Turn.{turn_of, after_savepoint, after_rollback_to, update_refusals, update_reply}
 use Rattle.escrow_machine.specs.Valid.{IsValid, IsReservationIn}
@@ -125,7 +125,7 @@ late_beside s keep savepoints session text key changes is accepted =
     let name = row_name text.table key in
     let left = fewer s keep savepoints in
     let unbroken : breach_of left (reservation_from s session name changes) ≡ None =
-    rw (stands.named, stands.found) (fewer_break keep s.reservations stands.table stands.row (counted changes) stands.safe) in (
+    rw (stands.named, stands.found) (fewer_break keep s.reservations stands.table stands.row (deltas changes) stands.safe) in (
       rw stands.found refl,
       (
         unrefused session (open_in left) (record { room = fewer_own stands.free.room; more_ids = stands.free.more_ids }),

@@ -38,7 +38,7 @@ use Rattle.escrow_machine.specs.Bounds.{bounds_in, check_bounds, column_bounds}
 use Rattle.escrow_machine.specs.Laws.{AreBounds, BoundsAreReached, IsCheckLine, IsColumnLine, IsShownBounds, QueriesIgnoreWhoAsks}
 use Rattle.escrow_machine.specs.Accepted.{IsAccepted}
 use Rattle.escrow_machine.specs.State.{State}
-use Rattle.escrow_machine.specs.Rows.{row_named, changes_to, row_after}
+use Rattle.escrow_schema.specs.Rows.{row_named, changes_to, row_after}
 use Rattle.escrow_machine.specs.Step.{step}
 use Rattle.escrow_machine.specs.Turn.{turn_of}
 use Rattle.escrow_machine.specs.Valid.{IsValid}

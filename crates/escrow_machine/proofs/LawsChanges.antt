@@ -24,7 +24,7 @@ use Rattle.escrow_machine.specs.Asked.{row_name, named_by}
 use Rattle.escrow_machine.specs.Laws.{DropsOneTable, DeletesOneRow, PlainUpdatesKeepAmounts, ReservationsKeepRows, names_and_amounts}
 use Rattle.escrow_machine.specs.Accepted.{IsAccepted}
 use Rattle.escrow_machine.specs.State.{State}
-use Rattle.escrow_machine.specs.Rows.{row_named, rows_of, without_row, without_rows_of, with_values, with_plain}
+use Rattle.escrow_schema.specs.Rows.{row_named, rows_of, without_row, without_rows_of, with_values, with_plain}
 use Rattle.escrow_machine.specs.Step.{step}
 use Rattle.escrow_machine.specs.Turn.{turn_of, after_drop, update_reply, after_update}
 use Rattle.escrow_machine.specs.Valid.{IsReservationIn, HasRow}

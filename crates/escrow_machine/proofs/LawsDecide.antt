@@ -6,7 +6,7 @@ use Rattle.escrow_num.specs.declared.refusal.Breach.{Breach}
 use Rattle.escrow_num.specs.declared.refusal.Refusal.TheVariants as refusal
 use Rattle.escrow_num.specs.declared.reservation.Reservation.{Reservation}
 use Rattle.escrow_num.specs.declared.row.Row.{Row}
-use Rattle.escrow_num.specs.Reservation.{counted}
+use Rattle.escrow_num.specs.Reservation.{deltas}
 use Rattle.escrow_num.specs.Span.{first_of_two}
 use Rattle.escrow_sql.specs.declared.statement.Statement.TheVariants as statement
 use Rattle.escrow_sql.specs.declared.statement.UpdateText.{UpdateText}
@@ -20,7 +20,7 @@ use Rattle.escrow_machine.specs.declared.reply.Reply.TheVariants as reply
 use Rattle.escrow_machine.specs.Asked.{breach_of, plan_of}
 use Rattle.escrow_machine.specs.Laws.{BoundsDecideGrants, IsAsked, StaysWithin}
 use Rattle.escrow_machine.specs.State.{State}
-use Rattle.escrow_machine.specs.Rows.{row_named, changes_to}
+use Rattle.escrow_schema.specs.Rows.{row_named, changes_to}
 use Rattle.escrow_machine.specs.Step.{step}
 use Rattle.escrow_machine.proofs.LawsGrants.{asked_table, granted_one, refused_breach, refused_first}
 use Rattle.escrow_machine.proofs.Shapes.{covered_found}
@@ -50,11 +50,11 @@ unbroken_all (check ∷ checks) row reservations changes covered within =
 
 -- the breach of the reservation that is asked
 breach_is : (s : State) (session : ℕ) (text : UpdateText) (table : TableDef) (row : Row) (new : Reservation) → IsAsked s session text table row new
-    → breach_of s new ≡ broken table.checks row.amounts (counted new.changes) (map (changes_to row) s.reservations)
+    → breach_of s new ≡ broken table.checks row.amounts (deltas new.changes) (map (changes_to row) s.reservations)
 breach_is s session text table row new asked =
     let named : table_named s.catalog new.row.table ≡ Some table =
     ap (table_named s.catalog) (asked_table s session text (plan_of s text) new asked.1) ∙ asked.0 in
-    let judged : Row → TableDef → Option Breach = λ r t. broken t.checks r.amounts (counted new.changes) (map (changes_to r) s.reservations) in
+    let judged : Row → TableDef → Option Breach = λ r t. broken t.checks r.amounts (deltas new.changes) (map (changes_to r) s.reservations) in
     ap (λ (o : Option TableDef). option_and_then (λ (t : TableDef). option_and_then (λ (r : Row). judged r t) (row_named s.rows new.row)) o) named
     ∙ ap (option_and_then (λ (r : Row). judged r table)) asked.2
 
@@ -84,8 +84,8 @@ bounds_decide_grants s session text table row new valid asked =
     ap (table_named s.catalog) (asked_table s session text (plan_of s text) new asked.1) ∙ asked.0 in
     let covered = covered_found s valid new.row table row of_text asked.2 in
     let is = breach_is s session text table row new asked in (
-      λ id granted. within_all table.checks row s.reservations (counted new.changes) covered (sym is ∙ granted_none s session text table row new id asked granted),
+      λ id granted. within_all table.checks row s.reservations (deltas new.changes) covered (sym is ∙ granted_none s session text table row new id asked granted),
       λ breach refused within.
           no_breach (breach_of s new) breach (refused_some s session text table row new breach asked refused)
-          (is ∙ unbroken_all table.checks row s.reservations (counted new.changes) covered within),
+          (is ∙ unbroken_all table.checks row s.reservations (deltas new.changes) covered within),
     )

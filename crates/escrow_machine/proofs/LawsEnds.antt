@@ -11,7 +11,7 @@ use Rattle.escrow_checks.specs.Form.{changed, all_changed}
 use Rattle.escrow_machine.specs.Settle.{after_end, after_ends}
 use Rattle.escrow_journal.specs.Reservations.{own, others}
 use Rattle.escrow_machine.specs.State.{State}
-use Rattle.escrow_machine.specs.Rows.{changes_to, applied}
+use Rattle.escrow_schema.specs.Rows.{changes_to, applied}
 use Rattle.escrow_machine.specs.Turn.{turn_of}
 use Rattle.escrow_machine.specs.Valid.{IsValid}
 use Rattle.escrow_machine.proofs.Changes.{all_changed_later}

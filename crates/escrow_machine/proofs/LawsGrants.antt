@@ -12,7 +12,7 @@ use Rattle.escrow_num.specs.declared.reservation.Reservation.{Reservation}
 use Rattle.escrow_num.specs.declared.row.Row.{Row}
 use Rattle.escrow_num.specs.declared.value.Value.{Value}
 use Rattle.escrow_num.specs.Order.{same_row}
-use Rattle.escrow_num.specs.Reservation.{counted}
+use Rattle.escrow_num.specs.Reservation.{deltas}
 use Rattle.escrow_num.specs.Refusal.{refuse_if, first_refusal}
 use Rattle.escrow_num.specs.Span.{first_of_two}
 use Rattle.escrow_sql.specs.declared.statement.Statement.TheVariants as statement
@@ -35,7 +35,7 @@ use Rattle.escrow_journal.specs.Reservations.{others}
 use Rattle.escrow_machine.specs.Accepted.{IsAccepted}
 use Rattle.escrow_machine.specs.Asked.{plan_of, plan_refusal_of, reservation_from, row_name, reserved_by, reservation_of, breach_of}
 use Rattle.escrow_machine.specs.State.{State, open_in, is_open}
-use Rattle.escrow_machine.specs.Rows.{row_named, changes_to, row_after}
+use Rattle.escrow_schema.specs.Rows.{row_named, changes_to, row_after}
 use Rattle.escrow_machine.specs.Step.{refusals, step}
 use Rattle.escrow_machine.specs.Turn.{turn_of, update_refusals, update_reply}
 use Rattle.escrow_machine.proofs.Accepted.{reserve_stands}
@@ -76,7 +76,7 @@ choice_of_image f (x ∷ xs) image (inr h) =
 
 -- the amounts of a row after a choice and a reservation of the row
 amounts_with : (row : Row) (r : Reservation) (chosen : List Reservation) → same_row row.name r.row ≡ true
-    → (row_after (chosen ++ r ∷ []) row).amounts ≡ all_changed (changed row.amounts (counted r.changes)) (map (changes_to row) chosen)
+    → (row_after (chosen ++ r ∷ []) row).amounts ≡ all_changed (changed row.amounts (deltas r.changes)) (map (changes_to row) chosen)
 amounts_with row r chosen same =
     ap (all_changed row.amounts) (map_push (changes_to row) chosen r)
     ∙ all_changed_push row.amounts (changes_to row r) (map (changes_to row) chosen)
@@ -112,7 +112,7 @@ pub record Granted (s : State) (session : ℕ) (text : UpdateText) : Type 0 wher
   pub new : Reservation
   pub asked : IsAsked s session text table row new
   pub found : row_named s.rows new.row ≡ Some row
-  pub safe : broken table.checks row.amounts (counted new.changes) (map (changes_to row) s.reservations) ≡ None
+  pub safe : broken table.checks row.amounts (deltas new.changes) (map (changes_to row) s.reservations) ≡ None
 
 pub granted_one : (s : State) (session : ℕ) (text : UpdateText) (id : ℕ) → (step s session (statement.Update text)).0 ≡ reply.Reserved id → Granted s session text
 granted_one s session text id granted =
@@ -125,11 +125,11 @@ granted_one s session text id granted =
 
 -- so its row meets the checks with each choice
 meets_with : (s : State) (table : TableDef) (row : Row) (r : Reservation) → row_named s.rows r.row ≡ Some row
-    → broken table.checks row.amounts (counted r.changes) (map (changes_to row) s.reservations) ≡ None
+    → broken table.checks row.amounts (deltas r.changes) (map (changes_to row) s.reservations) ≡ None
     → (chosen : List Reservation) → IsChoice s.reservations chosen → MeetsWith table row r chosen
 meets_with s table row r found safe chosen choice =
-    let met : AllByRecursion (λ check. Meets check (all_changed (changed row.amounts (counted r.changes)) (map (changes_to row) chosen))) table.checks =
-    granted_meets table.checks row.amounts (counted r.changes) (map (changes_to row) s.reservations) (map (changes_to row) chosen) safe
+    let met : AllByRecursion (λ check. Meets check (all_changed (changed row.amounts (deltas r.changes)) (map (changes_to row) chosen))) table.checks =
+    granted_meets table.checks row.amounts (deltas r.changes) (map (changes_to row) s.reservations) (map (changes_to row) chosen) safe
     (choice_map (changes_to row) s.reservations chosen choice) in
     subst (λ (zs : List ℤ). AllByRecursion (λ check. Meets check zs) table.checks) (sym (amounts_with row r chosen (row_is_named s r row found))) met
 
@@ -221,7 +221,7 @@ broken_check (check ∷ checks) amounts changes reservations breach e =
 
 -- and some choice reaches it
 reached_with : (row : Row) (r : Reservation) (reservations : List Reservation) (coeffs : List ℤ) (worst : ℤ) → same_row row.name r.row ≡ true
-    → IsReached coeffs (changed row.amounts (counted r.changes)) (map (changes_to row) reservations) worst
+    → IsReached coeffs (changed row.amounts (deltas r.changes)) (map (changes_to row) reservations) worst
     → (chosen : List Reservation) × Contains (sublists reservations) chosen × (form coeffs (row_after (chosen ++ r ∷ []) row).amounts ≡ worst)
 reached_with row r reservations coeffs worst same reached =
     let Image : List (List ℤ) → Type 0 = λ image. (chosen : List Reservation) × IsChoice reservations chosen × (map (changes_to row) chosen ≡ image) in
@@ -229,16 +229,16 @@ reached_with row r reservations coeffs worst same reached =
       from.0,
       choice_contained reservations from.0 from.1,
       ap (form coeffs) (amounts_with row r from.0 same)
-          ∙ ap (λ (image : List (List ℤ)). form coeffs (all_changed (changed row.amounts (counted r.changes)) image)) from.2
+          ∙ ap (λ (image : List (List ℤ)). form coeffs (all_changed (changed row.amounts (deltas r.changes)) image)) from.2
           ∙ reached.2,
     )
 
 breach_reached : (s : State) (table : TableDef) (row : Row) (r : Reservation) (breach : Breach) → row_named s.rows r.row ≡ Some row
-    → broken table.checks row.amounts (counted r.changes) (map (changes_to row) s.reservations) ≡ Some breach
+    → broken table.checks row.amounts (deltas r.changes) (map (changes_to row) s.reservations) ≡ Some breach
     → IsReachedBreach table row s.reservations r breach
 breach_reached s table row r breach found e =
-    let check = broken_check table.checks row.amounts (counted r.changes) (map (changes_to row) s.reservations) breach e in
-    let known = refused_names_a_choice check.0 row.amounts (counted r.changes) (map (changes_to row) s.reservations) breach check.2 in (
+    let check = broken_check table.checks row.amounts (deltas r.changes) (map (changes_to row) s.reservations) breach e in
+    let known = refused_names_a_choice check.0 row.amounts (deltas r.changes) (map (changes_to row) s.reservations) breach check.2 in (
       check.0,
       has_contains table.checks check.0 check.1,
       known.0,
@@ -267,4 +267,4 @@ refused_by_a_choice s session text breach refused =
     (table, row, r, (of_text, is_asked, found), breach_reached s table row r breach found e))))
   where
     broken_in : Reservation → TableDef → Row → Option Breach
-    broken_in r table row = broken table.checks row.amounts (counted r.changes) (map (changes_to row) s.reservations)
+    broken_in r table row = broken table.checks row.amounts (deltas r.changes) (map (changes_to row) s.reservations)

@@ -15,14 +15,14 @@ use Rattle.escrow_machine.specs.Laws.{HasFittingValues}
 use Rattle.escrow_machine.specs.State.{State, empty}
 use Rattle.escrow_machine.specs.Step.{IsRun}
 use Rattle.escrow_machine.specs.Valid.{IsValid}
-use Rattle.escrow_machine.specs.Rows.{HasTable, MeetsChecks}
+use Rattle.escrow_schema.specs.Rows.{HasTable, MeetsChecks}
 use Rattle.escrow_num.proofs.Items.{all_has, has_all}
 use Rattle.escrow_machine.proofs.LawsSteps.{run_keeps_valid}
 use Rattle.escrow_machine.proofs.Safe.{committed_rows_meet_checks}
 use Rattle.escrow_machine.proofs.Shapes.{is_table_found}
 use Rattle.escrow_machine.proofs.ValidEmpty.{empty_valid}
 
--- so they do after any run from the beginning
+-- after any run from the beginning each row meets each check of its table
 pub every_run_is_safe : (events : List Event) (answers : List Reply) (new : State)
     → AllByRecursion HasSession events → IsRun empty events answers new → AllByRecursion (MeetsChecks new.catalog) new.rows
 every_run_is_safe events answers new of_sessions h =

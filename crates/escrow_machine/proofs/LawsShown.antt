@@ -32,7 +32,7 @@ use Rattle.escrow_machine.specs.Journal.{entry_of, of_table, journal_reply}
 use Rattle.escrow_machine.specs.Laws.{SelectsShowRows, ShowsTheTable, ShowsTheJournal, IsJournal, IsOfTable, entry_before, QueriesIgnoreWhatIsOpen, IsSelected, IsKeyed}
 use Rattle.escrow_machine.specs.State.{State}
 use Rattle.escrow_machine.specs.Turn.{turn_of}
-use Rattle.escrow_machine.specs.Rows.{row_before}
+use Rattle.escrow_schema.specs.Rows.{row_before}
 use Rattle.escrow_machine.proofs.LawsGrants.{has_contains}
 use Rattle.escrow_machine.proofs.LawsSteps.{step_has}
 use Rattle.escrow_machine.proofs.Queries.{query_alike}

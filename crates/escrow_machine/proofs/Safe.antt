@@ -10,7 +10,7 @@ use Rattle.escrow_num.specs.Ascending.{IsAscending}
 use Rattle.escrow_num.specs.Order.{same_row, row_cmp}
 use Rattle.escrow_schema.specs.declared.table.TableDef.{TableDef}
 use Rattle.escrow_machine.specs.State.{State}
-use Rattle.escrow_machine.specs.Rows.{row_named, row_after, applied, MeetsChecks, row_before}
+use Rattle.escrow_schema.specs.Rows.{row_named, row_after, applied, MeetsChecks, row_before}
 use Rattle.escrow_machine.specs.Valid.{IsValid}
 use Rattle.escrow_num.proofs.Items.{Has, all_has, has_all, find_has}
 use Rattle.escrow_machine.proofs.Applying.{applied_none}

@@ -17,7 +17,7 @@ use Rattle.escrow_machine.specs.declared.settled.Stop.{Stop}
 use Rattle.escrow_machine.specs.Walked.{counted_end}
 use Rattle.escrow_machine.specs.Settle.{end_of, is_commit, is_rollback, committed_by, released_by, settled, AreCounts, IsStop, after_end, after_ends}
 use Rattle.escrow_machine.specs.State.{State}
-use Rattle.escrow_machine.specs.Rows.{changes_to, applied}
+use Rattle.escrow_schema.specs.Rows.{changes_to, applied}
 use Rattle.escrow_machine.specs.Turn.{turn_of, after_rollback}
 use Rattle.escrow_machine.specs.Valid.{IsValid}
 use Rattle.escrow_machine.proofs.Applying.{applied_none}
@@ -201,7 +201,7 @@ module _ (a : ℕ) (plan : List (ℕ × End)) where
 
 -- what is counted, and what the rest of the plan will count, are what is counted of the whole plan; and all
 -- that was open is counted or still open
-pub record Counts (whole : List (ℕ × End)) (all : List Reservation) (rest : List (ℕ × End)) (reservations : List Reservation) (done : Settled) : Type 0 where
+pub record CountsSoFar (whole : List (ℕ × End)) (all : List Reservation) (rest : List (ℕ × End)) (reservations : List Reservation) (done : Settled) : Type 0 where
   pub committed : done.committed + length (committed_by rest reservations) ≡ length (committed_by whole all)
   pub released : done.released + length (released_by rest reservations) ≡ length (released_by whole all)
   pub few : done.committed + done.released + length reservations ≡ length all
@@ -211,7 +211,7 @@ own_and_others a reservations = length-filter_both (λ (r : Reservation). r.sess
 
 -- one more transaction is counted
 counts_more : (whole : List (ℕ × End)) (all : List Reservation) (a : ℕ) (x : End) (rest : List (ℕ × End)) (reservations : List Reservation) (done : Settled) (count : ℕ)
-    → count ≡ length (own a reservations) → Counts whole all ((a, x) ∷ rest) reservations done → Counts whole all rest (others a reservations) (counted_end x count done)
+    → count ≡ length (own a reservations) → CountsSoFar whole all ((a, x) ∷ rest) reservations done → CountsSoFar whole all rest (others a reservations) (counted_end x count done)
 counts_more whole all a end.Commit rest reservations done count is so_far =
     let counted = so_far.committed in
     let few = so_far.few in
@@ -235,19 +235,19 @@ counts_more whole all a end.Rollback rest reservations done count is so_far =
 
 pub counts_next : (plan : List (ℕ × End)) (all : List Reservation) (i : ℕ) (entry : ℕ × End) (reservations left : List Reservation) (done : Settled) (count : ℕ)
     → i < length plan → entry ≡ get_or plan i entry → count ≡ length (own entry.0 reservations) → left ≡ others entry.0 reservations
-    → Counts plan all (drop i plan) reservations done → Counts plan all (drop (i + 1) plan) left (counted_end entry.1 count done)
+    → CountsSoFar plan all (drop i plan) reservations done → CountsSoFar plan all (drop (i + 1) plan) left (counted_end entry.1 count done)
 counts_next plan all i entry reservations left done count below is_entry is_count is_left so_far =
     let at : drop i plan ≡ entry ∷ drop (i + 1) plan = drop_more plan i entry below ∙ ap (λ (e : ℕ × End). e ∷ drop (i + 1) plan) (sym is_entry) in
-    let before : Counts plan all (entry ∷ drop (i + 1) plan) reservations done = subst (λ (rest : List (ℕ × End)). Counts plan all rest reservations done) at so_far in
-    subst (λ (rs : List Reservation). Counts plan all (drop (i + 1) plan) rs (counted_end entry.1 count done)) (sym is_left)
+    let before : CountsSoFar plan all (entry ∷ drop (i + 1) plan) reservations done = subst (λ (rest : List (ℕ × End)). CountsSoFar plan all rest reservations done) at so_far in
+    subst (λ (rs : List Reservation). CountsSoFar plan all (drop (i + 1) plan) rs (counted_end entry.1 count done)) (sym is_left)
     (counts_more plan all entry.0 entry.1 (drop (i + 1) plan) reservations done count is_count before)
 
 -- at the end all is counted
 pub counts_end : (plan : List (ℕ × End)) (all : List Reservation) (i : ℕ) (reservations : List Reservation) (done : Settled) → length plan ≤ i
-    → Counts plan all (drop i plan) reservations done → AreCounts plan all done
+    → CountsSoFar plan all (drop i plan) reservations done → AreCounts plan all done
 counts_end plan all i reservations done past so_far =
     let none : drop i plan ≡ [] = drop_all i plan past in
-    let last : Counts plan all [] reservations done = subst (λ (rest : List (ℕ × End)). Counts plan all rest reservations done) none so_far in
+    let last : CountsSoFar plan all [] reservations done = subst (λ (rest : List (ℕ × End)). CountsSoFar plan all rest reservations done) none so_far in
     let no_commits : committed_by [] reservations ≡ [] = filter_none (λ (r : Reservation). false) reservations (λ _ _. refl) in
     let no_releases : released_by [] reservations ≡ [] = filter_none (λ (r : Reservation). false) reservations (λ _ _. refl) in
     let committed : done.committed + length (committed_by [] reservations) ≡ length (committed_by plan all) = last.committed in
@@ -259,7 +259,7 @@ counts_end plan all i reservations done past so_far =
 
 -- there is room to count them
 pub counts_fit : (s : State) (whole rest : List (ℕ × End)) (reservations : List Reservation) (done : Settled) (a count : ℕ) → HasOrder s
-    → Counts whole s.reservations rest reservations done → count ≡ length (own a reservations) → done.committed + done.released + count ≤ MAX_OPEN
+    → CountsSoFar whole s.reservations rest reservations done → count ≡ length (own a reservations) → done.committed + done.released + count ≤ MAX_OPEN
 counts_fit s whole rest reservations done a count orderly so_far is =
     let few = so_far.few in
     let most = few_reservations s orderly in

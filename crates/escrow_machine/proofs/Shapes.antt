@@ -18,7 +18,7 @@ use Rattle.escrow_num.specs.declared.session.TheConstants.Session.{MAX}
 use Rattle.escrow_checks.specs.declared.spread.TheConstants.Spread.{MAX_OPEN}
 use Rattle.escrow_journal.specs.declared.journal.TheConstants.Journal.{MAX_RESERVATIONS}
 use Rattle.escrow_machine.specs.State.{State}
-use Rattle.escrow_machine.specs.Rows.{row_named, HasTable}
+use Rattle.escrow_schema.specs.Rows.{row_named, HasTable}
 use Rattle.escrow_machine.specs.Valid.{IsOrderly, IsValid, IsReservationIn}
 use Rattle.escrow_num.proofs.Items.{all_has, has_all, find_has}
 use Rattle.escrow_machine.proofs.Lengths.{length-by_number}

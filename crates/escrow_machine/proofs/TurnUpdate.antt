@@ -15,7 +15,7 @@ use Rattle.escrow_machine.specs.declared.reply.Reply.TheVariants as reply
 use Rattle.escrow_machine.specs.Asked.{plan_of, plan_refusal_of, row_name, reservation_from, breach_of}
 use Rattle.escrow_machine.specs.Accepted.{IsAccepted}
 use Rattle.escrow_machine.specs.State.{State, open_in}
-use Rattle.escrow_machine.specs.Rows.{with_plain}
+use Rattle.escrow_schema.specs.Rows.{with_plain}
 use Rattle.escrow_machine.specs.Step.{refusals}
 use Rattle.escrow_machine.specs.Turn.{Turn, turn_of, update_refusals, update_reply, after_update}
 use Rattle.escrow_machine.specs.Valid.{IsValid}

@@ -24,7 +24,7 @@ use Rattle.escrow_machine.specs.Reply.{failure_of}
 use Rattle.escrow_machine.specs.Accepted.{IsAccepted}
 use Rattle.escrow_journal.specs.Reservations.{own}
 use Rattle.escrow_machine.specs.State.{State}
-use Rattle.escrow_machine.specs.Rows.{row_named, rows_of, applied, with_row, without_row, without_rows_of}
+use Rattle.escrow_schema.specs.Rows.{row_named, rows_of, applied, with_row, without_row, without_rows_of}
 use Rattle.escrow_machine.specs.Turn.{turn_of, after_create, after_drop, after_insert, after_delete, after_commit, after_rollback}
 use Rattle.escrow_machine.specs.Valid.{IsValid}
 use Rattle.escrow_machine.proofs.Accepted.{create_stands, insert_stands, drop_stands, delete_stands}

@@ -16,7 +16,7 @@ use Rattle.escrow_schema.specs.Catalog.{table_before, table_named, with_table}
 use Rattle.escrow_schema.specs.Definition.{definition_of}
 use Rattle.escrow_schema.specs.Fit.{IsRowOf}
 use Rattle.escrow_machine.specs.State.{State}
-use Rattle.escrow_machine.specs.Rows.{row_after, applied, HasTable, MeetsChecks}
+use Rattle.escrow_schema.specs.Rows.{row_after, applied, HasTable, MeetsChecks}
 use Rattle.escrow_machine.specs.Valid.{IsValid, IsOrderly}
 use Rattle.escrow_machine.proofs.Choices.{IsChoice, choices_all}
 use Rattle.escrow_machine.proofs.Kept.{over_catalog}

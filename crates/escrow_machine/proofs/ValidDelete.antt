@@ -8,7 +8,7 @@ use Rattle.escrow_num.specs.Order.{same_row}
 use Rattle.escrow_num.proofs.Items.{Has}
 use Rattle.escrow_num.proofs.Orders.{row_same}
 use Rattle.escrow_machine.specs.State.{State, is_reserved}
-use Rattle.escrow_machine.specs.Rows.{without_row}
+use Rattle.escrow_schema.specs.Rows.{without_row}
 use Rattle.escrow_machine.specs.Valid.{IsValid}
 use Rattle.escrow_machine.proofs.Kept.{any_none, kept_safe}
 

@@ -4,7 +4,7 @@ use Rattle.std.specs.List.{AllByRecursion}
 use Rattle.escrow_num.specs.declared.row.Row.{Row}
 use Rattle.escrow_schema.specs.declared.table.TableDef.{TableDef}
 use Rattle.escrow_schema.specs.Catalog.{IsCatalog}
-use Rattle.escrow_machine.specs.Rows.{AreRowsOf, MeetsChecks}
+use Rattle.escrow_schema.specs.Rows.{AreRowsOf, MeetsChecks}
 use Rattle.escrow_machine.specs.State.{State, empty, opened}
 use Rattle.escrow_machine.specs.Valid.{AreSafeRows, IsOrderly, IsValid}
 use Rattle.escrow_machine.proofs.Applying.{applied_none}

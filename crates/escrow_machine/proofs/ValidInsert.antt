@@ -9,7 +9,7 @@ use Rattle.escrow_num.specs.declared.value.RowName.{RowName}
 use Rattle.escrow_sql.specs.declared.statement.InsertText.{InsertText}
 use Rattle.escrow_num.specs.declared.reservation.Reservation.{Reservation}
 use Rattle.escrow_num.specs.Order.{same_row}
-use Rattle.escrow_num.specs.Reservation.{counted}
+use Rattle.escrow_num.specs.Reservation.{deltas}
 use Rattle.escrow_checks.specs.Form.{changed, all_changed}
 use Rattle.escrow_checks.specs.Grant.{Meets, broken}
 use Rattle.escrow_schema.specs.declared.table.TableDef.{TableDef}
@@ -17,7 +17,7 @@ use Rattle.escrow_schema.specs.Catalog.{table_named}
 use Rattle.escrow_schema.specs.Fit.{IsRowOf, inserted_row}
 use Rattle.escrow_schema.specs.declared.table.TheConstants.TableDef.{MAX_ROWS}
 use Rattle.escrow_machine.specs.State.{State}
-use Rattle.escrow_machine.specs.Rows.{row_named, rows_of, changes_to, row_after, applied, with_row, HasTable, MeetsChecks, row_before}
+use Rattle.escrow_schema.specs.Rows.{row_named, rows_of, changes_to, row_after, applied, with_row, HasTable, MeetsChecks, row_before}
 use Rattle.escrow_machine.specs.Valid.{IsValid, HasRow}
 use Rattle.escrow_num.proofs.Items.{Has, all_has, has_all, find_none}
 use Rattle.escrow_machine.proofs.Choices.{IsChoice, choices_all, choice_has}
@@ -63,7 +63,7 @@ meets_new : (s : State) (table : TableDef) (row : Row) → IsValid s → table_n
 meets_new s table row valid named new granted chosen choice =
     let none : (r : Reservation) → Has chosen r → changes_to row r ≡ [] = λ r h.
     let stands = all_has (HasRow s.rows) s.reservations valid.safe_rows.reserved_rows r (choice_has s.reservations chosen choice r h) in
-    cond-false (same_row row.name r.row) (counted r.changes) [] (not_of_new s.rows row r new stands) in
+    cond-false (same_row row.name r.row) (deltas r.changes) [] (not_of_new s.rows row r new stands) in
     let same : changed row.amounts [] ≡ all_changed row.amounts (map (changes_to row) chosen) =
     changed_nil row.amounts ∙ sym (all_changed_none (changes_to row) row.amounts chosen none) in
     some_from (λ (t : TableDef). AllByRecursion (λ check. Meets check (row_after chosen row).amounts) t.checks) (table_named s.catalog row.name.table) table named

@@ -19,7 +19,7 @@ use Rattle.escrow_schema.specs.Column.{fits}
 use Rattle.escrow_schema.specs.Fit.{IsRowOf, plains}
 use Rattle.escrow_schema.specs.declared.table.TheConstants.TableDef.{MAX_ROWS}
 use Rattle.escrow_machine.specs.State.{State}
-use Rattle.escrow_machine.specs.Rows.{row_named, row_after, applied, replaced, with_values, with_plain, HasTable, MeetsChecks, row_before}
+use Rattle.escrow_schema.specs.Rows.{row_named, row_after, applied, replaced, with_values, with_plain, HasTable, MeetsChecks, row_before}
 use Rattle.escrow_machine.specs.Valid.{IsValid, HasRow}
 use Rattle.escrow_machine.proofs.Choices.{IsChoice, choices_all, map_all}
 use Rattle.escrow_machine.proofs.Lengths.{length-filter_map, find_map}

@@ -10,7 +10,7 @@ use Rattle.escrow_num.specs.declared.reservation.Reservation.{Reservation}
 use Rattle.escrow_num.specs.declared.reservation.Savepoint.{Savepoint}
 use Rattle.escrow_num.specs.declared.value.RowName.{RowName}
 use Rattle.escrow_num.specs.Order.{same_row}
-use Rattle.escrow_num.specs.Reservation.{counted}
+use Rattle.escrow_num.specs.Reservation.{deltas}
 use Rattle.escrow_num.specs.Session.{IsSession}
 use Rattle.escrow_checks.specs.Form.{changed, all_changed}
 use Rattle.escrow_checks.specs.Grant.{Meets, broken}
@@ -21,7 +21,7 @@ use Rattle.escrow_num.specs.declared.reservation.TheConstants.Reservation.{MAX_I
 use Rattle.escrow_journal.specs.declared.journal.TheConstants.Journal.{MAX_RESERVATIONS}
 use Rattle.escrow_journal.specs.Reservations.{own, reservation_before}
 use Rattle.escrow_machine.specs.State.{State}
-use Rattle.escrow_machine.specs.Rows.{row_named, changes_to, row_after, applied, MeetsChecks}
+use Rattle.escrow_schema.specs.Rows.{row_named, changes_to, row_after, applied, MeetsChecks}
 use Rattle.escrow_machine.specs.Valid.{IsValid, IsOrderly, IsReservationIn, IsSavepointIn, HasRow}
 use Rattle.escrow_num.proofs.Items.{Has, all_has, has_all, has_push, find_has}
 use Rattle.escrow_machine.proofs.Choices.{IsChoice, all_choices, choices_all, choice_push, choice_map}
@@ -45,24 +45,24 @@ amounts_push row front r =
 amounts_other : (row : Row) (front : List Reservation) (r : Reservation) → same_row row.name r.row ≡ false
     → amounts_after row front ≡ amounts_after row (front ++ r ∷ [])
 amounts_other row front r other =
-    let none : changes_to row r ≡ [] = cond-false (same_row row.name r.row) (counted r.changes) [] other in
+    let none : changes_to row r ≡ [] = cond-false (same_row row.name r.row) (deltas r.changes) [] other in
     sym (amounts_push row front r ∙ ap (λ zs. all_changed zs (map (changes_to row) front)) (ap (changed row.amounts) none ∙ changed_nil row.amounts))
 
 -- and its own to its row
 amounts_own : (row : Row) (front : List Reservation) (r : Reservation) → same_row row.name r.row ≡ true
-    → all_changed (changed row.amounts (counted r.changes)) (map (changes_to row) front) ≡ amounts_after row (front ++ r ∷ [])
+    → all_changed (changed row.amounts (deltas r.changes)) (map (changes_to row) front) ≡ amounts_after row (front ++ r ∷ [])
 amounts_own row front r same =
-    let own : changes_to row r ≡ counted r.changes = cond-true (same_row row.name r.row) (counted r.changes) [] same in
+    let own : changes_to row r ≡ deltas r.changes = cond-true (same_row row.name r.row) (deltas r.changes) [] same in
     sym (amounts_push row front r ∙ ap (λ zs. all_changed (changed row.amounts zs) (map (changes_to row) front)) own)
 
 -- the reservation's row meets its checks after the reservation and any choice of the others
 meets_own : (s : State) (table : TableDef) (row : Row) (r : Reservation)
     → table_named s.catalog r.row.table ≡ Some table → same_row row.name r.row ≡ true
-    → broken table.checks row.amounts (counted r.changes) (map (changes_to row) s.reservations) ≡ None
+    → broken table.checks row.amounts (deltas r.changes) (map (changes_to row) s.reservations) ≡ None
     → (front : List Reservation) → IsChoice s.reservations front → MeetsChecks s.catalog (row_after (front ++ r ∷ []) row)
 meets_own s table row r named same safe front choice =
     let of_table : table_named s.catalog row.name.table ≡ Some table = ap (λ (n : RowName). table_named s.catalog n.table) (row_same row.name r.row same) ∙ named in
-    let met = granted_meets table.checks row.amounts (counted r.changes) (map (changes_to row) s.reservations) (map (changes_to row) front) safe
+    let met = granted_meets table.checks row.amounts (deltas r.changes) (map (changes_to row) s.reservations) (map (changes_to row) front) safe
     (choice_map (changes_to row) s.reservations front choice) in
     some_from (λ (t : TableDef). AllByRecursion (λ check. Meets check (amounts_after row (front ++ r ∷ []))) t.checks) (table_named s.catalog row.name.table) table of_table
     (subst (λ zs. AllByRecursion (λ check. Meets check zs) table.checks) (amounts_own row front r same) met)
@@ -70,7 +70,7 @@ meets_own s table row r named same safe front choice =
 -- and so does each row
 meets_push : (s : State) (table : TableDef) (row : Row) (r : Reservation) → IsValid s
     → table_named s.catalog r.row.table ≡ Some table → row_named s.rows r.row ≡ Some row
-    → broken table.checks row.amounts (counted r.changes) (map (changes_to row) s.reservations) ≡ None
+    → broken table.checks row.amounts (deltas r.changes) (map (changes_to row) s.reservations) ≡ None
     → (front : List Reservation) → IsChoice s.reservations front → (other : Row) → Has s.rows other → MeetsChecks s.catalog (row_after (front ++ r ∷ []) other)
 meets_push s table row r valid named found safe front choice other h =
     let of_row = find_has (λ (x : Row). same_row x.name r.row) s.rows row found in
@@ -143,7 +143,7 @@ pub update_valid : (s : State) (table : TableDef) (row : Row) (r : Reservation) 
     → table_named s.catalog r.row.table ≡ Some table → row_named s.rows r.row ≡ Some row
     → IsSession r.session → r.id ≡ s.next_id → s.next_id ≤ MAX_ID
     → length r.changes ≡ length (reservables table.columns) → length (own r.session s.reservations) < MAX_RESERVATIONS
-    → broken table.checks row.amounts (counted r.changes) (map (changes_to row) s.reservations) ≡ None
+    → broken table.checks row.amounts (deltas r.changes) (map (changes_to row) s.reservations) ≡ None
     → IsValid (with_reservation s r)
 update_valid s table row r valid named found of_session next more_ids long room safe =
     let Safe : List Reservation → Type 0 = λ c. AllByRecursion (MeetsChecks s.catalog) (applied s.rows c) in

@@ -8,7 +8,7 @@ use Rattle.escrow_num.specs.declared.reservation.Reservation.{Reservation}
 use Rattle.escrow_num.specs.declared.value.RowName.{RowName}
 use Rattle.escrow_num.specs.declared.value.Value.{Value}
 use Rattle.escrow_num.specs.Order.{same_row}
-use Rattle.escrow_num.specs.Reservation.{counted}
+use Rattle.escrow_num.specs.Reservation.{deltas}
 use Rattle.escrow_sql.specs.declared.statement.InsertText.{InsertText}
 use Rattle.escrow_sql.specs.declared.statement.UpdateText.{UpdateText}
 use Rattle.escrow_sql.specs.declared.statement.SelectText.{SelectText}
@@ -24,7 +24,7 @@ use Rattle.escrow_schema.specs.Print.{canonical}
 use Rattle.escrow_machine.specs.declared.reply.Reply.{Reply}
 use Rattle.escrow_machine.specs.declared.reply.Reply.TheVariants as reply
 use Rattle.escrow_machine.specs.State.{State, is_reserved}
-use Rattle.escrow_machine.specs.Rows.{row_named, changes_to}
+use Rattle.escrow_schema.specs.Rows.{row_named, changes_to}
 
 -- INSERT
 
@@ -76,7 +76,7 @@ reserves_beside s text = unwrap_or (option_map (is_beside s text.table) (plan_of
 -- what a reservation breaks of its table's checks, over every choice of the open ones that holds it
 abbrev pub breach_of : State → Reservation → Option Breach
 breach_of s r =
-    option_and_then (λ table. option_and_then (λ row. broken table.checks row.amounts (counted r.changes) (map (changes_to row) s.reservations))
+    option_and_then (λ table. option_and_then (λ row. broken table.checks row.amounts (deltas r.changes) (map (changes_to row) s.reservations))
     (row_named s.rows r.row)) (table_named s.catalog r.row.table)
 
 -- WHERE

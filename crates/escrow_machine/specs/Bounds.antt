@@ -18,7 +18,7 @@ use Rattle.escrow_machine.specs.declared.reply.Reply.TheVariants as reply
 use Rattle.escrow_machine.specs.Asked.{named_by}
 use Rattle.escrow_machine.specs.State.{State}
 use Rattle.escrow_num.specs.Reservation.{changes_at}
-use Rattle.escrow_machine.specs.Rows.{row_named}
+use Rattle.escrow_schema.specs.Rows.{row_named}
 
 -- what SHOW BOUNDS shows of a RESERVABLE column: its committed amount, and the least and the greatest
 -- that it can come to, whichever of the open reservations are applied

@@ -12,7 +12,7 @@ use Rattle.escrow_num.specs.declared.value.Value.{Value}
 use Rattle.escrow_num.specs.declared.session.End.{End}
 use Rattle.escrow_num.specs.Ascending.{IsAscending}
 use Rattle.escrow_num.specs.Refusal.{first_refusal}
-use Rattle.escrow_num.specs.Reservation.{counted}
+use Rattle.escrow_num.specs.Reservation.{deltas}
 use Rattle.escrow_num.specs.Session.{IsSession}
 use Rattle.escrow_num.specs.Span.{Holds}
 use Rattle.escrow_sql.specs.declared.statement.Statement.{Statement}
@@ -51,7 +51,7 @@ use Rattle.escrow_machine.specs.Journal.{entry_of}
 use Rattle.escrow_machine.specs.Asked.{new_row, plan_of, row_name, named_by, reservation_of}
 use Rattle.escrow_machine.specs.Settle.{end_of, settled, after_end, after_ends}
 use Rattle.escrow_machine.specs.State.{State, empty, opened}
-use Rattle.escrow_machine.specs.Rows.{row_named, rows_of, changes_to, row_after, applied, with_row, without_row, without_rows_of, with_plain, MeetsChecks, row_before}
+use Rattle.escrow_schema.specs.Rows.{row_named, rows_of, changes_to, row_after, applied, with_row, without_row, without_rows_of, with_plain, MeetsChecks, row_before}
 use Rattle.escrow_machine.specs.Step.{step, StepOrRefusal, IsRun}
 use Rattle.escrow_machine.specs.Turn.{turn_of}
 use Rattle.escrow_machine.specs.Valid.{IsValid}
@@ -184,7 +184,7 @@ pub record AreIdsInOrder (s : State) : Type 0 where
       → slice_get (own_savepoints session s.savepoints) k ≡ Some q → (p.id ≤ q.id) × (¬ (p.name ≡ q.name))
   pub made : (i : ℕ) (p : Savepoint) → slice_get s.savepoints i ≡ Some p → (1 ≤ p.id) × (p.id ≤ s.next_id)
 
--- so they do in a valid state
+-- in a valid state ids tell the order in which things were made
 abbrev pub IdsTellTheOrder : Type 0
 IdsTellTheOrder = (s : State) → IsValid s → AreIdsInOrder s
 
@@ -460,6 +460,6 @@ StaysWithin row reservations changes check =
 -- a check refuses doesn't
 abbrev pub BoundsDecideGrants : Type 0
 BoundsDecideGrants = (s : State) (session : ℕ) (text : UpdateText) (table : TableDef) (row : Row) (new : Reservation) → IsValid s → IsAsked s session text table row new
-    → ((id : ℕ) → (step s session (statement.Update text)).0 ≡ reply.Reserved id → AllByRecursion (StaysWithin row s.reservations (counted new.changes)) table.checks)
+    → ((id : ℕ) → (step s session (statement.Update text)).0 ≡ reply.Reserved id → AllByRecursion (StaysWithin row s.reservations (deltas new.changes)) table.checks)
     × ((breach : Breach) → (step s session (statement.Update text)).0 ≡ reply.Refused (refusal.Check breach)
-    → ¬ (AllByRecursion (StaysWithin row s.reservations (counted new.changes)) table.checks))
+    → ¬ (AllByRecursion (StaysWithin row s.reservations (deltas new.changes)) table.checks))

@@ -6,7 +6,6 @@ pub mod Journal
 pub mod Laws
 pub mod Promised
 pub mod Reply
-pub mod Rows
 pub mod Settle
 pub mod State
 pub mod StateCode

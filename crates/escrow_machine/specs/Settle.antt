@@ -8,7 +8,7 @@ use Rattle.escrow_journal.specs.Reservations.{own}
 use Rattle.escrow_machine.specs.declared.settled.Settled.{Settled}
 use Rattle.escrow_machine.specs.declared.settled.Stop.{Stop}
 use Rattle.escrow_machine.specs.State.{State}
-use Rattle.escrow_machine.specs.Rows.{applied}
+use Rattle.escrow_schema.specs.Rows.{applied}
 use Rattle.escrow_machine.specs.Step.{step}
 
 -- how a plan ends a session's transaction, if it names the session: the first entry of it decides

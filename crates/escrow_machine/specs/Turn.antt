@@ -23,7 +23,7 @@ use Rattle.escrow_machine.specs.Asked.{new_row, insert_breach, plan_of, plan_ref
 use Rattle.escrow_machine.specs.Bounds.{bounds_reply}
 use Rattle.escrow_machine.specs.Journal.{journal_reply}
 use Rattle.escrow_machine.specs.State.{State, open_in, with_open, is_open, is_reserved, is_table_reserved}
-use Rattle.escrow_machine.specs.Rows.{row_named, rows_of, applied, with_row, without_row, without_rows_of, with_plain}
+use Rattle.escrow_schema.specs.Rows.{row_named, rows_of, applied, with_row, without_row, without_rows_of, with_plain}
 
 -- How the machine takes a statement of a session: its refusals in their order, first those that are
 -- answered whatever memory there is; the reply and the next state where none of them applies.

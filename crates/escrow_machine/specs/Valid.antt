@@ -15,7 +15,7 @@ use Rattle.escrow_schema.specs.declared.table.TheConstants.TableDef.{MAX_ROWS}
 use Rattle.escrow_journal.specs.declared.journal.TheConstants.Journal.{MAX_RESERVATIONS, MAX_SAVEPOINTS}
 use Rattle.escrow_journal.specs.Reservations.{own, own_savepoints, reservation_before, savepoint_before}
 use Rattle.escrow_machine.specs.State.{State}
-use Rattle.escrow_machine.specs.Rows.{row_named, rows_of, row_before, HasTable, MeetsChecks, applied}
+use Rattle.escrow_schema.specs.Rows.{row_named, rows_of, row_before, HasTable, MeetsChecks, applied}
 
 -- a reservation is of a session, has an id below the next one, and may have a change for each
 -- RESERVABLE column of its table

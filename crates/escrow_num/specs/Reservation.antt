@@ -5,9 +5,9 @@ use Rattle.escrow_num.specs.declared.value.RowName.{RowName}
 use Rattle.escrow_num.specs.Order.{same_row}
 
 -- what each change adds to its column: nothing where the UPDATE doesn't assign it
-abbrev pub counted : List (Option ℤ) → List ℤ
-counted changes = map (λ change. unwrap_or change (pos 0)) changes
+abbrev pub deltas : List (Option ℤ) → List ℤ
+deltas changes = map (λ change. unwrap_or change (pos 0)) changes
 
 -- the changes that a reservation makes to the row of a name: its own where it is of that row, otherwise none
 abbrev pub changes_at : RowName → Reservation → List ℤ
-changes_at name r = if same_row name r.row then counted r.changes else []
+changes_at name r = if same_row name r.row then deltas r.changes else []

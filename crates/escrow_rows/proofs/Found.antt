@@ -12,7 +12,7 @@ use Rattle.escrow_num.specs.Ascending.{IsAscending}
 use Rattle.escrow_num.specs.Order.{same_row, row_cmp}
 use Rattle.escrow_num.proofs.Items.{Has, all_has}
 use Rattle.escrow_num.proofs.Orders.{by_row, row_total, before_itself, row_same, same_row_itself}
-use Rattle.escrow_machine.specs.Rows.{row_before}
+use Rattle.escrow_schema.specs.Rows.{row_before}
 
 -- what is found is the first item that passes
 find_first : {A : Type 0} (p : A → Bool) (xs : List A) → find p xs ≡ slice_get (filter p xs) 0

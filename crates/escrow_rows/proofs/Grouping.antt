@@ -31,7 +31,7 @@ use Rattle.escrow_rows.specs.Changes.{Stands}
 use Rattle.escrow_rows.specs.Grouped.{unkeyed, HasValues, HasGrouped, GrowsBy}
 use Rattle.escrow_rows.specs.Image.{stored, cells_of, AreTables, AreRows}
 use Rattle.escrow_rows.specs.Placed.{placed, keyed, keyed_cells}
-use Rattle.escrow_machine.specs.Rows.{row_before, rows_of}
+use Rattle.escrow_schema.specs.Rows.{row_before, rows_of}
 use Rattle.escrow_rows.proofs.KeyedCells.{cell_cmp, cell_cmp_total, rows_rise, with_key}
 use Rattle.escrow_rows.proofs.PlacedCells.{placed-push, stored_same}
 use Rattle.escrow_rows.proofs.TableRead.{keys_rise, own_cells, own_rows}

@@ -12,7 +12,7 @@ use Rattle.escrow_cells.specs.Step.{Does, kept, is_of}
 use Rattle.escrow_rows.specs.declared.stored.StoredTable.{StoredTable}
 use Rattle.escrow_rows.specs.Image.{stored, cells_of, AreTables, AreRows, IsOfTables}
 use Rattle.escrow_rows.specs.Changes.{Stands, Deletes, name_in}
-use Rattle.escrow_machine.specs.Rows.{without_row}
+use Rattle.escrow_schema.specs.Rows.{without_row}
 use Rattle.escrow_rows.proofs.Cells.{filter_pieces, is_of_row, stands_has}
 use Rattle.escrow_rows.proofs.Images.{rows_after}
 

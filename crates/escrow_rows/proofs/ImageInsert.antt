@@ -22,7 +22,7 @@ use Rattle.escrow_cells.specs.Step.{Does, done, kept}
 use Rattle.escrow_rows.specs.declared.stored.StoredTable.{StoredTable}
 use Rattle.escrow_rows.specs.Image.{stored, cells_from, cells_in, cells_of, stored_named}
 use Rattle.escrow_rows.specs.Changes.{Stands, Inserts}
-use Rattle.escrow_machine.specs.Rows.{with_row}
+use Rattle.escrow_schema.specs.Rows.{with_row}
 use Rattle.escrow_rows.specs.Steps.{PutsCells}
 use Rattle.escrow_rows.proofs.Images.{rows_after}
 

@@ -22,7 +22,7 @@ use Rattle.escrow_rows.specs.declared.amounts.NewAmounts.{NewAmounts}
 use Rattle.escrow_rows.specs.declared.stored.StoredTable.{StoredTable}
 use Rattle.escrow_rows.specs.Image.{stored, cells_from, cells_in, cells_of, stored_named, AreTables, IsOfTables}
 use Rattle.escrow_rows.specs.Changes.{Stands, SetsPlain, PutsAmounts, name_in, with_new_amounts, with_amounts, put_all}
-use Rattle.escrow_machine.specs.Rows.{replaced, with_values, with_plain}
+use Rattle.escrow_schema.specs.Rows.{replaced, with_values, with_plain}
 use Rattle.escrow_rows.specs.Inside.{Change, on_cells, put_values, new_plain, new_amounts, plain_on, amounts_on, all_on}
 use Rattle.escrow_rows.proofs.Cells.{is_of_row, row_in, stands_has}
 use Rattle.escrow_rows.proofs.Images.{Encodes, image_after, rows_after}

@@ -18,7 +18,7 @@ use Rattle.escrow_cells.specs.Step.{Does, same, is_in}
 use Rattle.escrow_rows.specs.declared.stored.StoredTable.{StoredTable}
 use Rattle.escrow_rows.specs.Image.{cells_in, cells_of, stored_named, tab_row, AreTables, AreRows, IsOfTables}
 use Rattle.escrow_rows.specs.Changes.{Creates, Drops, without_stored}
-use Rattle.escrow_machine.specs.Rows.{without_rows_of}
+use Rattle.escrow_schema.specs.Rows.{without_rows_of}
 use Rattle.escrow_rows.proofs.Cells.{filter_pieces, is_in_row, numbers_tell, one_name, row_in, stands_has}
 use Rattle.escrow_rows.proofs.Images.{image_after}
 use Rattle.escrow_rows.proofs.Same.{same_numbers}

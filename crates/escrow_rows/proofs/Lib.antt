@@ -1,5 +1,4 @@
 pub mod Cells
-pub mod Counts
 pub mod Found
 pub mod Grouping
 pub mod ImageDelete
@@ -18,6 +17,7 @@ pub mod Places
 pub mod Pushes
 pub mod Puts
 pub mod ReadCells
+pub mod RowCounts
 pub mod RowRead
 pub mod Runs
 pub mod Same

@@ -7,7 +7,7 @@ use Rattle.escrow_num.specs.declared.value.Value.TheVariants as value
 use Rattle.escrow_schema.specs.declared.column.Column.{Column}
 use Rattle.escrow_schema.specs.Column.{reservables}
 use Rattle.escrow_schema.specs.Fit.{plains, values_from}
-use Rattle.escrow_machine.specs.Rows.{replaced}
+use Rattle.escrow_schema.specs.Rows.{replaced}
 use Rattle.escrow_rows.specs.Inside.{new_plain, new_amounts, first_new}
 
 -- a list that isn't empty, by its first item and the rest

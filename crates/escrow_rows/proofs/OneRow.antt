@@ -9,7 +9,7 @@ use Rattle.escrow_num.specs.declared.value.RowName.{RowName}
 use Rattle.escrow_num.specs.Ascending.{IsAscending}
 use Rattle.escrow_num.specs.Order.{row_cmp, same_row}
 use Rattle.escrow_num.proofs.Orders.{before_itself, by_row, row_same, row_total}
-use Rattle.escrow_machine.specs.Rows.{row_named, row_before}
+use Rattle.escrow_schema.specs.Rows.{row_named, row_before}
 
 -- a row that stands after another has another name
 later_apart : (a b : Row) (name : RowName) → a.name ≡ name → row_before a b ≡ true → same_row b.name name ≡ false

@@ -8,7 +8,7 @@ use Rattle.escrow_num.specs.declared.row.Row.{Row}
 use Rattle.escrow_num.specs.Ascending.{IsAscending}
 use Rattle.escrow_num.proofs.Orders.{by_row, row_total, before_trans, before_itself}
 use Rattle.escrow_num.proofs.Put.{put}
-use Rattle.escrow_machine.specs.Rows.{row_before, with_row}
+use Rattle.escrow_schema.specs.Rows.{row_before, with_row}
 use Rattle.escrow_rows.specs.View.{sorted_rows}
 
 module _ {A : Type 0} (before : A → A → Bool) (trans : (x y z : A) → before x y ≡ true → before y z ≡ true → before x z ≡ true) (itself : (x : A) → before x x ≡ false) where

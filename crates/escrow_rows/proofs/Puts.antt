@@ -11,7 +11,7 @@ use Rattle.sqlite_value.specs.Order.{Row as SqlRow, column}
 use Rattle.escrow_num.specs.declared.value.Value.{Value}
 use Rattle.escrow_num.proofs.Orders.{same_value}
 use Rattle.escrow_cells.specs.Step.{Contents, same, is_of, is_at}
-use Rattle.escrow_machine.specs.Rows.{replaced}
+use Rattle.escrow_schema.specs.Rows.{replaced}
 use Rattle.escrow_rows.specs.Image.{stored, cells_from}
 use Rattle.escrow_rows.specs.Inside.{on_cells, put_value, put_values}
 use Rattle.escrow_rows.proofs.Same.{same_numbers, same_stored}

@@ -28,7 +28,7 @@ use Rattle.escrow_schema.proofs.RuleLemmas.{key_stands}
 use Rattle.escrow_cells.specs.Read.{AreOfRow}
 use Rattle.escrow_cells.specs.Store.{IsStore, cells}
 use Rattle.escrow_rows.specs.declared.stored.StoredTable.{StoredTable}
-use Rattle.escrow_machine.specs.Rows.{row_named}
+use Rattle.escrow_schema.specs.Rows.{row_named}
 use Rattle.escrow_rows.specs.Answers.{Tells}
 use Rattle.escrow_rows.specs.Image.{stored, cells_of, AreTables, AreRows}
 use Rattle.escrow_rows.specs.Changes.{Stands, name_in}

@@ -16,7 +16,7 @@ use Rattle.escrow_cells.specs.Read.{AreOfRow}
 use Rattle.escrow_cells.specs.Step.{is_of}
 use Rattle.escrow_cells.specs.Store.{cells}
 use Rattle.escrow_rows.specs.declared.stored.StoredTable.{StoredTable}
-use Rattle.escrow_machine.specs.Rows.{row_named}
+use Rattle.escrow_schema.specs.Rows.{row_named}
 use Rattle.escrow_rows.specs.Image.{stored, cells_in, cells_of, AreTables, AreRows, IsOfTables}
 use Rattle.escrow_rows.specs.Changes.{Stands, name_in}
 use Rattle.escrow_rows.proofs.Cells.{filter_pieces, is_of_row, row_of_stored, stands_has}

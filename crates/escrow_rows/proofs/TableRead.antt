@@ -19,7 +19,7 @@ use Rattle.escrow_rows.specs.declared.stored.StoredTable.{StoredTable}
 use Rattle.escrow_rows.specs.Changes.{Stands}
 use Rattle.escrow_rows.specs.Image.{cells_of, AreTables, AreRows, IsOfTables}
 use Rattle.escrow_rows.specs.Placed.{keyed_cells}
-use Rattle.escrow_machine.specs.Rows.{row_before, rows_of}
+use Rattle.escrow_schema.specs.Rows.{row_before, rows_of}
 use Rattle.escrow_rows.proofs.Cells.{filter_pieces, is_in_row, row_of_stored, stands_has}
 use Rattle.escrow_rows.proofs.KeyedCells.{cells_keyed, KeysRise, with_key}
 

@@ -10,7 +10,7 @@ use Rattle.escrow_schema.specs.Print.{canonical}
 use Rattle.escrow_rows.specs.declared.stored.StoredTable.{StoredTable}
 use Rattle.escrow_rows.specs.declared.listed.ListedTable.{ListedTable}
 use Rattle.escrow_rows.specs.Image.{IsImage, AreTables, AreRows}
-use Rattle.escrow_machine.specs.Rows.{row_named, rows_of}
+use Rattle.escrow_schema.specs.Rows.{row_named, rows_of}
 pub use Rattle.escrow_cells.specs.Calls.{IsUsable, Looks}
 use Rattle.escrow_rows.specs.Changes.{Stands, name_in}
 

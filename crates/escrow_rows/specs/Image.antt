@@ -16,7 +16,7 @@ use Rattle.escrow_schema.specs.declared.catalog.TheConstants.Catalog.{MAX_TABLES
 use Rattle.escrow_schema.specs.Definition.{IsTable}
 use Rattle.escrow_schema.specs.Fit.{IsRowOf, values_of}
 use Rattle.escrow_schema.specs.Print.{canonical}
-use Rattle.escrow_machine.specs.Rows.{row_before, rows_of}
+use Rattle.escrow_schema.specs.Rows.{row_before, rows_of}
 use Rattle.escrow_cells.specs.Store.{IsStore, format, metas, tabs, cells}
 use Rattle.escrow_rows.specs.declared.stored.StoredTable.{StoredTable}
 use Rattle.escrow_schema.specs.declared.table.TheConstants.TableDef.{MAX_ROWS}

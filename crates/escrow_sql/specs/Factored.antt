@@ -1,4 +1,5 @@
--- Helps: the grammar of requests, with SHOW, which begins three of its statements, taken out before them.
+-- Believed for one law alone (`FactoringKeepsSentences`): the grammar of requests, with SHOW, which begins three of its
+-- statements, taken out before them.
 use Rattle.std.specs.Prelude.{Some, None}
 use Rattle.escrow_sql.specs.declared.statement.Request.{Request}
 use Rattle.escrow_sql.specs.declared.statement.Request.TheVariants as requests

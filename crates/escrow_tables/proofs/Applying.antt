@@ -14,8 +14,8 @@ use Rattle.escrow_rows.specs.declared.stored.StoredTable.{StoredTable}
 use Rattle.escrow_schema.specs.declared.table.TheConstants.TableDef.{MAX_ROWS}
 use Rattle.escrow_rows.specs.Changes.{PutsAmounts}
 use Rattle.escrow_rows.specs.Image.{AreTables, AreRows, IsOfTables, stored_named}
-use Rattle.escrow_machine.specs.Rows.{row_before, rows_of, changes_to, row_after, applied}
-use Rattle.escrow_verify.specs.declared.counted.Counted.{Counted}
+use Rattle.escrow_schema.specs.Rows.{row_before, rows_of, changes_to, row_after, applied}
+use Rattle.escrow_verify.specs.declared.counted_table.CountedTable.{CountedTable}
 use Rattle.escrow_tables.specs.Inside.{stored_of, HasCount, IsHeld}
 use Rattle.escrow_tables.specs.Puts.{ArePuts, TellsPut}
 use Rattle.escrow_tables.proofs.Puts.{put_rows, puts_apply}
@@ -57,7 +57,7 @@ module _ (reservations : List Reservation) where
   }
 
   -- a database with new amounts of the rows of all reservations is that of the rows with these applied
-  pub held_after : (tables : List Counted) (rows : List Row) (news : List NewAmounts) (old new : Database) → AreTables (stored_of tables) → IsHeld tables rows old
+  pub held_after : (tables : List CountedTable) (rows : List Row) (news : List NewAmounts) (old new : Database) → AreTables (stored_of tables) → IsHeld tables rows old
       → ArePuts (stored_of tables) reservations news → AllByRecursion (TellsPut rows reservations) news
       → PutsAmounts news old new → IsHeld tables (applied rows reservations) new
   held_after tables rows news old new are held puts told turns =

@@ -11,18 +11,18 @@ use Rattle.escrow_schema.specs.Catalog.{place_named, table_named}
 use Rattle.escrow_rows.specs.Answers.{IsUsable, Tells}
 use Rattle.escrow_rows.specs.Changes.{name_in}
 use Rattle.escrow_rows.specs.View.{rows_in}
-use Rattle.escrow_verify.specs.declared.counted.Counted.{Counted}
-use Rattle.escrow_machine.specs.Rows.{row_named, rows_of}
+use Rattle.escrow_verify.specs.declared.counted_table.CountedTable.{CountedTable}
+use Rattle.escrow_schema.specs.Rows.{row_named, rows_of}
 use Rattle.escrow_tables.specs.Inside.{Keeps, stored_of, catalog_of}
 use Rattle.escrow_tables.proofs.Named.{IsNamed}
 use Rattle.escrow_tables.proofs.Placed.{is_placed}
 use Rattle.escrow_tables.proofs.Reading.{name_of, told_of}
 
 -- what stands at the place of a name is its table
-pub named_at : (tables : List Counted) (name : List ℕ) (place : ℕ) (c : Counted) → place_named (catalog_of tables) name ≡ Some place → c ≡ get_or tables place c → IsNamed tables name c
+pub named_at : (tables : List CountedTable) (name : List ℕ) (place : ℕ) (c : CountedTable) → place_named (catalog_of tables) name ≡ Some place → c ≡ get_or tables place c → IsNamed tables name c
 named_at tables name place c at item = (is_placed tables name place c at item).named
 
-module _ (tables : List Counted) (name : List ℕ) (c : Counted) (named : IsNamed tables name c) where
+module _ (tables : List CountedTable) (name : List ℕ) (c : CountedTable) (named : IsNamed tables name c) where
   -- what holds of a table holds of that of its name in the catalog
   pub in_catalog : (P : TableDef → Type 0) → P c.stored.table → IsSomeAnd (table_named (catalog_of tables) name) P
   in_catalog P h = rw named.in_catalog h

@@ -6,10 +6,10 @@ use Rattle.std.proofs.lemmas.List.{length-drop, length-map, length-take-le, map_
 use Rattle.escrow_num.specs.declared.reservation.Reservation.{Reservation}
 use Rattle.escrow_num.specs.declared.value.RowName.{RowName}
 use Rattle.escrow_num.specs.Order.{same_row}
-use Rattle.escrow_num.specs.Reservation.{counted, changes_at}
+use Rattle.escrow_num.specs.Reservation.{deltas, changes_at}
 use Rattle.escrow_num.proofs.Orders.{row_same, same_row_itself}
 use Rattle.escrow_checks.specs.Form.{changed, all_changed}
-use Rattle.escrow_machine.specs.Rows.{replaced}
+use Rattle.escrow_schema.specs.Rows.{replaced}
 use Rattle.escrow_tables.specs.Puts.{changed_by}
 
 -- no changes change nothing
@@ -36,23 +36,23 @@ changed_past (a ∷ rest) (c ∷ changes) zero past = absurd (omega arith)
 changed_past (a ∷ rest) (c ∷ changes) (suc i) past = ap (λ zs. (a +ℤ c) ∷ zs) (changed_past rest changes i (omega arith))
 
 -- the changes that count, so far
-counted_take : (i : ℕ) (changes : List (Option ℤ)) → counted (take i changes) ≡ take i (counted changes)
+counted_take : (i : ℕ) (changes : List (Option ℤ)) → deltas (take i changes) ≡ take i (deltas changes)
 counted_take i changes = sym (take-map (λ (o : Option ℤ). unwrap_or o (pos 0)) i changes)
 
 -- one more change that counts, at a column that there is and past the last one
 pub counted_more : (amounts : List ℤ) (changes : List (Option ℤ)) (i : ℕ) (x : ℤ) (o : Option ℤ) → i < length amounts → i < length changes
-    → x ≡ get_or (changed amounts (counted (take i changes))) i x → o ≡ get_or changes i o
-    → changed amounts (counted (take (i + 1) changes)) ≡ set (changed amounts (counted (take i changes))) i (x +ℤ unwrap_or o (pos 0))
+    → x ≡ get_or (changed amounts (deltas (take i changes))) i x → o ≡ get_or changes i o
+    → changed amounts (deltas (take (i + 1) changes)) ≡ set (changed amounts (deltas (take i changes))) i (x +ℤ unwrap_or o (pos 0))
 counted_more amounts changes i x o below in_changes at_x at_o =
     let count : Option ℤ → ℤ = λ c. unwrap_or c (pos 0) in
-    let at : count o ≡ get_or (counted changes) i (count o) = ap count at_o ∙ sym (get_or-map count changes i o (count o) in_changes) in
+    let at : count o ≡ get_or (deltas changes) i (count o) = ap count at_o ∙ sym (get_or-map count changes i o (count o) in_changes) in
     rw (add-one, counted_take (suc i) changes, counted_take i changes)
-    (changed_suc amounts (counted changes) i x (count o) below (subst (λ n. i < n) (sym (length-map changes count)) in_changes)
+    (changed_suc amounts (deltas changes) i x (count o) below (subst (λ n. i < n) (sym (length-map changes count)) in_changes)
     (subst (λ zs. x ≡ get_or (changed amounts zs) i x) (counted_take i changes) at_x) at)
 
 pub counted_past : (amounts : List ℤ) (changes : List (Option ℤ)) (i : ℕ) → length amounts ≤ i
-    → changed amounts (counted (take (i + 1) changes)) ≡ changed amounts (counted (take i changes))
-counted_past amounts changes i past = rw (add-one, counted_take (suc i) changes, counted_take i changes) (changed_past amounts (counted changes) i past)
+    → changed amounts (deltas (take (i + 1) changes)) ≡ changed amounts (deltas (take i changes))
+counted_past amounts changes i past = rw (add-one, counted_take (suc i) changes, counted_take i changes) (changed_past amounts (deltas changes) i past)
 
 -- one more list of changes
 all_changed_push : (amounts : List ℤ) (before : List (List ℤ)) (changes : List ℤ) → all_changed amounts (before ++ changes ∷ []) ≡ changed (all_changed amounts before) changes
@@ -66,7 +66,7 @@ changes_more name before reservations i r below at =
     ap (all_changed before) (map_more (changes_at name) reservations i r below ∙ ap (λ x. map (changes_at name) (take i reservations) ++ changes_at name x ∷ []) (sym at))
     ∙ all_changed_push before (map (changes_at name) (take i reservations)) (changes_at name r)
 
-pub changes_own : (name : RowName) (r : Reservation) → same_row name r.row ≡ true → changes_at name r ≡ counted r.changes
+pub changes_own : (name : RowName) (r : Reservation) → same_row name r.row ≡ true → changes_at name r ≡ deltas r.changes
 changes_own name r same = rw same refl
 
 pub changes_other : (name : RowName) (r : Reservation) → same_row name r.row ≡ false → changes_at name r ≡ []

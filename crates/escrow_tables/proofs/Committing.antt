@@ -12,15 +12,15 @@ use Rattle.escrow_rows.specs.Answers.{IsUsable}
 use Rattle.escrow_rows.specs.Changes.{PutsAmounts}
 use Rattle.escrow_rows.specs.View.{rows_in}
 use Rattle.escrow_rows.specs.declared.amounts.NewAmounts.{NewAmounts}
-use Rattle.escrow_machine.specs.Rows.{applied}
+use Rattle.escrow_schema.specs.Rows.{applied}
 use Rattle.escrow_tables.specs.Calls.{Writes}
 use Rattle.escrow_tables.specs.Inside.{IsHeld, Keeps, catalog_of, stored_of}
 use Rattle.escrow_tables.specs.Puts.{ArePuts, TellsPut}
-use Rattle.escrow_verify.specs.declared.counted.Counted.{Counted}
+use Rattle.escrow_verify.specs.declared.counted_table.CountedTable.{CountedTable}
 use Rattle.escrow_tables.proofs.Applying.{held_after}
 use Rattle.escrow_tables.proofs.Writing.{keeps_on, seen, writes}
 
-module _ {S : Type 0} (g : Ghosts S) (old new was later : Held S) (tables : List Counted) (reservations : List Reservation) (news : List NewAmounts) (is_done : Bool)
+module _ {S : Type 0} (g : Ghosts S) (old new was later : Held S) (tables : List CountedTable) (reservations : List Reservation) (news : List NewAmounts) (is_done : Bool)
     (keeps : Keeps (state g old) (state g was) tables) (puts : ArePuts (stored_of tables) reservations news)
     (told : HasCleanDisk (state g old) → AllByRecursion (TellsPut (rows_in (stored_of tables) (state g was).now) reservations) news)
     (it : Alters (state g old) (state g new) is_done (PutsAmounts news)) (if_done : is_done ≡ true → later ≡ new) (if_not : is_done ≡ false → later ≡ was) where

@@ -28,12 +28,12 @@ use Rattle.escrow_cells.specs.Calls.{Alters}
 use Rattle.escrow_rows.specs.declared.stored.StoredTable.{StoredTable}
 use Rattle.escrow_rows.specs.Changes.{Creates}
 use Rattle.escrow_rows.specs.Image.{AreTables, AreRows, IsOfTables, stored_named}
-use Rattle.escrow_machine.specs.Rows.{rows_of}
+use Rattle.escrow_schema.specs.Rows.{rows_of}
 use Rattle.escrow_rows.specs.View.{rows_in}
 use Rattle.escrow_rows.proofs.Cells.{row_in}
 use Rattle.escrow_rows.proofs.ImageTables.{has_permutation, still_found}
 use Rattle.escrow_rows.proofs.Listings.{apart_permutation}
-use Rattle.escrow_verify.specs.declared.counted.Counted.{Counted}
+use Rattle.escrow_verify.specs.declared.counted_table.CountedTable.{CountedTable}
 use Rattle.escrow_tables.specs.Calls.{Writes}
 use Rattle.escrow_tables.specs.Inside.{HasCount, IsHeld, Keeps, catalog_of, stored_of}
 use Rattle.escrow_tables.proofs.Named.{counted_named, named_stored, named_table}
@@ -45,10 +45,10 @@ map_put f before x (y ∷ ys) =
     elim (cases_Bool (before (f x) (f y))) [ inl t ↦ rw t refl | inr e ↦ rw e (ap (λ zs. f y ∷ zs) (map_put f before x ys)) ]
 
 -- a name that isn't in the catalog is that of no table in the store
-unnamed : (tables : List Counted) (name : List ℕ) → table_named (catalog_of tables) name ≡ None → stored_named (stored_of tables) name ≡ None
+unnamed : (tables : List CountedTable) (name : List ℕ) → table_named (catalog_of tables) name ≡ None → stored_named (stored_of tables) name ≡ None
 unnamed tables name new = named_stored tables name ∙ at (counted_named tables name) (sym (named_table tables name) ∙ new)
   where
-    at : (o : Option Counted) → option_map (λ (c : Counted). c.stored.table) o ≡ None → option_map (λ (c : Counted). c.stored) o ≡ None
+    at : (o : Option CountedTable) → option_map (λ (c : CountedTable). c.stored.table) o ≡ None → option_map (λ (c : CountedTable). c.stored) o ≡ None
     at None e = refl
     at (Some c) e = absurd (none-some c.stored.table (sym e))
 
@@ -70,7 +70,7 @@ abbrev other_name : StoredTable → StoredTable → Bool
 other_name a b = not (bytes_eq a.table.name b.table.name)
 
 -- a new table, of a number and a name that no other has
-pub record IsNew (tables : List Counted) (s : StoredTable) : Type 0 where
+pub record IsNew (tables : List CountedTable) (s : StoredTable) : Type 0 where
   pub is_table : IsTable s.table
   pub number : IsTrue (int_le (pos 1) s.id)
   pub free : AllByRecursion (λ (t : StoredTable). t.id ≢ s.id) (stored_of tables)
@@ -78,23 +78,23 @@ pub record IsNew (tables : List Counted) (s : StoredTable) : Type 0 where
   pub room : length (catalog_of tables) < MAX_TABLES
 
 -- a table is new among those that are seen, by a number that is free there
-pub new_table : (tables reserved found : List Counted) (id number : ℤ) (table : TableDef) (catalog : List TableDef)
+pub new_table : (tables reserved found : List CountedTable) (id number : ℤ) (table : TableDef) (catalog : List TableDef)
     → reserved ≡ tables → found ≡ reserved → catalog_of tables ≡ catalog → number ≡ id
-    → IsTrue (int_le (pos 1) id) × AllByRecursion (λ (c : Counted). c.stored.id ≢ id) found
+    → IsTrue (int_le (pos 1) id) × AllByRecursion (λ (c : CountedTable). c.stored.id ≢ id) found
     → IsTable table → table_named catalog table.name ≡ None → length catalog < MAX_TABLES
     → IsNew tables (record { id = number; table = table })
 new_table tables reserved found id number table catalog kept read is same free defined unheard room =
-    let open_number = subst (λ (n : ℤ). IsTrue (int_le (pos 1) n) × AllByRecursion (λ (c : Counted). c.stored.id ≢ n) found) (sym same) free in
+    let open_number = subst (λ (n : ℤ). IsTrue (int_le (pos 1) n) × AllByRecursion (λ (c : CountedTable). c.stored.id ≢ n) found) (sym same) free in
     record {
       is_table = defined;
       number = open_number.0;
-      free = all-map (λ (t : StoredTable). t.id ≢ number) (λ (c : Counted). c.stored) tables
-          (subst (AllByRecursion (λ (c : Counted). c.stored.id ≢ number)) (read ∙ kept) open_number.1);
+      free = all-map (λ (t : StoredTable). t.id ≢ number) (λ (c : CountedTable). c.stored) tables
+          (subst (AllByRecursion (λ (c : CountedTable). c.stored.id ≢ number)) (read ∙ kept) open_number.1);
       unheard = subst (λ (defs : List TableDef). table_named defs table.name ≡ None) (sym is) unheard;
       room = subst (λ (defs : List TableDef). length defs < MAX_TABLES) (sym is) room;
     }
 
-module _ (tables : List Counted) (after : List StoredTable) (s : StoredTable) (are : AreTables (stored_of tables)) (new : IsNew tables s)
+module _ (tables : List CountedTable) (after : List StoredTable) (s : StoredTable) (are : AreTables (stored_of tables)) (new : IsNew tables s)
     (same : IsPermutation (s ∷ stored_of tables) after) where
   -- its number and its name are no other's
   number_differs : AllByRecursion (λ t. IsTrue (other_number s t)) (stored_of tables)
@@ -118,7 +118,7 @@ module _ (tables : List Counted) (after : List StoredTable) (s : StoredTable) (a
         ids_apart = apart_permutation other_number (λ a b. not_either (int_eq a.id b.id) (int_eq b.id a.id) (ids_both b.id a.id)) all after same (number_differs, are.ids_apart);
         names_apart = apart_permutation other_name
             (λ a b. not_either (bytes_eq a.table.name b.table.name) (bytes_eq b.table.name a.table.name) (names_both b.table.name a.table.name)) all after same (name_differs, are.names_apart);
-        few = omega (arith, new.room, length_permutation all after same, length-map tables (λ (o : Counted). o.stored), length-map tables (λ (o : Counted). o.stored.table));
+        few = omega (arith, new.room, length_permutation all after same, length-map tables (λ (o : CountedTable). o.stored), length-map tables (λ (o : CountedTable). o.stored.table));
       }
 
   -- rows of the others are rows of theirs
@@ -144,31 +144,31 @@ no_rows_of tables rows name none of =
     (λ e. subst (λ (o : Option StoredTable). IsSomeAnd o (λ t. IsRowOf t.table row)) (ap (stored_named tables) (name_same row.name.table name e) ∙ none) h)) rows of)
 
 -- the place at which a table of a name stands in order
-abbrev pub place_for : List Counted → List ℕ → ℕ
-place_for tables name = unwrap_or (position (λ (o : Counted). is_lt (slice_cmp nat_cmp name o.stored.table.name)) tables) (length tables)
+abbrev pub place_for : List CountedTable → List ℕ → ℕ
+place_for tables name = unwrap_or (position (λ (o : CountedTable). is_lt (slice_cmp nat_cmp name o.stored.table.name)) tables) (length tables)
 
 -- the tables with a new one, at its place
-abbrev pub with_counted : Counted → List Counted → List Counted
+abbrev pub with_counted : CountedTable → List CountedTable → List CountedTable
 with_counted c tables = insert tables (place_for tables c.stored.table.name) c
 
 -- a table that is put at its place is put into the catalog in its order
-placed : (tables : List Counted) (c : Counted) → catalog_of (with_counted c tables) ≡ with_table c.stored.table (catalog_of tables)
+placed : (tables : List CountedTable) (c : CountedTable) → catalog_of (with_counted c tables) ≡ with_table c.stored.table (catalog_of tables)
 placed tables c =
-    ap catalog_of (put_at_place (λ (o : Counted). is_lt (slice_cmp nat_cmp c.stored.table.name o.stored.table.name)) c
-    (put (λ (a b : Counted). table_before a.stored.table b.stored.table) c) refl (λ y ys. refl) tables)
-    ∙ map_put (λ (o : Counted). o.stored.table) table_before c tables ∙ sym (with_table_put c.stored.table (catalog_of tables))
+    ap catalog_of (put_at_place (λ (o : CountedTable). is_lt (slice_cmp nat_cmp c.stored.table.name o.stored.table.name)) c
+    (put (λ (a b : CountedTable). table_before a.stored.table b.stored.table) c) refl (λ y ys. refl) tables)
+    ∙ map_put (λ (o : CountedTable). o.stored.table) table_before c tables ∙ sym (with_table_put c.stored.table (catalog_of tables))
 
 -- the fields have them where the table was put at the place that was found
-pub put_there : (tables reserved found fields : List Counted) (place : ℕ) (c : Counted) → reserved ≡ tables → found ≡ reserved → place ≡ place_for found c.stored.table.name
+pub put_there : (tables reserved found fields : List CountedTable) (place : ℕ) (c : CountedTable) → reserved ≡ tables → found ≡ reserved → place ≡ place_for found c.stored.table.name
     → fields ≡ insert reserved place c → fields ≡ with_counted c tables
 put_there tables reserved found fields place c kept read at is = rw (is, at, read, kept) refl
 
-module _ (tables : List Counted) (c : Counted) (none : c.rows ≡ 0) (are : AreTables (stored_of tables)) (new : IsNew tables c.stored) where
+module _ (tables : List CountedTable) (c : CountedTable) (none : c.rows ≡ 0) (are : AreTables (stored_of tables)) (new : IsNew tables c.stored) where
   whole : IsPermutation (c ∷ tables) (with_counted c tables)
   whole = IsPermutation-insert tables (place_for tables c.stored.table.name) c
 
   stored_whole : IsPermutation (c.stored ∷ stored_of tables) (stored_of (with_counted c tables))
-  stored_whole = IsPermutation-map (λ (o : Counted). o.stored) (c ∷ tables) (with_counted c tables) whole
+  stored_whole = IsPermutation-map (λ (o : CountedTable). o.stored) (c ∷ tables) (with_counted c tables) whole
 
   with_counted_are : AreTables (stored_of (with_counted c tables))
   with_counted_are = more_tables tables (stored_of (with_counted c tables)) c.stored are new stored_whole
@@ -184,7 +184,7 @@ module _ (tables : List Counted) (c : Counted) (none : c.rows ≡ 0) (are : AreT
         counts = all-permutation (HasCount rows) (c ∷ tables) (with_counted c tables) whole (counted, held.counts);
       }
 
-  module _ {S : Type 0} (g : Ghosts S) (old after was later : Held S) (is_done : Bool) (it : Alters (state g old) (state g after) is_done (Creates c.stored)) (fields : List Counted)
+  module _ {S : Type 0} (g : Ghosts S) (old after was later : Held S) (is_done : Bool) (it : Alters (state g old) (state g after) is_done (Creates c.stored)) (fields : List CountedTable)
       (keeps : Keeps (state g old) (state g was) tables) (if_done : is_done ≡ true → (fields ≡ with_counted c tables) × (later ≡ after)) (if_not : is_done ≡ false → (fields ≡ tables) × (later ≡ was)) where
     pub create_writes : Writes g (seen g old was tables) (seen g after later fields) is_done (with_table c.stored.table (catalog_of tables)) (rows_in (stored_of tables) (state g was).now)
     create_writes =

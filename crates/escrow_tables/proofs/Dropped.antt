@@ -20,11 +20,11 @@ use Rattle.escrow_schema.proofs.CatalogLemmas.{Once, once_named, taken_out, with
 use Rattle.escrow_cells.specs.Calls.{Alters}
 use Rattle.escrow_rows.specs.declared.stored.StoredTable.{StoredTable}
 use Rattle.escrow_rows.specs.Changes.{Drops, without_stored}
-use Rattle.escrow_machine.specs.Rows.{without_rows_of, rows_of}
+use Rattle.escrow_schema.specs.Rows.{without_rows_of, rows_of}
 use Rattle.escrow_rows.specs.Image.{AreTables, AreRows, IsOfTables}
 use Rattle.escrow_rows.specs.View.{rows_in}
 use Rattle.escrow_rows.proofs.ImageTables.{found_without}
-use Rattle.escrow_verify.specs.declared.counted.Counted.{Counted}
+use Rattle.escrow_verify.specs.declared.counted_table.CountedTable.{CountedTable}
 use Rattle.escrow_tables.specs.Calls.{Writes}
 use Rattle.escrow_tables.specs.Inside.{HasCount, IsHeld, Keeps, catalog_of, stored_of}
 use Rattle.escrow_tables.proofs.Named.{IsNamed}
@@ -32,14 +32,14 @@ use Rattle.escrow_tables.proofs.Placed.{kept_place}
 use Rattle.escrow_tables.proofs.Writing.{keeps_on, seen, writes}
 
 -- the tables of other names
-abbrev pub without_counted : List ℕ → List Counted → List Counted
-without_counted name tables = filter (λ (c : Counted). not (bytes_eq c.stored.table.name name)) tables
+abbrev pub without_counted : List ℕ → List CountedTable → List CountedTable
+without_counted name tables = filter (λ (c : CountedTable). not (bytes_eq c.stored.table.name name)) tables
 
-catalog_without : (name : List ℕ) (tables : List Counted) → catalog_of (without_counted name tables) ≡ without_table name (catalog_of tables)
-catalog_without name tables = sym (filter-map (λ (t : TableDef). not (bytes_eq t.name name)) (λ (c : Counted). c.stored.table) tables)
+catalog_without : (name : List ℕ) (tables : List CountedTable) → catalog_of (without_counted name tables) ≡ without_table name (catalog_of tables)
+catalog_without name tables = sym (filter-map (λ (t : TableDef). not (bytes_eq t.name name)) (λ (c : CountedTable). c.stored.table) tables)
 
-stored_without : (name : List ℕ) (tables : List Counted) → stored_of (without_counted name tables) ≡ without_stored name (stored_of tables)
-stored_without name tables = sym (filter-map (λ (s : StoredTable). not (bytes_eq s.table.name name)) (λ (c : Counted). c.stored) tables)
+stored_without : (name : List ℕ) (tables : List CountedTable) → stored_of (without_counted name tables) ≡ without_stored name (stored_of tables)
+stored_without name tables = sym (filter-map (λ (s : StoredTable). not (bytes_eq s.table.name name)) (λ (c : CountedTable). c.stored) tables)
 
 -- where one item at most is of a test, so is one at most that maps to it
 once_through : {A B : Type 0} (p : B → Bool) (f : A → B) (xs : List A) → Once p (map f xs) → Once (λ x. p (f x)) xs
@@ -47,11 +47,11 @@ once_through p f [] h = tt
 once_through p f (x ∷ xs) h = ((λ e. all_from_map (λ y. p y ≡ false) f xs (h.0 e)), once_through p f xs h.1)
 
 -- without the table at the place of a name those of other names are left
-pub taken_at : (tables : List Counted) (name : List ℕ) (place : ℕ) (c : Counted) → IsCatalog (catalog_of tables) → place_named (catalog_of tables) name ≡ Some place
+pub taken_at : (tables : List CountedTable) (name : List ℕ) (place : ℕ) (c : CountedTable) → IsCatalog (catalog_of tables) → place_named (catalog_of tables) name ≡ Some place
     → remove tables place ≡ without_counted name tables
 taken_at tables name place c catalog at =
-    let once = once_through (λ (t : TableDef). bytes_eq t.name name) (λ (c : Counted). c.stored.table) tables (once_named (catalog_of tables) name catalog.order) in
-    (taken_out (λ (c : Counted). bytes_eq c.stored.table.name name) tables place c once (sym (kept_place tables name) ∙ at)).1
+    let once = once_through (λ (t : TableDef). bytes_eq t.name name) (λ (c : CountedTable). c.stored.table) tables (once_named (catalog_of tables) name catalog.order) in
+    (taken_out (λ (c : CountedTable). bytes_eq c.stored.table.name name) tables place c once (sym (kept_place tables name) ∙ at)).1
 
 -- what passes a test among what passes another is no more than what passes it
 fewer : {A : Type 0} (p q : A → Bool) (xs : List A) → length (filter p (filter q xs)) ≤ length (filter p xs)
@@ -95,7 +95,7 @@ rows_of_other name other rows apart =
     filter-filter (λ (row : Row). bytes_eq row.name.table other) (λ (row : Row). not (bytes_eq row.name.table name))
     (λ row e. ap not (ap (λ (n : List ℕ). bytes_eq n name) (name_same row.name.table other e) ∙ apart)) rows
 
-module _ (tables : List Counted) (name : List ℕ) (c : Counted) (named : IsNamed tables name c) (are : AreTables (stored_of tables)) where
+module _ (tables : List CountedTable) (name : List ℕ) (c : CountedTable) (named : IsNamed tables name c) (are : AreTables (stored_of tables)) where
   without_are : AreTables (stored_of (without_counted name tables))
   without_are = subst AreTables (sym (stored_without name tables)) (fewer_tables name (stored_of tables) are)
 
@@ -103,8 +103,8 @@ module _ (tables : List Counted) (name : List ℕ) (c : Counted) (named : IsName
   held_less : (rows : List Row) (old db : Database) → IsHeld tables rows old → Drops c.stored old db → IsHeld (without_counted name tables) (without_rows_of name rows) db
   held_less rows old db held makes =
       let image = makes (stored_of tables) rows are held.are_rows named.stands held.image in
-      let count : (t : Counted) → Has (without_counted name tables) t → HasCount (without_rows_of name rows) t = λ t k.
-      let passes = has_filter (λ (o : Counted). not (bytes_eq o.stored.table.name name)) tables t k in
+      let count : (t : CountedTable) → Has (without_counted name tables) t → HasCount (without_rows_of name rows) t = λ t k.
+      let passes = has_filter (λ (o : CountedTable). not (bytes_eq o.stored.table.name name)) tables t k in
       all_has (HasCount rows) tables held.counts t passes.0
       ∙ ap length (sym (rows_of_other name t.stored.table.name rows (not-true (bytes_eq t.stored.table.name name) passes.1))) in
       record {
@@ -113,7 +113,7 @@ module _ (tables : List Counted) (name : List ℕ) (c : Counted) (named : IsName
         counts = has_all (HasCount (without_rows_of name rows)) (without_counted name tables) count;
       }
 
-  module _ {S : Type 0} (g : Ghosts S) (old new was later : Held S) (is_done : Bool) (it : Alters (state g old) (state g new) is_done (Drops c.stored)) (fields : List Counted)
+  module _ {S : Type 0} (g : Ghosts S) (old new was later : Held S) (is_done : Bool) (it : Alters (state g old) (state g new) is_done (Drops c.stored)) (fields : List CountedTable)
       (keeps : Keeps (state g old) (state g was) tables) (if_done : is_done ≡ true → (fields ≡ without_counted name tables) × (later ≡ new)) (if_not : is_done ≡ false → (fields ≡ tables) × (later ≡ was)) where
     pub drop_writes : Writes g (seen g old was tables) (seen g new later fields) is_done (without_table name (catalog_of tables)) (without_rows_of name (rows_in (stored_of tables) (state g was).now))
     drop_writes =

@@ -6,14 +6,14 @@ use Rattle.escrow_num.specs.declared.row.Row.{Row}
 use Rattle.escrow_rows.specs.Image.{IsImage, AreTables, AreRows}
 use Rattle.escrow_rows.specs.View.{rows_in}
 use Rattle.escrow_rows.proofs.ViewLemmas.{rows_are}
-use Rattle.escrow_verify.specs.declared.counted.Counted.{Counted}
+use Rattle.escrow_verify.specs.declared.counted_table.CountedTable.{CountedTable}
 use Rattle.escrow_tables.specs.Inside.{IsHeld, Keeps, stored_of}
 
-pub rows_held : (tables : List Counted) (rows : List Row) (db : Database) → AreTables (stored_of tables) → IsHeld tables rows db → rows_in (stored_of tables) db ≡ rows
+pub rows_held : (tables : List CountedTable) (rows : List Row) (db : Database) → AreTables (stored_of tables) → IsHeld tables rows db → rows_in (stored_of tables) db ≡ rows
 rows_held tables rows db are held = rows_are (stored_of tables) rows db are held.are_rows held.image.cells_are
 
 -- what is held is what is read
-pub held_itself : (tables : List Counted) (rows : List Row) (db : Database) → AreTables (stored_of tables) → IsHeld tables rows db
+pub held_itself : (tables : List CountedTable) (rows : List Row) (db : Database) → AreTables (stored_of tables) → IsHeld tables rows db
     → IsHeld tables (rows_in (stored_of tables) db) db
 held_itself tables rows db are held = subst (λ (rs : List Row). IsHeld tables rs db) (sym (rows_held tables rows db are held)) held
 

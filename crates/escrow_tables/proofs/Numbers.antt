@@ -13,7 +13,7 @@ use Rattle.std.proofs.lemmas.Bool.{cases_Bool, or_parts}
 use Rattle.std.proofs.lemmas.Bool.Decides.{nat_tests, Decides-int_eq}
 use Rattle.std.proofs.lemmas.Int.{ints}
 use denote.Param.Members.{Mut}
-use Rattle.escrow_verify.specs.declared.counted.Counted.{Counted}
+use Rattle.escrow_verify.specs.declared.counted_table.CountedTable.{CountedTable}
 
 -- the steps of a range of numbers
 abbrev steps : RangeInclusive ℤ → Option ℤ → RangeInclusive ℤ → Type 0
@@ -52,8 +52,8 @@ from_one (pos n) h = let above : 1 ≤ n = omega (arith, ints) in grind (arith, 
 from_one (negsuc n) h = absurd (omega (arith, ints))
 
 -- a number that no table passes with is no table's
-pub no_table_has : (tables : List Counted) (id : ℤ) → list_any (λ c. int_eq c.stored.id id) tables ≡ false → AllByRecursion (λ (c : Counted). c.stored.id ≢ id) tables
+pub no_table_has : (tables : List CountedTable) (id : ℤ) → list_any (λ c. int_eq c.stored.id id) tables ≡ false → AllByRecursion (λ (c : CountedTable). c.stored.id ≢ id) tables
 no_table_has [] id h = tt
 no_table_has (c ∷ cs) id h =
-    let parts = or_parts (int_eq c.stored.id id) (list_any (λ (d : Counted). int_eq d.stored.id id) cs) h in
+    let parts = or_parts (int_eq c.stored.id id) (list_any (λ (d : CountedTable). int_eq d.stored.id id) cs) h in
     ((λ e. absurd (cc ((Decides-int_eq c.stored.id id).1 e))), no_table_has cs id parts.1)

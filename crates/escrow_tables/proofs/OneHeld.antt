@@ -14,7 +14,7 @@ use Rattle.escrow_rows.specs.Image.{tab_row}
 use Rattle.escrow_rows.specs.View.{sorted_rows, row_at}
 use Rattle.escrow_rows.specs.declared.stored.StoredTable.{StoredTable}
 use Rattle.escrow_rows.proofs.ViewLemmas.{rows_are}
-use Rattle.escrow_machine.specs.Rows.{MeetsChecks}
+use Rattle.escrow_schema.specs.Rows.{MeetsChecks}
 use Rattle.escrow_verify.specs.Stored.{HasHeldValues, HasOtherFormat, IsStoreOf}
 use Rattle.escrow_tables.specs.Committed.{Holds}
 use Rattle.escrow_tables.specs.Laws.{OneIsHeld, HeldIsAStore}

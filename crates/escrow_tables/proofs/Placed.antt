@@ -16,10 +16,10 @@ use Rattle.escrow_schema.specs.Catalog.{IsCatalog, place_named}
 use Rattle.escrow_schema.specs.Definition.{IsTable}
 use Rattle.escrow_schema.specs.declared.table.TableDef.{TableDef}
 use Rattle.escrow_rows.specs.Image.{AreTables}
-use Rattle.escrow_machine.specs.Rows.{rows_of}
+use Rattle.escrow_schema.specs.Rows.{rows_of}
 use Rattle.escrow_rows.specs.declared.stored.StoredTable.{StoredTable}
 use Rattle.escrow_tables.specs.Inside.{HasCount, catalog_of, stored_of}
-use Rattle.escrow_verify.specs.declared.counted.Counted.{Counted}
+use Rattle.escrow_verify.specs.declared.counted_table.CountedTable.{CountedTable}
 use Rattle.escrow_tables.proofs.Named.{IsNamed, is_named}
 
 -- what holds of the image of each item
@@ -41,7 +41,7 @@ find_at p (x ∷ xs) (suc i) d within passes before =
     cond-false (p x) (Some x) (find p xs) (before 0 (omega arith)) ∙ find_at p xs i d (omega arith) passes (λ k below. before (suc k) (omega arith))
 
 -- a table stands at a place, and it is the one of a name
-pub record IsPlaced (tables : List Counted) (name : List ℕ) (place : ℕ) (c : Counted) : Type 0 where
+pub record IsPlaced (tables : List CountedTable) (name : List ℕ) (place : ℕ) (c : CountedTable) : Type 0 where
   pub within : place < length tables
   pub item : c ≡ get_or tables place c
   pub named : IsNamed tables name c
@@ -77,13 +77,13 @@ pub has_place : {A : Type 0} (p : A → Bool) (xs : List A) → is_some (positio
 has_place p xs = some_if (nat_lt (position_or_len p xs) (length xs)) (position_or_len p xs) ∙ passing p xs
 
 -- where the table of a name stands in the catalog, it stands among those that are kept
-pub kept_place : (tables : List Counted) (name : List ℕ) → place_named (catalog_of tables) name ≡ position (λ (c : Counted). bytes_eq c.stored.table.name name) tables
-kept_place tables name = position_through (λ (t : TableDef). bytes_eq t.name name) (λ (c : Counted). c.stored.table) tables
+pub kept_place : (tables : List CountedTable) (name : List ℕ) → place_named (catalog_of tables) name ≡ position (λ (c : CountedTable). bytes_eq c.stored.table.name name) tables
+kept_place tables name = position_through (λ (t : TableDef). bytes_eq t.name name) (λ (c : CountedTable). c.stored.table) tables
 
 -- what stands at the place of a name
-pub is_placed : (tables : List Counted) (name : List ℕ) (place : ℕ) (c : Counted) → place_named (catalog_of tables) name ≡ Some place → c ≡ get_or tables place c → IsPlaced tables name place c
+pub is_placed : (tables : List CountedTable) (name : List ℕ) (place : ℕ) (c : CountedTable) → place_named (catalog_of tables) name ≡ Some place → c ≡ get_or tables place c → IsPlaced tables name place c
 is_placed tables name place c at item =
-    let p : Counted → Bool = λ c. bytes_eq c.stored.table.name name in
+    let p : CountedTable → Bool = λ c. bytes_eq c.stored.table.name name in
     let first = position-Some p tables place c (sym (kept_place tables name) ∙ at) in
     let found = find_at p tables place c first.0 first.1 first.2 in
     record { within = first.0; item = item; named = is_named tables name c (ap Some item ∙ sym found) }
@@ -92,71 +92,71 @@ is_placed tables name place c at item =
 pub place_within : (catalog : List TableDef) (name : List ℕ) (place : ℕ) → place_named catalog name ≡ Some place → place < length catalog
 place_within catalog name place at = grind (arith, common_steps)
 
-pub length_kept : (tables : List Counted) (place : ℕ) → place < length (catalog_of tables) → place < length tables
-length_kept tables place within = omega (arith, length-map tables (λ (c : Counted). c.stored.table))
+pub length_kept : (tables : List CountedTable) (place : ℕ) → place < length (catalog_of tables) → place < length tables
+length_kept tables place within = omega (arith, length-map tables (λ (c : CountedTable). c.stored.table))
 
-pub kept_within : (tables : List Counted) (name : List ℕ) (place : ℕ) → place_named (catalog_of tables) name ≡ Some place → place < length tables
+pub kept_within : (tables : List CountedTable) (name : List ℕ) (place : ℕ) → place_named (catalog_of tables) name ≡ Some place → place < length tables
 kept_within tables name place at = length_kept tables place (place_within (catalog_of tables) name place at)
 
 -- what stands at a place is a table that some text defines
-pub kept_is_table : (tables : List Counted) (place : ℕ) (c : Counted) → IsCatalog (catalog_of tables) → place < length tables → c ≡ get_or tables place c → IsTable c.stored.table
-kept_is_table tables place c catalog within item = all_has (λ (c : Counted). IsTable c.stored.table) tables (all_unmap IsTable (λ (c : Counted). c.stored.table) tables catalog.tables) c (has_at tables place c within item)
+pub kept_is_table : (tables : List CountedTable) (place : ℕ) (c : CountedTable) → IsCatalog (catalog_of tables) → place < length tables → c ≡ get_or tables place c → IsTable c.stored.table
+kept_is_table tables place c catalog within item = all_has (λ (c : CountedTable). IsTable c.stored.table) tables (all_unmap IsTable (λ (c : CountedTable). c.stored.table) tables catalog.tables) c (has_at tables place c within item)
 
 -- the tables, with another number of rows of the one at a place
-abbrev pub recounted : List Counted → ℕ → Counted → ℕ → List Counted
+abbrev pub recounted : List CountedTable → ℕ → CountedTable → ℕ → List CountedTable
 recounted tables place c n = set tables place (record { stored = c.stored; rows = n })
 
-module _ (tables : List Counted) (name : List ℕ) (place : ℕ) (c : Counted) (placed : IsPlaced tables name place c) where
+module _ (tables : List CountedTable) (name : List ℕ) (place : ℕ) (c : CountedTable) (placed : IsPlaced tables name place c) where
   pub stored_recounted : (n : ℕ) → stored_of (recounted tables place c n) ≡ stored_of tables
-  stored_recounted n = map-set_same (λ (c : Counted). c.stored) tables place (record { stored = c.stored; rows = n }) c (ap (λ (c : Counted). c.stored) placed.item)
+  stored_recounted n = map-set_same (λ (c : CountedTable). c.stored) tables place (record { stored = c.stored; rows = n }) c (ap (λ (c : CountedTable). c.stored) placed.item)
 
   pub catalog_recounted : (n : ℕ) → catalog_of (recounted tables place c n) ≡ catalog_of tables
-  catalog_recounted n = map-set_same (λ (c : Counted). c.stored.table) tables place (record { stored = c.stored; rows = n }) c (ap (λ (c : Counted). c.stored.table) placed.item)
+  catalog_recounted n = map-set_same (λ (c : CountedTable). c.stored.table) tables place (record { stored = c.stored; rows = n }) c (ap (λ (c : CountedTable). c.stored.table) placed.item)
 
   -- with its own number of rows nothing changes
   pub recounted_itself : recounted tables place c c.rows ≡ tables
   recounted_itself = ap (set tables place) placed.item ∙ set-get_or tables place c
 
 -- no two tables have one name
-abbrev pub AreApart : List Counted → Type 0
-AreApart = IsAscending (λ (a b : Counted). not (bytes_eq a.stored.table.name b.stored.table.name))
+abbrev pub AreApart : List CountedTable → Type 0
+AreApart = IsAscending (λ (a b : CountedTable). not (bytes_eq a.stored.table.name b.stored.table.name))
 
-apart_by : (tables : List Counted) → IsAscending (λ (a b : StoredTable). not (bytes_eq a.table.name b.table.name)) (stored_of tables) → AreApart tables
+apart_by : (tables : List CountedTable) → IsAscending (λ (a b : StoredTable). not (bytes_eq a.table.name b.table.name)) (stored_of tables) → AreApart tables
 apart_by [] h = tt
 apart_by (c ∷ tables) h =
-    (all_unmap (λ (s : StoredTable). IsTrue (not (bytes_eq c.stored.table.name s.table.name))) (λ (c : Counted). c.stored) tables h.0, apart_by tables h.1)
+    (all_unmap (λ (s : StoredTable). IsTrue (not (bytes_eq c.stored.table.name s.table.name))) (λ (c : CountedTable). c.stored) tables h.0, apart_by tables h.1)
 
-pub apart : (tables : List Counted) → AreTables (stored_of tables) → AreApart tables
+pub apart : (tables : List CountedTable) → AreTables (stored_of tables) → AreApart tables
 apart tables are = apart_by tables are.names_apart
 
 other_name : (a b : List ℕ) → IsTrue (not (bytes_eq a b)) → ¬ (a ≡ b)
 other_name a b differ e = both_ways (bytes_eq a b) (not-true (bytes_eq a b) differ) (subst (λ (n : List ℕ). bytes_eq a n ≡ true) e (same_name a))
 
-module _ (rows new : List Row) (c : Counted) (n : ℕ) (others : (name : List ℕ) → ¬ (name ≡ c.stored.table.name) → length (rows_of new name) ≡ length (rows_of rows name))
+module _ (rows new : List Row) (c : CountedTable) (n : ℕ) (others : (name : List ℕ) → ¬ (name ≡ c.stored.table.name) → length (rows_of new name) ≡ length (rows_of rows name))
     (own : n ≡ length (rows_of new c.stored.table.name)) where
-  other_count : (t : Counted) → ¬ (t.stored.table.name ≡ c.stored.table.name) → HasCount rows t → HasCount new t
+  other_count : (t : CountedTable) → ¬ (t.stored.table.name ≡ c.stored.table.name) → HasCount rows t → HasCount new t
   other_count t differ h = h ∙ sym (others t.stored.table.name differ)
 
-  counts_at : (tables : List Counted) (place : ℕ) → place < length tables → c ≡ get_or tables place c → AreApart tables
+  counts_at : (tables : List CountedTable) (place : ℕ) → place < length tables → c ≡ get_or tables place c → AreApart tables
       → AllByRecursion (HasCount rows) tables → AllByRecursion (HasCount new) (recounted tables place c n)
   counts_at [] place within at apart h = absurd (omega arith)
   counts_at (t ∷ ts) zero within at apart h =
       let later = all_both
-      (λ (u : Counted). IsTrue (not (bytes_eq t.stored.table.name u.stored.table.name))) (HasCount rows) (HasCount new)
-      (λ u differ k. other_count u (λ e. other_name t.stored.table.name u.stored.table.name differ (ap (λ (c : Counted). c.stored.table.name) (sym at) ∙ sym e)) k)
+      (λ (u : CountedTable). IsTrue (not (bytes_eq t.stored.table.name u.stored.table.name))) (HasCount rows) (HasCount new)
+      (λ u differ k. other_count u (λ e. other_name t.stored.table.name u.stored.table.name differ (ap (λ (c : CountedTable). c.stored.table.name) (sym at) ∙ sym e)) k)
       ts apart.0 h.1 in
       (own, later)
   counts_at (t ∷ ts) (suc i) within at apart h =
       let has = has_at ts i c (omega arith) at in
-      let differ = all_has (λ (u : Counted). IsTrue (not (bytes_eq t.stored.table.name u.stored.table.name))) ts apart.0 c has in
+      let differ = all_has (λ (u : CountedTable). IsTrue (not (bytes_eq t.stored.table.name u.stored.table.name))) ts apart.0 c has in
       (other_count t (other_name t.stored.table.name c.stored.table.name differ) h.0, counts_at ts i (omega arith) at apart.1 h.1)
 
   -- each table has as many rows as are counted, where those of other names have as many as they had
-  pub counts_after : (tables : List Counted) (name : List ℕ) (place : ℕ) → IsPlaced tables name place c → AreTables (stored_of tables)
+  pub counts_after : (tables : List CountedTable) (name : List ℕ) (place : ℕ) → IsPlaced tables name place c → AreTables (stored_of tables)
       → AllByRecursion (HasCount rows) tables → AllByRecursion (HasCount new) (recounted tables place c n)
   counts_after tables name place placed are = counts_at tables place placed.within placed.item (apart tables are)
 
 -- the same, where each table has as many rows as it had
-pub counts_same : (rows new : List Row) → ((name : List ℕ) → length (rows_of new name) ≡ length (rows_of rows name)) → (tables : List Counted)
+pub counts_same : (rows new : List Row) → ((name : List ℕ) → length (rows_of new name) ≡ length (rows_of rows name)) → (tables : List CountedTable)
     → AllByRecursion (HasCount rows) tables → AllByRecursion (HasCount new) tables
 counts_same rows new same = all_weaker (HasCount rows) (HasCount new) (λ c h. h ∙ sym (same c.stored.table.name))

@@ -15,7 +15,7 @@ use Rattle.escrow_num.proofs.Items.{Has, has_all}
 use Rattle.escrow_num.proofs.Orders.{row_same, same_row_itself}
 use Rattle.escrow_checks.specs.Form.{changed, all_changed}
 use Rattle.escrow_rows.specs.declared.amounts.NewAmounts.{NewAmounts}
-use Rattle.escrow_machine.specs.Rows.{row_named, replaced, row_before, changes_to, row_after, applied}
+use Rattle.escrow_schema.specs.Rows.{row_named, replaced, row_before, changes_to, row_after, applied}
 use Rattle.escrow_rows.specs.Changes.{with_new_amounts, with_amounts, put_all}
 use Rattle.escrow_rows.proofs.Found.{find_permutation, one_row}
 use Rattle.escrow_tables.specs.Puts.{TellsPut, row_put, IsFor}

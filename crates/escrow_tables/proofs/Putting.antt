@@ -13,7 +13,7 @@ use Rattle.escrow_num.proofs.Orders.{row_same}
 use Rattle.escrow_rows.specs.declared.amounts.NewAmounts.{NewAmounts}
 use Rattle.escrow_rows.specs.declared.stored.StoredTable.{StoredTable}
 use Rattle.escrow_rows.specs.Changes.{Stands}
-use Rattle.escrow_machine.specs.Rows.{replaced, row_named}
+use Rattle.escrow_schema.specs.Rows.{replaced, row_named}
 use Rattle.escrow_tables.specs.Calls.{AreGiven}
 use Rattle.escrow_tables.specs.Puts.{ArePuts, TellsPut, changed_by, row_put}
 use Rattle.escrow_tables.proofs.Puts.{for_more, for_itself, for_same}

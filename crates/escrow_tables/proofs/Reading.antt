@@ -9,12 +9,12 @@ use Rattle.escrow_num.specs.declared.value.Value.{Value}
 use Rattle.escrow_rows.specs.Answers.{IsUsable, Looks, Tells}
 use Rattle.escrow_rows.specs.Changes.{name_in}
 use Rattle.escrow_rows.specs.View.{rows_in}
-use Rattle.escrow_verify.specs.declared.counted.Counted.{Counted}
+use Rattle.escrow_verify.specs.declared.counted_table.CountedTable.{CountedTable}
 use Rattle.escrow_tables.specs.Inside.{Keeps, stored_of}
 use Rattle.escrow_tables.proofs.Named.{IsNamed}
 
 -- what the fields keep, they keep over a call that reads
-pub keeps_reading : (old new last : State) (tables : List Counted) → Keeps old last tables → Looks old new → Keeps new last tables
+pub keeps_reading : (old new last : State) (tables : List CountedTable) → Keeps old last tables → Looks old new → Keeps new last tables
 keeps_reading old new last tables keeps looks = record {
   are_tables = keeps.are_tables;
   is_catalog = keeps.is_catalog;
@@ -22,7 +22,7 @@ keeps_reading old new last tables keeps looks = record {
   same = λ usable. looks.same usable ∙ keeps.same (looks.usable usable);
 }
 
-module _ (tables : List Counted) (name : List ℕ) (c : Counted) (named : IsNamed tables name c) where
+module _ (tables : List CountedTable) (name : List ℕ) (c : CountedTable) (named : IsNamed tables name c) where
   -- an answer of the image is one of the rows: the store was open, so it held what was last written
   pub told_of : {X E A : Type 0} (old new last : State) (r : Result X E) (items : X → A) (of : List Row → A) → Keeps old last tables → (IsUsable new → IsUsable old) → HasCleanDisk new
       → IfOk r (λ found. IsTrue new.is_open × Tells c.stored of old.now (items found)) → IfOk r (λ found. items found ≡ of (rows_in (stored_of tables) last.now))

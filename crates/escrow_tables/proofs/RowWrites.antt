@@ -15,7 +15,7 @@ use Rattle.escrow_schema.specs.Catalog.{IsCatalog}
 use Rattle.escrow_schema.specs.declared.table.TableDef.{TableDef}
 use Rattle.escrow_cells.specs.Calls.{Alters}
 use Rattle.escrow_rows.specs.Answers.{IsUsable}
-use Rattle.escrow_machine.specs.Rows.{row_named, with_plain, with_row, without_row, rows_of, HasTable}
+use Rattle.escrow_schema.specs.Rows.{row_named, with_plain, with_row, without_row, rows_of, HasTable}
 use Rattle.escrow_rows.specs.Changes.{TurnsRows}
 use Rattle.escrow_rows.specs.Image.{AreRows, AreTables, IsOfTables, IsImage}
 use Rattle.escrow_rows.specs.View.{rows_in}
@@ -23,20 +23,20 @@ use Rattle.escrow_rows.specs.declared.stored.StoredTable.{StoredTable}
 use Rattle.escrow_schema.specs.declared.table.TheConstants.TableDef.{MAX_ROWS}
 use Rattle.escrow_tables.specs.Calls.{Writes}
 use Rattle.escrow_tables.specs.Inside.{HasCount, IsHeld, Keeps, catalog_of, stored_of}
-use Rattle.escrow_verify.specs.declared.counted.Counted.{Counted}
+use Rattle.escrow_verify.specs.declared.counted_table.CountedTable.{CountedTable}
 use Rattle.escrow_tables.proofs.Named.{stored_has}
 use Rattle.escrow_tables.proofs.NewRows.{are_rows_kept, are_rows_plain, are_rows_with, count_plain, one_less, one_more, others_with, others_without}
 use Rattle.escrow_tables.proofs.Placed.{IsPlaced, catalog_recounted, counts_after, counts_same, recounted, recounted_itself, stored_recounted}
 use Rattle.escrow_tables.proofs.Writing.{keeps_on, seen, writes}
 
 -- what is held of rows after a change of those of a table
-pub record Turned (tables : List Counted) (place : ℕ) (c : Counted) (n : ℕ) (rows : List Row) : Type 0 where
+pub record Turned (tables : List CountedTable) (place : ℕ) (c : CountedTable) (n : ℕ) (rows : List Row) : Type 0 where
   pub are_rows : AreRows (stored_of tables) rows
   pub counts : AllByRecursion (HasCount rows) (recounted tables place c n)
 
 -- The rows of the table at a place change, and it has then n; the field that counts them has this number where
 -- the call is done, and otherwise the one that it had.
-module _ {S : Type 0} (g : Ghosts S) (old new was later : Held S) (tables : List Counted) (name : List ℕ) (place : ℕ) (c : Counted) (placed : IsPlaced tables name place c)
+module _ {S : Type 0} (g : Ghosts S) (old new was later : Held S) (tables : List CountedTable) (name : List ℕ) (place : ℕ) (c : CountedTable) (placed : IsPlaced tables name place c)
     (after : List Row → List Row) (n : ℕ) (keeps : Keeps (state g old) (state g was) tables)
     (turned : HasCleanDisk (state g old) → Turned tables place c n (after (rows_in (stored_of tables) (state g was).now)))
     (is_done : Bool) (it : Alters (state g old) (state g new) is_done (TurnsRows c.stored after)) (count : ℕ)
@@ -76,7 +76,7 @@ module _ {S : Type 0} (g : Ghosts S) (old new was later : Held S) (tables : List
       keeps_on g old new (TurnsRows c.stored after) is_done it was later tables (recounted tables place c n) (recounted tables place c count) (after (rows_in (stored_of tables) (state g was).now)) keeps
       are_after turns fields_done fields_not (subst IsCatalog (sym (catalog_recounted tables name place c placed n)) keeps.is_catalog)
 
-module _ (tables : List Counted) (name : List ℕ) (place : ℕ) (c : Counted) (placed : IsPlaced tables name place c) (are : AreTables (stored_of tables))
+module _ (tables : List CountedTable) (name : List ℕ) (place : ℕ) (c : CountedTable) (placed : IsPlaced tables name place c) (are : AreTables (stored_of tables))
     (rows : List Row) (are_rows : AreRows (stored_of tables) rows) (counts : AllByRecursion (HasCount rows) tables) where
   -- a table has as many rows as are counted
   has_count : c.rows ≡ length (rows_of rows name)
@@ -89,7 +89,7 @@ module _ (tables : List Counted) (name : List ℕ) (place : ℕ) (c : Counted) (
       counts_after rows new c n (λ other differ. others other (λ e. differ (e ∙ sym placed.named.name_is))) (own ∙ ap (λ (n : List ℕ). length (rows_of new n)) (sym placed.named.name_is))
       tables name place placed are counts
 
-pub insert_turns : (tables : List Counted) (place : ℕ) (c : Counted) (row : Row) (n limit : ℕ) → IsPlaced tables row.name.table place c → AreTables (stored_of tables)
+pub insert_turns : (tables : List CountedTable) (place : ℕ) (c : CountedTable) (row : Row) (n limit : ℕ) → IsPlaced tables row.name.table place c → AreTables (stored_of tables)
     → (rows : List Row) → AreRows (stored_of tables) rows → AllByRecursion (HasCount rows) tables → HasTable (catalog_of tables) row → row_named rows row.name ≡ None
     → length (rows_of rows row.name.table) < MAX_ROWS → MAX_ROWS < limit → n ≡ min (c.rows + 1) limit → Turned tables place c n (with_row row rows)
 insert_turns tables place c row n limit placed are rows are_rows counts fits new room large more =
@@ -100,7 +100,7 @@ insert_turns tables place c row n limit placed are rows are_rows counts fits new
       counts = new_counts tables row.name.table place c placed are rows are_rows counts (with_row row rows) n (others_with row rows) (omega arith);
     }
 
-pub delete_turns : (tables : List Counted) (place : ℕ) (c : Counted) (name : RowName) (n : ℕ) → IsPlaced tables name.table place c → AreTables (stored_of tables)
+pub delete_turns : (tables : List CountedTable) (place : ℕ) (c : CountedTable) (name : RowName) (n : ℕ) → IsPlaced tables name.table place c → AreTables (stored_of tables)
     → (rows : List Row) → AreRows (stored_of tables) rows → AllByRecursion (HasCount rows) tables → IsSome (row_named rows name) → n ≡ c.rows - 1
     → Turned tables place c n (without_row name rows)
 delete_turns tables place c name n placed are rows are_rows counts has less =
@@ -112,7 +112,7 @@ delete_turns tables place c name n placed are rows are_rows counts has less =
           (λ other differ. others_without rows name other are_rows.row_order has differ) (omega arith);
     }
 
-pub plain_turns : (tables : List Counted) (place : ℕ) (c : Counted) (name : RowName) (values : List (Option Value)) → IsPlaced tables name.table place c
+pub plain_turns : (tables : List CountedTable) (place : ℕ) (c : CountedTable) (name : RowName) (values : List (Option Value)) → IsPlaced tables name.table place c
     → (rows : List Row) → AreRows (stored_of tables) rows → AllByRecursion (HasCount rows) tables → AllByRecursion (HasTable (catalog_of tables)) (with_plain name values rows)
     → Turned tables place c c.rows (with_plain name values rows)
 plain_turns tables place c name values placed rows are_rows counts fit = record {

@@ -32,8 +32,8 @@ use Rattle.escrow_rows.specs.declared.stored.StoredTable.{StoredTable}
 use Rattle.escrow_rows.proofs.Order.{sorted_permutation}
 use Rattle.escrow_rows.proofs.ViewLemmas.{rows_are}
 use Rattle.escrow_verify.specs.Stored.{IsStoreOf}
-use Rattle.escrow_machine.specs.Rows.{MeetsChecks}
-use Rattle.escrow_verify.specs.declared.counted.Counted.{Counted}
+use Rattle.escrow_schema.specs.Rows.{MeetsChecks}
+use Rattle.escrow_verify.specs.declared.counted_table.CountedTable.{CountedTable}
 use Rattle.escrow_tables.specs.Committed.{Holds}
 use Rattle.escrow_tables.specs.Inside.{HasCount, IsHeld, Keeps, catalog_of, stored_of}
 use Rattle.escrow_tables.proofs.Held.{held_itself}
@@ -98,26 +98,26 @@ stored_once ts us tabs ts_are ts_catalog ts_tabs us_are us_catalog us_tabs =
     let other = sorted_permutation tab_before (before_trans by_tab tab_total) (before_itself by_tab tab_total) (map tab_row us) tabs (tabs_ascend us us_catalog.order) us_tabs in
     told_by_tabs ts us ts_are.defined us_are.defined (sym one ∙ other)
 
-tables_once : (ts us : List Counted) (tabs : List SqlRow) → AreTables (stored_of ts) → IsCatalog (catalog_of ts) → IsPermutation (map tab_row (stored_of ts)) tabs
+tables_once : (ts us : List CountedTable) (tabs : List SqlRow) → AreTables (stored_of ts) → IsCatalog (catalog_of ts) → IsPermutation (map tab_row (stored_of ts)) tabs
     → AreTables (stored_of us) → IsCatalog (catalog_of us) → IsPermutation (map tab_row (stored_of us)) tabs → stored_of ts ≡ stored_of us
 tables_once ts us tabs ts_are ts_catalog ts_tabs us_are us_catalog us_tabs =
     stored_once (stored_of ts) (stored_of us) tabs ts_are (subst IsCatalog (sym (definitions ts)) ts_catalog) ts_tabs us_are (subst IsCatalog (sym (definitions us)) us_catalog) us_tabs
 
 -- the rows of a store that was verified, as they are read, meet their checks
-meet_read : (found : List Counted) (rows : List Row) (db : Database) → IsStoreOf (stored_of found) rows db → AllByRecursion (MeetsChecks (catalog_of found)) (rows_in (stored_of found) db)
+meet_read : (found : List CountedTable) (rows : List Row) (db : Database) → IsStoreOf (stored_of found) rows db → AllByRecursion (MeetsChecks (catalog_of found)) (rows_in (stored_of found) db)
 meet_read found rows db store =
     let read = rows_are (stored_of found) rows db store.are_tables store.are_rows store.image.cells_are in
     subst₂ (λ (catalog : List TableDef) (rs : List Row). AllByRecursion (MeetsChecks catalog) rs) (definitions found) (sym read) store.meet
 
 -- what verifying a store told of the database that it held
-pub record IsVerified (old new : State) (found : List Counted) : Type 0 where
+pub record IsVerified (old new : State) (found : List CountedTable) : Type 0 where
   pub are_tables : AreTables (stored_of found)
   pub is_catalog : IsCatalog (catalog_of found)
   pub store : HasCleanDisk new → IsTrue new.is_open × (rows : List Row) × IsStoreOf (stored_of found) rows old.now × AllByRecursion (HasCount rows) found
   pub looks : Looks old new
 
 -- the tables of a store, and its rows, are kept from then on
-pub keeps_found : (old new : State) (found : List Counted) → IsVerified old new found → Keeps new new found
+pub keeps_found : (old new : State) (found : List CountedTable) → IsVerified old new found → Keeps new new found
 keeps_found old new found is = record {
   are_tables = is.are_tables;
   is_catalog = is.is_catalog;
@@ -130,7 +130,7 @@ keeps_found old new found is = record {
 }
 
 -- and the store holds them, each row of which meets its checks
-pub found_holds : (old new : State) (found : List Counted) → IsVerified old new found → HasCleanDisk new
+pub found_holds : (old new : State) (found : List CountedTable) → IsVerified old new found → HasCleanDisk new
     → IsTrue new.is_open × Holds (catalog_of found) (rows_in (stored_of found) new.now) new.now × AllByRecursion (MeetsChecks (catalog_of found)) (rows_in (stored_of found) new.now)
 found_holds old new found is clean =
     let told = is.store clean in
@@ -142,7 +142,7 @@ found_holds old new found is clean =
     )
 
 -- where it was known which tables a store has, they are found again, and their rows meet their checks
-pub meet_again : (old new last : State) (tables found : List Counted) → Keeps old last tables → IsVerified old new found → HasCleanDisk new
+pub meet_again : (old new last : State) (tables found : List CountedTable) → Keeps old last tables → IsVerified old new found → HasCleanDisk new
     → AllByRecursion (MeetsChecks (catalog_of tables)) (rows_in (stored_of tables) last.now)
 meet_again old new last tables found keeps is clean =
     let told = is.store clean in

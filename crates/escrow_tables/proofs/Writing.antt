@@ -17,20 +17,20 @@ use Rattle.escrow_rows.specs.declared.stored.StoredTable.{StoredTable}
 use Rattle.escrow_tables.specs.Calls.{Writes}
 use Rattle.escrow_tables.specs.Committed.{Committed, Holds}
 use Rattle.escrow_tables.specs.Inside.{IsHeld, Keeps, catalog_of, stored_of}
-use Rattle.escrow_verify.specs.declared.counted.Counted.{Counted}
+use Rattle.escrow_verify.specs.declared.counted_table.CountedTable.{CountedTable}
 use Rattle.escrow_tables.proofs.Held.{held_itself, rows_held}
 
 -- what contracts see of a connection, of how it was when it was last written, and of tables
-abbrev pub seen : {S : Type 0} → Ghosts S → Held S → Held S → List Counted → Committed S
+abbrev pub seen : {S : Type 0} → Ghosts S → Held S → Held S → List CountedTable → Committed S
 seen g store last tables = record { store = store; catalog = catalog_of tables; rows = rows_in (stored_of tables) (state g last).now }
 
 -- the definitions of tables, taken in two steps
-pub definitions : (tables : List Counted) → map (λ (s : StoredTable). s.table) (stored_of tables) ≡ catalog_of tables
+pub definitions : (tables : List CountedTable) → map (λ (s : StoredTable). s.table) (stored_of tables) ≡ catalog_of tables
 definitions [] = refl
 definitions (c ∷ tables) = ap (λ ts. c.stored.table ∷ ts) (definitions tables)
 
 -- a database of which tables and rows are held holds them
-pub holds : (tables : List Counted) (rows : List Row) (db : Database) → AreTables (stored_of tables) → IsHeld tables rows db → Holds (catalog_of tables) rows db
+pub holds : (tables : List CountedTable) (rows : List Row) (db : Database) → AreTables (stored_of tables) → IsHeld tables rows db → Holds (catalog_of tables) rows db
 holds tables rows db are held = record {
   tables = stored_of tables;
   are_tables = are;
@@ -61,7 +61,7 @@ untouched g it catalog rows = record {
 module _ {S : Type 0} (g : Ghosts S) (old new : Held S) (D : Database → Database → Type 0) where
   -- The tables that stand are kept, and how the store was when it was last written; the change makes others of
   -- them, with other rows. The fields have these, and the store as it is then, where the call is done.
-  module _ (is_done : Bool) (it : Alters (state g old) (state g new) is_done D) (was later : Held S) (tables after fields : List Counted) (rows : List Row) (keeps : Keeps (state g old) (state g was) tables)
+  module _ (is_done : Bool) (it : Alters (state g old) (state g new) is_done D) (was later : Held S) (tables after fields : List CountedTable) (rows : List Row) (keeps : Keeps (state g old) (state g was) tables)
       (are_after : AreTables (stored_of after)) (turns : IsUsable (state g old) → (db : Database) → D (state g was).now db → IsHeld after rows db)
       (if_done : is_done ≡ true → (fields ≡ after) × (later ≡ new)) (if_not : is_done ≡ false → (fields ≡ tables) × (later ≡ was)) where
     -- a clean disk was clean before
@@ -77,8 +77,8 @@ module _ {S : Type 0} (g : Ghosts S) (old new : Held S) (D : Database → Databa
     held_done e clean = let made = it.done e clean in turned (it.usable (clean, made.0)) (state g new).now made.1
 
     -- the rows of the fields
-    rows_at : (ts : List Counted) (h : Held S) → (fields ≡ ts) × (later ≡ h) → rows_in (stored_of fields) (state g later).now ≡ rows_in (stored_of ts) (state g h).now
-    rows_at ts h at = ap₂ (λ (us : List Counted) (k : Held S). rows_in (stored_of us) (state g k).now) at.0 at.1
+    rows_at : (ts : List CountedTable) (h : Held S) → (fields ≡ ts) × (later ≡ h) → rows_in (stored_of fields) (state g later).now ≡ rows_in (stored_of ts) (state g h).now
+    rows_at ts h at = ap₂ (λ (us : List CountedTable) (k : Held S). rows_in (stored_of us) (state g k).now) at.0 at.1
 
     -- the call writes these tables and rows
     pub writes : Writes g (seen g old was tables) (seen g new later fields) is_done (catalog_of after) rows
@@ -97,8 +97,8 @@ module _ {S : Type 0} (g : Ghosts S) (old new : Held S) (D : Database → Databa
     pub keeps_on : IsCatalog (catalog_of after) → Keeps (state g new) (state g later) fields
     keeps_on catalog = by is_done refl
       where
-        at : (ts : List Counted) (h : Held S) → (fields ≡ ts) × (later ≡ h) → Keeps (state g new) (state g h) ts → Keeps (state g new) (state g later) fields
-        at ts h is kept = subst₂ (λ (us : List Counted) (k : Held S). Keeps (state g new) (state g k) us) (sym is.0) (sym is.1) kept
+        at : (ts : List CountedTable) (h : Held S) → (fields ≡ ts) × (later ≡ h) → Keeps (state g new) (state g h) ts → Keeps (state g new) (state g later) fields
+        at ts h is kept = subst₂ (λ (us : List CountedTable) (k : Held S). Keeps (state g new) (state g k) us) (sym is.0) (sym is.1) kept
 
         by : (b : Bool) → is_done ≡ b → Keeps (state g new) (state g later) fields
         by true e = at after new (if_done e) (record {

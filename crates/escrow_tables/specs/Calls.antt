@@ -7,7 +7,7 @@ use Rattle.sqlite_trees.specs.Tree.{Trees}
 use Rattle.escrow_num.specs.declared.reservation.Reservation.{Reservation}
 use Rattle.escrow_num.specs.declared.row.Row.{Row}
 use Rattle.escrow_schema.specs.declared.table.TableDef.{TableDef}
-use Rattle.escrow_machine.specs.Rows.{row_named}
+use Rattle.escrow_schema.specs.Rows.{row_named}
 use Rattle.escrow_tables.specs.Committed.{Committed, AreHeld}
 
 -- a call reads: tables and rows stay, and a crash leaves what it might have left before

@@ -8,11 +8,11 @@ use Rattle.escrow_schema.specs.Catalog.{IsCatalog}
 use Rattle.escrow_rows.specs.Answers.{IsUsable}
 use Rattle.escrow_rows.specs.Image.{IsImage, AreTables, AreRows}
 use Rattle.escrow_rows.specs.View.{rows_in}
-use Rattle.escrow_verify.specs.declared.counted.Counted.{Counted}
+use Rattle.escrow_verify.specs.declared.counted_table.CountedTable.{CountedTable}
 pub use Rattle.escrow_verify.specs.Stored.{stored_of, catalog_of, HasCount}
 
 -- a database is the image of the tables, of rows of theirs, and these are counted
-pub record IsHeld (tables : List Counted) (rows : List Row) (db : Database) : Type 0 where
+pub record IsHeld (tables : List CountedTable) (rows : List Row) (db : Database) : Type 0 where
   pub are_rows : AreRows (stored_of tables) rows
   pub image : IsImage (stored_of tables) rows db
   pub counts : AllByRecursion (HasCount rows) tables
@@ -20,7 +20,7 @@ pub record IsHeld (tables : List Counted) (rows : List Row) (db : Database) : Ty
 -- What the fields keep of a store, and of how it was when it was last written: the tables whatever it is
 -- like; their rows, as they then were, while its disk has returned what was written; and where it can be
 -- used, it still holds what it then held.
-pub record Keeps (s last : State) (tables : List Counted) : Type 0 where
+pub record Keeps (s last : State) (tables : List CountedTable) : Type 0 where
   pub are_tables : AreTables (stored_of tables)
   pub is_catalog : IsCatalog (catalog_of tables)
   pub held : HasCleanDisk s → IsHeld tables (rows_in (stored_of tables) last.now) last.now

@@ -6,7 +6,7 @@ use Rattle.sqlite_trees.specs.Tree.{Trees}
 use Rattle.escrow_num.specs.declared.row.Row.{Row}
 use Rattle.escrow_schema.specs.declared.table.TableDef.{TableDef}
 use Rattle.escrow_schema.specs.Catalog.{IsCatalog}
-use Rattle.escrow_machine.specs.Rows.{MeetsChecks}
+use Rattle.escrow_schema.specs.Rows.{MeetsChecks}
 use Rattle.escrow_verify.specs.Stored.{HasHeldValues, HasOtherFormat, IsNoStore}
 use Rattle.escrow_tables.specs.Committed.{AreHeld, Holds}
 

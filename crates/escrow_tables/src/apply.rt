@@ -1,10 +1,10 @@
 ghost use Rattle.std.specs.Prelude.{◌≡◌, ◌+ℤ◌, List, map, length, IfOk, IfSome, OnOk};
 ghost use Rattle.std.specs.List.{AllByRecursion, list_any};
 ghost use Rattle.escrow_num.specs.Order.{same_row};
-ghost use Rattle.escrow_num.specs.Reservation.{counted};
+ghost use Rattle.escrow_num.specs.Reservation.{deltas};
 ghost use Rattle.escrow_num.specs.declared.row.Row.{Row};
 ghost use Rattle.escrow_checks.specs.Form.{changed};
-ghost use Rattle.escrow_machine.specs.Rows.{replaced};
+ghost use Rattle.escrow_schema.specs.Rows.{replaced};
 ghost use Rattle.escrow_rows.specs.Changes.{Stands};
 ghost use Rattle.escrow_tables.specs.Calls.{AreGiven};
 ghost use Rattle.escrow_tables.specs.Inside.{stored_of};
@@ -13,7 +13,7 @@ ghost use Rattle.escrow_tables.specs.Puts.{ArePuts, TellsPut, changed_by, row_pu
 use crate::tables::{Tables, find_counted};
 use escrow_num::{Amount, Changes, Failure, Reservation, RowName, Seq};
 use escrow_rows::NewAmounts;
-use escrow_verify::Counted;
+use escrow_verify::CountedTable;
 use sqlite::Alter;
 use std::alloc::{AllocError, Global};
 use std::snapshot::Snapshot;
@@ -22,7 +22,7 @@ impl<S: Alter> Tables<S> {
     ghost use Rattle.std.specs.Prelude.{is_ok};
     ghost use Rattle.sqlite.specs.Held.{state};
     ghost use Rattle.sqlite.specs.State.{HasCleanDisk};
-    ghost use Rattle.escrow_machine.specs.Rows.{applied};
+    ghost use Rattle.escrow_schema.specs.Rows.{applied};
     ghost use Rattle.escrow_tables.specs.Calls.{Writes};
 
     /// COMMIT: adds the changes of reservations to the amounts of their rows, in one transaction. The amounts
@@ -49,7 +49,7 @@ impl<S: Alter> Tables<S> {
 /// given beside it. A row's first reservation gives it those of all, since none before is of it.
 fn news_by<'a>(
     alloc: Global,
-    tables: &'a [Counted],
+    tables: &'a [CountedTable],
     reservations: &'a [Reservation],
     before: &[&[Amount]],
 ) -> Result<Vec<NewAmounts<'a>>, Failure>
@@ -71,7 +71,7 @@ fn news_by<'a>(
 /// a sum that is no amount, is a store that was changed by others.
 fn new_of<'a>(
     alloc: Global,
-    tables: &'a [Counted],
+    tables: &'a [CountedTable],
     name: &'a RowName,
     before: &[Amount],
     reservations: &[Reservation],
@@ -126,7 +126,7 @@ fn copied(alloc: Global, amounts: &[Amount]) -> Result<Seq<Amount>, AllocError>
 
 /// Adds changes to amounts, column by column. Fails where a sum is no amount.
 fn add_changes(amounts: &mut Seq<Amount>, changes: &[Option<Amount>]) -> Result<(), Failure>
-    ensures { OnOk result (amounts.new ≡ changed amounts.old (counted changes.now)) }
+    ensures { OnOk result (amounts.new ≡ changed amounts.old (deltas changes.now)) }
 {
     for (i, change) in changes.iter().enumerate() {
         if i < amounts.len() {

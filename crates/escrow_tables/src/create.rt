@@ -3,13 +3,13 @@ ghost use Rattle.std.specs.List.{AllByRecursion, list_any};
 ghost use Rattle.std.specs.Vec.{vec_len, vec_capacity};
 ghost use Rattle.std.specs.Ordering.{int_eq, is_lt, nat_cmp};
 ghost use Rattle.std.specs.Cmp.Lexicographic.{slice_cmp};
-ghost use Rattle.escrow_verify.specs.declared.counted.Counted.{Counted as Kept};
+ghost use Rattle.escrow_verify.specs.declared.counted_table.CountedTable.{CountedTable as Kept};
 
 use crate::tables::Tables;
 use escrow_num::{Failure, Name};
 use escrow_rows::StoredTable;
 use escrow_schema::TableDef;
-use escrow_verify::Counted;
+use escrow_verify::CountedTable;
 use sqlite::Alter;
 use std::alloc::Global;
 use std::snapshot::Snapshot;
@@ -19,7 +19,7 @@ impl<S: Alter> Tables<S> {
     ghost use Rattle.escrow_schema.specs.declared.catalog.TheConstants.Catalog.{MAX_TABLES};
     ghost use Rattle.escrow_schema.specs.Catalog.{place_named, table_named, with_table, without_table};
     ghost use Rattle.escrow_schema.specs.Definition.{IsTable};
-    ghost use Rattle.escrow_machine.specs.Rows.{without_rows_of};
+    ghost use Rattle.escrow_schema.specs.Rows.{without_rows_of};
     ghost use Rattle.escrow_tables.specs.Calls.{Writes};
 
     /// CREATE TABLE: puts a new table, without rows. Room for it is taken before the store is asked.
@@ -36,7 +36,7 @@ impl<S: Alter> Tables<S> {
         let place = place_before(&self.tables, table.name);
         let stored = StoredTable { id, table };
         self.store.create_table(alloc, &stored)?;
-        put(&mut self.tables, place, Counted { stored, rows: 0 });
+        put(&mut self.tables, place, CountedTable { stored, rows: 0 });
         self.last = Snapshot::of(&self.store);
         Ok(())
     }
@@ -54,7 +54,7 @@ impl<S: Alter> Tables<S> {
 }
 
 /// Puts a table at a place. There is room for it.
-fn put(tables: &mut Vec<Counted>, place: usize, counted: Counted)
+fn put(tables: &mut Vec<CountedTable>, place: usize, counted: CountedTable)
     requires room { vec_len tables.old < vec_capacity tables.old }
     requires within { place ≤ length tables.old.items }
     ensures { tables.new.items ≡ insert tables.old.items place counted }
@@ -64,21 +64,21 @@ fn put(tables: &mut Vec<Counted>, place: usize, counted: Counted)
 
 /// The least number from 1 on that no table has. One of the first 33 is free, since there are 32 tables at
 /// most.
-fn free_number(tables: &[Counted]) -> Option<i64>
+fn free_number(tables: &[CountedTable]) -> Option<i64>
     ensures { IfSome result (λ id. IsTrue (int_le (pos 1) id) × AllByRecursion (λ (c : Kept). c.stored.id ≢ id) tables.now) }
 {
     (1..=33).find(|id| !has_number(tables, *id))
 }
 
 /// Whether a table has a number.
-fn has_number(tables: &[Counted], id: i64) -> bool
+fn has_number(tables: &[CountedTable], id: i64) -> bool
     ensures { result ≡ list_any (λ (c : Kept). int_eq c.stored.id id) tables.now }
 {
     tables.iter().any(|counted| counted.stored.id == id)
 }
 
 /// The place at which a table of this name stands in order.
-fn place_before(tables: &[Counted], name: Name) -> usize
+fn place_before(tables: &[CountedTable], name: Name) -> usize
     ensures { result ≡ unwrap_or (position (λ (c : Kept). is_lt (slice_cmp nat_cmp name c.stored.table.name)) tables.now) (length tables.now) }
 {
     tables

@@ -8,7 +8,7 @@ ghost use Rattle.escrow_cells.specs.Tables.{no_schema};
 ghost use Rattle.escrow_rows.specs.Answers.{IsUsable, Looks};
 ghost use Rattle.escrow_verify.specs.declared.unverified.Unverified.TheVariants.{Failed, ForeignStore, OtherFormat};
 ghost use Rattle.escrow_verify.specs.Stored.{IsNoStore, HasOtherFormat};
-ghost use Rattle.escrow_machine.specs.Rows.{MeetsChecks};
+ghost use Rattle.escrow_schema.specs.Rows.{MeetsChecks};
 ghost use Rattle.escrow_tables.specs.Committed.{Holds};
 ghost use Rattle.escrow_tables.specs.Found.{IsFounded};
 

@@ -10,7 +10,7 @@ impl<S: Alter> Tables<S> {
     ghost use Rattle.escrow_schema.specs.Catalog.{place_named, table_named};
     ghost use Rattle.escrow_schema.specs.Column.{reservables};
     ghost use Rattle.escrow_schema.specs.Fit.{values_of};
-    ghost use Rattle.escrow_machine.specs.Rows.{row_named, rows_of};
+    ghost use Rattle.escrow_schema.specs.Rows.{row_named, rows_of};
     ghost use Rattle.escrow_tables.specs.Calls.{Reads};
 
     /// The amounts of the committed row of a name, one for each RESERVABLE column in column order, or `None`

@@ -1,10 +1,10 @@
 ghost use Rattle.std.specs.Prelude.{◌≡◌, option_copied, find, bytes_eq, position};
-ghost use Rattle.escrow_verify.specs.declared.counted.Counted.{Counted as Kept};
+ghost use Rattle.escrow_verify.specs.declared.counted_table.CountedTable.{CountedTable as Kept};
 
 use escrow_num::Name;
 use escrow_rows::RowStore;
 use escrow_schema::TableDef;
-use escrow_verify::Counted;
+use escrow_verify::CountedTable;
 use sqlite::{Alter, Connection};
 use std::alloc::Global;
 use std::marker::Model;
@@ -19,7 +19,7 @@ pub struct Tables<S: Alter> {
     // The store as it was when it was last written, for clauses alone: it has no bytes.
     pub(crate) last: Snapshot<RowStore<S>>,
     // In order of name.
-    pub(crate) tables: Vec<Counted>,
+    pub(crate) tables: Vec<CountedTable>,
 }
 
 impl<S: Alter> Model for Tables<S> {
@@ -46,7 +46,7 @@ impl<S: Alter> Tables<S> {
     ghost use Rattle.escrow_schema.specs.Definition.{IsTable};
     ghost use Rattle.escrow_rows.specs.Answers.{IsUsable};
     ghost use Rattle.escrow_rows.specs.Image.{IsImage};
-    ghost use Rattle.escrow_machine.specs.Rows.{rows_of, AreRowsOf};
+    ghost use Rattle.escrow_schema.specs.Rows.{rows_of, AreRowsOf};
     ghost use Rattle.escrow_tables.specs.Committed.{AreHeld};
 
     /// The tables of an empty store: none. Makes no store call, and takes no memory.
@@ -137,7 +137,7 @@ impl<S: Alter> Tables<S> {
 }
 
 /// The table of a name.
-pub(crate) fn find_counted(tables: &[Counted], name: Name) -> Option<&Counted>
+pub(crate) fn find_counted(tables: &[CountedTable], name: Name) -> Option<&CountedTable>
     ensures { option_copied result ≡ find (λ (c : Kept). bytes_eq c.stored.table.name name) tables.now }
 {
     tables
@@ -146,7 +146,7 @@ pub(crate) fn find_counted(tables: &[Counted], name: Name) -> Option<&Counted>
 }
 
 /// The place of the table of a name.
-pub(crate) fn place_named(tables: &[Counted], name: Name) -> Option<usize>
+pub(crate) fn place_named(tables: &[CountedTable], name: Name) -> Option<usize>
     ensures { result ≡ position (λ (c : Kept). bytes_eq c.stored.table.name name) tables.now }
 {
     tables

@@ -14,7 +14,7 @@ impl<S: Alter> Tables<S> {
     ghost use Rattle.escrow_rows.specs.Answers.{IsUsable, Looks};
     ghost use Rattle.escrow_verify.specs.declared.unverified.Unverified.TheVariants.{ForeignStore, OtherFormat};
     ghost use Rattle.escrow_verify.specs.Stored.{IsNoStore, HasOtherFormat};
-    ghost use Rattle.escrow_machine.specs.Rows.{MeetsChecks};
+    ghost use Rattle.escrow_schema.specs.Rows.{MeetsChecks};
     ghost use Rattle.escrow_tables.specs.Calls.{Reads};
     ghost use Rattle.escrow_tables.specs.Committed.{Holds};
 

@@ -11,7 +11,7 @@ impl<S: Alter> Tables<S> {
     ghost use Rattle.sqlite.specs.State.{HasCleanDisk};
     ghost use Rattle.escrow_schema.specs.Catalog.{place_named};
     ghost use Rattle.escrow_schema.specs.declared.table.TheConstants.TableDef.{MAX_ROWS};
-    ghost use Rattle.escrow_machine.specs.Rows.{row_named, with_row, without_row, with_plain, rows_of, HasTable};
+    ghost use Rattle.escrow_schema.specs.Rows.{row_named, with_row, without_row, with_plain, rows_of, HasTable};
     ghost use Rattle.escrow_tables.specs.Calls.{Writes};
 
     /// INSERT: puts a new row of the table at a place among the rows.

@@ -20,7 +20,7 @@ use Rattle.escrow_cells.specs.Store.{cells}
 use Rattle.escrow_rows.specs.declared.stored.StoredTable.{StoredTable}
 use Rattle.escrow_rows.specs.Changes.{Stands}
 use Rattle.escrow_rows.specs.Image.{CanBeHeld, IsOfTables, cells_in, cells_of, tab_row}
-use Rattle.escrow_machine.specs.Rows.{row_before, rows_of, MeetsChecks}
+use Rattle.escrow_schema.specs.Rows.{row_before, rows_of, MeetsChecks}
 use Rattle.escrow_rows.proofs.Cells.{cells_name, filter_pieces, is_in_row, row_in, row_of_stored}
 use Rattle.escrow_rows.proofs.ImageTables.{has_permutation, pieces_same}
 use Rattle.escrow_rows.proofs.KeyedCells.{with_key, cells_keyed}

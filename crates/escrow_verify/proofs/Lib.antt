@@ -1,6 +1,5 @@
 pub mod Back
 pub mod Counting
-pub mod Counts
 pub mod Ends
 pub mod Fronts
 pub mod Metas
@@ -11,6 +10,7 @@ pub mod RowOrder
 pub mod RowsMade
 pub mod Split
 pub mod Tab
+pub mod TableCounts
 pub mod Tabs
 pub mod Together
 pub mod Verified

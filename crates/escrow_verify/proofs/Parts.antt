@@ -25,11 +25,11 @@ use Rattle.escrow_cells.specs.Store.{cells}
 use Rattle.escrow_rows.specs.declared.stored.StoredTable.{StoredTable}
 use Rattle.escrow_schema.specs.declared.table.TheConstants.TableDef.{MAX_ROWS}
 use Rattle.escrow_rows.specs.Image.{AreTables, CanBeHeld, IsOfTables, cells_in, cells_of, stored_named}
-use Rattle.escrow_machine.specs.Rows.{row_before, rows_of, MeetsChecks}
+use Rattle.escrow_schema.specs.Rows.{row_before, rows_of, MeetsChecks}
 use Rattle.escrow_rows.specs.Changes.{Stands}
 use Rattle.escrow_rows.proofs.Cells.{filter_pieces, one_name, row_of_stored}
 use Rattle.escrow_rows.proofs.ImageTables.{pieces_same}
-use Rattle.escrow_verify.specs.declared.counted.Counted.{Counted}
+use Rattle.escrow_verify.specs.declared.counted_table.CountedTable.{CountedTable}
 use Rattle.escrow_verify.specs.Inside.{AreOfTables, AreRowsIn, AreTablesIn, HasRows, IsKnown, IsSoundRow}
 use Rattle.escrow_verify.specs.Stored.{HasCount, HasHeldValues, IsStoreOf, stored_of}
 use Rattle.escrow_verify.proofs.Split.{cells_of_part, cells_split, of_one}
@@ -68,13 +68,13 @@ found_named tables are s has =
 
 -- a table that is counted, and its rows
 record Part : Type 0 where
-  counted : Counted
+  counted : CountedTable
   rows : List Row
 
 abbrev IsPart : Database → Part → Type 0
 IsPart db p = AreRowsIn p.counted.stored p.rows db × (p.counted.rows ≡ length p.rows)
 
-parts_of : (db : Database) (tables : List Counted) → AllByRecursion (HasRows db) tables → (parts : List Part) × (map (λ p. p.counted) parts ≡ tables) × AllByRecursion (IsPart db) parts
+parts_of : (db : Database) (tables : List CountedTable) → AllByRecursion (HasRows db) tables → (parts : List Part) × (map (λ p. p.counted) parts ≡ tables) × AllByRecursion (IsPart db) parts
 parts_of db [] h = ([], refl, tt)
 parts_of db (c ∷ tables) h =
     let more = parts_of db tables h.1 in
@@ -193,12 +193,12 @@ module _ (db : Database) (parts : List Part) (whole : Whole db parts) where
 
   names_apart : IsAscending (λ p q. not (bytes_eq (name_of p) (name_of q))) parts
   names_apart =
-      ascending_from_map _ (λ (p : Part). p.counted) parts (ascending_from_map _ (λ (c : Counted). c.stored) (map (λ (p : Part). p.counted) parts) are_tables.names_apart)
+      ascending_from_map _ (λ (p : Part). p.counted) parts (ascending_from_map _ (λ (c : CountedTable). c.stored) (map (λ (p : Part). p.counted) parts) are_tables.names_apart)
 
   names_rise : IsAscending (λ p q. table_before p.counted.stored.table q.counted.stored.table) parts
   names_rise =
       ascending_from_map _ (λ (p : Part). p.counted) parts
-      (ascending_from_map _ (λ (c : Counted). c.stored) (map (λ (p : Part). p.counted) parts) (ascending_from_map table_before (λ (s : StoredTable). s.table) (all_tables parts) whole.order))
+      (ascending_from_map _ (λ (c : CountedTable). c.stored) (map (λ (p : Part). p.counted) parts) (ascending_from_map table_before (λ (s : StoredTable). s.table) (all_tables parts) whole.order))
 
   -- the table of a row is found by its name
   found : (p : Part) → Has parts p → (row : Row) → row.name.table ≡ name_of p → stored_named (all_tables parts) row.name.table ≡ Some p.counted.stored
@@ -239,7 +239,7 @@ module _ (db : Database) (parts : List Part) (whole : Whole db parts) where
       let by_part : flat_map (cells_of (all_tables parts)) (all_rows parts) ≡ flat_map (λ (p : Part). flat_map (cells_in p.counted.stored) p.rows) parts =
       pieces_of_pieces (cells_of (all_tables parts)) (λ (p : Part). p.rows) parts ∙ pieces_same _ _ parts (has_all _ parts cells_of_rows) in
       let by_table : flat_map (λ (s : StoredTable). filter (is_in (sql.Int s.id)) (cells db)) (all_tables parts) ≡ flat_map (λ (p : Part). filter (is_in (sql.Int p.counted.stored.id)) (cells db)) parts =
-      flat_map-map _ (λ (c : Counted). c.stored) (map (λ (p : Part). p.counted) parts) ∙ flat_map-map _ (λ (p : Part). p.counted) parts in
+      flat_map-map _ (λ (c : CountedTable). c.stored) (map (λ (p : Part). p.counted) parts) ∙ flat_map-map _ (λ (p : Part). p.counted) parts in
       let each : IsPermutation (flat_map (λ (p : Part). flat_map (cells_in p.counted.stored) p.rows) parts) (flat_map (λ (p : Part). filter (is_in (sql.Int p.counted.stored.id)) (cells db)) parts) =
       pieces_permuted _ _ parts (all_weaker (IsPart db) _ (λ p is. cells_of_part (all_tables parts) p.counted.stored p.rows db whole.of_tables is.0) parts whole.parts_are) in
       let split = cells_split (all_tables parts) (cells db) are_tables.ids_apart (of_one (all_tables parts) db whole.of_tables) in
@@ -269,19 +269,19 @@ module _ (db : Database) (parts : List Part) (whole : Whole db parts) where
       (has_all _ parts (λ p has. (all_has (IsPart db) parts whole.parts_are p has).1 ∙ sym (ap length (own_rows db parts whole.parts_are names_apart p has))))
 
 -- tables that are counted, of which each has its rows in a store, are those of the store
-pub counted_store : (db : Database) (tables : List Counted) → IsKnown db → AreTablesIn (stored_of tables) db → IsAscending table_before (map (λ s. s.table) (stored_of tables))
+pub counted_store : (db : Database) (tables : List CountedTable) → IsKnown db → AreTablesIn (stored_of tables) db → IsAscending table_before (map (λ s. s.table) (stored_of tables))
     → AreOfTables (stored_of tables) db → AllByRecursion (HasRows db) tables → (rows : List Row) × IsStoreOf (stored_of tables) rows db × AllByRecursion (HasCount rows) tables
 counted_store db tables known in_store order of have =
     let found = parts_of db tables have in
     let is = found.1 in
     let whole : Whole db found.0 = record {
       known = known;
-      tables_in = subst (λ (cs : List Counted). AreTablesIn (stored_of cs) db) (sym is) in_store;
-      order = subst (λ (cs : List Counted). IsAscending table_before (map (λ s. s.table) (stored_of cs))) (sym is) order;
-      of_tables = subst (λ (cs : List Counted). AreOfTables (stored_of cs) db) (sym is) of;
+      tables_in = subst (λ (cs : List CountedTable). AreTablesIn (stored_of cs) db) (sym is) in_store;
+      order = subst (λ (cs : List CountedTable). IsAscending table_before (map (λ s. s.table) (stored_of cs))) (sym is) order;
+      of_tables = subst (λ (cs : List CountedTable). AreOfTables (stored_of cs) db) (sym is) of;
       parts_are = found.2;
     } in (
       all_rows found.0,
-      subst (λ (cs : List Counted). IsStoreOf (stored_of cs) (all_rows found.0) db) is (is_store_of db found.0 whole),
+      subst (λ (cs : List CountedTable). IsStoreOf (stored_of cs) (all_rows found.0) db) is (is_store_of db found.0 whole),
       subst (AllByRecursion (HasCount (all_rows found.0))) is (have_counts db found.0 whole),
     )

@@ -25,7 +25,7 @@ use Rattle.escrow_cells.specs.Read.{AreOfTable}
 use Rattle.escrow_cells.specs.Store.{cells}
 use Rattle.escrow_rows.specs.declared.stored.StoredTable.{StoredTable}
 use Rattle.escrow_rows.specs.Placed.{keyed, keyed_cells}
-use Rattle.escrow_machine.specs.Rows.{row_before}
+use Rattle.escrow_schema.specs.Rows.{row_before}
 use Rattle.escrow_rows.proofs.KeyedCells.{cell_cmp, cell_cmp_total, rows_rise, stored_cmp}
 use Rattle.escrow_cells.proofs.Rising.{AtMost, ascending_from_sorted}
 use Rattle.escrow_rows.proofs.TableRead.{keys_rise}

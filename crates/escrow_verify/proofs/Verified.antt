@@ -12,9 +12,9 @@ use Rattle.escrow_cells.specs.Store.{HasTables, IsStore}
 use Rattle.escrow_rows.specs.declared.stored.StoredTable.{StoredTable}
 use Rattle.escrow_rows.specs.Answers.{IsUsable, Looks}
 use Rattle.escrow_rows.specs.Image.{AreTables}
-use Rattle.escrow_machine.specs.Rows.{rows_of}
+use Rattle.escrow_schema.specs.Rows.{rows_of}
 use Rattle.escrow_rows.proofs.ImageTables.{has_permutation}
-use Rattle.escrow_verify.specs.declared.counted.Counted.{Counted}
+use Rattle.escrow_verify.specs.declared.counted_table.CountedTable.{CountedTable}
 use Rattle.escrow_verify.specs.declared.unverified.PartFault.{PartFault}
 use Rattle.escrow_verify.specs.declared.unverified.PartFault.TheVariants.{Failed, Foreign}
 use Rattle.escrow_verify.specs.declared.unverified.Unverified.{Unverified}
@@ -80,7 +80,7 @@ module _ (first format tab : State) (tables : List StoredTable) (finds : Finds f
         (has_all (λ (s : StoredTable). (mine : List Row) × AreRowsIn s mine first.now) tables (λ s has. (rows_of rows s.table.name, store_rows others rows first.now s (has_permutation tables others one s has) is))))
 
     -- tables that are counted are those of a store
-    pub verified : (counted : List Counted) (last : State) → Looks cells last → IsCatalog (map (λ s. s.table) tables)
+    pub verified : (counted : List CountedTable) (last : State) → Looks cells last → IsCatalog (map (λ s. s.table) tables)
         → (HasCleanDisk cells → IsTrue cells.is_open × (HasTables tab.now.schema → AreOfTables tables tab.now))
         → stored_of counted ≡ tables
         → (HasCleanDisk last → IsTrue cells.is_open → IsTrue last.is_open × (IsStore cells.now → AllByRecursion (HasRows cells.now) counted))
@@ -102,9 +102,9 @@ module _ (first format tab : State) (tables : List StoredTable) (finds : Finds f
         (found.0, whole.0, whole.1, whole.2)
 
 -- the tables that are counted are tables, and a catalog
-pub verified_tables : (counted : List Counted) (tables : List StoredTable) → AreTables tables × IsCatalog (map (λ s. s.table) tables)
+pub verified_tables : (counted : List CountedTable) (tables : List StoredTable) → AreTables tables × IsCatalog (map (λ s. s.table) tables)
     → stored_of counted ≡ tables → AreTables (stored_of counted) × IsCatalog (catalog_of counted)
 verified_tables counted tables are is = (
   subst AreTables (sym is) are.0,
-  subst IsCatalog (ap (map (λ (s : StoredTable). s.table)) (sym is) ∙ map-map (λ (s : StoredTable). s.table) (λ (c : Counted). c.stored) counted) are.1,
+  subst IsCatalog (ap (map (λ (s : StoredTable). s.table)) (sym is) ∙ map-map (λ (s : StoredTable). s.table) (λ (c : CountedTable). c.stored) counted) are.1,
 )

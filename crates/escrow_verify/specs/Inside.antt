@@ -17,8 +17,8 @@ use Rattle.escrow_rows.specs.declared.stored.StoredTable.{StoredTable}
 use Rattle.escrow_schema.specs.declared.table.TheConstants.TableDef.{MAX_ROWS}
 use Rattle.escrow_rows.specs.Placed.{keyed_cells}
 use Rattle.escrow_rows.specs.Image.{AreTables, CanBeHeld, tab_row}
-use Rattle.escrow_machine.specs.Rows.{row_before}
-use Rattle.escrow_verify.specs.declared.counted.Counted.{Counted}
+use Rattle.escrow_schema.specs.Rows.{row_before}
+use Rattle.escrow_verify.specs.declared.counted_table.CountedTable.{CountedTable}
 use Rattle.escrow_verify.specs.declared.unverified.PartFault.{PartFault}
 use Rattle.escrow_verify.specs.declared.unverified.PartFault.TheVariants as part
 use Rattle.escrow_verify.specs.declared.unverified.Unverified.{Unverified}
@@ -43,7 +43,7 @@ pub record AreRowsIn (s : StoredTable) (rows : List Row) (db : Database) : Type 
   pub cells_are : IsPermutation (flat_map (keyed_cells s.table) rows) (map (λ c. column c 1 ∷ column c 2 ∷ column c 3 ∷ []) (filter (is_in (Int s.id)) (cells db)))
 
 -- a table has as many rows in a store as are counted
-abbrev pub HasRows : Database → Counted → Type 0
+abbrev pub HasRows : Database → CountedTable → Type 0
 HasRows db c = (rows : List Row) × AreRowsIn c.stored rows db × (c.rows ≡ length rows)
 
 -- each table has rows in a store

@@ -13,8 +13,8 @@ use Rattle.escrow_schema.specs.Fit.{values_of}
 use Rattle.escrow_cells.specs.Store.{IsStoreSchema, metas}
 use Rattle.escrow_rows.specs.declared.stored.StoredTable.{StoredTable}
 use Rattle.escrow_rows.specs.Image.{CanBeHeld, IsImage, AreTables, AreRows}
-use Rattle.escrow_machine.specs.Rows.{rows_of, MeetsChecks}
-use Rattle.escrow_verify.specs.declared.counted.Counted.{Counted}
+use Rattle.escrow_schema.specs.Rows.{rows_of, MeetsChecks}
+use Rattle.escrow_verify.specs.declared.counted_table.CountedTable.{CountedTable}
 use Rattle.escrow_verify.specs.declared.unverified.Unverified.{Unverified}
 use Rattle.escrow_verify.specs.declared.unverified.Unverified.TheVariants.{Failed, ForeignStore, OtherFormat}
 
@@ -50,13 +50,13 @@ refused_as ForeignStore = refusal.ForeignStore
 refused_as OtherFormat = refusal.UnknownVersion
 
 -- tables, without their numbers of rows
-abbrev pub stored_of : List Counted → List StoredTable
+abbrev pub stored_of : List CountedTable → List StoredTable
 stored_of tables = map (λ c. c.stored) tables
 
 -- their definitions
-abbrev pub catalog_of : List Counted → List TableDef
+abbrev pub catalog_of : List CountedTable → List TableDef
 catalog_of tables = map (λ c. c.stored.table) tables
 
 -- a table has as many rows as are counted
-abbrev pub HasCount : List Row → Counted → Type 0
+abbrev pub HasCount : List Row → CountedTable → Type 0
 HasCount rows c = c.rows ≡ length (rows_of rows c.stored.table.name)

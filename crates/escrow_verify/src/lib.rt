@@ -5,13 +5,13 @@
 #![tactic(auto)]
 
 mod cells;
-mod counted;
+mod counted_table;
 mod format;
 mod rows;
 mod tables;
 mod unverified;
 mod whole;
 
-pub use counted::Counted;
+pub use counted_table::CountedTable;
 pub use unverified::Unverified;
 pub use whole::verify;

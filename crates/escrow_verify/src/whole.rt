@@ -15,7 +15,7 @@ ghost use Rattle.escrow_verify.specs.declared.unverified.PartFault.TheVariants.{
 ghost use Rattle.escrow_verify.specs.declared.unverified.Unverified.TheVariants as unverified;
 
 use crate::cells::check_cells;
-use crate::counted::Counted;
+use crate::counted_table::CountedTable;
 use crate::format::check_format;
 use crate::rows::count_rows;
 use crate::tables::read_tables;
@@ -32,7 +32,10 @@ use std::alloc::Global;
 /// [`Unverified::OtherFormat`] where its format is another, [`Unverified::ForeignStore`] where it is the store
 /// of no tables and rows otherwise, and [`Unverified::Failed`] for want of memory or where the store refuses
 /// a call.
-pub fn verify<S: Alter>(alloc: Global, store: &mut RowStore<S>) -> Result<Vec<Counted>, Unverified>
+pub fn verify<S: Alter>(
+    alloc: Global,
+    store: &mut RowStore<S>,
+) -> Result<Vec<CountedTable>, Unverified>
     ensures tables { IfOk result (λ tables. AreTables (stored_of tables.items) × IsCatalog (catalog_of tables.items)) }
     ensures store { HasCleanDisk (state S.Store store.new) → IfOk result (λ tables. IsTrue (state S.Store store.new).is_open × (rows : List Row) × IsStoreOf (stored_of tables.items) rows (state S.Store store.old).now × AllByRecursion (HasCount rows) tables.items) }
     ensures foreign { IsUsable (state S.Store store.new) → result ≡ Err unverified.ForeignStore → IsNoStore (state S.Store store.old).now }
@@ -51,7 +54,7 @@ fn count_all<S: Alter>(
     alloc: Global,
     store: &mut RowStore<S>,
     tables: Vec<StoredTable>,
-) -> Result<Vec<Counted>, PartFault>
+) -> Result<Vec<CountedTable>, PartFault>
     requires { AllByRecursion (λ s. IsTable s.table) tables.items }
     ensures tables { IfOk result (λ counted. stored_of counted.items ≡ tables.items) }
     ensures found { HasCleanDisk (state S.Store store.new) → IsTrue (state S.Store store.old).is_open → IfOk result (λ counted. IsTrue (state S.Store store.new).is_open × (IsStore (state S.Store store.old).now → AllByRecursion (HasRows (state S.Store store.old).now) counted.items)) }
@@ -61,7 +64,7 @@ fn count_all<S: Alter>(
     let mut counted = Vec::with_capacity(alloc, tables.len())?;
     for stored in tables {
         let rows = count_rows(alloc, store, &stored)?;
-        counted.push(Counted { stored, rows })?;
+        counted.push(CountedTable { stored, rows })?;
     }
     Ok(counted)
 }

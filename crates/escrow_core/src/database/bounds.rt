@@ -1,5 +1,5 @@
-use crate::bounds::{free_bounds, row_bounds};
 use crate::database::Database;
+use crate::shown_bounds::{free_bounds, row_bounds};
 use escrow_machine::Reply;
 use escrow_num::{Refusal, RowName};
 use escrow_schema::{check_key, value_of};

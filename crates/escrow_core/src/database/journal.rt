@@ -1,5 +1,5 @@
 use crate::database::Database;
-use crate::journal::journal_entries;
+use crate::shown_journal::journal_entries;
 use escrow_machine::Reply;
 use escrow_num::{Name, Refusal};
 use escrow_sql::Statement;

@@ -15,7 +15,7 @@ impl<S: Alter> Database<S> {
     ghost use Rattle.escrow_schema.specs.Column.{reservables};
     ghost use Rattle.escrow_schema.specs.Fit.{values_of};
     ghost use Rattle.escrow_core.specs.Serving.{Looks};
-    ghost use Rattle.escrow_machine.specs.Rows.{row_named, rows_of, row_before};
+    ghost use Rattle.escrow_schema.specs.Rows.{row_named, rows_of, row_before};
 
     /// The amounts of the committed row of a name, one for each RESERVABLE column in column order, if there is
     /// such a row; all rows are in order. The place is that of its table. The store is asked unless it is

@@ -18,7 +18,7 @@ one c =
     elim c.if-is_same.branch [
       | then-is_same w ↦
           w.amounts-is ∙ w.move_all.ensures
-          ∙ ap (λ (changes : List ℤ). all_moved mid changes) (shown_is w.counted-changes.result w.len.result w.as_slice.result.now r.changes w.len.ensures w.as_slice.ensures w.counted-changes.ensures)
+          ∙ ap (λ (changes : List ℤ). all_moved mid changes) (shown_is w.deltas-changes.result w.len.result w.as_slice.result.now r.changes w.len.ensures w.as_slice.ensures w.deltas-changes.ensures)
           ∙ own_moved row mid r (sym w.if-is_same.true ∙ c.is_same.ensures.test)
       | else-is_same w ↦ w.amounts-is ∙ other_stays row mid r (sym w.if-is_same.false ∙ c.is_same.ensures.test)
     ]

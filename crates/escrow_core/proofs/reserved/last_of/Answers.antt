@@ -1,5 +1,5 @@
 use Rattle.std.proofs.Common.{◌∙◌}
-use Rattle.escrow_core.proofs.Counted.{last_is}
+use Rattle.escrow_core.proofs.Counting.{last_is}
 use Rattle.escrow_core.proofs.reserved.last_of.Goals as goal
 
 pub returns : goal.returns

@@ -1,5 +1,5 @@
 use Rattle.escrow_journal.specs.Open.{cut_back}
-use Rattle.escrow_core.proofs.Counted.{later_first, later_short}
+use Rattle.escrow_core.proofs.Counting.{later_first, later_short}
 use Rattle.escrow_core.proofs.reserved.release_after.Goals as goal
 
 pub remove_all-requires-clause-counted : goal.remove_all-requires-clause-counted

@@ -1,5 +1,5 @@
 use Rattle.std.proofs.Common.{◌≡◌, ◌<◌, ◌≤◌, ◌+ℤ◌, pos, unwrap_or, take, length, set, ap, sym, ◌∙◌, arith}
-use Rattle.escrow_num.specs.Reservation.{counted}
+use Rattle.escrow_num.specs.Reservation.{deltas}
 use Rattle.escrow_checks.proofs.FormLemmas.{length-changed}
 use Rattle.escrow_tables.proofs.Changed.{changed_nil, counted_more, counted_past}
 use Rattle.escrow_tables.proofs.apply.add_changes.Goals as goal
@@ -13,7 +13,7 @@ loop-i-preserved c =
     let first = c.args.amounts.now in
     let changes = c.args.changes.now in
     let i = c.loop-i.i in
-    let long : length c.loop-i.amounts ≡ length first = ap length c.loop-i.invariant ∙ length-changed first (counted (take i changes)) in
+    let long : length c.loop-i.amounts ≡ length first = ap length c.loop-i.invariant ∙ length-changed first (deltas (take i changes)) in
     elim c.if-i-len.branch [
       | then-i-len+in-Some w ↦
           let below : i < length first = omega (arith, c.len.ensures, w.if-i-len.true) in

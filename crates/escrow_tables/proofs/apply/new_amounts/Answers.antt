@@ -1,6 +1,6 @@
 use Rattle.std.proofs.Common.{◌≡◌, ℤ, List, map, length, ap, sym, ◌∙◌}
 use Rattle.std.proofs.lemmas.List.{take_all}
-use Rattle.escrow_num.specs.Reservation.{counted, changes_at}
+use Rattle.escrow_num.specs.Reservation.{deltas, changes_at}
 use Rattle.escrow_checks.specs.Form.{changed}
 use Rattle.escrow_checks.proofs.FormLemmas.{length-all_changed}
 use Rattle.escrow_tables.specs.Puts.{changed_by}
@@ -17,7 +17,7 @@ loop-r-preserved c =
       | then-is_same+in_ok-add_changes w ↦
           let own = changes_own name r (sym c.is_same.ensures.test ∙ w.if-is_same.true) in
           rw (w.after-is, w.in_ok-add_changes.ensures, w.as_slice.ensures)
-          (ap (λ (amounts : List ℤ). changed amounts (counted r.changes)) c.loop-r.invariant ∙ sym (rw own at more))
+          (ap (λ (amounts : List ℤ). changed amounts (deltas r.changes)) c.loop-r.invariant ∙ sym (rw own at more))
       | else-is_same w ↦
           let other = changes_other name r (sym c.is_same.ensures.test ∙ w.if-is_same.false) in
           rw w.after-is (c.loop-r.invariant ∙ sym (rw other at more ∙ changed_nil _))

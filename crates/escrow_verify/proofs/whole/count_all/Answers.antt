@@ -3,9 +3,9 @@ use Rattle.std.specs.Vec.Iter.{into_iter_items}
 use Rattle.std.proofs.lemmas.List.{map_push}
 use Rattle.sqlite.specs.Held.{state}
 use Rattle.escrow_rows.proofs.Looking.{looks_then}
-use Rattle.escrow_verify.specs.declared.counted.Counted.{Counted}
+use Rattle.escrow_verify.specs.declared.counted_table.CountedTable.{CountedTable}
 use Rattle.escrow_verify.specs.Stored.{stored_of}
-use Rattle.escrow_verify.proofs.Counts.{counts_more, none_have}
+use Rattle.escrow_verify.proofs.TableCounts.{counts_more, none_have}
 use Rattle.escrow_verify.proofs.Tab.{passed_on}
 use Rattle.escrow_verify.proofs.whole.count_all.Goals as goal
 
@@ -22,7 +22,7 @@ pub loop-stored-preserved : goal.loop-stored-preserved
 loop-stored-preserved g c =
     let at = c.loop-stored in
     let s = c.in-Some.stored in
-    let counted : Counted = record { stored = s; rows = c.in_ok-rows.rows } in
+    let counted : CountedTable = record { stored = s; rows = c.in_ok-rows.rows } in
     let steps : into_iter_items at.stored-iterator ≡ s ∷ into_iter_items c.next.new.self = c.in-Some.ensures.steps.0 in
     let added : c.push.new.self.items ≡ at.counted.items ++ counted ∷ [] = c.in_ok-push.ensures.items in
     record {
@@ -32,7 +32,7 @@ loop-stored-preserved g c =
           let gone = c.in-Some.ensures.steps.1 in
           let short = ap length steps in
           omega arith;
-      so_far = ap stored_of added ∙ map_push (λ (k : Counted). k.stored) at.counted.items counted ∙ ap (λ xs. xs ++ s ∷ []) at.invariant.so_far;
+      so_far = ap stored_of added ∙ map_push (λ (k : CountedTable). k.stored) at.counted.items counted ∙ ap (λ xs. xs ++ s ∷ []) at.invariant.so_far;
       looks = looks_then _ _ _ at.invariant.looks c.count_rows.ensures.looks;
       counts = rw added (counts_more (state g.S.Store c.args.store.now) (state g.S.Store at.store) (state g.S.Store c.count_rows.new.store) at.counted.items counted
           at.invariant.looks c.count_rows.ensures.looks at.invariant.counts c.in_ok-rows.ensures.found);

@@ -3,7 +3,7 @@ use Rattle.std.specs.Vec.Iter.{into_iter_items, into_iter_len}
 use Rattle.sqlite.specs.Held.{state}
 use Rattle.escrow_rows.specs.Answers.{Looks}
 use Rattle.escrow_verify.specs.Stored.{stored_of}
-use Rattle.escrow_verify.proofs.Counts.{Counts}
+use Rattle.escrow_verify.proofs.TableCounts.{HaveTheirRows}
 use Rattle.escrow_verify.proofs.whole.count_all.Given as goal
 
 abbrev pub invariant-loop-stored : goal.invariant-loop-stored
@@ -12,5 +12,5 @@ invariant-loop-stored g l = record {
   long : into_iter_len l.stored-iterator ≡ length (into_iter_items l.stored-iterator);
   so_far : stored_of l.counted.items ≡ l.yielded;
   looks : Looks (state g.S.Store l.initial.store) (state g.S.Store l.store);
-  counts : Counts (state g.S.Store l.initial.store) (state g.S.Store l.store) l.counted.items;
+  counts : HaveTheirRows (state g.S.Store l.initial.store) (state g.S.Store l.store) l.counted.items;
 }

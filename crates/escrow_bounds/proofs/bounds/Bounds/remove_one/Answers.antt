@@ -6,12 +6,12 @@ use Rattle.escrow_bounds.proofs.bounds.Bounds.remove_one.Goals as goal
 
 pub remove-requires : goal.remove-requires
 remove-requires c =
-    let is = shown_is c.counted-amounts.result c.len.result c.as_slice.result.now c.args.r.now.changes c.len.ensures c.as_slice.ensures c.counted-amounts.ensures in
-    counted_first c.args.self.now c.args.r.now c.requires.counted.0 (take c.len.result c.counted-amounts.result) is c.requires.counted.1
+    let is = shown_is c.deltas-amounts.result c.len.result c.as_slice.result.now c.args.r.now.changes c.len.ensures c.as_slice.ensures c.deltas-amounts.ensures in
+    counted_first c.args.self.now c.args.r.now c.requires.counted.0 (take c.len.result c.deltas-amounts.result) is c.requires.counted.1
 
 gone : (c : goal.After-release) → IsRemoved c.args.end c.args.r.now c.args.self.now c.remove.new.self c.release.new.self
 gone c =
-    let is = shown_is c.counted-amounts.result c.len.result c.as_slice.result.now c.args.r.now.changes c.len.ensures c.as_slice.ensures c.counted-amounts.ensures in
+    let is = shown_is c.deltas-amounts.result c.len.result c.as_slice.result.now c.args.r.now.changes c.len.ensures c.as_slice.ensures c.deltas-amounts.ensures in
     record {
       gives = subst (λ (changes : List ℤ). Becomes (GivesBack c.args.end changes) (place_at c.args.self.now c.args.r.now.row) (place_at c.remove.new.self c.args.r.now.row)) is c.remove.ensures.gives;
       removed = c.remove.ensures.others;

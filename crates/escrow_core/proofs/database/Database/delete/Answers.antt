@@ -5,7 +5,7 @@ use Rattle.escrow_num.specs.declared.refusal.Refusal.TheVariants as refusal
 use Rattle.escrow_sql.specs.declared.statement.Statement.TheVariants as statement
 use Rattle.escrow_machine.specs.declared.reply.Reply.TheVariants as reply
 use Rattle.escrow_machine.specs.Asked.{named_by, row_name}
-use Rattle.escrow_machine.specs.Rows.{row_named, without_row}
+use Rattle.escrow_schema.specs.Rows.{row_named, without_row}
 use Rattle.escrow_machine.specs.State.{State}
 use Rattle.escrow_machine.proofs.Refusals.{none_there}
 use Rattle.escrow_core.specs.Inside.{seen_of}

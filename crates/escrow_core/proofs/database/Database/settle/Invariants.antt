@@ -3,7 +3,7 @@ use Rattle.std.specs.Prelude.{IsTrue}
 use Rattle.sqlite.specs.Held.{state}
 use Rattle.sqlite.specs.State.{HasCleanDisk, Survives}
 use Rattle.escrow_machine.specs.Settle.{after_ends}
-use Rattle.escrow_machine.proofs.Settling.{Counts}
+use Rattle.escrow_machine.proofs.Settling.{CountsSoFar}
 use Rattle.escrow_core.specs.Serves.{AreAfterEnds}
 use Rattle.escrow_core.proofs.database.Database.settle.Given as goal
 
@@ -12,5 +12,5 @@ invariant-loop-place g l = record {
   ended : HasCleanDisk (state g.S.Store l.self.store) → l.self.state ≡ after_ends l.initial.self.state (take l.place l.plan);
   stays : HasCleanDisk (state g.S.Store l.self.store) → IsTrue (state g.S.Store l.initial.self.store).is_open → IsTrue (state g.S.Store l.self.store).is_open;
   crash : Survives (state g.S.Store l.initial.self.store) (state g.S.Store l.self.store) (λ trees. IsTrue (state g.S.Store l.initial.self.store).is_open → AreAfterEnds l.plan l.initial.self.state trees);
-  counts : Counts l.plan l.initial.self.state.reservations (drop l.place l.plan) l.self.state.reservations l.settled;
+  counts : CountsSoFar l.plan l.initial.self.state.reservations (drop l.place l.plan) l.self.state.reservations l.settled;
 }

@@ -6,7 +6,7 @@ use Rattle.escrow_num.proofs.Items.{all_at}
 use Rattle.escrow_bounds.specs.Places.{place_at}
 use Rattle.escrow_journal.specs.Reservations.{own}
 use Rattle.escrow_core.specs.Reserved.{AreAmounts}
-use Rattle.escrow_core.proofs.Counted.{amounts_more, own_placed, short_own}
+use Rattle.escrow_core.proofs.Counting.{amounts_more, own_placed, short_own}
 use Rattle.escrow_core.proofs.reserved.Reserved.amounts_of.Goals as goal
 
 pub loop-r-init : goal.loop-r-init

@@ -1,4 +1,4 @@
-use Rattle.escrow_core.proofs.Counted.{all_count, all_placed, short_cut}
+use Rattle.escrow_core.proofs.Counting.{all_count, all_placed, short_cut}
 use Rattle.escrow_journal.specs.Open.{cut_back}
 use Rattle.escrow_core.proofs.reserved.Reserved.cut.Goals as goal
 

@@ -1,5 +1,5 @@
 use Rattle.escrow_journal.specs.Reservations.{others}
-use Rattle.escrow_core.proofs.Counted.{all_count, all_placed, own_first, short_others, short_own}
+use Rattle.escrow_core.proofs.Counting.{all_count, all_placed, own_first, short_others, short_own}
 use Rattle.escrow_core.proofs.reserved.Reserved.end.Goals as goal
 
 pub remove_all-requires-clause-counted : goal.remove_all-requires-clause-counted

@@ -1,13 +1,13 @@
 use Rattle.std.specs.Prelude.{◌≡◌, None, length}
 use Rattle.std.proofs.Common.{sym, ap, subst, arith, rules, ◌∙◌}
-use Rattle.escrow_num.specs.Reservation.{counted}
+use Rattle.escrow_num.specs.Reservation.{deltas}
 use Rattle.escrow_bounds.specs.Counts.{TakesIn}
 use Rattle.escrow_bounds.specs.Held.{CountsJust, of_row}
 use Rattle.escrow_bounds.specs.Places.{Becomes, OthersStay, place_at}
 use Rattle.escrow_bounds.proofs.LawLemmas.{release_counts}
 use Rattle.escrow_journal.specs.Open.{grant_refusal}
 use Rattle.escrow_core.specs.Reserved.{Reserved}
-use Rattle.escrow_core.proofs.Counted.{few_counted, free_of, granted_counts, released_is}
+use Rattle.escrow_core.proofs.Counting.{few_counted, free_of, granted_counts, released_is}
 use Rattle.escrow_core.proofs.Places.{from_some}
 use Rattle.escrow_core.proofs.reserved.Reserved.grant.Goals as goal
 
@@ -41,7 +41,7 @@ add-requires-clause-room c = λ place at.
 pub invariant_of-self-in-Some-last_of : goal.invariant_of-self-in-Some-last_of
 invariant_of-self-in-Some-last_of c =
     let there = rw (← c.self.view_is) at c.requires.placed in
-    let takes : Becomes (TakesIn (counted c.args.changes)) (place_at c.self.inside.bounds c.args.row) (place_at c.add.new.self c.args.row) = search rules in
+    let takes : Becomes (TakesIn (deltas c.args.changes)) (place_at c.self.inside.bounds c.args.row) (place_at c.add.new.self c.args.row) = search rules in
     let others : OthersStay c.args.row c.self.inside.bounds c.add.new.self = search rules in
     rw c.in-Ok.ensures.granted
     (granted_counts c.args.session c.args.row c.args.changes c.self.inside.txns c.self.inside.bounds c.add.new.self c.self.invariant.counts c.self.invariant.short c.requires.short there takes others)

@@ -1,6 +1,6 @@
 use Rattle.std.proofs.Common.{◌∙◌}
 use Rattle.escrow_bounds.proofs.Counting.{table_placed_is}
-use Rattle.escrow_core.proofs.Counted.{all_count}
+use Rattle.escrow_core.proofs.Counting.{all_count}
 use Rattle.escrow_core.proofs.reserved.Reserved.is_table_reserved.Goals as goal
 
 pub returns : goal.returns

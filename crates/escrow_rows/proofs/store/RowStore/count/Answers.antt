@@ -1,6 +1,6 @@
 use Rattle.std.proofs.Common.{rules, w64}
 use Rattle.std.proofs.lemmas.Int.{to_z-of_z}
-use Rattle.escrow_rows.proofs.Counts.{count_told_of}
+use Rattle.escrow_rows.proofs.RowCounts.{count_told_of}
 use Rattle.escrow_rows.proofs.store.RowStore.count.Goals as goal
 
 pub returns-clause-told : goal.returns-clause-told

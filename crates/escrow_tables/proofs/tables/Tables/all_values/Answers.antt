@@ -4,7 +4,7 @@ use Rattle.escrow_num.specs.declared.row.Row.{Row}
 use Rattle.escrow_num.specs.declared.value.Value.{Value}
 use Rattle.escrow_schema.specs.declared.table.TableDef.{TableDef}
 use Rattle.escrow_schema.specs.Fit.{values_of}
-use Rattle.escrow_machine.specs.Rows.{rows_of}
+use Rattle.escrow_schema.specs.Rows.{rows_of}
 use Rattle.escrow_rows.specs.View.{rows_in}
 use Rattle.escrow_tables.specs.Inside.{stored_of}
 use Rattle.escrow_tables.proofs.AtPlace.{by_table, named_at, rows_told}

@@ -2,7 +2,7 @@ use Rattle.std.proofs.Common.{◌≡◌, Bool, true, false, ap, is_ok, refl, sub
 use Rattle.std.proofs.lemmas.Bool.{false≢true}
 use Rattle.std.proofs.lemmas.Result.{err_from_is_err_and}
 use Rattle.sqlite.specs.Held.{Held, state}
-use Rattle.escrow_machine.specs.Rows.{applied}
+use Rattle.escrow_schema.specs.Rows.{applied}
 use Rattle.escrow_cells.specs.Calls.{Alters}
 use Rattle.escrow_rows.specs.Changes.{PutsAmounts}
 use Rattle.escrow_rows.specs.View.{rows_in}

@@ -1,6 +1,6 @@
 use Rattle.std.proofs.Common.{◌<◌, arith, ◌∙◌, ap, length}
 use Rattle.escrow_num.proofs.Items.{all_has}
-use Rattle.escrow_machine.specs.Rows.{rows_of}
+use Rattle.escrow_schema.specs.Rows.{rows_of}
 use Rattle.escrow_rows.specs.View.{rows_in}
 use Rattle.sqlite.specs.Held.{state}
 use Rattle.escrow_tables.specs.Inside.{HasCount, catalog_of, stored_of}

@@ -8,7 +8,7 @@ use Rattle.escrow_schema.specs.Catalog.{with_table}
 use Rattle.escrow_cells.specs.Calls.{Alters}
 use Rattle.escrow_rows.specs.Changes.{Creates}
 use Rattle.escrow_rows.specs.View.{rows_in}
-use Rattle.escrow_verify.specs.declared.counted.Counted.{Counted}
+use Rattle.escrow_verify.specs.declared.counted_table.CountedTable.{CountedTable}
 use Rattle.escrow_tables.specs.Calls.{Writes}
 use Rattle.escrow_tables.specs.Committed.{Committed}
 use Rattle.escrow_tables.specs.Inside.{Keeps, catalog_of, stored_of}
@@ -19,7 +19,7 @@ use Rattle.escrow_tables.proofs.tables.Tables.create.Goals as goal
 use Rattle.escrow_tables.proofs.tables.Tables.create.Goals.{After-create_table}
 
 -- the new table, without rows
-abbrev empty : ℤ → TableDef → Counted
+abbrev empty : ℤ → TableDef → CountedTable
 empty id table = record { stored = record { id = to_z w64 (of_z w64 id); table = table }; rows = 0 }
 
 is_new : (g : given.Over) (c : After-create_table g) → IsNew c.self.inside.tables.items (empty c.in-Some.id c.args.table).stored
@@ -30,7 +30,7 @@ is_new g c =
     c.reserve.ensures.items c.deref.ensures.value catalog number c.in-Some.ensures c.requires.table c.requires.new c.requires.room
 
 -- the call writes, and the fields keep what they hold
-written : (g : given.Over) (c : After-create_table g) (is_done : Bool) (fields : List Counted) (later : Held g.row.S.Denot) → is_ok c.create_table.result ≡ is_done
+written : (g : given.Over) (c : After-create_table g) (is_done : Bool) (fields : List CountedTable) (later : Held g.row.S.Denot) → is_ok c.create_table.result ≡ is_done
     → (is_done ≡ true → (fields ≡ with_counted (empty c.in-Some.id c.args.table) c.self.inside.tables.items) × (later ≡ c.create_table.new.self)) → (is_done ≡ false → (fields ≡ c.self.inside.tables.items) × (later ≡ c.self.inside.last.value))
     → Writes g.S.Store (seen g.S.Store c.self.inside.store c.self.inside.last.value c.self.inside.tables.items) (seen g.S.Store c.create_table.new.self later fields) is_done
     (with_table c.args.table (catalog_of c.self.inside.tables.items)) (rows_in (stored_of c.self.inside.tables.items) (state g.S.Store c.self.inside.last.value).now)

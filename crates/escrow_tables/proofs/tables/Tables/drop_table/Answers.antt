@@ -5,9 +5,9 @@ use Rattle.sqlite.specs.Held.{Held, state}
 use Rattle.escrow_schema.specs.Catalog.{place_named, without_table}
 use Rattle.escrow_cells.specs.Calls.{Alters}
 use Rattle.escrow_rows.specs.Changes.{Drops}
-use Rattle.escrow_machine.specs.Rows.{without_rows_of}
+use Rattle.escrow_schema.specs.Rows.{without_rows_of}
 use Rattle.escrow_rows.specs.View.{rows_in}
-use Rattle.escrow_verify.specs.declared.counted.Counted.{Counted}
+use Rattle.escrow_verify.specs.declared.counted_table.CountedTable.{CountedTable}
 use Rattle.escrow_tables.specs.Calls.{Writes}
 use Rattle.escrow_tables.specs.Inside.{Keeps, catalog_of, stored_of}
 use Rattle.escrow_tables.proofs.Dropped.{drop_keeps, drop_writes, taken_at, without_counted}
@@ -18,7 +18,7 @@ use Rattle.escrow_tables.proofs.tables.Tables.drop_table.Goals as goal
 use Rattle.escrow_tables.proofs.tables.Tables.drop_table.Goals.{After-drop_table, After-remove}
 
 -- the call writes, and the fields keep what they hold
-written : (g : given.Over) (c : After-drop_table g) (name : List ℕ) → place_named (catalog_of c.self.inside.tables.items) name ≡ Some c.args.place → (is_done : Bool) (fields : List Counted) (later : Held g.row.S.Denot) → is_ok c.drop_table.result ≡ is_done
+written : (g : given.Over) (c : After-drop_table g) (name : List ℕ) → place_named (catalog_of c.self.inside.tables.items) name ≡ Some c.args.place → (is_done : Bool) (fields : List CountedTable) (later : Held g.row.S.Denot) → is_ok c.drop_table.result ≡ is_done
     → (is_done ≡ true → (fields ≡ without_counted name c.self.inside.tables.items) × (later ≡ c.drop_table.new.self)) → (is_done ≡ false → (fields ≡ c.self.inside.tables.items) × (later ≡ c.self.inside.last.value))
     → Writes g.S.Store (seen g.S.Store c.self.inside.store c.self.inside.last.value c.self.inside.tables.items) (seen g.S.Store c.drop_table.new.self later fields) is_done
     (without_table name (catalog_of c.self.inside.tables.items)) (without_rows_of name (rows_in (stored_of c.self.inside.tables.items) (state g.S.Store c.self.inside.last.value).now))

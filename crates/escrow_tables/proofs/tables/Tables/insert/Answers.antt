@@ -4,7 +4,7 @@ use Rattle.std.proofs.lemmas.Result.{err_from_is_err_and}
 use Rattle.sqlite.specs.Held.{Held, state}
 use Rattle.sqlite.specs.State.{HasCleanDisk}
 use Rattle.std.specs.Prelude.{is_ok}
-use Rattle.escrow_machine.specs.Rows.{row_named, with_row, rows_of, HasTable}
+use Rattle.escrow_schema.specs.Rows.{row_named, with_row, rows_of, HasTable}
 use Rattle.escrow_cells.specs.Calls.{Alters}
 use Rattle.escrow_rows.specs.Changes.{Inserts}
 use Rattle.escrow_rows.specs.View.{rows_in}

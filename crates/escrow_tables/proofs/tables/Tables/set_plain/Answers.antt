@@ -8,9 +8,9 @@ use Rattle.sqlite.specs.State.{HasCleanDisk}
 use Rattle.escrow_num.specs.declared.value.RowName.{RowName}
 use Rattle.escrow_cells.specs.Calls.{Alters}
 use Rattle.escrow_rows.specs.Changes.{TurnsRows}
-use Rattle.escrow_machine.specs.Rows.{with_plain, HasTable}
+use Rattle.escrow_schema.specs.Rows.{with_plain, HasTable}
 use Rattle.escrow_rows.specs.View.{rows_in}
-use Rattle.escrow_verify.specs.declared.counted.Counted.{Counted}
+use Rattle.escrow_verify.specs.declared.counted_table.CountedTable.{CountedTable}
 use Rattle.escrow_schema.specs.Catalog.{place_named}
 use Rattle.escrow_tables.specs.Calls.{Writes}
 use Rattle.escrow_tables.specs.Inside.{Keeps, catalog_of, stored_of}
@@ -56,10 +56,10 @@ written g c is_done later ok if_done if_not =
     let rows = with_plain name values (rows_in (stored_of tables) (state g.S.Store was).now) in
     let it = subst₂ (λ b (n : RowName). Alters (state g.S.Store old) (state g.S.Store new) b (TurnsRows counted.stored (with_plain n values))) ok (name_of tables name.table counted at.named name.key) c.set_plain.ensures in
     let stays = recounted_itself tables name.table c.args.place counted at in (
-      subst (λ (ts : List Counted). Writes g.S.Store (seen g.S.Store old was tables) (seen g.S.Store new later ts) is_done (catalog_of tables) rows) stays
+      subst (λ (ts : List CountedTable). Writes g.S.Store (seen g.S.Store old was tables) (seen g.S.Store new later ts) is_done (catalog_of tables) rows) stays
           (row_writes g.S.Store old new was later tables name.table c.args.place counted at (with_plain name values) counted.rows c.self.invariant (turned g c)
           is_done it counted.rows (λ e. (refl, if_done e)) (λ e. (refl, if_not e))),
-      subst (λ (ts : List Counted). Keeps (state g.S.Store new) (state g.S.Store later) ts) stays
+      subst (λ (ts : List CountedTable). Keeps (state g.S.Store new) (state g.S.Store later) ts) stays
           (row_keeps g.S.Store old new was later tables name.table c.args.place counted at (with_plain name values) counted.rows c.self.invariant (turned g c)
           is_done it counted.rows (λ e. (refl, if_done e)) (λ e. (refl, if_not e))),
     )

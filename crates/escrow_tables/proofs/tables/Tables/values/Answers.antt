@@ -3,7 +3,7 @@ use Rattle.sqlite.specs.Held.{state}
 use Rattle.escrow_num.specs.declared.value.Value.{Value}
 use Rattle.escrow_schema.specs.declared.table.TableDef.{TableDef}
 use Rattle.escrow_schema.specs.Fit.{values_of}
-use Rattle.escrow_machine.specs.Rows.{row_named}
+use Rattle.escrow_schema.specs.Rows.{row_named}
 use Rattle.escrow_rows.specs.View.{rows_in}
 use Rattle.escrow_tables.specs.Inside.{stored_of}
 use Rattle.escrow_tables.proofs.AtPlace.{by_table, named_at, row_told}

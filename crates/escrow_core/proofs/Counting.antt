@@ -9,7 +9,7 @@ use Rattle.escrow_num.specs.declared.reservation.Reservation.{Reservation}
 use Rattle.escrow_num.specs.declared.reservation.Savepoint.{Savepoint}
 use Rattle.escrow_num.specs.declared.value.RowName.{RowName}
 use Rattle.escrow_num.specs.Order.{same_row}
-use Rattle.escrow_num.specs.Reservation.{counted}
+use Rattle.escrow_num.specs.Reservation.{deltas}
 use Rattle.escrow_num.specs.declared.refusal.Refusal.TheVariants as refusal
 use Rattle.escrow_num.proofs.Items.{Has, all_filter, has_all, has_filter}
 use Rattle.escrow_num.proofs.Orders.{same_row_itself}
@@ -83,7 +83,7 @@ last_is session reservations earlier r is same =
 -- a place counts no more than there are open reservations
 length-of_row : (row : RowName) (reservations : List Reservation) → length (of_row row reservations) ≤ length reservations
 length-of_row row [] = omega arith
-length-of_row row (r ∷ reservations) = one (same_row row r.row) (counted r.changes) (of_row row reservations) reservations (length-of_row row reservations)
+length-of_row row (r ∷ reservations) = one (same_row row r.row) (deltas r.changes) (of_row row reservations) reservations (length-of_row row reservations)
   where
     one : (b : Bool) (changes : List ℤ) (rest : List (List ℤ)) (others : List Reservation) → length rest ≤ length others → length (cond b (changes ∷ rest) rest) ≤ suc (length others)
     one true changes rest others few = omega arith
@@ -103,11 +103,11 @@ released_is reservations row old new counts empty counting = record {
 -- nothing in the table of transactions refuses what nothing refuses
 pub free_of : (session : ℕ) (place : Kept) (row : RowName) (changes : List (Option ℤ)) (o : Open) → reason_against session place row changes o ≡ None → grant_refusal session o ≡ None
 free_of session place row changes o none =
-    (passed (grant_refusal session o) (option_map refusal.Check (broken (checks_of place.checks) place.amounts (counted changes) (of_row row o.reservations)) ∷ []) none).first
+    (passed (grant_refusal session o) (option_map refusal.Check (broken (checks_of place.checks) place.amounts (deltas changes) (of_row row o.reservations)) ∷ []) none).first
 
 -- one more is counted, the last
 pub granted_counts : (session : ℕ) (row : RowName) (changes : List (Option ℤ)) (o : Open) (old new : Places) → CountsAll old o.reservations → AllByRecursion IsShort o.reservations → length changes ≤ MAX_LEN
-    → IsSome (place_at old row) → Becomes (TakesIn (counted changes)) (place_at old row) (place_at new row) → OthersStay row old new
+    → IsSome (place_at old row) → Becomes (TakesIn (deltas changes)) (place_at old row) (place_at new row) → OthersStay row old new
     → AreCounted (record { txns = granted session row changes o; places = new })
 granted_counts session row changes o old new counts short few there becomes others =
     let r : Reservation = record { id = o.next_id; session = session; row = row; changes = changes } in

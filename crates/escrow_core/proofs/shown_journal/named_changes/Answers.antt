@@ -1,6 +1,6 @@
 use Rattle.std.proofs.Common.{◌≡◌, ◌⊎◌, inl, inr, length, sym, ◌∙◌, append-nil}
 use Rattle.escrow_core.proofs.Journals.{named_end}
-use Rattle.escrow_core.proofs.journal.named_changes.Goals as goal
+use Rattle.escrow_core.proofs.shown_journal.named_changes.Goals as goal
 
 pub returns : goal.returns
 returns c =

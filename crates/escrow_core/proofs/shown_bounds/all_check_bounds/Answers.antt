@@ -3,7 +3,7 @@ use Rattle.std.proofs.lemmas.List.{map_more}
 use Rattle.escrow_machine.specs.declared.reply.CheckBounds.{CheckBounds}
 use Rattle.escrow_machine.specs.Bounds.{check_bounds}
 use Rattle.escrow_core.proofs.Shown.{form_at, many_forms}
-use Rattle.escrow_core.proofs.bounds.all_check_bounds.Goals as goal
+use Rattle.escrow_core.proofs.shown_bounds.all_check_bounds.Goals as goal
 
 pub worst-requires-clause-check : goal.worst-requires-clause-check
 worst-requires-clause-check c = λ place at. many_forms place.checks c.args.checks.now c.loop-i.i (c.requires.checks place at) c.loop-i-test.true

@@ -2,7 +2,7 @@ use escrow_rows::StoredTable;
 
 /// A table that stands in a store, and how many rows it has.
 #[derive(Debug, Drop)]
-pub struct Counted {
+pub struct CountedTable {
     /// The table, with its number in the store.
     pub stored: StoredTable,
     /// How many rows it has.

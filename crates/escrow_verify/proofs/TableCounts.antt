@@ -8,7 +8,7 @@ use Rattle.escrow_num.specs.declared.row.Row.{Row}
 use Rattle.escrow_cells.specs.Store.{IsStore}
 use Rattle.escrow_rows.specs.declared.stored.StoredTable.{StoredTable}
 use Rattle.escrow_rows.specs.Answers.{IsUsable, Looks}
-use Rattle.escrow_verify.specs.declared.counted.Counted.{Counted}
+use Rattle.escrow_verify.specs.declared.counted_table.CountedTable.{CountedTable}
 use Rattle.escrow_verify.specs.Inside.{AreRowsIn, HasRows, HaveRows}
 
 -- what holds of all items holds of one among them
@@ -24,16 +24,16 @@ nothing_left [] h = refl
 nothing_left (x ∷ xs) h = absurd (omega arith)
 
 -- where the store can be used, the tables that are counted have their rows
-abbrev pub Counts : State → State → List Counted → Type 0
-Counts first now counted = HasCleanDisk now → IsTrue first.is_open → IsTrue now.is_open × (IsStore first.now → AllByRecursion (HasRows first.now) counted)
+abbrev pub HaveTheirRows : State → State → List CountedTable → Type 0
+HaveTheirRows first now counted = HasCleanDisk now → IsTrue first.is_open → IsTrue now.is_open × (IsStore first.now → AllByRecursion (HasRows first.now) counted)
 
 -- no table is counted
-pub counts_none : (s : State) → Counts s s []
+pub counts_none : (s : State) → HaveTheirRows s s []
 counts_none s clean was = (was, λ store. tt)
 
 -- one more table
-pub counts_more : (first mid new : State) (counted : List Counted) (c : Counted) → Looks first mid → Looks mid new → Counts first mid counted
-    → (HasCleanDisk new → IsTrue new.is_open × (IsStore mid.now → HasRows mid.now c)) → Counts first new (counted ++ c ∷ [])
+pub counts_more : (first mid new : State) (counted : List CountedTable) (c : CountedTable) → Looks first mid → Looks mid new → HaveTheirRows first mid counted
+    → (HasCleanDisk new → IsTrue new.is_open × (IsStore mid.now → HasRows mid.now c)) → HaveTheirRows first new (counted ++ c ∷ [])
 counts_more first mid new counted c one two so_far more clean was =
     let now = more clean in
     let usable = two.usable (clean, now.0) in

@@ -23,7 +23,7 @@ use Rattle.escrow_cells.specs.Store.{IsStore, cells}
 use Rattle.escrow_rows.specs.declared.stored.StoredTable.{StoredTable}
 use Rattle.escrow_rows.specs.Answers.{TellsCount}
 use Rattle.escrow_rows.specs.Image.{stored, cells_from, cells_of, AreTables, AreRows, IsOfTables}
-use Rattle.escrow_machine.specs.Rows.{rows_of}
+use Rattle.escrow_schema.specs.Rows.{rows_of}
 use Rattle.escrow_rows.specs.Changes.{Stands}
 use Rattle.escrow_rows.proofs.Cells.{filter_pieces, is_in_row, row_in, stands_has}
 use Rattle.escrow_rows.proofs.Found.{filter_twice}

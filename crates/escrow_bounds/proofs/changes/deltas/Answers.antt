@@ -1,7 +1,7 @@
 use Rattle.std.proofs.Common.{◌<◌, pos, unwrap_or, length, ◌∙◌, arith}
 use Rattle.std.proofs.lemmas.List.{length-set, take_more_set}
 use Rattle.escrow_bounds.proofs.Moving.{counted_push}
-use Rattle.escrow_bounds.proofs.changes.counted.Goals as goal
+use Rattle.escrow_bounds.proofs.changes.deltas.Goals as goal
 
 pub loop-i-preserved : goal.loop-i-preserved
 loop-i-preserved c =

@@ -10,7 +10,7 @@ use Rattle.escrow_machine.specs.Bounds.{check_bounds, column_bounds}
 use Rattle.escrow_machine.proofs.BoundsLemmas.{columns_same, split, shown_checks, shown_columns}
 use Rattle.std.specs.Prelude.{option_map}
 use Rattle.escrow_core.proofs.Places.{some_same}
-use Rattle.escrow_core.proofs.bounds.row_bounds.Goals as goal
+use Rattle.escrow_core.proofs.shown_bounds.row_bounds.Goals as goal
 
 pub returns : goal.returns
 returns c = λ place reservations at counts.

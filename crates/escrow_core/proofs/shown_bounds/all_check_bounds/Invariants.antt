@@ -3,7 +3,7 @@ use Rattle.escrow_bounds.specs.Counts.{Counts}
 use Rattle.escrow_bounds.specs.Kept.{Kept}
 use Rattle.escrow_bounds.specs.Places.{place_at}
 use Rattle.escrow_machine.specs.Bounds.{check_bounds}
-use Rattle.escrow_core.proofs.bounds.all_check_bounds.Given as goal
+use Rattle.escrow_core.proofs.shown_bounds.all_check_bounds.Given as goal
 
 abbrev pub invariant-loop-i : goal.invariant-loop-i
 invariant-loop-i l = record {

@@ -2,7 +2,7 @@ use Rattle.std.proofs.Common.{◌≡◌, ◌<◌, ◌≤◌, sym, ◌∙◌, ap,
 use Rattle.std.specs.Prelude.{map}
 use Rattle.std.proofs.lemmas.List.{length-map, get_or-map, take_all}
 use Rattle.escrow_core.proofs.Journals.{entries_more}
-use Rattle.escrow_core.proofs.journal.journal_entries.Goals as goal
+use Rattle.escrow_core.proofs.shown_journal.journal_entries.Goals as goal
 
 pub loop-r-preserved : goal.loop-r-preserved
 loop-r-preserved g c =
