@@ -1,3 +1,4 @@
+pub mod Clean
 pub mod Cuts
 pub mod Edits
 pub mod Emptiness

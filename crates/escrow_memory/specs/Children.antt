@@ -1,4 +1,4 @@
--- The rows of a branch, by its children.
+-- Believed: the rows of a branch, by its children.
 use Rattle.std.specs.Prelude.{◌≡◌, ◌<◌, List, length, flat_map, All}
 use Rattle.sqlite_value.specs.Order.{Row}
 use Rattle.escrow_memory.specs.declared.child.Child.{Child}

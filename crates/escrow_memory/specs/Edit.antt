@@ -1,4 +1,4 @@
--- A write to a tree.
+-- Believed: a write to a tree.
 use Rattle.std.specs.Prelude.{◌≡◌, ℕ, List, Option, None, Some, IsTrue, ⊤}
 use Rattle.std.specs.Borrow.{Bor}
 use Rattle.sqlite_value.specs.Order.{Row}

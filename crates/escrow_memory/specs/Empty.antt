@@ -1,4 +1,4 @@
--- A database of SQLite without objects.
+-- Believed: a database of SQLite without objects.
 use Rattle.std.specs.Prelude.{[]}
 use Rattle.sqlite_schema.specs.declared.schema.Schema.{Schema}
 

@@ -1,4 +1,4 @@
--- What a list of trees shows: for each its heading and its rows.
+-- Believed: what a list of trees shows: for each its heading and its rows.
 use Rattle.std.specs.Prelude.{◌≡◌, ℕ, ◌<◌, List, [], map, length, slice_set, slice_index_or}
 use Rattle.sqlite_value.specs.Order.{Row}
 use Rattle.sqlite_trees.specs.declared.store.Shape.{Shape}

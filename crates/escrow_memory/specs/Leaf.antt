@@ -1,4 +1,4 @@
--- The rows of a leaf.
+-- Believed: the rows of a leaf.
 use Rattle.std.specs.Prelude.{List, map}
 use Rattle.sqlite_value.specs.Order.{Row}
 use Rattle.escrow_memory.specs.declared.leaf.Leaf.{Leaf}

@@ -2,6 +2,7 @@ pub mod Children
 pub mod Edit
 pub mod Empty
 pub mod Held
+pub mod Kept
 pub mod Laws
 pub mod Leaf
 pub mod Probe

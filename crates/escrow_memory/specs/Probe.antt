@@ -1,4 +1,4 @@
--- Tests that the entries of a tree pass up to a place, and fail from there on.
+-- Helps: tests that the entries of a tree pass up to a place, and fail from there on.
 use Rattle.std.specs.Prelude.{Bool, not}
 use Rattle.std.specs.Ordering.{is_lt, is_gt}
 use Rattle.sqlite_value.specs.Value.{owned}

@@ -1,4 +1,4 @@
--- The rows of a node, and an edit of them.
+-- Believed: the rows of a node, and an edit of them.
 use Rattle.std.specs.Prelude.{ℕ, ◌+◌, Bool, IsTrue, List, [], ◌++◌, ◌∷◌, take, drop, Option, None, Some}
 use Rattle.std.specs.Borrow.{Bor}
 use Rattle.sqlite_value.specs.Order.{Row}

@@ -1,4 +1,4 @@
--- Where an entry lies in the bytes of its leaf.
+-- Believed: where an entry lies in the bytes of its leaf.
 use Rattle.std.specs.Prelude.{ℕ, ◌≤◌, List, slice_range}
 use Rattle.sqlite_value.specs.Order.{Row}
 use Rattle.sqlite_record.specs.Record.{decode}

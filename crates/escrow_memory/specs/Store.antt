@@ -1,4 +1,4 @@
--- What a store in memory shows.
+-- Believed: what a store in memory shows.
 use Rattle.std.specs.Prelude.{◌≡◌, ℕ, true, false, if◌then◌else◌, ◌==◌, List, [], ◌∷◌, map, take, drop, reverse, slice_index_or, Option, Some, None, option_map, unwrap_or}
 use Rattle.sqlite_value.specs.Order.{Row}
 use Rattle.sqlite_trees.specs.declared.store.Direction.{Direction}

@@ -1,4 +1,4 @@
--- What a tree, and a list of trees that share their nodes, shows.
+-- Believed: what a tree, and a list of trees that share their nodes, shows.
 use Rattle.std.specs.Prelude.{List, map}
 use Rattle.sqlite_trees.specs.Listing.{Heading}
 use Rattle.escrow_memory.specs.declared.tree.Tree.{Tree}

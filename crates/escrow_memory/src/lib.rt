@@ -20,6 +20,7 @@ mod cursor;
 mod database;
 mod entries;
 mod forest;
+pub mod laws;
 mod leaf;
 mod node;
 mod probe;

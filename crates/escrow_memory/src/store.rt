@@ -20,7 +20,7 @@ use std::rc::Rc;
 
 /// Numbered trees of rows in memory, and numbered cursors over them, with one transaction that is always open, as the kit's traits
 /// [`Store`] and [`Alter`] ask. Its one error of its own is `OutOfMemory`, wherever memory is refused: a write that meets it leaves
-/// a transaction that can only be rolled back, and the last commit as it was. Commit, rollback and release take no memory. It keeps
+/// a transaction that can only be rolled back, whole or to a savepoint, and the last commit as it was. Commit, rollback and release take no memory. It keeps
 /// nothing on a disk: a crash leaves the last commit, for as long as the program runs.
 #[derive(Drop)]
 pub struct BlockStore {
@@ -182,7 +182,8 @@ impl BlockStore {
         Ok(())
     }
 
-    /// Makes a write in the tree with this number. An error but `Unstorable` leaves a transaction that can only be rolled back.
+    /// Makes a write in the tree with this number. An error but `Unstorable` leaves a transaction that can only be rolled back, whole
+    /// or to a savepoint.
     fn write(&mut self, tree: u32, edit: Edit<'_>) -> Result<(), StoreError>
         requires { Fits edit ((block_view self.old).shape tree) }
         ensures ok { OnOk result (SetsTree (block_view self.old) (block_view self.new) tree (edited edit.entry)) }
@@ -203,7 +204,8 @@ impl BlockStore {
         Ok(())
     }
 
-    /// Puts a tree in the place of the one with this number. An error leaves a transaction that can only be rolled back.
+    /// Puts a tree in the place of the one with this number. An error leaves a transaction that can only be rolled back, whole or to a
+    /// savepoint.
     fn replace(&mut self, tree: u32, new: Tree) -> Result<(), StoreError>
         ensures ok { OnOk result (IsReplaced self.old self.new tree (held new)) }
         ensures err { IfErr result (IsFailure (block_view self.old) (block_view self.new)) }
@@ -241,7 +243,7 @@ impl BlockStore {
 
 impl Store for BlockStore {
     ghost use Rattle.escrow_memory.specs.Store.{block_view};
-    ghost use Rattle.escrow_memory.specs.Laws.{blocks_are_ordered, blocks_are_unaltered};
+    ghost use Rattle.escrow_memory.specs.Kept.{blocks_are_ordered, blocks_are_unaltered};
 
     ghost view = { block_view };
 
@@ -399,7 +401,7 @@ impl Store for BlockStore {
 }
 
 impl Alter for BlockStore {
-    ghost use Rattle.escrow_memory.specs.Laws.{blocks_are_listed};
+    ghost use Rattle.escrow_memory.specs.Kept.{blocks_are_listed};
 
     ghost listed = { λ s _. blocks_are_listed s };
 

@@ -1,10 +1,10 @@
 -- Databases whose disks have returned what was written.
-use Rattle.std.proofs.Common.{◌≡◌, ℕ, zero, suc, ◌<◌, List, [], ◌∷◌, length, Some, true, refl, arith, subst}
+use Rattle.std.proofs.Common.{◌≡◌, ℕ, zero, suc, ◌<◌, List, [], ◌∷◌, length, Some, arith, subst}
 use Rattle.std.specs.Prelude.{slice_get, slice_set}
 use Rattle.std.specs.List.{AllByRecursion}
-use Rattle.sqlite_trees.proofs.Doubt.{no_doubt}
 use Rattle.escrow_memory.specs.declared.store.BlockStore.{BlockStore}
 use Rattle.escrow_memory.specs.Store.{over_blocks}
+use Rattle.escrow_memory.proofs.Clean.{memory_is_clean}
 use Rattle.escrow_core.specs.Seen.{Seen}
 use Rattle.escrow_server.specs.Output.{HaveCleanDisks}
 
@@ -20,7 +20,7 @@ all_before P [] place old x found held all = all
 all_before P (y ∷ xs) zero old x found held all = let same : old ≡ y = cc in (subst P same held, all.1)
 all_before P (y ∷ xs) (suc place) old x found held all = (all.0, all_before P xs place old x found held all.1)
 
--- memory always returns what was written
+-- databases in memory have clean disks
 pub memory_are_clean : (databases : List (Seen BlockStore)) → HaveCleanDisks over_blocks databases
 memory_are_clean [] = tt
-memory_are_clean (database ∷ databases) = (no_doubt true refl, memory_are_clean databases)
+memory_are_clean (database ∷ databases) = (memory_is_clean database.store, memory_are_clean databases)
