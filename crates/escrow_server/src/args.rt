@@ -161,7 +161,8 @@ Exit status: 0 when all was served and written, 1 when the script can't be read,
 a reply can't be written or memory is short, 2 for wrong arguments, 3 when a
 store can't be opened, in which case nothing was read.
 
-escrowd 1.0, proved with rattle-kit-13f logic dac8208d650f15bf";
+escrowd 0.9. Later versions add statements, answer those of this one as it
+does, and read the stores that it wrote.";
 
 /// The arguments that the values ask, or what is wrong with a value.
 fn asked(alloc: Global, matches: &ArgMatches<'_>) -> Result<Args, ArgFault>
