@@ -4,8 +4,8 @@ ghost use Rattle.escrow_checks.specs.Contribution.{IsProduct, IsContribution};
 
 use crate::coefficients::Coefficients;
 use crate::spread::Spread;
-use escrow_num::{Amount, Breach, Name, Seq, Span, Wide};
-use std::alloc::AllocError;
+use escrow_num::{Amount, Breach, Copied, Name, Seq, Span, Wide, are_same};
+use std::alloc::{AllocError, Global};
 
 /// A check of a table: the sum of coefficient times amount, over the RESERVABLE columns of a row,
 /// has to be within the span.
@@ -90,6 +90,18 @@ impl Check {
             worst,
             limit,
         })
+    }
+}
+
+impl Copied for Check {
+    fn copy(&self, _: Global) -> Result<Check, AllocError> {
+        Ok(*self)
+    }
+
+    fn is_same(&self, other: &Check) -> bool {
+        self.name == other.name
+            && are_same(self.coeffs.as_slice(), other.coeffs.as_slice())
+            && self.span == other.span
     }
 }
 

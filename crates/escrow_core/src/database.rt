@@ -3,6 +3,7 @@ mod create;
 mod delete;
 mod drop;
 mod finish;
+mod image;
 mod insert;
 mod journal;
 mod look;
@@ -62,7 +63,7 @@ impl<S: Alter> Database<S> {
     ghost use Rattle.escrow_core.specs.Seen.{IsKept};
     ghost use Rattle.escrow_core.specs.Serves.{AreAfter, AreHeldOf, Serves};
     ghost use Rattle.escrow_core.specs.Serving.{answer_of};
-    ghost use Rattle.escrow_machine.specs.State.{is_open, opened};
+    ghost use Rattle.escrow_machine.specs.State.{has_open, is_open, opened};
     ghost use Rattle.escrow_machine.specs.Step.{IsStep, StepOrRefusal};
     ghost use Rattle.escrow_machine.specs.Valid.{IsValid};
     ghost use Rattle.escrow_schema.specs.Rows.{MeetsChecks};
@@ -116,6 +117,13 @@ impl<S: Alter> Database<S> {
         ensures { result ≡ is_open session self.now.state }
     {
         self.reserved.txns().is_open(session)
+    }
+
+    /// Whether something is open: a reservation or a savepoint of any session.
+    pub fn has_open(&self) -> bool
+        ensures { result ≡ has_open self.now.state }
+    {
+        self.reserved.txns().has_open()
     }
 
     /// Limits the steps that a statement of the store may take; with `None` there is no limit, as at

@@ -27,6 +27,10 @@ nothing_open = record { reservations = []; savepoints = []; next_id = 1 }
 abbrev pub is_open : ℕ → Open → Bool
 is_open session o = nat_lt 0 (length (own session o.reservations)) || nat_lt 0 (length (own_savepoints session o.savepoints))
 
+-- something is open: a reservation or a savepoint of any session
+abbrev pub has_open : Open → Bool
+has_open o = nat_lt 0 (length o.reservations) || nat_lt 0 (length o.savepoints)
+
 -- the next id, where one is left
 abbrev pub id_left : ℕ → Option ℕ
 id_left next_id = if nat_le next_id MAX_ID then Some next_id else None

@@ -13,6 +13,7 @@ pub mod LawsDecide
 pub mod LawsEnds
 pub mod LawsGrants
 pub mod LawsIds
+pub mod LawsMemory
 pub mod LawsRows
 pub mod LawsSavepoints
 pub mod LawsShown

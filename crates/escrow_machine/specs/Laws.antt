@@ -44,7 +44,7 @@ use Rattle.escrow_machine.specs.declared.reply.ColumnBounds.{ColumnBounds}
 use Rattle.escrow_machine.specs.declared.reply.Reply.{Reply}
 use Rattle.escrow_machine.specs.declared.reply.Reply.TheVariants as reply
 use Rattle.escrow_machine.specs.Event.{HasSession}
-use Rattle.escrow_machine.specs.Reply.{failure_of, is_refused}
+use Rattle.escrow_machine.specs.Reply.{failure_of, holds_memory, is_refused}
 use Rattle.escrow_journal.specs.Reservations.{own, others, own_savepoints}
 use Rattle.escrow_journal.specs.Savepoints.{savepoint_of, without_savepoint}
 use Rattle.escrow_machine.specs.Journal.{entry_of}
@@ -266,6 +266,11 @@ Shows _ = ⊥
 abbrev pub QueriesIgnoreWhoAsks : Type 0
 QueriesIgnoreWhoAsks = (s : State) (session other : ℕ) (asked : Statement) → Shows asked
     → ((step s session asked).1 ≡ s) × ((step s other asked).0 ≡ (step s session asked).0)
+
+-- a step whose reply holds memory, as the lists and the text of what is shown do, leaves the state equal
+abbrev pub ShownStays : Type 0
+ShownStays = (s : State) (session : ℕ) (asked : Statement) (answer : Reply) (new : State)
+    → StepOrRefusal s session asked answer new → IsTrue (holds_memory answer) → new ≡ s
 
 -- a reservation is of a row of a table, if one is named
 abbrev pub IsOfTable : Option (List ℕ) → Reservation → Type 0

@@ -41,6 +41,10 @@ with_open s o = record s { reservations = o.reservations; savepoints = o.savepoi
 abbrev pub is_open : ℕ → State → Bool
 is_open session s = journal.is_open session (open_in s)
 
+-- something is open in a state: a reservation or a savepoint of any session
+abbrev pub has_open : State → Bool
+has_open s = journal.has_open (open_in s)
+
 -- an open reservation, of any session, is of the row
 abbrev pub is_reserved : State → RowName → Bool
 is_reserved s name = list_any (λ r. same_row r.row name) s.reservations

@@ -1,7 +1,7 @@
 //! Laws of the machine: facts about its definitions, each the contract of a function that does
 //! nothing. They say of its steps what O'Neil's escrow method (1986) promises of transactions.
 
-ghost use Rattle.escrow_machine.specs.Laws.{StepKeepsValid, RunKeepsValid, CommittedRowsMeetChecks, CommittedValuesFit, EveryRunIsSafe, RefusedChangesNothing, MachineNeverFails, EarlyRefusalsStand, CommitIsNeverRefused, RollbackIsNeverRefused, QueriesSeeCommitsAlone, ReservedTakesTheNextId, IdsNeverFall, IdsAreUsedOnce, IdsTellTheOrder, TransactionsCommute, AnyOrderOfEnds, SettledIsTheRun, SettledStaysValid, SettledInAnyOrder, DropsOneTable, DeletesOneRow, PlainUpdatesKeepAmounts, ReservationsKeepRows, SelectsShowRows, ShowsTheTable, QueriesIgnoreWhatIsOpen, QueriesIgnoreWhoAsks, ShowsTheJournal, BoundsAreReached, SavepointsStandAsMade, BackDropsWhatCameAfter, BackAtOnceChangesNothing, BackLeavesWhatWas, BackRefusesNothing, GrantedInEveryChoice, OwnIncrementNotSpent, RefusedByAChoice, BoundsDecideGrants};
+ghost use Rattle.escrow_machine.specs.Laws.{StepKeepsValid, RunKeepsValid, CommittedRowsMeetChecks, CommittedValuesFit, EveryRunIsSafe, RefusedChangesNothing, MachineNeverFails, EarlyRefusalsStand, CommitIsNeverRefused, RollbackIsNeverRefused, QueriesSeeCommitsAlone, ReservedTakesTheNextId, IdsNeverFall, IdsAreUsedOnce, IdsTellTheOrder, TransactionsCommute, AnyOrderOfEnds, SettledIsTheRun, SettledStaysValid, SettledInAnyOrder, DropsOneTable, DeletesOneRow, PlainUpdatesKeepAmounts, ReservationsKeepRows, SelectsShowRows, ShowsTheTable, QueriesIgnoreWhatIsOpen, QueriesIgnoreWhoAsks, ShownStays, ShowsTheJournal, BoundsAreReached, SavepointsStandAsMade, BackDropsWhatCameAfter, BackAtOnceChangesNothing, BackLeavesWhatWas, BackRefusesNothing, GrantedInEveryChoice, OwnIncrementNotSpent, RefusedByAChoice, BoundsDecideGrants};
 
 /// Whatever a session asks in a valid state, the state after it is valid: whichever of the open
 /// reservations are applied, each row meets each check of its table.
@@ -115,6 +115,12 @@ pub fn queries_ignore_what_is_open()
 /// SHOW BOUNDS: they show what is open, of all sessions.
 pub fn queries_ignore_who_asks()
     ensures { QueriesIgnoreWhoAsks }
+{}
+
+/// A reply that holds memory comes with an unchanged state: what changes something is answered by what
+/// takes no memory to copy.
+pub fn shown_stays()
+    ensures { ShownStays }
 {}
 
 /// What SHOW BOUNDS shows: whichever of the open reservations are applied, each column and each

@@ -1,6 +1,8 @@
 ghost use Rattle.std.specs.Prelude.{◌≡◌, ◌↔◌, IfOk, IsTrue};
 
+use crate::amount::Amount;
 use crate::name::Name;
+use crate::row::Row;
 use crate::seq::Seq;
 use crate::value::Value;
 use std::alloc::{AllocError, Global};
@@ -52,6 +54,16 @@ impl Copied for Name {
     }
 }
 
+impl Copied for Amount {
+    fn copy(&self, _: Global) -> Result<Amount, AllocError> {
+        Ok(*self)
+    }
+
+    fn is_same(&self, other: &Amount) -> bool {
+        *self == *other
+    }
+}
+
 impl Copied for Value {
     fn copy(&self, alloc: Global) -> Result<Value, AllocError> {
         Value::copy(self, alloc)
@@ -69,5 +81,21 @@ impl<T: Copied> Copied for Seq<T> {
 
     fn is_same(&self, other: &Seq<T>) -> bool {
         are_same(self.as_slice(), other.as_slice())
+    }
+}
+
+impl Copied for Row {
+    fn copy(&self, alloc: Global) -> Result<Row, AllocError> {
+        Ok(Row {
+            name: self.name.copy(alloc)?,
+            amounts: copy_all(alloc, self.amounts.as_slice())?,
+            plain: copy_all(alloc, self.plain.as_slice())?,
+        })
+    }
+
+    fn is_same(&self, other: &Row) -> bool {
+        self.name.is_same(&other.name)
+            && are_same(self.amounts.as_slice(), other.amounts.as_slice())
+            && are_same(self.plain.as_slice(), other.plain.as_slice())
     }
 }

@@ -11,6 +11,7 @@
 
 mod catalog;
 mod column;
+mod copies;
 mod definition;
 mod fit;
 mod items;

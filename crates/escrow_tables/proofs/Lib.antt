@@ -1,3 +1,4 @@
+pub mod AllRows
 pub mod Applying
 pub mod AtPlace
 pub mod Changed
@@ -16,4 +17,5 @@ pub mod Putting
 pub mod Reading
 pub mod RowWrites
 pub mod Verifying
+pub mod WholeReads
 pub mod Writing

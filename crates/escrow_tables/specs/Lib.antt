@@ -4,3 +4,4 @@ pub mod Found
 pub mod Inside
 pub mod Laws
 pub mod Puts
+pub mod Whole

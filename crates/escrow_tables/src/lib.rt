@@ -13,6 +13,7 @@ mod open;
 mod read;
 mod tables;
 mod verified;
+mod whole;
 mod write;
 
 pub use escrow_rows::StoredTable;

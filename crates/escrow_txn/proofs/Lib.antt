@@ -1,3 +1,4 @@
+mod AnyOpen
 mod ById
 mod Empty
 mod Kept

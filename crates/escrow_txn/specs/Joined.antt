@@ -1,5 +1,5 @@
 -- Helps: the journals of the sessions as one list.
-use Rattle.std.specs.Prelude.{◌≡◌, ℕ, ◌+◌, ◌≤◌, Bool, nat_lt, nat_le, if◌then◌else◌, List, [], ◌∷◌, length, flat_map, IsTrue}
+use Rattle.std.specs.Prelude.{◌≡◌, ℕ, ◌+◌, ◌≤◌, Bool, nat_lt, nat_le, ◌||◌, if◌then◌else◌, List, [], ◌∷◌, length, flat_map, IsTrue}
 use Rattle.std.specs.List.{AllByRecursion}
 use Rattle.escrow_num.specs.declared.reservation.Reservation.{Reservation}
 use Rattle.escrow_num.specs.declared.reservation.TheConstants.Reservation.{MAX_ID}
@@ -28,6 +28,10 @@ opened logs next = record {
   savepoints = flat_map (λ log. log.savepoints) logs;
   next_id = next;
 }
+
+-- a journal holds a reservation or a savepoint
+abbrev pub holds_any : Log → Bool
+holds_any log = nat_lt 0 (length log.reservations) || nat_lt 0 (length log.savepoints)
 
 -- journals are of sessions with numbers from the first on
 abbrev pub AreNumbered : ℕ → List Log → Type 0

@@ -1,8 +1,9 @@
 ghost use Rattle.std.specs.Prelude.{◌≡◌, ◌+◌, IfOk, map};
+ghost use Rattle.std.specs.List.{list_any};
 ghost use Rattle.escrow_num.specs.Session.{IsSession};
 ghost use Rattle.escrow_num.specs.declared.session.TheConstants.Session.{MAX};
 ghost use Rattle.escrow_journal.specs.Log.{empty_log};
-ghost use Rattle.escrow_txn.specs.Joined.{AreEmpty};
+ghost use Rattle.escrow_txn.specs.Joined.{AreEmpty, holds_any};
 
 use crate::merge::merged;
 use escrow_journal::Journal;
@@ -36,7 +37,7 @@ impl TxnTable {
     ghost use Rattle.std.specs.Prelude.{◌≡◌, ◌⊎◌, IfOk, IfErr, IfSome, IsErrOf, OnOk, OnErr, Err, Some, None, length, map, option_copied, option_map};
     ghost use Rattle.escrow_journal.specs.Reservations.{own, own_savepoints};
     ghost use Rattle.escrow_journal.specs.Savepoints.{savepoint_of, after};
-    ghost use Rattle.escrow_journal.specs.Open.{nothing_open, is_open, id_left, grant_refusal, granted, savepoint_refusal, saved, released, cut_back, ended};
+    ghost use Rattle.escrow_journal.specs.Open.{nothing_open, is_open, has_open, id_left, grant_refusal, granted, savepoint_refusal, saved, released, cut_back, ended};
 
     /// A table in which nothing is open and the next id is 1. Out of memory is the only error.
     pub fn new(alloc: Global) -> Result<Self, AllocError>
@@ -52,8 +53,14 @@ impl TxnTable {
     pub fn is_open(&self, session: Session) -> bool
         ensures { result ≡ is_open session self.now }
     {
-        let journal = self.journal(session);
-        !journal.all().is_empty() || !journal.savepoints().is_empty()
+        holds_any(self.journal(session))
+    }
+
+    /// Whether something is open: a reservation or a savepoint of any session.
+    pub fn has_open(&self) -> bool
+        ensures { result ≡ has_open self.now }
+    {
+        any_holds(&self.journals)
     }
 
     /// The journal of a session: of all that is open, what it holds.
@@ -186,6 +193,20 @@ fn place_of_session(session: Session) -> usize
     ensures within { IsSession session }
 {
     session.get() as usize - 1
+}
+
+/// Whether a journal holds a reservation or a savepoint.
+fn holds_any(journal: &Journal) -> bool
+    ensures { result ≡ holds_any journal.now }
+{
+    !journal.all().is_empty() || !journal.savepoints().is_empty()
+}
+
+/// Whether one of the journals holds a reservation or a savepoint.
+fn any_holds(journals: &[Journal]) -> bool
+    ensures { result ≡ list_any holds_any journals.now }
+{
+    journals.iter().any(|journal| holds_any(journal))
 }
 
 /// A journal that holds nothing for each session, in order of their numbers.

@@ -1,0 +1,4 @@
+pub mod Legals
+pub mod Numbers
+pub mod Runs
+pub mod Steps

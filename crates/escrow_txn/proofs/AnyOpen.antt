@@ -1,0 +1,47 @@
+-- Whether something is open, journal by journal.
+use Rattle.std.specs.Prelude.{◌≡◌, ℕ, Bool, true, false, ◌||◌, nat_lt, List, [], ◌∷◌, ◌++◌, length}
+use Rattle.std.specs.List.{list_any}
+use Rattle.std.proofs.Common.{refl, ap, ap₂, sym, ◌∙◌, arith}
+use Rattle.std.proofs.lemmas.Bool.{cond_both, lt-ltb}
+use Rattle.escrow_num.specs.declared.reservation.Reservation.{Reservation}
+use Rattle.escrow_journal.specs.Log.{Log}
+use Rattle.escrow_journal.specs.Open.{has_open}
+use Rattle.escrow_txn.specs.Joined.{put, by_id, opened, holds_any}
+use Rattle.escrow_txn.proofs.Sessions.{reservations_of, savepoints_of}
+
+-- there is an item
+abbrev has_some : {A : Type 0} → List A → Bool
+has_some xs = nat_lt 0 (length xs)
+
+some_more : {A : Type 0} (x : A) (xs : List A) → has_some (x ∷ xs) ≡ true
+some_more x xs = lt-ltb 0 (length (x ∷ xs)) (omega arith)
+
+some_append : {A : Type 0} (xs ys : List A) → has_some (xs ++ ys) ≡ (has_some xs || has_some ys)
+some_append [] ys = refl
+some_append (x ∷ xs) ys = some_more x (xs ++ ys) ∙ sym (ap (λ b. b || has_some ys) (some_more x xs))
+
+some_put : (r : Reservation) (xs : List Reservation) → has_some (put r xs) ≡ true
+some_put r [] = some_more r []
+some_put r (x ∷ xs) =
+    cond_both (nat_lt x.id r.id) (x ∷ put r xs) (r ∷ x ∷ xs) (λ ys. has_some ys ≡ true) (λ _. some_more x (put r xs)) (λ _. some_more r (x ∷ xs))
+
+some_by_id : (xs : List Reservation) → has_some (by_id xs) ≡ has_some xs
+some_by_id [] = refl
+some_by_id (r ∷ rest) = some_put r (by_id rest) ∙ sym (some_more r rest)
+
+both_joined : (a b c d : Bool) → ((a || b) || (c || d)) ≡ ((a || c) || (b || d))
+both_joined true b c d = refl
+both_joined false true true d = refl
+both_joined false true false d = refl
+both_joined false false c d = refl
+
+any_holds : (logs : List Log) → (has_some (reservations_of logs) || has_some (savepoints_of logs)) ≡ list_any holds_any logs
+any_holds [] = refl
+any_holds (log ∷ logs) =
+    ap₂ (λ a b. a || b) (some_append log.reservations (reservations_of logs)) (some_append log.savepoints (savepoints_of logs))
+    ∙ both_joined (has_some log.reservations) (has_some (reservations_of logs)) (has_some log.savepoints) (has_some (savepoints_of logs))
+    ∙ ap (λ b. holds_any log || b) (any_holds logs)
+
+-- something is open just where one of the journals holds something
+pub open_by_journals : (logs : List Log) (next : ℕ) → has_open (opened logs next) ≡ list_any holds_any logs
+open_by_journals logs next = ap (λ b. b || has_some (savepoints_of logs)) (some_by_id (reservations_of logs)) ∙ any_holds logs
