@@ -3,6 +3,7 @@
 mod cells;
 mod crashes;
 mod databases;
+mod images;
 mod lent;
 mod opened;
 mod refusals;
