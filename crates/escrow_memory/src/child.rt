@@ -4,14 +4,14 @@ ghost use Rattle.escrow_memory.specs.Rows.{spliced, entry_rows, next_rows};
 
 use crate::node::Node;
 use std::alloc::{AllocError, Global};
-use std::rc::Rc;
+use std::sync::Arc;
 
 /// A node that may have several owners, and how many entries it has. A node is written in place where
 /// it has one owner, and a copy of it where it has several.
 #[derive(Drop)]
 pub(crate) struct Child<N: Node> {
     pub(crate) len: usize,
-    pub(crate) node: Rc<N>,
+    pub(crate) node: Arc<N>,
 }
 
 impl<N: Node> Child<N> {
@@ -22,7 +22,7 @@ impl<N: Node> Child<N> {
         let len = node.len();
         Ok(Child {
             len,
-            node: Rc::new(alloc, node)?,
+            node: Arc::new(alloc, node)?,
         })
     }
 
@@ -50,12 +50,12 @@ impl<N: Node> Child<N> {
         ensures ok { IfOk result (λ next. N.rows self.new.node.value ++ next_rows N.rows next ≡ spliced at cut (entry_rows new.entry) (N.rows self.old.node.value)) }
         ensures len { OnOk result (self.new.len ≡ length (N.rows self.new.node.value)) }
     {
-        let next = match Rc::get_mut(&mut self.node) {
+        let next = match Arc::get_mut(&mut self.node) {
             Some(node) => node.splice(alloc, at, cut, new)?,
             None => {
                 let mut copy = self.node.copy(alloc)?;
                 let next = copy.splice(alloc, at, cut, new)?;
-                self.node = Rc::new(alloc, copy)?;
+                self.node = Arc::new(alloc, copy)?;
                 next
             }
         };
@@ -68,12 +68,12 @@ impl<N: Node> Child<N> {
         ensures ok { OnOk result (N.rows self.new.node.value ≡ N.rows self.old.node.value ++ N.rows next.now) }
         ensures len { OnOk result (self.new.len ≡ length (N.rows self.new.node.value)) }
     {
-        match Rc::get_mut(&mut self.node) {
+        match Arc::get_mut(&mut self.node) {
             Some(node) => node.join(alloc, next)?,
             None => {
                 let mut copy = self.node.copy(alloc)?;
                 copy.join(alloc, next)?;
-                self.node = Rc::new(alloc, copy)?;
+                self.node = Arc::new(alloc, copy)?;
             }
         }
         self.len = self.node.len();

@@ -10,18 +10,18 @@ use crate::branch::Branch;
 use crate::node::Node;
 use crate::probe::Probe;
 use std::alloc::{AllocError, Global};
-use std::cell::Cell;
 use std::marker::Model;
 use std::mem;
+use std::sync::atomic::{AtomicBool, AtomicUsize, Ordering};
 
 /// The entries of a tree, in order, under a branch that is never divided.
 #[derive(Drop)]
 pub(crate) struct Entries<N: Node> {
     root: Branch<N>,
     /// The place that was found last.
-    near: Cell<usize>,
+    near: AtomicUsize,
     /// Whether it was the place that was found before, or the next to it: then the one that is asked may be, too.
-    is_run: Cell<bool>,
+    is_run: AtomicBool,
 }
 
 impl<N: Node> Model for Entries<N> {
@@ -41,8 +41,8 @@ impl<N: Node> Entries<N> {
     {
         Entries {
             root: Branch::new(alloc),
-            near: Cell::new(0),
-            is_run: Cell::new(false),
+            near: AtomicUsize::new(0),
+            is_run: AtomicBool::new(false),
         }
     }
 
@@ -52,8 +52,8 @@ impl<N: Node> Entries<N> {
     {
         Ok(Entries {
             root: self.root.copy(alloc)?,
-            near: Cell::new(self.near.get()),
-            is_run: Cell::new(self.is_run.get()),
+            near: AtomicUsize::new(self.near.load(Ordering::SeqCst)),
+            is_run: AtomicBool::new(self.is_run.load(Ordering::SeqCst)),
         })
     }
 
@@ -117,21 +117,31 @@ impl<N: Node> Entries<N> {
         ensures some { IfSome result.1 (λ entry. (result.0 < length self.now) × (decode entry.now ≡ slice_index_or self.now result.0 [])) }
         ensures none { result.1 ≡ None → length self.now ≤ result.0 }
     {
-        let near = self.near.get();
+        let near = self.near.load(Ordering::SeqCst);
         let next = near.saturating_add(1);
-        if self.is_run.get() {
+        if self.is_run.load(Ordering::SeqCst) {
             if self.is_place(probe, near) {
                 return (near, self.get(near));
             }
             if self.is_place(probe, next) {
-                self.near.set(next);
+                self.note(next, true);
                 return (next, self.get(next));
             }
         }
         let (at, found) = self.root.seek(probe);
-        self.is_run.set(at == near || at == next);
-        self.near.set(at);
+        self.note(at, at == near || at == next);
         (at, found)
+    }
+
+    /// Notes the place that was found, and whether it stood beside the one before. What stays the same isn't
+    /// written, since a look costs less.
+    fn note(&self, at: usize, is_run: bool) {
+        if self.near.load(Ordering::SeqCst) != at {
+            self.near.store(at, Ordering::SeqCst);
+        }
+        if self.is_run.load(Ordering::SeqCst) != is_run {
+            self.is_run.store(is_run, Ordering::SeqCst);
+        }
     }
 
     /// Takes out an entry at a place, or none, and puts a new one there, or none. An error leaves no

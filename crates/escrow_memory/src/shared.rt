@@ -5,13 +5,13 @@ ghost use Rattle.escrow_memory.specs.Trees.{heading};
 
 use crate::tree::{Edit, Tree};
 use std::alloc::{AllocError, Global};
-use std::rc::Rc;
+use std::sync::Arc;
 
 /// A tree that may have several owners. It is written in place where it has one, and a copy of it where it
 /// has several.
 #[derive(Drop)]
 pub(crate) struct Shared {
-    pub(crate) tree: Rc<Tree>,
+    pub(crate) tree: Arc<Tree>,
 }
 
 impl Shared {
@@ -19,7 +19,7 @@ impl Shared {
         ensures { IfOk result (λ shared. shared.tree.value ≡ tree) }
     {
         Ok(Shared {
-            tree: Rc::new(alloc, tree)?,
+            tree: Arc::new(alloc, tree)?,
         })
     }
 
@@ -44,12 +44,12 @@ impl Shared {
         ensures ok { OnOk result (self.new.tree.value.rows ≡ edited edit.entry self.old.tree.value.rows) }
         ensures heading { heading self.new.tree.value ≡ heading self.old.tree.value }
     {
-        match Rc::get_mut(&mut self.tree) {
+        match Arc::get_mut(&mut self.tree) {
             Some(tree) => edit.apply(alloc, tree, bytes),
             None => {
                 let mut copy = self.tree.copy(alloc)?;
                 edit.apply(alloc, &mut copy, bytes)?;
-                self.tree = Rc::new(alloc, copy)?;
+                self.tree = Arc::new(alloc, copy)?;
                 Ok(())
             }
         }

@@ -16,7 +16,7 @@ use sqlite_trees::store::{Alter, Direction, Reopen, Shape, Store};
 use sqlite_trees::typed::is_typed;
 use sqlite_value::row::Row;
 use std::alloc::{AllocError, Global};
-use std::rc::Rc;
+use std::sync::Arc;
 
 /// Numbered trees of rows in memory, and numbered cursors over them, with one transaction that is always open, as the kit's traits
 /// [`Store`] and [`Alter`] ask. Its one error of its own is `OutOfMemory`, wherever memory is refused: a write that meets it leaves
@@ -235,7 +235,7 @@ impl BlockStore {
     {
         let (tree, object) = change;
         let mut new = self.current().trees[*tree as usize].tree.copy(self.alloc)?;
-        new.described = Rc::new(self.alloc, object.describe(self.alloc)?)?;
+        new.described = Arc::new(self.alloc, object.describe(self.alloc)?)?;
         new.reals = object.reals;
         self.replace(*tree, new)
     }

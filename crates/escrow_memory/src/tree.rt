@@ -22,7 +22,7 @@ use sqlite_value::order::compare;
 use sqlite_value::row::Row;
 use sqlite_value::value::ValueRef;
 use std::alloc::{AllocError, Global};
-use std::rc::Rc;
+use std::sync::Arc;
 
 /// Three levels of branches over the leaves.
 pub(crate) type Rows = Entries<Branch<Branch<Leaf>>>;
@@ -33,7 +33,7 @@ pub(crate) struct Tree {
     pub(crate) shape: Shape,
     pub(crate) reals: u64,
     /// Its type, name, table and SQL text.
-    pub(crate) described: Rc<Row>,
+    pub(crate) described: Arc<Row>,
     pub(crate) rows: Rows,
     pub ghost ordered: { ∥ IsShaped shape rows ∥₁ },
 }
@@ -88,7 +88,7 @@ impl Tree {
         Ok(Tree {
             shape: object.shape,
             reals: object.reals,
-            described: Rc::new(alloc, object.describe(alloc)?)?,
+            described: Arc::new(alloc, object.describe(alloc)?)?,
             rows: Entries::new(alloc),
         })
     }
@@ -101,7 +101,7 @@ impl Tree {
         Ok(Tree {
             shape: Shape::Absent,
             reals: 0,
-            described: Rc::new(alloc, Row::new(alloc))?,
+            described: Arc::new(alloc, Row::new(alloc))?,
             rows: Entries::new(alloc),
         })
     }
