@@ -1,0 +1,88 @@
+-- What a database with its transcript keeps over its calls.
+use Rattle.std.specs.Prelude.{◌≡◌, ℕ, ◌+◌, ◌≤◌, ◌<◌, true, false, Option, Some, None, MatchOption, Result, Ok, Err, IsOk, OnErr, IsTrue, Bool, ◌⊎◌, [], length}
+use Rattle.std.proofs.Common.{refl, sym, subst, arith, inl, inr}
+use Rattle.std.proofs.lemmas.Bool.{false≢true}
+use Rattle.std.proofs.lemmas.List.{length_push}
+use Rattle.sqlite.specs.Held.{state}
+use Rattle.sqlite.specs.State.{HasCleanDisk}
+use Rattle.sqlite_trees.specs.declared.store.Store.{Ghosts}
+use Rattle.escrow_num.specs.declared.failure.Failure.{Failure}
+use Rattle.escrow_num.specs.declared.failure.Failure.TheVariants as failure
+use Rattle.escrow_num.specs.Refusal.{refusal_for}
+use Rattle.escrow_sql.specs.declared.statement.Statement.{Statement}
+use Rattle.escrow_machine.specs.declared.reply.Reply.{Reply}
+use Rattle.escrow_machine.specs.Reply.{failure_of, holds_memory}
+use Rattle.escrow_machine.specs.State.{State}
+use Rattle.escrow_machine.specs.Step.{IsStep, StepOrRefusal, may_fail}
+use Rattle.escrow_machine.proofs.LawsMemory.{shown_stays}
+use Rattle.escrow_core.specs.Seen.{Seen}
+use Rattle.escrow_transcript.specs.declared.base.Base.{Base}
+use Rattle.escrow_transcript.specs.declared.entry.Entry.{Entry}
+use Rattle.escrow_transcript.specs.declared.transcript.TheConstants.Transcript.{MAX_ENTRIES, MAX_NUMBER}
+use Rattle.escrow_transcript.specs.Image.{started}
+use Rattle.escrow_transcript.specs.Legal.{IsLegal}
+use Rattle.escrow_transcript.proofs.Legals.{nothing_is_legal, one_more_is_legal}
+use Rattle.escrow_history.specs.Calls.{Appends, Stays, IsFailed}
+use Rattle.escrow_history.specs.History.{History, IsKept}
+use Rattle.escrow_history.specs.Inside.{history_of}
+
+module _ {S : Type 0} (g : Ghosts S) where
+  -- a transcript begins at a base, which is what the database holds
+  pub begun_keeps : (d : Seen S) (base : Base) → (HasCleanDisk (state g d.store) → d.state ≡ started base.image) → base.before + MAX_ENTRIES ≤ MAX_NUMBER → IsKept g (history_of d base [])
+  begun_keeps d base is numbers = record {
+    legal = λ clean. subst (IsLegal base []) (sym (is clean)) (nothing_is_legal base);
+    few = omega arith;
+    numbers = numbers;
+  }
+
+  -- nothing changed
+  pub stayed_keeps : (old new : History S) → IsKept g old → (HasCleanDisk (state g new.store) → HasCleanDisk (state g old.store)) → Stays g old new → IsKept g new
+  stayed_keeps old new kept was stays = record {
+    legal = λ clean. rw (stays.base, stays.entries, stays.unchanged clean) (kept.legal (was clean));
+    few = rw stays.entries kept.few;
+    numbers = rw stays.base kept.numbers;
+  }
+
+  -- there is one entry more
+  pub appended_keeps : (old new : History S) (session : ℕ) (asked : Statement) (number : ℕ) (answer : Reply) → IsKept g old → length old.entries < MAX_ENTRIES
+      → (HasCleanDisk (state g new.store) → HasCleanDisk (state g old.store)) → Appends g old session asked number answer new → IsKept g new
+  appended_keeps old new session asked number answer kept room was appends =
+      let e : Entry = record { number = number; session = session; statement = asked; reply = answer } in
+      record {
+        legal = λ clean. rw (appends.base, appends.entries) (one_more_is_legal old.base old.entries old.state new.state e (kept.legal (was clean)) appends.succeeds (appends.step clean) appends.number_is);
+        few = rw appends.entries (omega (arith, length_push old.entries e));
+        numbers = rw appends.base kept.numbers;
+      }
+
+module _ (s : State) (session : ℕ) (asked : Statement) (answer : Reply) (new : State) where
+  -- a reply that is no failure is the machine's
+  pub served_step : failure_of answer ≡ None → StepOrRefusal s session asked answer new → IsStep s session asked answer new
+  served_step succeeds event =
+      subst (λ (o : Option Failure). MatchOption o (IsStep s session asked answer new) (λ failure. IsTrue (may_fail s session asked failure) × (new ≡ s))) succeeds event
+
+  -- and a failure leaves the state
+  failed_stays : (f : Failure) → failure_of answer ≡ Some f → StepOrRefusal s session asked answer new → new ≡ s
+  failed_stays f fails event =
+      let told : MatchOption (Some f) (IsStep s session asked answer new) (λ failure. IsTrue (may_fail s session asked failure) × (new ≡ s)) =
+      subst (λ (o : Option Failure). MatchOption o (IsStep s session asked answer new) (λ failure. IsTrue (may_fail s session asked failure) × (new ≡ s))) fails event in
+      told.1
+
+  -- so does a reply that holds memory: what isn't kept leaves the state
+  pub unserved_stays : (f : Failure) → (failure_of answer ≡ Some f) ⊎ (holds_memory answer ≡ true) → StepOrRefusal s session asked answer new → new ≡ s
+  unserved_stays f (inl fails) event = failed_stays f fails event
+  unserved_stays f (inr holds) event = shown_stays s session asked answer new event holds
+
+-- what holds anyway holds of an error
+pub on_err : {T E P : Type 0} (r : Result T E) → P → OnErr r P
+on_err (Ok x) p = tt
+on_err (Err e) p = p
+
+-- a failure is told as 51 or 60
+pub failed_is : (f : Failure) → IsFailed (refusal_for f)
+failed_is failure.Memory = inl refl
+failed_is failure.Store = inr refl
+
+-- what can't be copied holds memory
+pub uncopied_holds : {A E : Type 0} (holds : Bool) (copy : Result A E) (e : E) → copy ≡ Err e → (holds ≡ false → IsOk copy) → holds ≡ true
+uncopied_holds true copy e is succeeds = refl
+uncopied_holds false copy e is succeeds = absurd (false≢true (subst IsOk is (succeeds refl)))

@@ -1,0 +1,47 @@
+-- Believed: what a call makes of a database and its transcript.
+use Rattle.std.specs.Prelude.{◌≡◌, ◌⊎◌, ℕ, ◌+◌, None, [], ◌∷◌, ◌++◌, length}
+use Rattle.sqlite.specs.Held.{state}
+use Rattle.sqlite.specs.State.{HasCleanDisk}
+use Rattle.sqlite_trees.specs.declared.store.Store.{Ghosts}
+use Rattle.escrow_num.specs.declared.refusal.Refusal.{Refusal}
+use Rattle.escrow_num.specs.declared.refusal.Refusal.TheVariants as refusal
+use Rattle.escrow_num.specs.Refusal.{refusal_for}
+use Rattle.escrow_sql.specs.declared.statement.Statement.{Statement}
+use Rattle.escrow_machine.specs.declared.reply.Reply.{Reply}
+use Rattle.escrow_machine.specs.Reply.{failure_of}
+use Rattle.escrow_machine.specs.Step.{IsStep}
+use Rattle.escrow_history.specs.declared.served.Unserved.{Unserved}
+use Rattle.escrow_history.specs.declared.served.Unserved.TheVariants.{Full, Failed}
+use Rattle.escrow_history.specs.History.{History}
+
+-- A statement of a session was served: while the disk has returned what was written that was a step of the machine, and
+-- it is the one entry more, with the next number. The reply is no failure.
+pub record Appends {S : Type 0} (g : Ghosts S) (old : History S) (session : ℕ) (asked : Statement) (number : ℕ) (answer : Reply) (new : History S) : Type 0 where
+  pub step : HasCleanDisk (state g new.store) → IsStep old.state session asked answer new.state
+  pub succeeds : failure_of answer ≡ None
+  pub number_is : number ≡ old.base.before + length old.entries + 1
+  pub base : new.base ≡ old.base
+  pub entries : new.entries ≡ old.entries ++ (record { number = number; session = session; statement = asked; reply = answer }) ∷ []
+
+-- Nothing changed: base and entries, and the state while the disk has returned what was written.
+pub record Stays {S : Type 0} (g : Ghosts S) (old new : History S) : Type 0 where
+  pub base : new.base ≡ old.base
+  pub entries : new.entries ≡ old.entries
+  pub unchanged : HasCleanDisk (state g new.store) → new.state ≡ old.state
+
+-- the refusals that tell of a failure: 51 and 60
+abbrev pub IsFailed : Refusal → Type 0
+IsFailed r = (r ≡ refusal.Memory) ⊎ (r ≡ refusal.Store)
+
+-- why no transcript begins: something is open, or a failure
+abbrev pub IsNotBegun : Refusal → Type 0
+IsNotBegun r = (r ≡ refusal.TransactionOpen) ⊎ IsFailed r
+
+-- why no transcript is handed out: something is open, too few numbers are left, or a failure
+abbrev pub IsNotDrained : Refusal → Type 0
+IsNotDrained r = (r ≡ refusal.TransactionOpen) ⊎ ((r ≡ refusal.TranscriptFull) ⊎ IsFailed r)
+
+-- the refusal that tells why a statement wasn't served
+abbrev pub unserved_as : Unserved → Refusal
+unserved_as Full = refusal.TranscriptFull
+unserved_as (Failed failure) = refusal_for failure

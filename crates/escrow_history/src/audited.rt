@@ -1,0 +1,258 @@
+ghost use Rattle.std.specs.Prelude.{◌≡◌, ◌⊎◌, ◌<◌, ◌++◌, ◌∷◌, [], true, None, Some, IfOk, IfErr, OnOk, OnErr};
+ghost use Rattle.std.specs.Vec.{vec_len, vec_capacity};
+ghost use Rattle.escrow_machine.specs.Reply.{failure_of, holds_memory};
+
+use crate::served::{Served, Unserved};
+use escrow_core::Database;
+use escrow_machine::Reply;
+use escrow_num::{Failure, Refusal, Seq, Session};
+use escrow_sql::Statement;
+use escrow_transcript::{Base, Entry, Transcript};
+use sqlite::Alter;
+use std::alloc::{AllocError, Global};
+use std::marker::Model;
+use std::mem::replace;
+
+/// A database with its transcript: where it began, and an entry for each statement that was served since.
+/// While the disk has returned what was written the transcript is legal, from its base to the state of the
+/// database.
+#[derive(Drop)]
+pub struct Audited<S: Alter> {
+    database: Database<S>,
+    base: Base,
+    entries: Vec<Entry>,
+}
+
+impl<S: Alter> Model for Audited<S> {
+    ghost use Rattle.escrow_history.specs.History.{History, IsKept, history_code};
+    ghost use Rattle.escrow_history.specs.Inside.{history_of};
+
+    ghost Value = { History S };
+
+    ghost coded = { history_code S.code };
+
+    ghost view = { λ a. history_of a.database a.base a.entries.items };
+
+    ghost invariant = { λ a. IsKept S.Store (history_of a.database a.base a.entries.items) };
+}
+
+impl<S: Alter> Audited<S> {
+    ghost use Rattle.std.specs.Prelude.{◌≡◌, ◌↔◌, ◌+◌, ◌≤◌, ◌<◌, [], true, false, length, IfOk, IfErr, IsErrOf, OnOk, OnErr};
+    ghost use Rattle.sqlite.specs.Held.{state};
+    ghost use Rattle.sqlite.specs.State.{HasCleanDisk};
+    ghost use Rattle.escrow_machine.specs.State.{has_open};
+    ghost use Rattle.escrow_machine.specs.Valid.{IsValid};
+    ghost use Rattle.escrow_transcript.specs.declared.transcript.TheConstants.Transcript.{MAX_ENTRIES, MAX_NUMBER};
+    ghost use Rattle.escrow_transcript.specs.Image.{started};
+    ghost use Rattle.escrow_transcript.specs.Legal.{IsLegal};
+    ghost use Rattle.escrow_history.specs.Calls.{Appends, Stays, IsNotBegun, IsNotDrained};
+    ghost use Rattle.escrow_history.specs.History.{IsKept};
+
+    /// A database with a transcript that begins at what it holds. It begins at the first number.
+    ///
+    /// # Errors
+    ///
+    /// [`Refusal::TransactionOpen`] just where something is open; [`Refusal::Memory`] and
+    /// [`Refusal::Store`]. The database is handed back.
+    pub fn make(alloc: Global, mut database: Database<S>) -> Result<Self, (Database<S>, Refusal)>
+        ensures state { IfOk result (λ a. a.state ≡ database.state) }
+        ensures begins { IfOk result (λ a. (a.entries ≡ []) × (a.base.before ≡ 0)) }
+        ensures base { IfOk result (λ a. HasCleanDisk (state S.Store a.store) → a.state ≡ started a.base.image) }
+        ensures clean { IfOk result (λ a. HasCleanDisk (state S.Store a.store) → HasCleanDisk (state S.Store database.store)) }
+        ensures closed { OnOk result (has_open database.state ≡ false) }
+        ensures back { IfErr result (λ f. f.0.state ≡ database.state) }
+        ensures open { IfErr result (λ f. (f.1 ≡ Refusal.TransactionOpen) ↔ (has_open database.state ≡ true)) }
+        ensures only { IfErr result (λ f. IsNotBegun f.1) }
+    {
+        if database.has_open() {
+            return Err((database, Refusal::TransactionOpen));
+        }
+        match database.image(alloc) {
+            Ok(image) => Ok(Audited::begin(alloc, database, Base { image, before: 0 })),
+            Err(failure) => Err((database, Refusal::from(failure))),
+        }
+    }
+
+    /// A database with a transcript that begins at a base, which is what it holds. Takes no memory, and
+    /// makes no store call.
+    pub fn begin(alloc: Global, database: Database<S>, base: Base) -> Self
+        requires started { HasCleanDisk (state S.Store database.store) → database.state ≡ started base.image }
+        requires numbers { base.before + MAX_ENTRIES ≤ MAX_NUMBER }
+        ensures store { result.store ≡ database.store }
+        ensures state { result.state ≡ database.state }
+        ensures base { result.base ≡ base }
+        ensures entries { result.entries ≡ [] }
+    {
+        Audited {
+            database,
+            base,
+            entries: Vec::new(alloc),
+        }
+    }
+
+    /// Where the transcript began, and what the type keeps.
+    pub fn base(&self) -> &Base
+        ensures base { result.now ≡ self.now.base }
+        ensures kept { IsKept S.Store self.now }
+        ensures valid { HasCleanDisk (state S.Store self.now.store) → IsValid self.now.state }
+    {
+        // That the state is valid is told where the next id is asked.
+        let _ = self.database.next_id();
+        &self.base
+    }
+
+    /// The entries of the transcript, in order.
+    pub fn entries(&self) -> &[Entry]
+        ensures entries { result.now ≡ self.now.entries }
+        ensures kept { IsKept S.Store self.now }
+    {
+        &self.entries
+    }
+
+    /// The database and its transcript. Takes no memory, and makes no store call.
+    pub fn into_parts(self) -> (Database<S>, Transcript)
+        ensures store { result.0.store ≡ self.store }
+        ensures state { result.0.state ≡ self.state }
+        ensures base { result.1.base ≡ self.base }
+        ensures entries { result.1.entries ≡ self.entries }
+        ensures kept { IsKept S.Store self }
+        ensures valid { HasCleanDisk (state S.Store self.store) → IsValid self.state }
+    {
+        // That the state is valid is told where the next id is asked.
+        let _ = self.database.next_id();
+        let transcript = Transcript {
+            base: self.base,
+            entries: Seq::from_vec(self.entries),
+        };
+        (self.database, transcript)
+    }
+
+    /// Serves one statement of a session, and adds its entry to the transcript. Room for the entry, and
+    /// what it keeps of the statement, are taken before the database is asked.
+    ///
+    /// # Errors
+    ///
+    /// [`Unserved::Full`] just where the transcript has as many entries as it may have, before anything
+    /// else; [`Unserved::Failed`] for want of memory or by the store. Nothing has changed then.
+    pub fn serve(
+        &mut self,
+        alloc: Global,
+        session: Session,
+        statement: &Statement,
+    ) -> Result<Served, Unserved>
+        ensures served { IfOk result (λ r. Appends S.Store self.old session statement.now r.number r.reply self.new) }
+        ensures kept { IfOk result (λ r. r.kept ≡ r.reply) }
+        ensures unserved { OnErr result (Stays S.Store self.old self.new) }
+        ensures full { IsErrOf result Unserved.Full ↔ (length self.old.entries ≡ MAX_ENTRIES) }
+        ensures clean { HasCleanDisk (state S.Store self.new.store) → HasCleanDisk (state S.Store self.old.store) }
+    {
+        if self.entries.len() == Transcript::MAX_ENTRIES {
+            return Err(Unserved::Full);
+        }
+        self.entries.reserve(1)?;
+        let asked = statement.copy(alloc)?;
+        let reply = self.database.step(alloc, session, statement);
+        let Answered {
+            asked,
+            reply,
+            told,
+            kept,
+        } = with_copies(alloc, asked, reply)?;
+        let number = self.base.before + self.entries.len() as u64 + 1;
+        let entry = Entry {
+            number,
+            session,
+            statement: asked,
+            reply,
+        };
+        keep(&mut self.entries, entry);
+        Ok(Served {
+            number,
+            reply: told,
+            kept,
+        })
+    }
+
+    /// Hands out the transcript, and the base where it ends; there a new one begins.
+    ///
+    /// # Errors
+    ///
+    /// [`Refusal::TransactionOpen`] just where something is open; then
+    /// [`Refusal::TranscriptFull`], where a further transcript could have a number past the greatest;
+    /// [`Refusal::Memory`] and [`Refusal::Store`]. Nothing has changed then.
+    pub fn drain(&mut self, alloc: Global) -> Result<(Transcript, Base), Refusal>
+        ensures whole { IfOk result (λ r. (r.0.base ≡ self.old.base) × (r.0.entries ≡ self.old.entries)) }
+        ensures end { IfOk result (λ r. r.1.before ≡ self.old.base.before + length self.old.entries) }
+        ensures legal { IfOk result (λ r. HasCleanDisk (state S.Store self.new.store) → IsLegal r.0.base r.0.entries (started r.1.image)) }
+        ensures begun { IfOk result (λ r. (self.new.base ≡ r.1) × (self.new.entries ≡ [])) }
+        ensures state { self.new.state ≡ self.old.state }
+        ensures stands { IfOk result (λ r. HasCleanDisk (state S.Store self.new.store) → self.new.state ≡ started r.1.image) }
+        ensures refused { OnErr result (Stays S.Store self.old self.new) }
+        ensures open { IsErrOf result Refusal.TransactionOpen ↔ (has_open self.old.state ≡ true) }
+        ensures only { IfErr result IsNotDrained }
+        ensures full { IsErrOf result Refusal.TranscriptFull → MAX_NUMBER < self.old.base.before + length self.old.entries + MAX_ENTRIES }
+        ensures clean { HasCleanDisk (state S.Store self.new.store) → HasCleanDisk (state S.Store self.old.store) }
+    {
+        if self.database.has_open() {
+            return Err(Refusal::TransactionOpen);
+        }
+        let before = self.base.before + self.entries.len() as u64;
+        if before > Transcript::MAX_NUMBER - Transcript::MAX_ENTRIES as u64 {
+            return Err(Refusal::TranscriptFull);
+        }
+        let image = self.database.image(alloc)?;
+        let end = Base { image, before };
+        let begun = end.copy(alloc)?;
+        let base = replace(&mut self.base, begun);
+        let entries = replace(&mut self.entries, Vec::new(alloc));
+        let transcript = Transcript {
+            base,
+            entries: Seq::from_vec(entries),
+        };
+        Ok((transcript, end))
+    }
+}
+
+/// What was asked and answered, and two copies of the answer.
+struct Answered {
+    asked: Statement,
+    reply: Reply,
+    told: Reply,
+    kept: Reply,
+}
+
+/// What was asked and answered, with two copies of the answer. A reply that is a failure is that failure, and want
+/// of memory comes only where the reply holds memory.
+fn with_copies(alloc: Global, asked: Statement, reply: Reply) -> Result<Answered, Failure>
+    ensures same { IfOk result (λ a. (a.asked ≡ asked) × (a.reply ≡ reply)) }
+    ensures copies { IfOk result (λ a. (a.told ≡ reply) × (a.kept ≡ reply)) }
+    ensures succeeds { OnOk result (failure_of reply ≡ None) }
+    ensures fails { IfErr result (λ f. (failure_of reply ≡ Some f) ⊎ (holds_memory reply ≡ true)) }
+{
+    if let Some(failure) = reply.failure() {
+        return Err(failure);
+    }
+    let (told, kept) = two_copies(alloc, &reply)?;
+    Ok(Answered {
+        asked,
+        reply,
+        told,
+        kept,
+    })
+}
+
+/// Two copies of a reply. Only that to a query takes memory.
+fn two_copies(alloc: Global, reply: &Reply) -> Result<(Reply, Reply), AllocError>
+    ensures copies { IfOk result (λ r. (r.0 ≡ reply.now) × (r.1 ≡ reply.now)) }
+    ensures holds { OnErr result (holds_memory reply.now ≡ true) }
+{
+    Ok((reply.copy(alloc)?, reply.copy(alloc)?))
+}
+
+/// Adds an entry, for which there is room.
+fn keep(entries: &mut Vec<Entry>, entry: Entry)
+    requires { vec_len entries.old < vec_capacity entries.old }
+    ensures { entries.new.items ≡ entries.old.items ++ entry ∷ [] }
+{
+    entries.push_reserved(entry);
+}

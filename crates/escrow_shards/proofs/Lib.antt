@@ -1,0 +1,11 @@
+pub mod Closings
+pub mod Crossing
+pub mod Following
+pub mod Kept
+pub mod Matching
+pub mod NewSeats
+pub mod Places
+pub mod Reading
+pub mod Rest
+pub mod UnderLocks
+pub mod Wholes

@@ -1,0 +1,62 @@
+-- Believed: what contracts see of a database that came out of its lock, and when its history is whole.
+use Rattle.std.specs.Prelude.{◌≡◌, ℕ, ◌+◌, List, [], ◌∷◌, ◌++◌, refl}
+use Rattle.std.specs.List.{AllByRecursion}
+use Rattle.std.specs.Coded.{Coded, code_by, coded×, coded_ℕ}
+use Rattle.sqlite.specs.Held.{state}
+use Rattle.sqlite.specs.State.{HasCleanDisk}
+use Rattle.sqlite_trees.specs.declared.store.Store.{Ghosts}
+use Rattle.escrow_transcript.specs.declared.base.Base.{Base}
+use Rattle.escrow_transcript.specs.declared.entry.Entry.{Entry}
+use Rattle.escrow_transcript.specs.Legal.{AreSteps, AreNumbered}
+use Rattle.escrow_history.specs.History.{History, history_code}
+use Rattle.escrow_shards.specs.Begun.{Begun, begun_code}
+use Rattle.escrow_shards.specs.Piece.{Piece, parts_of, entries_of}
+
+-- what contracts see of a database out of its lock: its opening; the database with its last transcript;
+-- how many parts of its history were handed out
+pub record Closing (S : Type 0) : Type 0 where
+  pub opening : Begun S
+  pub history : History S
+  pub parts : ℕ
+
+abbrev pub closing_code : {S : Type 0} → Coded S → Coded (Closing S)
+closing_code {S} store =
+    code_by (Begun S × (History S × ℕ)) (coded× (begun_code store) (coded× (history_code store) coded_ℕ))
+    (λ c. (c.opening, (c.history, c.parts))) (λ p. record { opening = p.0; history = p.1.0; parts = p.1.1 }) (λ _. refl)
+
+-- where a database began
+abbrev pub opening_of : {S : Type 0} → Closing S → Begun S
+opening_of c = c.opening
+
+-- Parts follow one another, behind the part of a number that ends at a base: their numbers run on by one,
+-- and each begins where the one before it ends; the last of all has this number, and ends at this base.
+abbrev pub Follow : {S : Type 0} → ℕ → Base → List (Piece S) → ℕ → Base → Type 0
+Follow number base [] count last = (number ≡ count) × (base ≡ last)
+Follow number base (p ∷ ps) count last = (p.number ≡ number + 1) × ((p.base ≡ base) × Follow (number + 1) p.end ps count last)
+
+-- all parts of a database are there, in order: the first begins at its opening, and the last transcript where
+-- the last part ends
+abbrev pub HasAllParts : {S : Type 0} → ℕ → List (Piece S) → Closing S → Type 0
+HasAllParts d parts c = Follow 0 c.opening.base (parts_of d parts) c.parts c.history.base
+
+-- all entries of a database: those of its parts, and then those of its last transcript
+abbrev pub all_entries : {S : Type 0} → ℕ → List (Piece S) → Closing S → List Entry
+all_entries d parts c = entries_of (parts_of d parts) ++ c.history.entries
+
+-- The disk of a database has returned what was written: at its opening, whenever a part of its history was
+-- handed out, and now.
+pub record WasClean {S : Type 0} (g : Ghosts S) (d : ℕ) (parts : List (Piece S)) (c : Closing S) : Type 0 where
+  pub at_opening : HasCleanDisk (state g c.opening.store)
+  pub at_parts : AllByRecursion (λ (p : Piece S). HasCleanDisk (state g p.store)) (parts_of d parts)
+  pub at_close : HasCleanDisk (state g c.history.store)
+
+-- All entries of a database are one run of the machine, from the state at its opening to the state now,
+-- numbered from 1.
+pub record IsOneRun {S : Type 0} (d : ℕ) (parts : List (Piece S)) (c : Closing S) : Type 0 where
+  pub run : AreSteps c.opening.state (all_entries d parts c) c.history.state
+  pub numbered : AreNumbered 0 (all_entries d parts c)
+
+-- the history of a database is whole
+pub record IsWhole {S : Type 0} (g : Ghosts S) (d : ℕ) (parts : List (Piece S)) (c : Closing S) : Type 0 where
+  pub whole : HasAllParts d parts c
+  pub run : WasClean g d parts c → IsOneRun d parts c

@@ -1,0 +1,30 @@
+-- Helps: what is found on the way to a close.
+use Rattle.std.specs.Prelude.{◌≡◌, ℕ, ◌<◌, List, length, slice_get, Some}
+use Rattle.std.specs.List.{AllByRecursion}
+use Rattle.sqlite_trees.specs.declared.store.Store.{Ghosts}
+use Rattle.escrow_history.specs.History.{IsKept}
+use Rattle.escrow_shards.specs.Begun.{IsBegun}
+use Rattle.escrow_shards.specs.Closing.{Closing, HasAllParts, IsWhole}
+use Rattle.escrow_shards.specs.Piece.{Piece}
+use Rattle.escrow_shards.specs.Seat.{Seat, AreAllSeats}
+use Rattle.escrow_shards.specs.Whole.{HasItsReceipts}
+
+-- a seat's database is among so many
+abbrev pub IsAmong : ℕ → Seat → Type 0
+IsAmong databases seat = seat.database < databases
+
+-- all parts of a database are there, beside what its type keeps
+pub record IsSettled {S : Type 0} (g : Ghosts S) (d : ℕ) (parts : List (Piece S)) (c : Closing S) : Type 0 where
+  pub whole : HasAllParts d parts c
+  pub begun : IsBegun g c.opening
+  pub kept : IsKept g c.history
+
+-- so it is with each database
+abbrev pub AreSettled : {S : Type 0} → Ghosts S → List (Piece S) → List (Closing S) → Type 0
+AreSettled {S} g parts closed = (d : ℕ) (c : Closing S) → slice_get closed d ≡ Some c → IsSettled g d parts c
+
+-- all that a close finds, but which databases they are
+pub record AreFound {S : Type 0} (g : Ghosts S) (sessions : ℕ) (seats : List Seat) (parts : List (Piece S)) (closed : List (Closing S)) : Type 0 where
+  pub all_seats : AreAllSeats (length closed) sessions seats
+  pub each : (d : ℕ) (c : Closing S) → slice_get closed d ≡ Some c → IsWhole g d parts c
+  pub receipts : AllByRecursion (HasItsReceipts parts closed) seats

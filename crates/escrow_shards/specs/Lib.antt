@@ -1,0 +1,12 @@
+pub mod Answer
+pub mod Begun
+pub mod Closing
+pub mod Counted
+pub mod Found
+pub mod Laws
+pub mod Opened
+pub mod Piece
+pub mod Receipts
+pub mod Seat
+pub mod Sharing
+pub mod Whole

@@ -1,0 +1,46 @@
+-- Believed: what a close finds, and when a cause is true.
+use Rattle.std.specs.Prelude.{◌≡◌, ℕ, ◌<◌, List, length, map, slice_get, Some}
+use Rattle.std.specs.List.{AllByRecursion}
+use Rattle.sqlite_trees.specs.declared.store.Store.{Ghosts}
+use Rattle.escrow_shards.specs.declared.cause.Cause.{Cause}
+use Rattle.escrow_shards.specs.declared.cause.Cause.TheVariants as cause
+use Rattle.escrow_shards.specs.Closing.{Closing, HasAllParts, IsWhole, all_entries, opening_of}
+use Rattle.escrow_shards.specs.Sharing.{Sharing}
+use Rattle.escrow_shards.specs.Piece.{Piece}
+use Rattle.escrow_shards.specs.Receipts.{receipts_of}
+use Rattle.escrow_shards.specs.Seat.{Seat, AreAllSeats}
+
+-- the receipts of a pass are just the entries of its session, in their order, each once
+abbrev pub HasItsReceipts : {S : Type 0} → List (Piece S) → List (Closing S) → Seat → Type 0
+HasItsReceipts {S} parts closed seat =
+    (c : Closing S) → slice_get closed seat.database ≡ Some c → seat.receipts ≡ receipts_of seat.session (all_entries seat.database parts c)
+
+-- WHAT A CLOSE FINDS. The databases are those of the openings; each pass was handed in once; the history of
+-- each database is whole; and each session's receipts are just its entries.
+pub record AreWhole {S : Type 0} (g : Ghosts S) (sharing : Sharing S) (seats : List Seat) (parts : List (Piece S)) (closed : List (Closing S)) : Type 0 where
+  pub openings : map opening_of closed ≡ sharing.openings
+  pub all_seats : AreAllSeats (length sharing.openings) sharing.sessions seats
+  pub each : (d : ℕ) (c : Closing S) → slice_get closed d ≡ Some c → IsWhole g d parts c
+  pub receipts : AllByRecursion (HasItsReceipts parts closed) seats
+
+-- the parts of each of the first so many databases are all there, in order
+abbrev pub HaveParts : {S : Type 0} → ℕ → List (Piece S) → List (Closing S) → Type 0
+HaveParts {S} n parts closed = (d : ℕ) (c : Closing S) → d < n → slice_get closed d ≡ Some c → HasAllParts d parts c
+
+-- a database is the first whose parts aren't all there, in order
+abbrev pub LacksParts : {S : Type 0} → ℕ → List (Piece S) → List (Closing S) → Type 0
+LacksParts {S} d parts closed = HaveParts d parts closed × ((c : Closing S) × ((slice_get closed d ≡ Some c) × (HasAllParts d parts c → ⊥)))
+
+-- the receipts of a pass of a session of a database aren't just its entries
+abbrev pub LacksReceipts : {S : Type 0} → ℕ → ℕ → List Seat → List (Piece S) → List (Closing S) → Type 0
+LacksReceipts d k seats parts closed =
+    (i : ℕ) × ((seat : Seat) × ((slice_get seats i ≡ Some seat) × ((seat.database ≡ d) × ((seat.session ≡ k) × (HasItsReceipts parts closed seat → ⊥)))))
+
+-- THE CAUSE OF A MISMATCH is true of what was handed in, and nothing that is looked for before it is: passes, then
+-- parts, then receipts. Memory is no cause: all room was taken before.
+abbrev pub IsTrueOf : {S : Type 0} → ℕ → List Seat → List (Piece S) → List (Closing S) → Cause → Type 0
+IsTrueOf sessions seats parts closed cause.Passes = AreAllSeats (length closed) sessions seats → ⊥
+IsTrueOf sessions seats parts closed (cause.Parts d) = AreAllSeats (length closed) sessions seats × LacksParts d parts closed
+IsTrueOf sessions seats parts closed (cause.Receipts d k) =
+    AreAllSeats (length closed) sessions seats × (HaveParts (length closed) parts closed × LacksReceipts d k seats parts closed)
+IsTrueOf sessions seats parts closed cause.Memory = ⊥

@@ -1,0 +1,109 @@
+use crate::follow::parts_follow;
+use crate::matched::all_matched;
+use crate::opening::Opening;
+use crate::part::Part;
+use crate::pass::Pass;
+use escrow_core::Database;
+use escrow_history::Audited;
+use escrow_transcript::{Base, Entry, Transcript};
+use sqlite::Alter;
+use std::marker::Model;
+
+/// A database that came out of its lock, with its last transcript: what was served since its last part
+/// was handed out.
+#[derive(Drop)]
+pub struct Closed<S: Alter> {
+    opening: Opening<S>,
+    audited: Audited<S>,
+    parts: u64,
+}
+
+impl<S: Alter> Model for Closed<S> {
+    ghost use Rattle.escrow_shards.specs.Closing.{Closing, closing_code};
+
+    ghost Value = { Closing S };
+
+    ghost coded = { closing_code S.code };
+
+    ghost view = { λ c. record { opening = c.opening; history = c.audited; parts = c.parts } };
+}
+
+impl<S: Alter> Closed<S> {
+    ghost use Rattle.std.specs.Prelude.{◌≡◌, ◌↔◌, IsTrue};
+    ghost use Rattle.escrow_history.specs.History.{IsKept};
+    ghost use Rattle.escrow_shards.specs.Begun.{IsBegun};
+    ghost use Rattle.escrow_shards.specs.Closing.{HasAllParts, all_entries};
+    ghost use Rattle.escrow_shards.specs.Receipts.{receipts_of};
+
+    /// A database that came out of its lock, of which so many parts were handed out.
+    pub(crate) fn new(opening: Opening<S>, audited: Audited<S>, parts: u64) -> Self
+        ensures { result ≡ record { opening = opening; history = audited; parts = parts } }
+    {
+        Closed {
+            opening,
+            audited,
+            parts,
+        }
+    }
+
+    /// Where the history of the database begins.
+    pub fn opening(&self) -> &Opening<S>
+        ensures { result.now ≡ self.now.opening }
+    {
+        &self.opening
+    }
+
+    /// Where its last transcript begins. While the disk has returned what was written that transcript is
+    /// legal, up to the state of the database.
+    pub fn base(&self) -> &Base
+        ensures base { result.now ≡ self.now.history.base }
+        ensures kept { IsKept S.Store self.now.history }
+    {
+        self.audited.base()
+    }
+
+    /// The entries of its last transcript, in order.
+    pub fn entries(&self) -> &[Entry]
+        ensures { result.now ≡ self.now.history.entries }
+    {
+        self.audited.entries()
+    }
+
+    /// The database and its last transcript.
+    pub fn into_parts(self) -> (Database<S>, Transcript)
+        ensures store { result.0.store ≡ self.history.store }
+        ensures state { result.0.state ≡ self.history.state }
+        ensures base { result.1.base ≡ self.history.base }
+        ensures entries { result.1.entries ≡ self.history.entries }
+    {
+        self.audited.into_parts()
+    }
+
+    /// Whether all parts of its history are there, in order.
+    pub(crate) fn has_all_parts(&self, database: usize, parts: &[Part<S>]) -> bool
+        ensures whole { IsTrue result ↔ HasAllParts database parts.now self.now }
+        ensures begun { IsBegun S.Store self.now.opening }
+        ensures kept { IsKept S.Store self.now.history }
+    {
+        parts_follow(
+            database,
+            self.opening.base(),
+            parts,
+            self.parts,
+            self.audited.base(),
+        )
+    }
+
+    /// Whether the receipts of a pass are just the entries of its session, in their order.
+    pub(crate) fn matches(&self, parts: &[Part<S>], pass: &Pass) -> bool
+        ensures { IsTrue result ↔ (pass.now.receipts ≡ receipts_of pass.now.session (all_entries pass.now.database parts.now self.now)) }
+    {
+        all_matched(
+            pass.database(),
+            pass.session(),
+            pass.receipts(),
+            parts,
+            self.audited.entries(),
+        )
+    }
+}

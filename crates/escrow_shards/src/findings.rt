@@ -1,0 +1,77 @@
+ghost use Rattle.std.specs.Prelude.{◌≡◌, ◌↔◌, ◌<◌, length, IfSome, IfNone, IsTrue};
+ghost use Rattle.std.specs.List.{AllByRecursion};
+ghost use Rattle.escrow_shards.specs.Found.{AreFound, AreSettled, IsAmong};
+ghost use Rattle.escrow_shards.specs.Whole.{HasItsReceipts, IsTrueOf, LacksParts, LacksReceipts};
+
+use crate::cause::Cause;
+use crate::closed::Closed;
+use crate::follow::tell_parts;
+use crate::part::Part;
+use crate::pass::Pass;
+use crate::seats::are_all_seats;
+use sqlite::Alter;
+
+/// The first cause of a mismatch: passes first, then parts, then receipts. `None` where all fits together.
+pub(crate) fn cause_of<S: Alter>(
+    closed: &[Closed<S>],
+    sessions: u8,
+    passes: &[Pass],
+    parts: &[Part<S>],
+) -> Option<Cause>
+    ensures none { IfNone result (AreFound S.Store sessions passes.now parts.now closed.now) }
+    ensures some { IfSome result (λ cause. IsTrueOf sessions passes.now parts.now closed.now cause) }
+{
+    if !are_all_seats(closed.len(), sessions, passes) {
+        return Some(Cause::Passes);
+    }
+    tell_parts(parts);
+    if let Some(database) = lacks_parts(closed, parts) {
+        return Some(Cause::Parts { database });
+    }
+    if let Some(pass) = lacks_receipts(closed, parts, passes) {
+        return Some(Cause::Receipts {
+            database: pass.database(),
+            session: pass.session(),
+        });
+    }
+    None
+}
+
+/// The first database whose parts aren't all there, in order.
+fn lacks_parts<S: Alter>(closed: &[Closed<S>], parts: &[Part<S>]) -> Option<usize>
+    ensures none { IfNone result (AreSettled S.Store parts.now closed.now) }
+    ensures some { IfSome result (λ database. LacksParts database parts.now closed.now) }
+{
+    for database in 0..closed.len() {
+        if !closed[database].has_all_parts(database, parts) {
+            return Some(database);
+        }
+    }
+    None
+}
+
+/// The first pass whose receipts aren't just the entries of its session.
+fn lacks_receipts<'a, S: Alter>(
+    closed: &[Closed<S>],
+    parts: &[Part<S>],
+    passes: &'a [Pass],
+) -> Option<&'a Pass>
+    requires { AllByRecursion (IsAmong (length closed.now)) passes.now }
+    ensures none { IfNone result (AllByRecursion (HasItsReceipts parts.now closed.now) passes.now) }
+    ensures some { IfSome result (λ pass. LacksReceipts pass.now.database pass.now.session passes.now parts.now closed.now) }
+{
+    for pass in passes {
+        if !has_its_receipts(closed, parts, pass) {
+            return Some(pass);
+        }
+    }
+    None
+}
+
+/// Whether the receipts of a pass are just the entries of its session.
+fn has_its_receipts<S: Alter>(closed: &[Closed<S>], parts: &[Part<S>], pass: &Pass) -> bool
+    requires { IsAmong (length closed.now) pass.now }
+    ensures { IsTrue result ↔ HasItsReceipts parts.now closed.now pass.now }
+{
+    closed[pass.database()].matches(parts, pass)
+}

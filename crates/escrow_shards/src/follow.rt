@@ -1,0 +1,42 @@
+ghost use Rattle.std.specs.Prelude.{◌≡◌, ◌↔◌, IsTrue};
+ghost use Rattle.std.specs.List.{AllByRecursion};
+ghost use Rattle.escrow_shards.specs.Closing.{Follow};
+ghost use Rattle.escrow_shards.specs.Piece.{IsSound, parts_of};
+
+use crate::part::Part;
+use escrow_transcript::Base;
+use sqlite::Alter;
+
+/// Whether the parts of a database are all there, in order: so many, from a first base up to a last one.
+pub(crate) fn parts_follow<'a, S: Alter>(
+    database: usize,
+    first: &'a Base,
+    parts: &'a [Part<S>],
+    count: u64,
+    last: &Base,
+) -> bool
+    ensures { IsTrue result ↔ Follow 0 first.now (parts_of database parts.now) count last.now }
+{
+    let mut number = 0;
+    let mut base = first;
+    for part in parts {
+        if !part.is_of(database) {
+            continue;
+        }
+        if !part.is_next(number, base) {
+            return false;
+        }
+        number = part.number();
+        base = part.end();
+    }
+    number == count && base.is_same(last)
+}
+
+/// What the type of parts knows of each of them.
+pub(crate) fn tell_parts<S: Alter>(parts: &[Part<S>])
+    ensures { AllByRecursion (IsSound S.Store) parts.now }
+{
+    for part in parts {
+        let _ = part.database();
+    }
+}

@@ -1,0 +1,73 @@
+use crate::closed::Closed;
+use crate::opening::Opening;
+use crate::part::Part;
+use escrow_history::{Audited, Served, Unserved};
+use escrow_num::{Refusal, Session};
+use escrow_sql::Statement;
+use escrow_transcript::Transcript;
+use sqlite::Alter;
+use std::alloc::Global;
+
+/// What lies under a lock: a database with its transcript, and how many parts of its history were handed
+/// out. Whenever the lock is got, the transcript is legal up to the state found, while the disk has
+/// returned what was written.
+#[derive(Drop)]
+pub(crate) struct Locked<S: Alter> {
+    audited: Audited<S>,
+    parts: u64,
+}
+
+impl<S: Alter> Locked<S> {
+    ghost use Rattle.std.specs.Prelude.{◌≡◌, ◌↔◌, ◌+◌, [], length, true, IfOk, IfErr, IsErrOf, OnErr};
+    ghost use Rattle.sqlite.specs.Held.{state};
+    ghost use Rattle.sqlite.specs.State.{HasCleanDisk};
+    ghost use Rattle.escrow_machine.specs.State.{has_open};
+    ghost use Rattle.escrow_transcript.specs.declared.transcript.TheConstants.Transcript.{MAX_ENTRIES};
+    ghost use Rattle.escrow_history.specs.Calls.{Appends, Stays, IsNotDrained};
+
+    /// A database of whose history no part was handed out.
+    pub(crate) fn new(audited: Audited<S>) -> Self
+        ensures { result ≡ record { audited = audited; parts = 0 } }
+    {
+        Locked { audited, parts: 0 }
+    }
+
+    /// Serves one statement of a session, and adds its entry to the transcript.
+    pub(crate) fn serve(
+        &mut self,
+        alloc: Global,
+        session: Session,
+        statement: &Statement,
+    ) -> Result<Served, Unserved>
+        ensures served { IfOk result (λ r. Appends S.Store self.old.audited session statement.now r.number r.reply self.new.audited) }
+        ensures kept { IfOk result (λ r. r.kept ≡ r.reply) }
+        ensures unserved { OnErr result (Stays S.Store self.old.audited self.new.audited) }
+        ensures full { IsErrOf result Unserved.Full ↔ (length self.old.audited.entries ≡ MAX_ENTRIES) }
+        ensures parts { self.new.parts ≡ self.old.parts }
+    {
+        self.audited.serve(alloc, session, statement)
+    }
+
+    /// Hands out the next part of the history: the transcript, which begins again where the part ends.
+    pub(crate) fn drain(&mut self, alloc: Global, database: usize) -> Result<Part<S>, Refusal>
+        ensures part { IfOk result (λ p. (p.database ≡ database) × ((p.number ≡ self.old.parts + 1) × ((p.base ≡ self.old.audited.base) × (p.entries ≡ self.old.audited.entries)))) }
+        ensures begun { IfOk result (λ p. (self.new.audited.base ≡ p.end) × ((self.new.audited.entries ≡ []) × (self.new.parts ≡ p.number))) }
+        ensures state { self.new.audited.state ≡ self.old.audited.state }
+        ensures refused { OnErr result (Stays S.Store self.old.audited self.new.audited × (self.new.parts ≡ self.old.parts)) }
+        ensures only { IfErr result IsNotDrained }
+    {
+        if self.parts >= Transcript::MAX_NUMBER {
+            return Err(Refusal::TranscriptFull);
+        }
+        let (transcript, end) = self.audited.drain(alloc)?;
+        self.parts += 1;
+        Ok(Part::new(database, self.parts, transcript, end, &self.audited))
+    }
+
+    /// The database out of its lock.
+    pub(crate) fn close(self, opening: Opening<S>) -> Closed<S>
+        ensures { result ≡ record { opening = opening; history = self.audited; parts = self.parts } }
+    {
+        Closed::new(opening, self.audited, self.parts)
+    }
+}

@@ -1,0 +1,55 @@
+use escrow_core::Database;
+use escrow_transcript::Base;
+use sqlite::Alter;
+use std::marker::Model;
+use std::snapshot::Snapshot;
+
+/// The opening of a database that threads share: the base where its history begins. It remembers the
+/// database as it then was, for clauses alone.
+#[derive(Drop)]
+pub struct Opening<S: Alter> {
+    base: Base,
+    // The database as it was: it has no bytes.
+    was: Snapshot<Database<S>>,
+}
+
+impl<S: Alter> Model for Opening<S> {
+    ghost use Rattle.escrow_shards.specs.Begun.{Begun, begun_code, IsBegun};
+
+    ghost Value = { Begun S };
+
+    ghost coded = { begun_code S.code };
+
+    ghost view = { λ o. record { base = o.base; store = o.was.value.store; state = o.was.value.state } };
+
+    ghost invariant = { λ o. IsBegun S.Store (record { base = o.base; store = o.was.value.store; state = o.was.value.state }) };
+}
+
+impl<S: Alter> Opening<S> {
+    ghost use Rattle.std.specs.Prelude.{◌≡◌};
+    ghost use Rattle.sqlite.specs.Held.{state};
+    ghost use Rattle.sqlite.specs.State.{HasCleanDisk};
+    ghost use Rattle.escrow_transcript.specs.Image.{started};
+    ghost use Rattle.escrow_shards.specs.Begun.{IsBegun};
+
+    /// The opening of a database as it is, at a base.
+    pub(crate) fn new(base: Base, database: &Database<S>) -> Self
+        requires first { base.before ≡ 0 }
+        requires whole { HasCleanDisk (state S.Store database.now.store) → database.now.state ≡ started base.image }
+        ensures { result ≡ record { base = base; store = database.now.store; state = database.now.state } }
+    {
+        Opening {
+            base,
+            was: Snapshot::of(database),
+        }
+    }
+
+    /// The base where the history of the database begins. Where the disk had returned what was written, it
+    /// is all of the state.
+    pub fn base(&self) -> &Base
+        ensures base { result.now ≡ self.now.base }
+        ensures begun { IsBegun S.Store self.now }
+    {
+        &self.base
+    }
+}

@@ -1,0 +1,59 @@
+ghost use Rattle.std.specs.Prelude.{◌≡◌, ◌↔◌, ℕ, ◌<◌, IsTrue};
+ghost use Rattle.std.specs.List.{AllByRecursion};
+ghost use Rattle.escrow_shards.specs.Seat.{seats_at, IsSeat, AreAllSeats};
+ghost use Rattle.escrow_shards.specs.Counted.{AreOnce};
+
+use crate::pass::Pass;
+
+/// Whether each session of each database has one pass, and there are no others.
+pub(crate) fn are_all_seats(databases: usize, sessions: u8, passes: &[Pass]) -> bool
+    ensures { IsTrue result ↔ AreAllSeats databases sessions passes.now }
+{
+    are_seats(databases, sessions, passes) && are_each_once(databases, sessions, passes)
+}
+
+/// Whether each pass is for one of so many databases and sessions.
+fn are_seats(databases: usize, sessions: u8, passes: &[Pass]) -> bool
+    ensures { IsTrue result ↔ AllByRecursion (IsSeat databases sessions) passes.now }
+{
+    for pass in passes {
+        if !pass.is_seat(databases, sessions) {
+            return false;
+        }
+    }
+    true
+}
+
+/// Whether each session of each database has one pass.
+fn are_each_once(databases: usize, sessions: u8, passes: &[Pass]) -> bool
+    ensures { IsTrue result ↔ ((d : ℕ) → d < databases → AreOnce d sessions passes.now) }
+{
+    for database in 0..databases {
+        if !are_once(database, sessions, passes) {
+            return false;
+        }
+    }
+    true
+}
+
+/// Whether each session of a database has one pass.
+fn are_once(database: usize, sessions: u8, passes: &[Pass]) -> bool
+    ensures { IsTrue result ↔ AreOnce database sessions passes.now }
+{
+    for session in 1..usize::from(sessions) + 1 {
+        if count_at(database, session, passes) != 1 {
+            return false;
+        }
+    }
+    true
+}
+
+/// How many passes are for a session of a database.
+fn count_at(database: usize, session: usize, passes: &[Pass]) -> usize
+    ensures { result ≡ seats_at database session passes.now }
+{
+    passes
+        .iter()
+        .filter(|pass| pass.is_at(database, session))
+        .count()
+}

@@ -1,0 +1,84 @@
+use crate::closed::Closed;
+use crate::gate::Gate;
+use crate::locked::Locked;
+use crate::opening::Opening;
+use crate::part::Part;
+use escrow_history::{Served, Unserved};
+use escrow_num::{Refusal, Session};
+use escrow_sql::Statement;
+use sqlite::Alter;
+use std::alloc::Global;
+use std::marker::Model;
+use std::sync::{Mutex, Wait};
+
+/// A database under its lock, with its opening beside it. Contracts see the opening alone.
+#[derive(Drop)]
+pub(crate) struct Shard<S: Alter> {
+    lock: Mutex<Locked<S>>,
+    opening: Opening<S>,
+}
+
+impl<S: Alter> Model for Shard<S> {
+    ghost use Rattle.escrow_shards.specs.Begun.{Begun, begun_code};
+
+    ghost Value = { Begun S };
+
+    ghost coded = { begun_code S.code };
+
+    ghost view = { λ s. s.opening };
+}
+
+impl<S: Alter> Shard<S> {
+    ghost use Rattle.std.specs.Prelude.{◌≡◌, None, IfOk, IfErr};
+    ghost use Rattle.escrow_history.specs.Calls.{IsNotDrained};
+    ghost use Rattle.escrow_machine.specs.Reply.{failure_of};
+
+    /// A database that goes under its lock.
+    pub(crate) fn new(locked: Locked<S>, opening: Opening<S>) -> Self
+        ensures { result ≡ opening }
+    {
+        Shard {
+            lock: Mutex::new(locked),
+            opening,
+        }
+    }
+
+    /// Serves one statement of a session under the lock. It may wait.
+    pub(crate) fn serve<R: Wait, G: Gate>(
+        &self,
+        rt: &R,
+        alloc: Global,
+        gate: &G,
+        database: usize,
+        session: Session,
+        n: u64,
+        statement: &Statement,
+    ) -> Result<Served, Unserved>
+        ensures kept { IfOk result (λ r. r.kept ≡ r.reply) }
+        ensures succeeds { IfOk result (λ r. failure_of r.reply ≡ None) }
+    {
+        let mut locked = self.lock.lock(rt);
+        gate.inside(rt, database, session, n);
+        locked.serve(alloc, session, statement)
+    }
+
+    /// Hands out the next part of the history under the lock. It may wait.
+    pub(crate) fn drain<R: Wait>(
+        &self,
+        rt: &R,
+        alloc: Global,
+        database: usize,
+    ) -> Result<Part<S>, Refusal>
+        ensures part { IfOk result (λ p. p.database ≡ database) }
+        ensures only { IfErr result IsNotDrained }
+    {
+        self.lock.lock(rt).drain(alloc, database)
+    }
+
+    /// The database out of its lock.
+    pub(crate) fn close(self) -> Closed<S>
+        ensures { result.opening ≡ self }
+    {
+        self.lock.into_inner().close(self.opening)
+    }
+}

@@ -1,0 +1,61 @@
+mod call;
+mod close;
+mod make;
+
+use crate::pass::Pass;
+use crate::room::Room;
+use crate::shard::Shard;
+use sqlite::Alter;
+use std::marker::Model;
+use std::sync::Mutex;
+
+/// The most databases that are shared together.
+pub const MAX_DATABASES: usize = 16;
+
+/// Databases that threads share, each under a lock of its own, with its opening beside it.
+#[derive(Drop)]
+pub struct Shared<S: Alter> {
+    shards: Vec<Shard<S>>,
+    sessions: u8,
+    room: Mutex<Room<S>>,
+}
+
+impl<S: Alter> Model for Shared<S> {
+    ghost use Rattle.std.specs.Prelude.{◌≤◌, vec_len};
+    ghost use Rattle.escrow_shards.specs.declared.shared.TheConstants.{MAX_DATABASES};
+    ghost use Rattle.escrow_shards.specs.Sharing.{Sharing, sharing_code};
+
+    ghost Value = { Sharing S };
+
+    ghost coded = { sharing_code S.code };
+
+    ghost view = { λ s. record { openings = s.shards.items; sessions = s.sessions } };
+
+    ghost invariant = { λ s. vec_len s.shards ≤ MAX_DATABASES };
+}
+
+impl<S: Alter> Shared<S> {
+    ghost use Rattle.std.specs.Prelude.{◌≡◌, ◌↔◌, length, IsTrue};
+    ghost use Rattle.escrow_shards.specs.Sharing.{HasSeat};
+
+    /// How many databases are shared. They are counted from 0.
+    pub fn databases(&self) -> usize
+        ensures { result ≡ length self.now.openings }
+    {
+        self.shards.len()
+    }
+
+    /// How many sessions each of them has. They are counted from 1.
+    pub fn sessions(&self) -> u8
+        ensures { result ≡ self.now.sessions }
+    {
+        self.sessions
+    }
+
+    /// Whether a pass is for one of these databases and sessions, as calls with it ask.
+    pub fn has_seat(&self, pass: &Pass) -> bool
+        ensures { IsTrue result ↔ HasSeat self.now pass.now }
+    {
+        pass.database() < self.databases() && pass.session().get() <= self.sessions
+    }
+}

@@ -1,0 +1,64 @@
+ghost use Rattle.std.specs.Prelude.{◌≡◌, ◌≤◌, map, vec_len};
+ghost use Rattle.escrow_shards.specs.declared.shared.TheConstants.{MAX_DATABASES};
+ghost use Rattle.escrow_shards.specs.Closing.{opening_of};
+
+use crate::cause::{Audit, Mismatch};
+use crate::closed::Closed;
+use crate::findings::cause_of;
+use crate::part::Part;
+use crate::pass::Pass;
+use crate::room::Room;
+use crate::shard::Shard;
+use crate::shared::Shared;
+use sqlite::Alter;
+
+impl<S: Alter + Drop> Shared<S> {
+    ghost use Rattle.std.specs.Prelude.{◌≡◌, map, IfOk, IfErr};
+    ghost use Rattle.escrow_shards.specs.Closing.{opening_of};
+    ghost use Rattle.escrow_shards.specs.Whole.{AreWhole, IsTrueOf};
+
+    /// Ends the sharing, with all passes and all parts that were handed out. All fits together only where
+    /// each pass is handed in once, the parts of each database are all there, in order, and the receipts
+    /// of each session are just its entries, in its order, each once. Then the entries of each database,
+    /// those of its parts and then those of its last transcript, are one legal run of the machine,
+    /// numbered from 1, from the state at its opening to the state in which it is handed back; as long as
+    /// its disk had returned what was written at its opening, whenever a part was handed out, and now.
+    /// What is compared is what passes and parts say: one of another sharing that says the same fits too.
+    /// Open transactions stay open. Takes no memory.
+    ///
+    /// # Errors
+    ///
+    /// The first cause that is found: passes, then parts, then receipts. Everything is handed back, the
+    /// databases out of their locks.
+    pub fn close(self, passes: Vec<Pass>, parts: Vec<Part<S>>) -> Result<Audit<S>, Mismatch<S>>
+        ensures whole { IfOk result (λ a. AreWhole S.Store self passes.items parts.items a.closed.items) }
+        ensures same { IfOk result (λ a. a.parts ≡ parts) }
+        ensures back { IfErr result (λ m. (m.passes ≡ passes) × (m.parts ≡ parts)) }
+        ensures closed { IfErr result (λ m. map opening_of m.closed.items ≡ self.openings) }
+        ensures cause { IfErr result (λ m. IsTrueOf self.sessions passes.items parts.items m.closed.items m.cause) }
+    {
+        let sessions = self.sessions;
+        let closed = out_of_locks(self.shards, self.room.into_inner());
+        match cause_of(&closed, sessions, &passes, &parts) {
+            None => Ok(Audit { closed, parts }),
+            Some(cause) => Err(Mismatch {
+                closed,
+                passes,
+                parts,
+                cause,
+            }),
+        }
+    }
+}
+
+/// Databases out of their locks, into room that was taken for them.
+fn out_of_locks<S: Alter + Drop>(shards: Vec<Shard<S>>, room: Room<S>) -> Vec<Closed<S>>
+    requires { vec_len shards ≤ MAX_DATABASES }
+    ensures { map opening_of result.items ≡ shards.items }
+{
+    let mut closed = room.closed;
+    for shard in shards {
+        closed.push_reserved(shard.close());
+    }
+    closed
+}
