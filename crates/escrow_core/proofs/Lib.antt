@@ -2,6 +2,7 @@ pub mod Breaches
 pub mod Committing
 pub mod Counting
 pub mod Creating
+pub mod Crossing
 pub mod Deleting
 pub mod Dropping
 pub mod Ending

@@ -29,11 +29,21 @@ use std::marker::Model;
 /// reservations and savepoints of all sessions, and the id that the next reservation takes. A fault that
 /// shuts the store takes nothing from these. Beside the reservations it keeps what they can do to each row
 /// that they reserve, so that no grant walks them; and the amounts that were read last of a row.
-#[derive(Drop)]
 pub struct Database<S: Alter> {
     tables: Tables<S>,
     reserved: Reserved,
     recent: Recent,
+}
+
+// It is written out, so that no crate above proves again how each part is dropped.
+impl<S: Alter + Drop> Drop for Database<S> {
+    fn drop(self) {
+        let Database {
+            tables: _,
+            reserved: _,
+            recent: _,
+        } = self;
+    }
 }
 
 impl<S: Alter> Model for Database<S> {
@@ -94,7 +104,12 @@ impl<S: Alter> Database<S> {
         ensures same { result ≡ self.store }
         ensures outside { result.in_transaction ≡ false }
     {
-        self.tables.into_connection()
+        let Database {
+            tables,
+            reserved: _,
+            recent: _,
+        } = self;
+        tables.into_connection()
     }
 
     /// The id that the next reservation takes, or `None` where there are no more ids. While the disk has

@@ -2,7 +2,7 @@
 //! run to run, but not how many do: none is given back, so the first 100 of 160 wishes are granted.
 #![tactic(auto)]
 
-use anyhow::{Context, Result, ensure};
+use anyhow::{Context, Result, bail, ensure};
 use escrow_core::Database;
 use escrow_machine::Reply;
 use escrow_memory::BlockStore;
@@ -23,7 +23,7 @@ const WISH: &str = "UPDATE SEATS SET FREE = FREE - 1 WHERE ID = 1";
 fn main(rt: HostRuntime) -> Result<()> {
     let alloc = rt.alloc();
     let (hall, mut passes) = open_hall(alloc)?;
-    let Request::Statement(wish) = parse(alloc, WISH).ok().context("no statement")?;
+    let wish = statement(alloc, WISH)?;
     // A thread for each pass. All of them have ended when this returns.
     let serve = |_: usize, pass: &mut Pass| buy(&rt, alloc, &hall, pass, &wish);
     thread::for_each_mut(&rt, &mut passes, 8, &serve);
@@ -48,12 +48,19 @@ fn open_hall(alloc: Global) -> Result<(Shared<BlockStore>, Vec<Pass>)> {
     let tables = open_store(alloc, connection).ok().context("no store")?;
     let mut database = Database::open(alloc, tables).ok().context("no memory")?;
     for text in [TABLE, "INSERT INTO SEATS VALUES (1, 100)"] {
-        let Request::Statement(asked) = parse(alloc, text).ok().context("no statement")?;
-        let reply = database.step(alloc, Session::FIRST, &asked);
+        let reply = database.step(alloc, Session::FIRST, &statement(alloc, text)?);
         ensure!(!matches!(reply, Reply::Refused(_)), "refused: {text}");
     }
     let databases = vec![in alloc; database]?;
     Shared::make(alloc, databases, 8).ok().context("not shared")
+}
+
+/// The statement of a text.
+fn statement(alloc: Global, text: &str) -> Result<Statement> {
+    match parse(alloc, text) {
+        Ok(Request::Statement(statement)) => Ok(statement),
+        _ => bail!("no statement: {text}"),
+    }
 }
 
 /// Wishes for a seat twenty times, and takes each one granted. What isn't served changes nothing.

@@ -16,11 +16,21 @@ use std::mem::replace;
 /// A database with its transcript: where it began, and an entry for each statement that was served since.
 /// While the disk has returned what was written the transcript is legal, from its base to the state of the
 /// database.
-#[derive(Drop)]
 pub struct Audited<S: Alter> {
     database: Database<S>,
     base: Base,
     entries: Vec<Entry>,
+}
+
+// It is written out, so that no crate above proves again how each part is dropped.
+impl<S: Alter + Drop> Drop for Audited<S> {
+    fn drop(self) {
+        let Audited {
+            database: _,
+            base: _,
+            entries: _,
+        } = self;
+    }
 }
 
 impl<S: Alter> Model for Audited<S> {
@@ -120,11 +130,16 @@ impl<S: Alter> Audited<S> {
     {
         // That the state is valid is told where the next id is asked.
         let _ = self.database.next_id();
+        let Audited {
+            database,
+            base,
+            entries,
+        } = self;
         let transcript = Transcript {
-            base: self.base,
-            entries: Seq::from_vec(self.entries),
+            base,
+            entries: Seq::from_vec(entries),
         };
-        (self.database, transcript)
+        (database, transcript)
     }
 
     /// Serves one statement of a session, and adds its entry to the transcript. Room for the entry, and

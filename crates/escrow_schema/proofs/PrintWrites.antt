@@ -185,5 +185,5 @@ pub writes_table : (n : List ℕ) (texts : List (List ℕ)) (is : List Item) →
     → Writes is_behind request (table_words n texts) (requests.Statement (statements.Create (record { table = n; items = is })))
 unfolding request body table_statement create table_words
 writes_table n texts is written some each =
-    writes_meaning (writes_first (writes_left (writes_left (writes_meaning (writes_apart (writes_word words.Create) refl (writes_blank (writes_apart (writes_word words.Table) refl
-    (writes_blank (writes_apart (writes_own_name n written) refl (writes_blank (writes_in_parentheses (writes_listed item texts is some each))))))))))) (writes_right writes_nothing))
+    writes_first (writes_left (writes_meaning (writes_left (writes_meaning (writes_apart (writes_word words.Create) refl (writes_blank (writes_apart (writes_word words.Table) refl
+    (writes_blank (writes_apart (writes_own_name n written) refl (writes_blank (writes_in_parentheses (writes_listed item texts is some each)))))))))))) (writes_right writes_nothing)

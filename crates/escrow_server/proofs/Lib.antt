@@ -6,4 +6,5 @@ pub mod ProgramLemmas
 pub mod ReadingLemmas
 pub mod ScriptLemmas
 pub mod ServeLemmas
+pub mod TotalsLemmas
 pub mod CleanDisks

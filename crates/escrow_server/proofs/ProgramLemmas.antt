@@ -13,7 +13,7 @@ use Rattle.escrow_server.specs.declared.fault.ServeFault.{ServeFault}
 use Rattle.escrow_server.specs.declared.fault.ServeFault.TheVariants as fault
 use Rattle.escrow_server.specs.Output.{ServesWhole, StopsWithin}
 use Rattle.escrow_server.specs.Program.{empty_states, run_status, EndsOverFiles, EndsScript, Stops, WritesFront, WritesNothing}
-use Rattle.escrow_server.proofs.ServeLemmas.{appends_more, appends_none, stopped, stood_unwritten}
+use Rattle.escrow_server.proofs.ServeLemmas.{appends_more, appends_none, stopped_unserved}
 
 -- all of the bytes were written, or fewer of them
 abbrev pub Writes : {X Z : Type 0} → Option (List ℕ) → Option (List ℕ) → List ℕ → Result X Z → Type 0
@@ -45,19 +45,12 @@ front_second old mid new first second (Err z) wrote went more = absurd (true≢f
 
 -- WITHOUT A LINE SERVED
 
--- where memory is short before the first line, no line is served
-stopped_unserved : (count : ℕ) (script : List ℕ) (old_bytes new_bytes : Option (List ℕ)) → Appends old_bytes new_bytes []
-    → StopsWithin fault.Memory script (empty_states count) (empty_states count) old_bytes new_bytes
-stopped_unserved count script old_bytes new_bytes wrote =
-    stopped fault.Memory (empty_states count) (empty_states count) (Some script) (Some script) old_bytes new_bytes [] tt
-    (stood_unwritten (empty_states count) (Some script) old_bytes new_bytes wrote)
-
 -- nor where the words couldn't be read for want of memory
 pub ends_unserved : (count status : ℕ) (script rest old_bytes new_bytes : Option (List ℕ)) → status ≡ 1 → Appends old_bytes new_bytes []
     → IfSome script (λ bytes. EndsScript count status bytes rest old_bytes new_bytes)
 ends_unserved count status None rest old_bytes new_bytes failed wrote = tt
 ends_unserved count status (Some bytes) rest old_bytes new_bytes failed wrote =
-    inr (inl (failed, fault.Memory, empty_states count, stopped_unserved count bytes old_bytes new_bytes wrote))
+    inr (inl (failed, fault.Memory, empty_states count, stopped_unserved fault.Memory (empty_states count) bytes old_bytes new_bytes tt wrote))
 
 -- where a store isn't opened, nothing is read or written
 pub stops_unopened : (why : RunFault) (starts : List State → Type 0) (new : List State) (script bytes : Option (List ℕ)) → run_status why ≡ 3

@@ -1,8 +1,8 @@
 -- What is written piece by piece, and lines that are served one by one.
-use Rattle.std.proofs.Common.{◌≡◌, ◌≢◌, ◌⊎◌, ℕ, ◌+◌, ◌<◌, ◌≤◌, List, [], ◌∷◌, ◌++◌, length, take, drop, Option, Some, None, arith, refl, sym, ap, subst, ◌∙◌, append_assoc, inl, inr}
+use Rattle.std.proofs.Common.{◌≡◌, ◌≢◌, ◌⊎◌, ℕ, ◌+◌, ◌<◌, ◌≤◌, List, [], ◌∷◌, ◌++◌, length, map, replicate, take, drop, Option, Some, None, arith, refl, sym, ap, subst, ◌∙◌, append_assoc, inl, inr}
 use Rattle.std.specs.Prelude.{Result, Ok, Err, OnErr, IfOk, IfErr, IsErrAnd, slice_get, slice_index_or, slice_set, option_map, IfSome, Bool, true, false, ⊤}
 use Rattle.std.specs.Io.KnownBytes.{Appends, IsAtEnd}
-use Rattle.std.proofs.lemmas.List.{append-nil, take_all, take-append-drop, length-take, length-drop, length-map, map-set}
+use Rattle.std.proofs.lemmas.List.{append-nil, take_all, take-append-drop, length-append, length-take, length-drop, length-map, map-set}
 use Rattle.std.proofs.lemmas.Option.{slice_get-get_or, slice_get-map}
 use Rattle.std.proofs.lemmas.Bool.{cases_lt}
 use Rattle.sqlite_trees.specs.declared.store.Store.{Ghosts}
@@ -13,9 +13,15 @@ use Rattle.escrow_server.specs.declared.fault.ServeFault.{ServeFault}
 use Rattle.escrow_server.specs.declared.fault.ServeFault.TheVariants as fault
 use Rattle.escrow_machine.specs.Step as machine
 use Rattle.escrow_machine.specs.declared.event.Event.TheVariants as event
-use Rattle.escrow_server.specs.Line.{Reading, restart, statement, no_line, database_name, Reads, lines_of}
-use Rattle.escrow_reply.specs.Text.{rendered, rendered_whole}
-use Rattle.escrow_server.specs.Output.{state_in, states_of, Answers, HaveCleanDisks, ServesLine, ServesBytes, ServesLines, ServesWhole, Leaves, StopsWithin}
+use Rattle.escrow_server.specs.declared.line.Line.{Line}
+use Rattle.escrow_server.specs.declared.line.Line.TheVariants as line
+use Rattle.escrow_server.specs.Reading.{seen}
+use Rattle.escrow_server.specs.Line.{Reading, nothing, join, restart, statement, no_line, database_name, Reads, lines_of}
+use Rattle.escrow_reply.specs.Text.{rendered_whole}
+use Rattle.escrow_server.specs.Output.{Sitting, begun, state_in, states_of, HaveCleanDisks, ServesBytes, ServesLines, WritesLines, ServesWhole, Leaves, StopsWithin}
+use Rattle.escrow_server.specs.declared.totals.Totals.{Totals}
+use Rattle.escrow_server.specs.Totals.{no_totals, totals_after, AllSit, TextServed, LineServed}
+use Rattle.escrow_server.proofs.TotalsLemmas.{all_begun, all_states, line_of_none, line_of_statement, line_of_restart}
 use Rattle.escrow_server.specs.declared.limits.TheConstants.{MAX_LINE, MAX_SCRIPT}
 use Rattle.escrow_server.specs.Script.{TakesLine, Spends, left}
 
@@ -34,22 +40,6 @@ pub appends_none : (bytes : Option (List ℕ)) → Appends bytes bytes []
 appends_none None = tt
 appends_none (Some bs) = sym (append-nil bs)
 
--- a statement's line
-serves_statement : {S : Type 0} (databases new : Databases S) (place session : ℕ) (text out : List ℕ) (answer : Reply) (old after : State)
-    → slice_get (states_of databases) place ≡ Some old → Answers old session text answer after
-    → out ≡ rendered (database_name place) session answer → states_of new ≡ slice_set (states_of databases) place after
-    → ServesLine (states_of databases) (statement place session text) out (states_of new)
-serves_statement databases new place session text out answer old after found answers is_out is_new =
-    rw found (answer, after, answers, is_out, is_new)
-
--- a restart's line
-serves_restart : {S : Type 0} (databases new : Databases S) (place : ℕ) (out : List ℕ) (answer : Reply) (old after : State)
-    → slice_get (states_of databases) place ≡ Some old → machine.IsServed old event.Restart answer after
-    → out ≡ rendered_whole (database_name place) answer → states_of new ≡ slice_set (states_of databases) place after
-    → ServesLine (states_of databases) (restart place) out (states_of new)
-serves_restart databases new place out answer old after found served is_out is_new =
-    rw found (answer, after, served, is_out, is_new)
-
 kept_long : (databases : ℕ) (line kept : List ℕ) (reading : Reading) → kept ≡ take (MAX_LINE + 1) line → MAX_LINE < length line → Reads databases kept reading → reading ≡ no_line
 kept_long databases line kept reading e long (inl good) = absurd (omega (arith, good.0.0, ap length e, length-take (MAX_LINE + 1) line))
 kept_long databases line kept reading e long (inr bad) = bad.1
@@ -61,16 +51,16 @@ kept_line databases line kept reading e reads = elim (cases_lt MAX_LINE (length 
   | inr short ↦ subst (λ (bytes : List ℕ). Reads databases bytes reading) (e ∙ take_all (MAX_LINE + 1) line (omega arith)) reads
 ]
 
-serves_kept : (states new : List State) (line kept out : List ℕ) → kept ≡ take (MAX_LINE + 1) line → ServesBytes states kept out new → ServesBytes states line out new
-serves_kept states new line kept out e serves = (serves.0, kept_line (length states) line kept serves.0 e serves.1, serves.2)
+serves_kept : (sittings new : List Sitting) (line kept out : List ℕ) → kept ≡ take (MAX_LINE + 1) line → ServesBytes sittings kept out new → ServesBytes sittings line out new
+serves_kept sittings new line kept out e serves = (serves.0, kept_line (length sittings) line kept serves.0 e serves.1, serves.2)
 
 -- one line more is served
-pub serves_more : (states mid new : List State) (served : List (List ℕ)) (line out first : List ℕ) → ServesLines states served out mid
-    → ServesBytes mid line first new → ServesLines states (served ++ line ∷ []) (out ++ first) new
-serves_more states mid new [] line out first h step =
-    let here : ServesBytes states line first new = subst (λ (m : List State). ServesBytes m line first new) h.1 step in
+serves_more : (sittings mid new : List Sitting) (served : List (List ℕ)) (line out first : List ℕ) → ServesLines sittings served out mid
+    → ServesBytes mid line first new → ServesLines sittings (served ++ line ∷ []) (out ++ first) new
+serves_more sittings mid new [] line out first h step =
+    let here : ServesBytes sittings line first new = subst (λ (m : List Sitting). ServesBytes m line first new) h.1 step in
     (first, [], new, here, (refl, refl), ap (λ (o : List ℕ). o ++ first) h.0 ∙ sym (append-nil first))
-serves_more states mid new (l ∷ ls) line out first h step =
+serves_more sittings mid new (l ∷ ls) line out first h step =
     (h.0, h.1 ++ first, h.2, h.3, serves_more h.2 mid new ls line h.1 first h.4 step, ap (λ (o : List ℕ). o ++ first) h.5 ∙ append_assoc h.0 h.1 first)
 
 -- the lines that were served and those that are left are the script's, where its bytes are known
@@ -79,40 +69,58 @@ Rests served None rest = ⊤
 Rests served (Some bytes) None = ⊥
 Rests served (Some bytes) (Some rest) = lines_of bytes ≡ served ++ lines_of rest
 
-rests_at_start : (bytes : Option (List ℕ)) → Rests [] bytes bytes
+rests_at_start : (script : Option (List ℕ)) → Rests [] script (left [] script)
 rests_at_start None = tt
 rests_at_start (Some bytes) = refl
 
--- How a script stands: some of its lines were served, what they write was written but for what is
--- gathered.
-pub record Stood (states new : List State) (script rest old_bytes new_bytes : Option (List ℕ)) (gathered : List ℕ) : Type 0 where
+-- How a script stands: some of its lines were served, and left such states and totals; what they write was
+-- written but for what is gathered; and there were no more of them than the bytes that were spent.
+pub record Stood (states new : List State) (totals : List Totals) (script rest old_bytes new_bytes : Option (List ℕ)) (gathered : List ℕ) (budget : ℕ) : Type 0 where
   pub served : List (List ℕ)
   pub written : List ℕ
-  pub serves : ServesLines states served (written ++ gathered) new
+  pub sittings : List Sitting
+  pub serves : ServesLines (map begun states) served (written ++ gathered) sittings
+  pub sit : AllSit new totals sittings (length served)
+  pub few : length served + budget ≤ MAX_SCRIPT
   pub appends : Appends old_bytes new_bytes written
   pub rests : Rests served script rest
 
-pub stood_unwritten : (states : List State) (script old_bytes new_bytes : Option (List ℕ)) → Appends old_bytes new_bytes [] → Stood states states script script old_bytes new_bytes []
-stood_unwritten states script old_bytes new_bytes wrote = record {
+-- nothing is served: of states that are begun these are the states
+states_begun : (states : List State) → states ≡ map (λ (sitting : Sitting). sitting.state) (map begun states)
+states_begun [] = refl
+states_begun (s ∷ states) = ap (λ (ss : List State). s ∷ ss) (states_begun states)
+
+-- a fault before the first line
+pub stopped_unserved : (why : ServeFault) (states : List State) (script : List ℕ) (old_bytes new_bytes : Option (List ℕ)) → Leaves why [] → Appends old_bytes new_bytes []
+    → StopsWithin why script states states old_bytes new_bytes
+stopped_unserved why states script old_bytes new_bytes leaves wrote = record {
   served = [];
+  unserved = lines_of script;
   written = [];
-  serves = (refl, refl);
+  unwritten = [];
+  lines = refl;
+  serves = (map begun states, (refl, refl), states_begun states);
   appends = wrote;
-  rests = rests_at_start script;
+  leaves = leaves;
 }
 
-pub stood_at_start : (states : List State) (script bytes : Option (List ℕ)) → Stood states states script script bytes bytes []
-stood_at_start states script bytes = stood_unwritten states script bytes bytes (appends_none bytes)
+pub stopped_at_start : (why : ServeFault) (states : List State) (script bytes : Option (List ℕ)) → Leaves why [] → IfSome script (λ s. StopsWithin why s states states bytes bytes)
+stopped_at_start why states None bytes leaves = tt
+stopped_at_start why states (Some script) bytes leaves = stopped_unserved why states script bytes bytes leaves (appends_none bytes)
 
 -- nothing is read and nothing is gathered
-stood_begun : (states : List State) (script bytes : Option (List ℕ)) (unread gathered : List ℕ) → unread ≡ [] → gathered ≡ []
-    → Stood states states script (left unread script) bytes bytes gathered
-stood_begun states None bytes unread gathered none_unread none_gathered =
-    subst (Stood states states None (left unread None) bytes bytes) (sym none_gathered) (stood_at_start states None bytes)
-stood_begun states (Some script) bytes unread gathered none_unread none_gathered =
-    let same : ◌≡◌ {A = Option (List ℕ)} (Some script) (left unread (Some script)) = ap (λ (u : List ℕ). Some (u ++ script)) (sym none_unread) in
-    subst (Stood states states (Some script) (left unread (Some script)) bytes bytes) (sym none_gathered)
-    (subst (λ rest. Stood states states (Some script) rest bytes bytes []) same (stood_at_start states (Some script) bytes))
+stood_begun : (states : List State) (totals : List Totals) (script bytes : Option (List ℕ)) (unread gathered : List ℕ) (left_bytes : ℕ) → totals ≡ replicate (length states) no_totals
+    → unread ≡ [] → gathered ≡ [] → left_bytes ≡ MAX_SCRIPT → Stood states states totals script (left unread script) bytes bytes gathered (left_bytes + length unread)
+stood_begun states totals script bytes unread gathered left_bytes are_none none_unread none_gathered all = record {
+  served = [];
+  written = [];
+  sittings = map begun states;
+  serves = (none_gathered, refl);
+  sit = subst (λ (ts : List Totals). AllSit states ts (map begun states) 0) (sym are_none) (all_begun states);
+  few = omega (arith, all, ap length none_unread);
+  appends = appends_none bytes;
+  rests = subst (λ (u : List ℕ). Rests [] script (left u script)) (sym none_unread) (rests_at_start script);
+}
 
 -- the next line of a script, of which 4,097 bytes are kept
 record Next (script rest new_rest : Option (List ℕ)) (kept : List ℕ) (served : List (List ℕ)) : Type 0 where
@@ -131,121 +139,142 @@ next_of (Some bytes) (Some rest) (Some more) kept served short taken h = record 
   rests = h ∙ ap (λ (ls : List (List ℕ)). served ++ ls) taken.1 ∙ sym (append_assoc served (taken.0 ∷ []) (lines_of more));
 }
 
--- A line's turn: the bytes that were kept of it, the databases before and after it, and what it writes
--- where their stores can be used after it.
-pub record Turn {S : Type 0} (g : Ghosts S) (mid new : Databases S) (rest new_rest : Option (List ℕ)) (first : List ℕ) : Type 0 where
+-- A line's turn: the bytes that were kept of it, the databases and their totals before and after it, and
+-- what it writes where their stores can be used after it.
+pub record Turn {S : Type 0} (g : Ghosts S) (mid new : Databases S) (totals counted : List Totals) (rest new_rest : Option (List ℕ)) (first : List ℕ) (budget less : ℕ) : Type 0 where
   pub kept : List ℕ
   pub short : length kept ≤ MAX_LINE + 1
   pub taken : TakesLine true rest new_rest kept
-  pub step : HaveCleanDisks g new → ServesBytes (states_of mid) kept first (states_of new)
+  pub step : HaveCleanDisks g new → LineServed (states_of mid) totals kept first (states_of new) counted
   pub clean : HaveCleanDisks g new → HaveCleanDisks g mid
+  pub spent : less < budget
 
-pub turn_of : {S : Type 0} (g : Ghosts S) (found : Bool) (kept line first : List ℕ) (mid new : Databases S) (rest new_rest : Option (List ℕ)) → found ≡ true → line ≡ kept
-    → length line ≤ MAX_LINE + 1 → TakesLine found rest new_rest kept → (HaveCleanDisks g new → ServesBytes (states_of mid) line first (states_of new)) → (HaveCleanDisks g new → HaveCleanDisks g mid)
-    → Turn g mid new rest new_rest first
-turn_of g found kept line first mid new rest new_rest is_true is_line short taken step clean = record {
+pub turn_of : {S : Type 0} (g : Ghosts S) (found : Bool) (kept line first : List ℕ) (mid new : Databases S) (totals counted : List Totals) (rest new_rest : Option (List ℕ)) (budget less : ℕ)
+    → found ≡ true → line ≡ kept → length line ≤ MAX_LINE + 1 → TakesLine found rest new_rest kept → (found ≡ true → less < budget)
+    → (HaveCleanDisks g new → LineServed (states_of mid) totals line first (states_of new) counted) → (HaveCleanDisks g new → HaveCleanDisks g mid)
+    → Turn g mid new totals counted rest new_rest first budget less
+turn_of g found kept line first mid new totals counted rest new_rest budget less is_true is_line short taken spent step clean = record {
   kept = kept;
   short = subst (λ (k : List ℕ). length k ≤ MAX_LINE + 1) is_line short;
   taken = subst (λ (f : Bool). TakesLine f rest new_rest kept) is_true taken;
-  step = λ used. subst (λ (k : List ℕ). ServesBytes (states_of mid) k first (states_of new)) is_line (step used);
+  step = λ used. subst (λ (k : List ℕ). LineServed (states_of mid) totals k first (states_of new) counted) is_line (step used);
   clean = clean;
+  spent = spent is_true;
 }
 
 -- How a script stands in databases: as their states tell, where their stores can be used.
-pub record Stands {S : Type 0} (g : Ghosts S) (old new : Databases S) (script rest old_bytes new_bytes : Option (List ℕ)) (gathered : List ℕ) : Type 0 where
-  pub stood : HaveCleanDisks g new → Stood (states_of old) (states_of new) script rest old_bytes new_bytes gathered
+pub record Stands {S : Type 0} (g : Ghosts S) (old new : Databases S) (totals : List Totals) (script rest old_bytes new_bytes : Option (List ℕ)) (gathered : List ℕ) (budget : ℕ) : Type 0 where
+  pub stood : HaveCleanDisks g new → Stood (states_of old) (states_of new) totals script rest old_bytes new_bytes gathered budget
   pub clean : HaveCleanDisks g new → HaveCleanDisks g old
 
-pub stands_begun : {S : Type 0} (g : Ghosts S) (databases : Databases S) (script bytes : Option (List ℕ)) (unread gathered : List ℕ) → unread ≡ [] → gathered ≡ []
-    → Stands g databases databases script (left unread script) bytes bytes gathered
-stands_begun g databases script bytes unread gathered none_unread none_gathered =
-    record { stood = λ _. stood_begun (states_of databases) script bytes unread gathered none_unread none_gathered; clean = λ used. used }
+pub stands_begun : {S : Type 0} (g : Ghosts S) (databases : Databases S) (totals : List Totals) (script bytes : Option (List ℕ)) (unread gathered : List ℕ) (left_bytes : ℕ)
+    → totals ≡ replicate (length databases) no_totals → unread ≡ [] → gathered ≡ [] → left_bytes ≡ MAX_SCRIPT
+    → Stands g databases databases totals script (left unread script) bytes bytes gathered (left_bytes + length unread)
+stands_begun g databases totals script bytes unread gathered left_bytes are_none none_unread none_gathered all =
+    let are : totals ≡ replicate (length (states_of databases)) no_totals = are_none ∙ ap (λ (n : ℕ). replicate n no_totals) (sym (length-map databases state_in)) in
+    record { stood = λ _. stood_begun (states_of databases) totals script bytes unread gathered left_bytes are none_unread none_gathered all; clean = λ used. used }
 
 -- one line more is served, and what it writes is gathered
-turn_stood : (states mid new : List State) (script rest new_rest old_bytes new_bytes : Option (List ℕ)) (kept gathered first : List ℕ) → length kept ≤ MAX_LINE + 1
-    → TakesLine true rest new_rest kept → ServesBytes mid kept first new → Stood states mid script rest old_bytes new_bytes gathered
-    → Stood states new script new_rest old_bytes new_bytes (gathered ++ first)
-turn_stood states mid new script rest new_rest old_bytes new_bytes kept gathered first short taken step stood =
+turn_stood : (states mid new : List State) (totals counted : List Totals) (script rest new_rest old_bytes new_bytes : Option (List ℕ)) (kept gathered first : List ℕ) (budget less : ℕ)
+    → length kept ≤ MAX_LINE + 1 → TakesLine true rest new_rest kept → LineServed mid totals kept first new counted → less < budget
+    → Stood states mid totals script rest old_bytes new_bytes gathered budget → Stood states new counted script new_rest old_bytes new_bytes (gathered ++ first) less
+turn_stood states mid new totals counted script rest new_rest old_bytes new_bytes kept gathered first budget less short taken step spent stood =
     let next = next_of script rest new_rest kept stood.served short taken stood.rests in
-    let here = serves_kept mid new next.line kept first next.is_kept step in
-    let whole = serves_more states mid new stood.served next.line (stood.written ++ gathered) first stood.serves here in
+    let served = step stood.sittings (length stood.served) stood.sit (omega (arith, stood.few, spent)) in
+    let here = serves_kept stood.sittings served.0 next.line kept first next.is_kept served.1 in
+    let whole = serves_more (map begun states) stood.sittings served.0 stood.served next.line (stood.written ++ gathered) first stood.serves here in
+    let one_more : length stood.served + 1 ≡ length (stood.served ++ next.line ∷ []) = sym (length-append stood.served (next.line ∷ [])) in
     record {
       served = stood.served ++ next.line ∷ [];
       written = stood.written;
-      serves = subst (λ (o : List ℕ). ServesLines states (stood.served ++ next.line ∷ []) o new) (append_assoc stood.written gathered first) whole;
+      sittings = served.0;
+      serves = subst (λ (o : List ℕ). ServesLines (map begun states) (stood.served ++ next.line ∷ []) o served.0) (append_assoc stood.written gathered first) whole;
+      sit = subst (λ (n : ℕ). AllSit new counted served.0 n) one_more served.2;
+      few = omega (arith, stood.few, spent, one_more);
       appends = stood.appends;
       rests = next.rests;
     }
 
-pub turn_served : {S : Type 0} (g : Ghosts S) (old mid new : Databases S) (script rest new_rest old_bytes new_bytes : Option (List ℕ)) (gathered first all : List ℕ)
-    → Turn g mid new rest new_rest first → all ≡ gathered ++ first → Stands g old mid script rest old_bytes new_bytes gathered
-    → Stands g old new script new_rest old_bytes new_bytes all
-turn_served g old mid new script rest new_rest old_bytes new_bytes gathered first all turn is_all stands =
-    subst (λ (a : List ℕ). Stands g old new script new_rest old_bytes new_bytes a) (sym is_all)
+pub turn_served : {S : Type 0} (g : Ghosts S) (old mid new : Databases S) (totals counted : List Totals) (script rest new_rest old_bytes new_bytes : Option (List ℕ)) (gathered first all : List ℕ) (budget less : ℕ)
+    → Turn g mid new totals counted rest new_rest first budget less → all ≡ gathered ++ first → Stands g old mid totals script rest old_bytes new_bytes gathered budget
+    → Stands g old new counted script new_rest old_bytes new_bytes all less
+turn_served g old mid new totals counted script rest new_rest old_bytes new_bytes gathered first all budget less turn is_all stands =
+    subst (λ (a : List ℕ). Stands g old new counted script new_rest old_bytes new_bytes a less) (sym is_all)
     (record {
-      stood = λ used. turn_stood (states_of old) (states_of mid) (states_of new) script rest new_rest old_bytes new_bytes turn.kept gathered first turn.short turn.taken
-          (turn.step used) (stands.stood (turn.clean used));
+      stood = λ used. turn_stood (states_of old) (states_of mid) (states_of new) totals counted script rest new_rest old_bytes new_bytes turn.kept gathered first budget less turn.short turn.taken
+          (turn.step used) turn.spent (stands.stood (turn.clean used));
       clean = λ used. stands.clean (turn.clean used);
     })
 
 -- what was gathered is written
-stood_written : (states new : List State) (script rest old_bytes mid_bytes new_bytes : Option (List ℕ)) (gathered left_over : List ℕ)
-    → Stood states new script rest old_bytes mid_bytes gathered → Appends mid_bytes new_bytes gathered → left_over ≡ []
-    → Stood states new script rest old_bytes new_bytes left_over
-stood_written states new script rest old_bytes mid_bytes new_bytes gathered left_over stood wrote none =
+stood_written : (states new : List State) (totals : List Totals) (script rest old_bytes mid_bytes new_bytes : Option (List ℕ)) (gathered left_over : List ℕ) (budget : ℕ)
+    → Stood states new totals script rest old_bytes mid_bytes gathered budget → Appends mid_bytes new_bytes gathered → left_over ≡ []
+    → Stood states new totals script rest old_bytes new_bytes left_over budget
+stood_written states new totals script rest old_bytes mid_bytes new_bytes gathered left_over budget stood wrote none =
     let whole : stood.written ++ gathered ≡ (stood.written ++ gathered) ++ left_over = sym (append-nil (stood.written ++ gathered)) ∙ ap (λ (l : List ℕ). (stood.written ++ gathered) ++ l) (sym none) in
     record {
       served = stood.served;
       written = stood.written ++ gathered;
-      serves = subst (λ (o : List ℕ). ServesLines states stood.served o new) whole stood.serves;
+      sittings = stood.sittings;
+      serves = subst (λ (o : List ℕ). ServesLines (map begun states) stood.served o stood.sittings) whole stood.serves;
+      sit = stood.sit;
+      few = stood.few;
       appends = appends_more old_bytes mid_bytes new_bytes stood.written gathered stood.appends wrote;
       rests = stood.rests;
     }
 
-pub stands_written : {S : Type 0} (g : Ghosts S) (old new : Databases S) (script rest old_bytes mid_bytes new_bytes : Option (List ℕ)) (gathered left_over : List ℕ)
-    → Stands g old new script rest old_bytes mid_bytes gathered → Appends mid_bytes new_bytes gathered → left_over ≡ []
-    → Stands g old new script rest old_bytes new_bytes left_over
-stands_written g old new script rest old_bytes mid_bytes new_bytes gathered left_over stands wrote none = record {
-  stood = λ used. stood_written (states_of old) (states_of new) script rest old_bytes mid_bytes new_bytes gathered left_over (stands.stood used) wrote none;
+pub stands_written : {S : Type 0} (g : Ghosts S) (old new : Databases S) (totals : List Totals) (script rest old_bytes mid_bytes new_bytes : Option (List ℕ)) (gathered left_over : List ℕ) (budget : ℕ)
+    → Stands g old new totals script rest old_bytes mid_bytes gathered budget → Appends mid_bytes new_bytes gathered → left_over ≡ []
+    → Stands g old new totals script rest old_bytes new_bytes left_over budget
+stands_written g old new totals script rest old_bytes mid_bytes new_bytes gathered left_over budget stands wrote none = record {
+  stood = λ used. stood_written (states_of old) (states_of new) totals script rest old_bytes mid_bytes new_bytes gathered left_over budget (stands.stood used) wrote none;
   clean = stands.clean;
 }
 
+-- what lines write, from states to states
+writes_stood : (states new : List State) (totals : List Totals) (sittings : List Sitting) (lines : List (List ℕ)) (out : List ℕ) (most : ℕ)
+    → ServesLines (map begun states) lines out sittings → AllSit new totals sittings most → WritesLines states lines out new
+writes_stood states new totals sittings lines out most serves sit = (sittings, serves, all_states new totals sittings most sit)
+
 -- a fault, at which what was gathered isn't written
-pub stopped : (why : ServeFault) (states new : List State) (script rest old_bytes new_bytes : Option (List ℕ)) (gathered : List ℕ) → Leaves why gathered
-    → Stood states new script rest old_bytes new_bytes gathered → IfSome script (λ bytes. StopsWithin why bytes states new old_bytes new_bytes)
-stopped why states new None rest old_bytes new_bytes gathered leaves stood = tt
-stopped why states new (Some bytes) None old_bytes new_bytes gathered leaves stood = absurd stood.rests
-stopped why states new (Some bytes) (Some rest) old_bytes new_bytes gathered leaves stood = record {
+pub stopped : (why : ServeFault) (states new : List State) (totals : List Totals) (script rest old_bytes new_bytes : Option (List ℕ)) (gathered : List ℕ) (budget : ℕ) → Leaves why gathered
+    → Stood states new totals script rest old_bytes new_bytes gathered budget → IfSome script (λ bytes. StopsWithin why bytes states new old_bytes new_bytes)
+stopped why states new totals None rest old_bytes new_bytes gathered budget leaves stood = tt
+stopped why states new totals (Some bytes) None old_bytes new_bytes gathered budget leaves stood = absurd stood.rests
+stopped why states new totals (Some bytes) (Some rest) old_bytes new_bytes gathered budget leaves stood = record {
   served = stood.served;
   unserved = lines_of rest;
   written = stood.written;
   unwritten = gathered;
   lines = stood.rests;
-  serves = stood.serves;
+  serves = writes_stood states new totals stood.sittings stood.served (stood.written ++ gathered) (length stood.served) stood.serves stood.sit;
   appends = stood.appends;
   leaves = leaves;
 }
 
 -- a front of what was gathered is written
-stood_in_front : (states new : List State) (script rest old_bytes mid_bytes new_bytes : Option (List ℕ)) (front back : List ℕ)
-    → Stood states new script rest old_bytes mid_bytes (front ++ back) → Appends mid_bytes new_bytes front → Stood states new script rest old_bytes new_bytes back
-stood_in_front states new script rest old_bytes mid_bytes new_bytes front back stood wrote = record {
+stood_in_front : (states new : List State) (totals : List Totals) (script rest old_bytes mid_bytes new_bytes : Option (List ℕ)) (front back : List ℕ) (budget : ℕ)
+    → Stood states new totals script rest old_bytes mid_bytes (front ++ back) budget → Appends mid_bytes new_bytes front → Stood states new totals script rest old_bytes new_bytes back budget
+stood_in_front states new totals script rest old_bytes mid_bytes new_bytes front back budget stood wrote = record {
   served = stood.served;
   written = stood.written ++ front;
-  serves = subst (λ (o : List ℕ). ServesLines states stood.served o new) (sym (append_assoc stood.written front back)) stood.serves;
+  sittings = stood.sittings;
+  serves = subst (λ (o : List ℕ). ServesLines (map begun states) stood.served o stood.sittings) (sym (append_assoc stood.written front back)) stood.serves;
+  sit = stood.sit;
+  few = stood.few;
   appends = appends_more old_bytes mid_bytes new_bytes stood.written front stood.appends wrote;
   rests = stood.rests;
 }
 
 -- a fault of the writer, which took a front of what was gathered
-pub stopped_writing : (why : ServeFault) (states new : List State) (script rest old_bytes mid_bytes new_bytes : Option (List ℕ)) (gathered : List ℕ) (len : ℕ)
-    → Leaves why (drop len gathered) → Stood states new script rest old_bytes mid_bytes gathered → Appends mid_bytes new_bytes (take len gathered)
+pub stopped_writing : (why : ServeFault) (states new : List State) (totals : List Totals) (script rest old_bytes mid_bytes new_bytes : Option (List ℕ)) (gathered : List ℕ) (len budget : ℕ)
+    → Leaves why (drop len gathered) → Stood states new totals script rest old_bytes mid_bytes gathered budget → Appends mid_bytes new_bytes (take len gathered)
     → IfSome script (λ bytes. StopsWithin why bytes states new old_bytes new_bytes)
-stopped_writing why states new script rest old_bytes mid_bytes new_bytes gathered len leaves stood wrote =
+stopped_writing why states new totals script rest old_bytes mid_bytes new_bytes gathered len budget leaves stood wrote =
     let whole : gathered ≡ take len gathered ++ drop len gathered = sym (take-append-drop len gathered) in
-    let parted = subst (λ (g : List ℕ). Stood states new script rest old_bytes mid_bytes g) whole stood in
-    stopped why states new script rest old_bytes new_bytes (drop len gathered) leaves
-    (stood_in_front states new script rest old_bytes mid_bytes new_bytes (take len gathered) (drop len gathered) parted wrote)
+    let parted = subst (λ (g : List ℕ). Stood states new totals script rest old_bytes mid_bytes g budget) whole stood in
+    stopped why states new totals script rest old_bytes new_bytes (drop len gathered) budget leaves
+    (stood_in_front states new totals script rest old_bytes mid_bytes new_bytes (take len gathered) (drop len gathered) budget parted wrote)
 
 -- of a fault that isn't the writer's, nothing is left to write
 pub leaves_nothing : (why : ServeFault) → why ≢ fault.Write → Leaves why []
@@ -268,6 +297,10 @@ leaves_some why bytes len write short =
 pub at_err : {X Z P : Type 0} (r : Result X Z) → P → OnErr r P
 at_err (Ok x) p = tt
 at_err (Err z) p = p
+
+pub from_err : {X Z P Q : Type 0} (r : Result X Z) → (P → Q) → OnErr r P → OnErr r Q
+from_err (Ok x) f p = tt
+from_err (Err z) f p = f p
 
 -- what holds of a fault that was converted
 pub at_fault : {X Z : Type 0} (r : Result X Z) (why : Z) (P : Z → Type 0) → IsErrAnd r (λ e. e ≡ why) → P why → IfErr r P
@@ -298,34 +331,41 @@ ended (Some bytes) (Some rest) (Some more) found was_unread kept unread limit no
     nothing_behind unread more none.1
 
 -- and all its lines are served
-stood_at_end : (states new : List State) (bytes : List ℕ) (rest more remaining old_bytes new_bytes : Option (List ℕ)) (kept : List ℕ) (now : ℕ)
-    → Stood states new (Some bytes) rest old_bytes new_bytes [] → TakesLine false rest more kept → Spends (Some bytes) remaining MAX_SCRIPT now → IsAtEnd remaining
+stood_at_end : (states new : List State) (totals : List Totals) (bytes : List ℕ) (rest more remaining old_bytes new_bytes : Option (List ℕ)) (kept : List ℕ) (now budget : ℕ)
+    → Stood states new totals (Some bytes) rest old_bytes new_bytes [] budget → TakesLine false rest more kept → Spends (Some bytes) remaining MAX_SCRIPT now → IsAtEnd remaining
     → ServesWhole bytes states new old_bytes new_bytes
-stood_at_end states new bytes None more remaining old_bytes new_bytes kept now stood taken spends at_end = absurd stood.rests
-stood_at_end states new bytes (Some rest) None remaining old_bytes new_bytes kept now stood taken spends at_end = absurd taken
-stood_at_end states new bytes (Some rest) (Some more) remaining old_bytes new_bytes kept now stood taken spends at_end =
+stood_at_end states new totals bytes None more remaining old_bytes new_bytes kept now budget stood taken spends at_end = absurd stood.rests
+stood_at_end states new totals bytes (Some rest) None remaining old_bytes new_bytes kept now budget stood taken spends at_end = absurd taken
+stood_at_end states new totals bytes (Some rest) (Some more) remaining old_bytes new_bytes kept now budget stood taken spends at_end =
     let all : stood.served ≡ lines_of bytes = sym (stood.rests ∙ ap (λ (ls : List (List ℕ)). stood.served ++ ls) taken.0 ∙ append-nil stood.served) in
     record {
       limit = within_limit bytes remaining MAX_SCRIPT now spends at_end;
       out = stood.written;
-      output = subst (λ (ls : List (List ℕ)). ServesLines states ls stood.written new) all
-          (subst (λ (o : List ℕ). ServesLines states stood.served o new) (append-nil stood.written) stood.serves);
+      output = subst (λ (ls : List (List ℕ)). WritesLines states ls stood.written new) all
+          (subst (λ (o : List ℕ). WritesLines states stood.served o new) (append-nil stood.written)
+          (writes_stood states new totals stood.sittings stood.served (stood.written ++ []) (length stood.served) stood.serves stood.sit));
       appends = stood.appends;
     }
 
-pub finished : (states new : List State) (script rest remaining old_bytes new_bytes : Option (List ℕ)) (found : Bool) (kept unread : List ℕ) (now : ℕ) → found ≡ false
-    → TakesLine found rest (left unread remaining) kept → Stood states new script rest old_bytes new_bytes [] → Spends script remaining MAX_SCRIPT now → IfSome script (λ bytes. IsAtEnd remaining)
+pub finished : (states new : List State) (totals : List Totals) (script rest remaining old_bytes new_bytes : Option (List ℕ)) (found : Bool) (kept unread : List ℕ) (now budget : ℕ) → found ≡ false
+    → TakesLine found rest (left unread remaining) kept → Stood states new totals script rest old_bytes new_bytes [] budget → Spends script remaining MAX_SCRIPT now → IfSome script (λ bytes. IsAtEnd remaining)
     → IfSome script (λ bytes. ServesWhole bytes states new old_bytes new_bytes)
-finished states new None rest remaining old_bytes new_bytes found kept unread now is_false taken stood spends at_end = tt
-finished states new (Some bytes) rest remaining old_bytes new_bytes found kept unread now is_false taken stood spends at_end =
+finished states new totals None rest remaining old_bytes new_bytes found kept unread now budget is_false taken stood spends at_end = tt
+finished states new totals (Some bytes) rest remaining old_bytes new_bytes found kept unread now budget is_false taken stood spends at_end =
     let none = subst (λ (f : Bool). TakesLine f rest (left unread remaining) kept) is_false taken in
-    stood_at_end states new bytes rest (left unread remaining) remaining old_bytes new_bytes kept now stood none spends at_end
+    stood_at_end states new totals bytes rest (left unread remaining) remaining old_bytes new_bytes kept now budget stood none spends at_end
 
--- a line of databases is what it is read as
-pub serves_reading : {S : Type 0} (databases new : Databases S) (bytes out : List ℕ) (reading : Reading) → Reads (length databases) bytes reading
-    → ServesLine (states_of databases) reading out (states_of new) → ServesBytes (states_of databases) bytes out (states_of new)
-serves_reading databases new bytes out reading reads serves =
-    (reading, subst (λ (n : ℕ). Reads n bytes reading) (sym (length-map databases state_in)) reads, serves)
+-- what a line is read as among databases, it is read as among their states
+pub reads_states : {S : Type 0} (databases : Databases S) (bytes : List ℕ) (reading : Reading) → Reads (length databases) bytes reading → Reads (length (states_of databases)) bytes reading
+reads_states databases bytes reading reads = subst (λ (n : ℕ). Reads n bytes reading) (sym (length-map databases state_in)) reads
+
+-- where a line asks nothing, nothing is written
+pub nothing_served : (states : List State) (totals : List Totals) (bytes out : List ℕ) (found : Line) → Reads (length states) bytes (seen found) → (found ≡ line.Nothing) ⊎ (found ≡ line.Join)
+    → out ≡ [] → LineServed states totals bytes out states totals
+nothing_served states totals bytes out found reads (inl is) none =
+    line_of_none states totals bytes out nothing (subst (λ (f : Line). Reads (length states) bytes (seen f)) is reads) (λ sittings. (none, refl))
+nothing_served states totals bytes out found reads (inr is) none =
+    line_of_none states totals bytes out join (subst (λ (f : Line). Reads (length states) bytes (seen f)) is reads) (λ sittings. (none, refl))
 
 -- a statement is a line
 is_line : (place session : ℕ) (text : List ℕ) → statement place session text ≡ no_line → ⊥
@@ -336,26 +376,7 @@ pub names_one : (databases : ℕ) (bytes : List ℕ) (place session : ℕ) (text
 names_one databases bytes place session text (inl good) = good.1.within
 names_one databases bytes place session text (inr bad) = absurd (is_line place session text bad.1)
 
--- the state of one database, and those after it changes
-state_at : {S : Type 0} (databases : Databases S) (place : ℕ) (database : Seen S) → slice_get databases place ≡ Some database
-    → slice_get (states_of databases) place ≡ Some (state_in database)
-state_at databases place database found = slice_get-map state_in databases place ∙ ap (option_map state_in) found
-
-states_after : {S : Type 0} (databases : Databases S) (place : ℕ) (database : Seen S) → states_of (slice_set databases place database) ≡ slice_set (states_of databases) place (state_in database)
-states_after databases place database = map-set state_in databases place database
-
--- the line of a statement is answered by the database at its place
-pub serves_place : {S : Type 0} (databases : Databases S) (place session : ℕ) (bytes text name : List ℕ) (answer : Reply) (old after : Seen S)
-    → Reads (length databases) bytes (statement place session text) → old ≡ slice_index_or databases place old → Answers old.state session text answer after.state
-    → name ≡ database_name place → ServesBytes (states_of databases) bytes (rendered name session answer) (states_of (slice_set databases place after))
-serves_place databases place session bytes text name answer old after reads is_old answers is_name =
-    let within = names_one (length databases) bytes place session text reads in
-    let found : slice_get databases place ≡ Some old = slice_get-get_or databases place old within ∙ ap Some (sym is_old) in
-    serves_reading databases (slice_set databases place after) bytes (rendered name session answer) (statement place session text) reads
-    (serves_statement databases (slice_set databases place after) place session text (rendered name session answer) answer (state_in old) (state_in after)
-    (state_at databases place old found) answers (ap (λ (n : List ℕ). rendered n session answer) is_name) (states_after databases place after))
-
--- so are the line of a restart, and its database
+-- so does a restart's
 is_restart : (place : ℕ) → restart place ≡ no_line → ⊥
 is_restart place e = cc
 
@@ -363,15 +384,36 @@ pub restarts_one : (databases : ℕ) (bytes : List ℕ) (place : ℕ) → Reads 
 restarts_one databases bytes place (inl good) = good.1.within
 restarts_one databases bytes place (inr bad) = absurd (is_restart place bad.1)
 
-pub restarts_place : {S : Type 0} (databases : Databases S) (place : ℕ) (bytes name : List ℕ) (answer : Reply) (old after : Seen S)
-    → Reads (length databases) bytes (restart place) → old ≡ slice_index_or databases place old → machine.IsServed old.state event.Restart answer after.state
-    → name ≡ database_name place → ServesBytes (states_of databases) bytes (rendered_whole name answer) (states_of (slice_set databases place after))
-restarts_place databases place bytes name answer old after reads is_old served is_name =
+-- the state of one database, and those after it changes
+state_at : {S : Type 0} (databases : Databases S) (place : ℕ) (database : Seen S) → slice_get databases place ≡ Some database
+    → slice_get (states_of databases) place ≡ Some (state_in database)
+state_at databases place database found = slice_get-map state_in databases place ∙ ap (option_map state_in) found
+
+-- the line of a statement is answered by the database at its place
+pub serves_place : {S : Type 0} (databases : Databases S) (totals : List Totals) (place session : ℕ) (bytes text name out : List ℕ) (old after : Seen S) (own counted : Totals)
+    → Reads (length databases) bytes (statement place session text) → old ≡ slice_index_or databases place old → own ≡ slice_index_or totals place own → length totals ≡ length databases
+    → name ≡ database_name place → TextServed name old.state own session text out after.state counted
+    → LineServed (states_of databases) totals bytes out (states_of (slice_set databases place after)) (slice_set totals place counted)
+serves_place databases totals place session bytes text name out old after own counted reads is_old is_own each is_name served =
+    let within = names_one (length databases) bytes place session text reads in
+    let found : slice_get databases place ≡ Some old = slice_get-get_or databases place old within ∙ ap Some (sym is_old) in
+    let has : slice_get totals place ≡ Some own = slice_get-get_or totals place own (omega (arith, within, each)) ∙ ap Some (sym is_own) in
+    subst (λ (states : List State). LineServed (states_of databases) totals bytes out states (slice_set totals place counted)) (sym (map-set state_in databases place after))
+    (line_of_statement (states_of databases) totals place session bytes text name out old.state after.state own counted (reads_states databases bytes (statement place session text) reads)
+    (state_at databases place old found) has is_name served)
+
+-- so is the line of a restart
+pub restarts_place : {S : Type 0} (databases : Databases S) (totals : List Totals) (place : ℕ) (bytes name : List ℕ) (answer : Reply) (old after : Seen S) (own counted : Totals)
+    → Reads (length databases) bytes (restart place) → old ≡ slice_index_or databases place old → own ≡ slice_index_or totals place own → length totals ≡ length databases
+    → name ≡ database_name place → machine.IsServed old.state event.Restart answer after.state → counted ≡ totals_after answer own
+    → LineServed (states_of databases) totals bytes (rendered_whole name answer) (states_of (slice_set databases place after)) (slice_set totals place counted)
+restarts_place databases totals place bytes name answer old after own counted reads is_old is_own each is_name served is_counted =
     let within = restarts_one (length databases) bytes place reads in
     let found : slice_get databases place ≡ Some old = slice_get-get_or databases place old within ∙ ap Some (sym is_old) in
-    serves_reading databases (slice_set databases place after) bytes (rendered_whole name answer) (restart place) reads
-    (serves_restart databases (slice_set databases place after) place (rendered_whole name answer) answer (state_in old) (state_in after)
-    (state_at databases place old found) served (ap (λ (n : List ℕ). rendered_whole n answer) is_name) (states_after databases place after))
+    let has : slice_get totals place ≡ Some own = slice_get-get_or totals place own (omega (arith, within, each)) ∙ ap Some (sym is_own) in
+    subst (λ (states : List State). LineServed (states_of databases) totals bytes (rendered_whole name answer) states (slice_set totals place counted)) (sym (map-set state_in databases place after))
+    (line_of_restart (states_of databases) totals place bytes name answer old.state after.state own counted (reads_states databases bytes (restart place) reads)
+    (state_at databases place old found) has is_name served is_counted)
 
 -- nothing is gathered where no line is in hand; where one is, a fault is want of memory
 pub waits_for_none : (in_hand : Bool) (gathered : List ℕ) (why : ServeFault) → (in_hand ≡ false → gathered ≡ []) → (in_hand ≡ true → why ≡ fault.Memory)

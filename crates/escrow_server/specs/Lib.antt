@@ -5,3 +5,4 @@ pub mod Output
 pub mod Program
 pub mod Reading
 pub mod Script
+pub mod Totals

@@ -1,5 +1,5 @@
 -- Believed: the output of a script.
-use Rattle.std.specs.Prelude.{◌≡◌, ◌⊎◌, ℕ, ◌<◌, ◌≤◌, Option, IsSomeAnd, List, [], ◌∷◌, ◌++◌, length, map, slice_get, slice_set, codes, ⊤}
+use Rattle.std.specs.Prelude.{◌≡◌, ◌⊎◌, ℕ, ◌==◌, ◌<◌, ◌≤◌, Option, IsSomeAnd, List, [], ◌∷◌, ◌++◌, length, map, filter, slice_get, slice_set, codes, ⊤}
 use Rattle.std.specs.Io.KnownBytes.{Appends}
 use Rattle.std.specs.List.{AllByRecursion}
 use Rattle.sqlite.specs.Held.{state}
@@ -20,6 +20,8 @@ use Rattle.escrow_machine.specs.Step as machine
 use Rattle.escrow_machine.specs.Step.{StepOrRefusal}
 use Rattle.escrow_machine.specs.declared.event.Event.TheVariants as event
 use Rattle.escrow_reply.specs.Text.{rendered, rendered_whole, reply_lines, with_prefix}
+use Rattle.escrow_stats.specs.Tally.{tally_of}
+use Rattle.escrow_stats.specs.Text.{rendered_totals}
 use Rattle.escrow_server.specs.declared.fault.ServeFault.{ServeFault}
 use Rattle.escrow_server.specs.declared.fault.ServeFault.TheVariants as serve_fault
 use Rattle.escrow_server.specs.declared.limits.TheConstants.{MAX_SCRIPT}
@@ -60,33 +62,80 @@ Answers s session text answer new = IsServed s session text answer new ⊎ IsRef
 abbrev pub no_line_text : List ℕ
 no_line_text = with_prefix (codes "script> ") (reply_lines (reply.Refused refusal.Line))
 
--- what a line writes, and the states of the databases after it: a restart and a statement are answered by the
+-- WHAT A SCRIPT'S LINES DO
+
+-- A database in a script: its state, and what its sessions were answered, in order, each reply with its
+-- session, since the script began or the database was last restarted.
+pub record Sitting : Type 0 where
+  pub state : State
+  pub answered : List (ℕ × Reply)
+
+-- a database as the script finds it
+abbrev pub begun : State → Sitting
+begun s = record { state = s; answered = [] }
+
+-- what one session was answered
+abbrev pub replies_to : ℕ → List (ℕ × Reply) → List Reply
+replies_to session answered = map (λ given. given.1) (filter (λ given. given.0 == session) answered)
+
+-- what was answered before counts no more where a database was restarted
+abbrev pub answered_after : Reply → List (ℕ × Reply) → List (ℕ × Reply)
+answered_after reply.Restarted answered = []
+answered_after _ answered = answered
+
+-- a restart prints its reply
+abbrev pub Restarts : List ℕ → Sitting → List ℕ → Sitting → Type 0
+Restarts name sitting out new =
+    (answer : Reply) × (after : State) × machine.IsServed sitting.state event.Restart answer after
+    × (out ≡ rendered_whole name answer) × (new ≡ record { state = after; answered = answered_after answer sitting.answered })
+
+-- the text of a session prints its answer, which is one more that the session was given
+abbrev pub PrintsAnswer : List ℕ → Sitting → ℕ → List ℕ → List ℕ → Sitting → Type 0
+PrintsAnswer name sitting session text out new =
+    (answer : Reply) × (after : State) × Answers sitting.state session text answer after
+    × (out ≡ rendered name session answer) × (new ≡ record { state = after; answered = sitting.answered ++ (session, answer) ∷ [] })
+
+-- or it asks totals: it prints those of what its session was answered, and nothing changes
+abbrev pub PrintsTotals : List ℕ → Sitting → ℕ → List ℕ → List ℕ → Sitting → Type 0
+PrintsTotals name sitting session text out new =
+    Asks text request.Statistics × (out ≡ rendered_totals name session (tally_of (replies_to session sitting.answered))) × (new ≡ sitting)
+
+-- what the text of a session prints
+abbrev pub PrintsText : List ℕ → Sitting → ℕ → List ℕ → List ℕ → Sitting → Type 0
+PrintsText name sitting session text out new = PrintsAnswer name sitting session text out new ⊎ PrintsTotals name sitting session text out new
+
+-- what a line writes, and the sittings of the databases after it: a restart and a statement are those of the
 -- database at its place, and the others stay
-abbrev pub ServesLine : List State → Reading → List ℕ → List State → Type 0
-ServesLine states nothing out new = (out ≡ []) × (new ≡ states)
-ServesLine states join out new = (out ≡ []) × (new ≡ states)
-ServesLine states no_line out new = (out ≡ no_line_text) × (new ≡ states)
-ServesLine states (restart place) out new =
-    IsSomeAnd (slice_get states place) (λ s. (answer : Reply) × (after : State) × machine.IsServed s event.Restart answer after
-    × (out ≡ rendered_whole (database_name place) answer) × (new ≡ slice_set states place after))
-ServesLine states (statement place session text) out new =
-    IsSomeAnd (slice_get states place) (λ s. (answer : Reply) × (after : State) × Answers s session text answer after
-    × (out ≡ rendered (database_name place) session answer) × (new ≡ slice_set states place after))
+abbrev pub ServesLine : List Sitting → Reading → List ℕ → List Sitting → Type 0
+ServesLine sittings nothing out new = (out ≡ []) × (new ≡ sittings)
+ServesLine sittings join out new = (out ≡ []) × (new ≡ sittings)
+ServesLine sittings no_line out new = (out ≡ no_line_text) × (new ≡ sittings)
+ServesLine sittings (restart place) out new =
+    IsSomeAnd (slice_get sittings place) (λ sitting. (after : Sitting) × Restarts (database_name place) sitting out after
+    × (new ≡ slice_set sittings place after))
+ServesLine sittings (statement place session text) out new =
+    IsSomeAnd (slice_get sittings place) (λ sitting. (after : Sitting) × PrintsText (database_name place) sitting session text out after
+    × (new ≡ slice_set sittings place after))
 
--- what the bytes of a line write, and the states after it
-abbrev pub ServesBytes : List State → List ℕ → List ℕ → List State → Type 0
-ServesBytes states bytes out new = (reading : Reading) × Reads (length states) bytes reading × ServesLine states reading out new
+-- what the bytes of a line write, and the sittings after it
+abbrev pub ServesBytes : List Sitting → List ℕ → List ℕ → List Sitting → Type 0
+ServesBytes sittings bytes out new = (reading : Reading) × Reads (length sittings) bytes reading × ServesLine sittings reading out new
 
--- what the lines of a script write, one after another, and the states after them
-abbrev pub ServesLines : List State → List (List ℕ) → List ℕ → List State → Type 0
-ServesLines states [] out new = (out ≡ []) × (new ≡ states)
-ServesLines states (line ∷ lines) out new =
-    (first rest : List ℕ) × (mid : List State) × ServesBytes states line first mid
+-- what lines write, one after another, and the sittings after them
+abbrev pub ServesLines : List Sitting → List (List ℕ) → List ℕ → List Sitting → Type 0
+ServesLines sittings [] out new = (out ≡ []) × (new ≡ sittings)
+ServesLines sittings (line ∷ lines) out new =
+    (first rest : List ℕ) × (mid : List Sitting) × ServesBytes sittings line first mid
     × ServesLines mid lines rest new × (out ≡ first ++ rest)
+
+-- what a script's first lines write from the databases' states, and the states after them
+abbrev pub WritesLines : List State → List (List ℕ) → List ℕ → List State → Type 0
+WritesLines states lines out new =
+    (end : List Sitting) × ServesLines (map begun states) lines out end × (new ≡ map (λ sitting. sitting.state) end)
 
 -- THE OUTPUT OF A SCRIPT: what it writes from the databases' states, and the states after it
 abbrev pub Output : List ℕ → List State → List ℕ → List State → Type 0
-Output script states out new = ServesLines states (lines_of script) out new
+Output script states out new = WritesLines states (lines_of script) out new
 
 -- the script was served whole: it is no longer than a script may be, and its output was written
 pub record ServesWhole (script : List ℕ) (states new : List State) (old_bytes new_bytes : Option (List ℕ)) : Type 0 where
@@ -109,6 +158,6 @@ pub record StopsWithin (fault : ServeFault) (script : List ℕ) (states new : Li
   pub written : List ℕ
   pub unwritten : List ℕ
   pub lines : lines_of script ≡ served ++ unserved
-  pub serves : ServesLines states served (written ++ unwritten) new
+  pub serves : WritesLines states served (written ++ unwritten) new
   pub appends : Appends old_bytes new_bytes written
   pub leaves : Leaves fault unwritten

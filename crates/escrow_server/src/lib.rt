@@ -18,6 +18,7 @@ mod script;
 mod serve;
 mod site;
 mod stores;
+mod totals;
 mod unread;
 
 pub use args::{ArgFault, Args, Mode, read_args};

@@ -4,18 +4,11 @@ use denote.RattleType.{RattleType}
 use denote.Param.Send.{IsSend, IsSync, sendable}
 use Rattle.std.proofs.Crossing.{crosses}
 use Rattle.sqlite_trees.specs.declared.store.Store.{Ghosts}
-use Rattle.escrow_num.proofs.seq.Seq.TheSendSync as Seq
-use Rattle.escrow_num.proofs.value.RowName.TheSendSync as RowName
-use Rattle.escrow_bounds.proofs.bounds.Bounds.TheSendSync as Bounds
-use Rattle.escrow_schema.proofs.table.TableDef.TheSendSync as TableDef
-use Rattle.escrow_txn.proofs.table.TxnTable.TheSendSync as TxnTable
 use Rattle.escrow_transcript.proofs.base.Base.TheSendSync as Base
 use Rattle.escrow_transcript.proofs.entry.Entry.TheSendSync as Entry
 use Rattle.escrow_transcript.specs.contracts.base.Base as base
 use Rattle.escrow_transcript.specs.contracts.entry.Entry as entry
-use Rattle.escrow_rows.proofs.store.RowStore.TheSendSync as RowStore
-use Rattle.escrow_tables.specs.contracts.tables.Tables as Tables
-use Rattle.escrow_core.specs.contracts.database.Database as Database
+use Rattle.escrow_core.proofs.Crossing.{database_send}
 use Rattle.escrow_history.specs.contracts.audited.Audited as Audited
 use Rattle.escrow_shards.specs.contracts.closed.Closed as Closed
 use Rattle.escrow_shards.specs.contracts.locked.Locked as Locked
@@ -34,14 +27,8 @@ entry_send : IsSend entry.the_row
 entry_send = Entry.the_send
 
 module _ (S : RattleType) (g : Ghosts S.Denot) (store : IsSend S) where
-  tables : IsSend (Tables.the_row S g)
-  tables = search (RowStore.the_send, TableDef.the_send, sendable, crosses) depth 40 fits 20000
-
-  database : IsSend (Database.the_row S g)
-  database = search (tables, TxnTable.the_send, Bounds.the_send, RowName.the_send, Seq.the_send, sendable, crosses) depth 40 fits 20000
-
   audited : IsSend (Audited.the_row S g)
-  audited = search (database, base_send, entry_send, sendable, crosses) depth 80 fits 20000
+  audited = search (database_send, base_send, entry_send, sendable, crosses) depth 80 fits 20000
 
   locked : IsSend (Locked.the_row S g)
   locked = search (audited, sendable, crosses) depth 20

@@ -40,11 +40,11 @@ put_back k = record {
 
 show_factored : Keeps show factored_show
 unfolding show factored_show
-show_factored = taken_out (taken_out keeps_same)
+show_factored = taken_out (taken_out (taken_out keeps_same))
 
 show_back : Keeps factored_show show
 unfolding show factored_show
-show_back = put_back (put_back keeps_same)
+show_back = put_back (put_back (put_back keeps_same))
 
 body_factored : Keeps body factored_body
 unfolding body factored_body
@@ -56,11 +56,11 @@ body_back = keeps_second (keeps_second (keeps_second show_back))
 
 pub factored : Keeps request factored_request
 unfolding request factored_request
-factored = keeps_sequence (keeps_sequence body_factored)
+factored = keeps_sequence body_factored
 
 pub factored_back : Keeps factored_request request
 unfolding request factored_request
-factored_back = keeps_sequence (keeps_sequence body_back)
+factored_back = keeps_sequence body_back
 
 begins_kept : {V : Type 0} {g h : Grammar V} → Keeps g h → (ts : List Token) → Begins g ts → Begins h ts
 begins_kept k ts b = (b.0, b.1, k.kept _ b.1 b.2)

@@ -276,17 +276,22 @@ ending =
     or word words.Rollback then work then back
     or meaning statements.Savepoint (word words.Savepoint then name)
 
--- show = SHOW TABLE name | SHOW JOURNAL [ name ] | SHOW BOUNDS row
-unfoldable pub show : Grammar Statement
+-- show = SHOW TABLE name | SHOW JOURNAL [ name ] | SHOW BOUNDS row | SHOW STATISTICS
+unfoldable pub show : Grammar Request
 show =
-    word words.Show then meaning statements.ShowTable (word words.Table then name)
-    or word words.Show then meaning statements.ShowJournal (word words.Journal then optional None (meaning (λ n. Some n) name))
-    or word words.Show then meaning statements.ShowBounds (word words.Bounds then row)
+    word words.Show then meaning requests.Statement (meaning statements.ShowTable (word words.Table then name))
+    or word words.Show then meaning requests.Statement (meaning statements.ShowJournal (word words.Journal then optional None (meaning (λ n. Some n) name)))
+    or word words.Show then meaning requests.Statement (meaning statements.ShowBounds (word words.Bounds then row))
+    or word words.Show then meaning (λ k. requests.Statistics) (word words.Statistics)
 
 -- body = table_statement | row_statement | ending | show
-unfoldable pub body : Grammar Statement
-body = table_statement or row_statement or ending or show
+unfoldable pub body : Grammar Request
+body =
+    meaning requests.Statement table_statement
+    or meaning requests.Statement row_statement
+    or meaning requests.Statement ending
+    or show
 
 -- request = body [ ";" ]
 unfoldable pub request : Grammar Request
-request = meaning requests.Statement (before body (optional tt (symbol symbols.Semicolon)))
+request = before body (optional tt (symbol symbols.Semicolon))

@@ -152,37 +152,44 @@ impl Cursor<'_> {
             || self.is_at_word(Word::Savepoint)
     }
 
-    /// `SHOW ( TABLE name | JOURNAL [ name ] | BOUNDS row )`
+    /// `SHOW ( TABLE name | JOURNAL [ name ] | BOUNDS row | STATISTICS )`
     #[tactic(auto, unfolding(crate::specs::Factored::factored_show))]
-    fn show(&mut self, alloc: Global) -> Result<Statement, Halt>
+    fn show(&mut self, alloc: Global) -> Result<Request, Halt>
         ensures { Advances self.new.tokens.now result (run factored_show self.old.tokens.now) }
     {
         self.word(Word::Show)?;
         if self.is_at_word(Word::Table) {
             self.word(Word::Table)?;
-            return Ok(Statement::ShowTable(self.name()?));
+            let table = self.name()?;
+            return Ok(Request::Statement(Statement::ShowTable(table)));
         }
         if self.is_at_word(Word::Journal) {
             self.word(Word::Journal)?;
-            return Ok(Statement::ShowJournal(self.optional_name()?));
+            let table = self.optional_name()?;
+            return Ok(Request::Statement(Statement::ShowJournal(table)));
         }
-        self.word(Word::Bounds)?;
-        Ok(Statement::ShowBounds(self.row(alloc)?))
+        if self.is_at_word(Word::Bounds) {
+            self.word(Word::Bounds)?;
+            let row = self.row(alloc)?;
+            return Ok(Request::Statement(Statement::ShowBounds(row)));
+        }
+        self.word(Word::Statistics)?;
+        Ok(Request::Statistics)
     }
 
     /// `table_statement | row_statement | ending | show`
     #[tactic(auto, unfolding(crate::specs::Factored::factored_body))]
-    fn body(&mut self, alloc: Global) -> Result<Statement, Halt>
+    fn body(&mut self, alloc: Global) -> Result<Request, Halt>
         ensures { Advances self.new.tokens.now result (run factored_body self.old.tokens.now) }
     {
         if self.is_at_table_statement() {
-            return self.table_statement(alloc);
+            return Ok(Request::Statement(self.table_statement(alloc)?));
         }
         if self.is_at_row_statement() {
-            return self.row_statement(alloc);
+            return Ok(Request::Statement(self.row_statement(alloc)?));
         }
         if self.is_at_ending() {
-            return self.ending();
+            return Ok(Request::Statement(self.ending()?));
         }
         self.show(alloc)
     }
@@ -194,7 +201,7 @@ impl Cursor<'_> {
     {
         let body = self.body(alloc)?;
         let _ended = self.takes(&Kind::Symbol(Symbol::Semicolon));
-        Ok(Request::Statement(body))
+        Ok(body)
     }
 
     /// A request, and nothing behind it.

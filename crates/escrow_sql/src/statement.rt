@@ -5,6 +5,8 @@ use escrow_num::{Amount, Name, Seq, Text};
 pub enum Request {
     /// A statement of a database.
     Statement(Statement),
+    /// `SHOW STATISTICS`: the totals of the asking session, which no database keeps.
+    Statistics,
 }
 
 /// A statement of a database, as its text says it: nothing in it is looked up or judged yet.

@@ -162,8 +162,11 @@ fn session(rt: &impl Abort, number: u8) -> Session {
 
 /// The statement of a text.
 fn statement(rt: &(impl Abort + AllocGlobal), text: &str) -> Statement {
-    let Request::Statement(statement) = parse(rt.alloc(), text).ok().expect(rt, "a statement");
-    statement
+    let statement = match parse(rt.alloc(), text) {
+        Ok(Request::Statement(statement)) => Some(statement),
+        _ => None,
+    };
+    statement.expect(rt, "a statement")
 }
 
 /// Compares the lines of a reply.

@@ -4,7 +4,7 @@ use escrow_core::Database;
 use escrow_memory::BlockStore;
 use escrow_num::{Refusal, Session};
 use escrow_reply::render;
-use escrow_sql::{Request, parse};
+use escrow_sql::{Request, Statement, parse};
 use escrow_tables::open_store;
 use sqlite::{Alter, Connection};
 use std::alloc::Global;
@@ -44,6 +44,14 @@ pub fn account<R: Abort + AllocGlobal>(rt: &R) -> Result<Database<BlockStore>, F
     Ok(database)
 }
 
+/// The statement of a text.
+fn statement(alloc: Global, text: &str) -> Option<Statement> {
+    match parse(alloc, text) {
+        Ok(Request::Statement(statement)) => Some(statement),
+        _ => None,
+    }
+}
+
 /// What a database replies to a statement of a session, as it is printed.
 pub fn ask<R: Abort + AllocGlobal, S: Alter>(
     rt: &R,
@@ -53,7 +61,7 @@ pub fn ask<R: Abort + AllocGlobal, S: Alter>(
 ) -> Result<String, Fail> {
     let alloc = rt.alloc();
     let session = Session::new(number).expect(rt, "a session");
-    let Request::Statement(statement) = parse(alloc, text).ok().expect(rt, "a statement");
+    let statement = statement(alloc, text).expect(rt, "a statement");
     let reply = database.step(alloc, session, &statement);
     let lines = render(alloc, "bank", session, &reply)?;
     let text = str::from_utf8(lines.as_slice())?;

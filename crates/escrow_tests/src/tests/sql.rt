@@ -1,5 +1,5 @@
 //! Tokens with their places, the leftmost fault of a text, and statements that are copied and told apart.
-use escrow_sql::{Kind, MAX_TEXT, ParseFault, Request, Symbol, Word, lex, parse};
+use escrow_sql::{Kind, MAX_TEXT, ParseFault, Request, Statement, Symbol, Word, lex, parse};
 use std::alloc::Global;
 use std::test::Fail;
 
@@ -165,12 +165,20 @@ const PAIRS: [(&str, &str); 35] = [
     ("SAVEPOINT S", "SAVEPOINT R"),
 ];
 
+/// The statement of a text; SHOW STATISTICS, which is none, is taken for a fault.
+fn statement(alloc: Global, text: &str) -> Result<Statement, ParseFault> {
+    match parse(alloc, text)? {
+        Request::Statement(statement) => Ok(statement),
+        Request::Statistics => Err(ParseFault::Syntax { column: 1 }),
+    }
+}
+
 /// Whether a copy of the first text's statement is the same as it, and as that of the other text.
 fn copied(alloc: Global, text: &str, other: &str) -> Result<(bool, bool), ParseFault> {
-    let Request::Statement(statement) = parse(alloc, text)?;
-    let Request::Statement(other) = parse(alloc, other)?;
-    match statement.copy(alloc) {
-        Ok(copied) => Ok((copied.is_same(&statement), copied.is_same(&other))),
+    let asked = statement(alloc, text)?;
+    let other = statement(alloc, other)?;
+    match asked.copy(alloc) {
+        Ok(copied) => Ok((copied.is_same(&asked), copied.is_same(&other))),
         Err(_) => Err(ParseFault::Memory),
     }
 }

@@ -1,14 +1,15 @@
-use Rattle.std.proofs.Common.{inl, inr, refl, ap, subst}
-use Rattle.escrow_sql.specs.declared.statement.Request.{Request}
-use Rattle.escrow_sql.specs.Parser.{Asks}
+use Rattle.std.proofs.Common.{inl, inr, refl, ap}
+use Rattle.escrow_core.proofs.Serving.{still_clean}
 use Rattle.escrow_machine.specs.declared.reply.Reply.TheVariants.{Refused}
 use Rattle.escrow_server.proofs.serve.answer.Goals as goal
 
-pub returns-in-Ok-clause-served : goal.returns-in-Ok-clause-served
-returns-in-Ok-clause-served g c = λ used.
-    let asked = c.in-Ok.ensures in
-    let served = c.serve_request.ensures.served used in
-    inl (served.0, subst (λ (r : Request). Asks c.args.text.now r) served.1 asked.found, served.2)
+pub returns-in-Ok-Statement-clause-served : goal.returns-in-Ok-Statement-clause-served
+returns-in-Ok-Statement-clause-served g c = λ used.
+    let asks = rw c.in-Ok-Statement.field-0-is at c.in-Ok-Statement.ensures.found in
+    inl (c.in-Ok-Statement.statement, asks, c.step.ensures.event used)
+
+pub returns-in-Ok-Statement-clause-clean : goal.returns-in-Ok-Statement-clause-clean
+returns-in-Ok-Statement-clause-clean g c = λ clean. still_clean _ _ _ c.step.ensures.crash clean
 
 pub returns-in-Err-clause-served : goal.returns-in-Err-clause-served
 returns-in-Err-clause-served g c = λ used.

@@ -1,28 +1,37 @@
-use Rattle.std.proofs.Common.{rules, [], ◌++◌, subst, refl, sym, ◌∙◌}
+use Rattle.std.proofs.Common.{◌≡◌, ℕ, ◌+◌, List, ◌++◌, length, replicate, vec_len, arith, rules, ap, subst, refl, sym, ◌∙◌}
+use Rattle.std.proofs.lemmas.List.{length-replicate}
 use Rattle.std.proofs.lemmas.Bool.{true≢false}
 use Rattle.escrow_server.specs.declared.fault.ServeFault.TheVariants as fault
 use Rattle.escrow_server.specs.Output.{states_of}
 use Rattle.escrow_server.specs.Script.{left, has_line}
-use Rattle.escrow_server.proofs.ServeLemmas.{Stood, stood_at_start, stands_begun, stands_written, stopped, stopped_writing, finished, ended, turn_of, turn_served, at_fault, leaves_gathered, leaves_some, waits_for_none, nothing_waits, read_without}
+use Rattle.escrow_server.specs.Totals.{no_totals}
+use Rattle.escrow_server.proofs.ServeLemmas.{Stood, stands_begun, stands_written, stopped, stopped_at_start, stopped_writing, finished, ended, turn_of, turn_served, at_fault, leaves_gathered, leaves_some, waits_for_none, nothing_waits, read_without}
 use Rattle.escrow_server.proofs.ScriptLemmas.{spends_more}
 use Rattle.escrow_server.specs.declared.limits.TheConstants.{MAX_SCRIPT}
 use Rattle.escrow_server.proofs.serve.serve_script.Goals as goal
 
 pub returns-in_err-script-clause-fault : goal.returns-in_err-script-clause-fault
 returns-in_err-script-clause-fault g c = λ used.
-    let states = states_of c.args.databases.now.items in
-    let script = g.R.Read.remaining c.args.reader.now in
-    let bytes = g.W.Write.contents c.args.writer.now in
     at_fault c.from_residual.result fault.Memory _ c.from_residual.ensures.1
-    (stopped fault.Memory states states script script bytes bytes [] tt (stood_at_start states script bytes))
+    (stopped_at_start fault.Memory (states_of c.args.databases.now.items) (g.R.Read.remaining c.args.reader.now) (g.W.Write.contents c.args.writer.now) tt)
+
+pub returns-in_err-totals-clause-fault : goal.returns-in_err-totals-clause-fault
+returns-in_err-totals-clause-fault g c = λ used.
+    at_fault c.from_residual-in_err-totals.result fault.Memory _ c.from_residual-in_err-totals.ensures.1
+    (stopped_at_start fault.Memory (states_of c.args.databases.now.items) (g.R.Read.remaining c.args.reader.now) (g.W.Write.contents c.args.writer.now) tt)
 
 pub loop-replies-init : goal.loop-replies-init
 loop-replies-init g c =
     let made = c.in_ok-script.ensures in
+    let totals = c.in_ok-totals.totals in
+    let count : c.len.result ≡ vec_len c.args.databases.now = search rules in
+    let some : totals.items ≡ replicate (length c.args.databases.now.items) no_totals =
+    c.in_ok-totals.ensures ∙ ap (λ (n : ℕ). replicate n no_totals) (count ∙ c.args.databases.now.ok.0) in
     record {
       count = refl;
-      stands = stands_begun g.S.Store c.args.databases.now.items (g.R.Read.remaining c.args.reader.now) (g.W.Write.contents c.args.writer.now) c.in_ok-script.script.unread c.new-replies.result.items
-          made.0 c.new-replies.ensures.items;
+      each = omega (arith, count, totals.ok.0, ap length c.in_ok-totals.ensures, length-replicate c.len.result no_totals);
+      stands = stands_begun g.S.Store c.args.databases.now.items c.in_ok-totals.totals.items (g.R.Read.remaining c.args.reader.now) (g.W.Write.contents c.args.writer.now) c.in_ok-script.script.unread c.new-replies.result.items
+          c.in_ok-script.script.bytes_left some made.0 c.new-replies.ensures.items made.1;
       waits = λ _. c.new-replies.ensures.items;
       ended = λ over. absurd (true≢false (sym over ∙ made.2));
       spent = search rules;
@@ -34,8 +43,8 @@ returns-in_err-next_line-clause-fault g c = λ used.
     let next = c.in_err-next_line.ensures in
     let stood = c.loop-replies.invariant.stands.stood used in
     at_fault c.from_residual-in_err-next_line.result why _ c.from_residual-in_err-next_line.ensures.1
-    (stopped why (states_of c.args.databases.now.items) (states_of c.loop-replies.databases.items) (g.R.Read.remaining c.args.reader.now) _
-    (g.W.Write.contents c.args.writer.now) (g.W.Write.contents c.loop-replies.writer) c.loop-replies.replies.items
+    (stopped why (states_of c.args.databases.now.items) (states_of c.loop-replies.databases.items) c.loop-replies.totals.items (g.R.Read.remaining c.args.reader.now) _
+    (g.W.Write.contents c.args.writer.now) (g.W.Write.contents c.loop-replies.writer) c.loop-replies.replies.items (c.loop-replies.script.bytes_left + length c.loop-replies.script.unread)
     (leaves_gathered why c.loop-replies.replies.items next.kind
     (waits_for_none (has_line c.loop-replies.script.reads_left c.loop-replies.script.unread) c.loop-replies.replies.items why c.loop-replies.invariant.waits next.cause)) stood)
 
@@ -46,14 +55,15 @@ returns-in_err-reply-clause-fault g c = λ used.
     let out = served.err used in
     let mid = c.loop-replies.databases.items in
     let new = c.serve_line.new.databases.items in
-    let turn = turn_of g.S.Store c.in_ok-next_line.field-0 c.next_line.new.self.line.items c.line.result.now out.0 mid new _ _
-    c.if-branch.true c.line.ensures.value c.line.ensures.within next.taken (λ _. out.1) served.clean in
-    let stands = turn_served g.S.Store c.args.databases.now.items mid new (g.R.Read.remaining c.args.reader.now) _ _
+    let turn = turn_of g.S.Store c.in_ok-next_line.field-0 c.next_line.new.self.line.items c.line.result.now out.0 mid new c.loop-replies.totals.items c.serve_line.new.totals.items _ _
+    (c.loop-replies.script.bytes_left + length c.loop-replies.script.unread) (c.next_line.new.self.bytes_left + length c.next_line.new.self.unread)
+    c.if-branch.true c.line.ensures.value c.line.ensures.within next.taken next.less (λ _. out.1) served.clean in
+    let stands = turn_served g.S.Store c.args.databases.now.items mid new c.loop-replies.totals.items c.serve_line.new.totals.items (g.R.Read.remaining c.args.reader.now) _ _
     (g.W.Write.contents c.args.writer.now) (g.W.Write.contents c.loop-replies.writer) c.loop-replies.replies.items out.0 (c.loop-replies.replies.items ++ out.0)
-    turn refl c.loop-replies.invariant.stands in
+    (c.loop-replies.script.bytes_left + length c.loop-replies.script.unread) (c.next_line.new.self.bytes_left + length c.next_line.new.self.unread) turn refl c.loop-replies.invariant.stands in
     at_fault c.from_residual-in_err-reply.result fault.Memory _ c.from_residual-in_err-reply.ensures.1
-    (stopped fault.Memory (states_of c.args.databases.now.items) _ (g.R.Read.remaining c.args.reader.now) _
-    (g.W.Write.contents c.args.writer.now) (g.W.Write.contents c.loop-replies.writer) _ tt (stands.stood used))
+    (stopped fault.Memory (states_of c.args.databases.now.items) _ c.serve_line.new.totals.items (g.R.Read.remaining c.args.reader.now) _
+    (g.W.Write.contents c.args.writer.now) (g.W.Write.contents c.loop-replies.writer) _ (c.next_line.new.self.bytes_left + length c.next_line.new.self.unread) tt (stands.stood used))
 
 pub returns-in_err-gather-clause-fault : goal.returns-in_err-gather-clause-fault
 returns-in_err-gather-clause-fault g c = λ used.
@@ -61,14 +71,15 @@ returns-in_err-gather-clause-fault g c = λ used.
     let served = c.in_ok-reply.ensures in
     let mid = c.loop-replies.databases.items in
     let new = c.serve_line.new.databases.items in
-    let turn = turn_of g.S.Store c.in_ok-next_line.field-0 c.next_line.new.self.line.items c.line.result.now c.in_ok-reply.reply.items mid new _ _
-    c.if-branch.true c.line.ensures.value c.line.ensures.within next.taken served.ok served.clean in
-    let stands = turn_served g.S.Store c.args.databases.now.items mid new (g.R.Read.remaining c.args.reader.now) _ _
+    let turn = turn_of g.S.Store c.in_ok-next_line.field-0 c.next_line.new.self.line.items c.line.result.now c.in_ok-reply.reply.items mid new c.loop-replies.totals.items c.serve_line.new.totals.items _ _
+    (c.loop-replies.script.bytes_left + length c.loop-replies.script.unread) (c.next_line.new.self.bytes_left + length c.next_line.new.self.unread)
+    c.if-branch.true c.line.ensures.value c.line.ensures.within next.taken next.less served.ok served.clean in
+    let stands = turn_served g.S.Store c.args.databases.now.items mid new c.loop-replies.totals.items c.serve_line.new.totals.items (g.R.Read.remaining c.args.reader.now) _ _
     (g.W.Write.contents c.args.writer.now) (g.W.Write.contents c.loop-replies.writer) c.loop-replies.replies.items c.in_ok-reply.reply.items (c.loop-replies.replies.items ++ c.in_ok-reply.reply.items)
-    turn refl c.loop-replies.invariant.stands in
+    (c.loop-replies.script.bytes_left + length c.loop-replies.script.unread) (c.next_line.new.self.bytes_left + length c.next_line.new.self.unread) turn refl c.loop-replies.invariant.stands in
     at_fault c.from_residual-in_err-gather.result fault.Memory _ c.from_residual-in_err-gather.ensures.1
-    (stopped fault.Memory (states_of c.args.databases.now.items) _ (g.R.Read.remaining c.args.reader.now) _
-    (g.W.Write.contents c.args.writer.now) (g.W.Write.contents c.loop-replies.writer) _ tt (stands.stood used))
+    (stopped fault.Memory (states_of c.args.databases.now.items) _ c.serve_line.new.totals.items (g.R.Read.remaining c.args.reader.now) _
+    (g.W.Write.contents c.args.writer.now) (g.W.Write.contents c.loop-replies.writer) _ (c.next_line.new.self.bytes_left + length c.next_line.new.self.unread) tt (stands.stood used))
 
 pub returns-in_err-write_gathered-clause-fault : goal.returns-in_err-write_gathered-clause-fault
 returns-in_err-write_gathered-clause-fault g c = λ used.
@@ -78,14 +89,15 @@ returns-in_err-write_gathered-clause-fault g c = λ used.
     let why = c.in_err-write_gathered.field-0.0 in
     let mid = c.loop-replies.databases.items in
     let new = c.serve_line.new.databases.items in
-    let turn = turn_of g.S.Store c.in_ok-next_line.field-0 c.next_line.new.self.line.items c.line.result.now c.in_ok-reply.reply.items mid new _ _
-    c.if-branch.true c.line.ensures.value c.line.ensures.within next.taken served.ok served.clean in
-    let stands = turn_served g.S.Store c.args.databases.now.items mid new (g.R.Read.remaining c.args.reader.now) _ _
+    let turn = turn_of g.S.Store c.in_ok-next_line.field-0 c.next_line.new.self.line.items c.line.result.now c.in_ok-reply.reply.items mid new c.loop-replies.totals.items c.serve_line.new.totals.items _ _
+    (c.loop-replies.script.bytes_left + length c.loop-replies.script.unread) (c.next_line.new.self.bytes_left + length c.next_line.new.self.unread)
+    c.if-branch.true c.line.ensures.value c.line.ensures.within next.taken next.less served.ok served.clean in
+    let stands = turn_served g.S.Store c.args.databases.now.items mid new c.loop-replies.totals.items c.serve_line.new.totals.items (g.R.Read.remaining c.args.reader.now) _ _
     (g.W.Write.contents c.args.writer.now) (g.W.Write.contents c.loop-replies.writer) c.loop-replies.replies.items c.in_ok-reply.reply.items c.gather.new.replies.items
-    turn c.in_ok-gather.ensures.ok c.loop-replies.invariant.stands in
+    (c.loop-replies.script.bytes_left + length c.loop-replies.script.unread) (c.next_line.new.self.bytes_left + length c.next_line.new.self.unread) turn c.in_ok-gather.ensures.ok c.loop-replies.invariant.stands in
     at_fault c.from_residual-in_err-write_gathered.result why _ c.from_residual-in_err-write_gathered.ensures.1
-    (stopped_writing why (states_of c.args.databases.now.items) _ (g.R.Read.remaining c.args.reader.now) _
-    (g.W.Write.contents c.args.writer.now) (g.W.Write.contents c.loop-replies.writer) (g.W.Write.contents c.write_gathered.new.writer) c.gather.new.replies.items wrote.err.0
+    (stopped_writing why (states_of c.args.databases.now.items) _ c.serve_line.new.totals.items (g.R.Read.remaining c.args.reader.now) _
+    (g.W.Write.contents c.args.writer.now) (g.W.Write.contents c.loop-replies.writer) (g.W.Write.contents c.write_gathered.new.writer) c.gather.new.replies.items wrote.err.0 (c.next_line.new.self.bytes_left + length c.next_line.new.self.unread)
     (leaves_some why c.gather.new.replies.items wrote.err.0 wrote.kind wrote.err.1) (stands.stood used) wrote.err.2)
 
 pub loop-replies-preserved-in-loop-replies : goal.loop-replies-preserved-in-loop-replies
@@ -95,17 +107,20 @@ loop-replies-preserved-in-loop-replies g c =
     let wrote = c.in_ok-write_gathered.ensures in
     let mid = c.loop-replies.databases.items in
     let new = c.serve_line.new.databases.items in
-    let turn = turn_of g.S.Store c.in_ok-next_line.field-0 c.next_line.new.self.line.items c.line.result.now c.in_ok-reply.reply.items mid new
+    let turn = turn_of g.S.Store c.in_ok-next_line.field-0 c.next_line.new.self.line.items c.line.result.now c.in_ok-reply.reply.items mid new c.loop-replies.totals.items c.serve_line.new.totals.items
     (left c.loop-replies.script.unread (g.R.Read.remaining c.loop-replies.reader)) (left c.next_line.new.self.unread (g.R.Read.remaining c.next_line.new.reader))
-    c.if-branch.true c.line.ensures.value c.line.ensures.within next.taken served.ok served.clean in
-    let stands = turn_served g.S.Store c.args.databases.now.items mid new (g.R.Read.remaining c.args.reader.now)
+    (c.loop-replies.script.bytes_left + length c.loop-replies.script.unread) (c.next_line.new.self.bytes_left + length c.next_line.new.self.unread)
+    c.if-branch.true c.line.ensures.value c.line.ensures.within next.taken next.less served.ok served.clean in
+    let stands = turn_served g.S.Store c.args.databases.now.items mid new c.loop-replies.totals.items c.serve_line.new.totals.items (g.R.Read.remaining c.args.reader.now)
     (left c.loop-replies.script.unread (g.R.Read.remaining c.loop-replies.reader)) (left c.next_line.new.self.unread (g.R.Read.remaining c.next_line.new.reader))
     (g.W.Write.contents c.args.writer.now) (g.W.Write.contents c.loop-replies.writer) c.loop-replies.replies.items c.in_ok-reply.reply.items c.gather.new.replies.items
-    turn c.in_ok-gather.ensures.ok c.loop-replies.invariant.stands in
-    let written = stands_written g.S.Store c.args.databases.now.items new (g.R.Read.remaining c.args.reader.now) _
-    (g.W.Write.contents c.args.writer.now) (g.W.Write.contents c.loop-replies.writer) (g.W.Write.contents c.write_gathered.new.writer) c.gather.new.replies.items c.write_gathered.new.replies.items stands wrote.ok wrote.none in
+    (c.loop-replies.script.bytes_left + length c.loop-replies.script.unread) (c.next_line.new.self.bytes_left + length c.next_line.new.self.unread) turn c.in_ok-gather.ensures.ok c.loop-replies.invariant.stands in
+    let written = stands_written g.S.Store c.args.databases.now.items new c.serve_line.new.totals.items (g.R.Read.remaining c.args.reader.now) _
+    (g.W.Write.contents c.args.writer.now) (g.W.Write.contents c.loop-replies.writer) (g.W.Write.contents c.write_gathered.new.writer) c.gather.new.replies.items c.write_gathered.new.replies.items
+    (c.next_line.new.self.bytes_left + length c.next_line.new.self.unread) stands wrote.ok wrote.none in
     record {
       count = served.len ∙ c.loop-replies.invariant.count;
+      each = served.each ∙ c.loop-replies.invariant.each ∙ sym served.len;
       stands = written;
       waits = λ _. wrote.none;
       ended = next.ended;
@@ -118,15 +133,17 @@ loop-replies-preserved g c =
     let served = c.in_ok-reply.ensures in
     let mid = c.loop-replies.databases.items in
     let new = c.serve_line.new.databases.items in
-    let turn = turn_of g.S.Store c.in_ok-next_line.field-0 c.next_line.new.self.line.items c.line.result.now c.in_ok-reply.reply.items mid new
+    let turn = turn_of g.S.Store c.in_ok-next_line.field-0 c.next_line.new.self.line.items c.line.result.now c.in_ok-reply.reply.items mid new c.loop-replies.totals.items c.serve_line.new.totals.items
     (left c.loop-replies.script.unread (g.R.Read.remaining c.loop-replies.reader)) (left c.next_line.new.self.unread (g.R.Read.remaining c.next_line.new.reader))
-    c.if-branch.true c.line.ensures.value c.line.ensures.within next.taken served.ok served.clean in
-    let stands = turn_served g.S.Store c.args.databases.now.items mid new (g.R.Read.remaining c.args.reader.now)
+    (c.loop-replies.script.bytes_left + length c.loop-replies.script.unread) (c.next_line.new.self.bytes_left + length c.next_line.new.self.unread)
+    c.if-branch.true c.line.ensures.value c.line.ensures.within next.taken next.less served.ok served.clean in
+    let stands = turn_served g.S.Store c.args.databases.now.items mid new c.loop-replies.totals.items c.serve_line.new.totals.items (g.R.Read.remaining c.args.reader.now)
     (left c.loop-replies.script.unread (g.R.Read.remaining c.loop-replies.reader)) (left c.next_line.new.self.unread (g.R.Read.remaining c.next_line.new.reader))
     (g.W.Write.contents c.args.writer.now) (g.W.Write.contents c.loop-replies.writer) c.loop-replies.replies.items c.in_ok-reply.reply.items c.gather.new.replies.items
-    turn c.in_ok-gather.ensures.ok c.loop-replies.invariant.stands in
+    (c.loop-replies.script.bytes_left + length c.loop-replies.script.unread) (c.next_line.new.self.bytes_left + length c.next_line.new.self.unread) turn c.in_ok-gather.ensures.ok c.loop-replies.invariant.stands in
     record {
       count = served.len ∙ c.loop-replies.invariant.count;
+      each = served.each ∙ c.loop-replies.invariant.each ∙ sym served.len;
       stands = stands;
       waits = λ none. absurd (read_without c.has_line.result (has_line c.next_line.new.self.reads_left c.next_line.new.self.unread) c.has_line.ensures c.if-not-has_line.false none);
       ended = next.ended;
@@ -138,11 +155,12 @@ returns-clause-output g c = λ used.
     let next = c.in_ok-next_line.ensures in
     let spent = spends_more _ _ _ MAX_SCRIPT c.loop-replies.script.bytes_left c.next_line.new.self.bytes_left c.loop-replies.invariant.spent next.spent in
     let none = nothing_waits c.in_ok-next_line.field-0 (has_line c.loop-replies.script.reads_left c.loop-replies.script.unread) c.loop-replies.replies.items c.if-branch.false next.in_hand c.loop-replies.invariant.waits in
-    let stood = subst (Stood (states_of c.args.databases.now.items) _ (g.R.Read.remaining c.args.reader.now) _ (g.W.Write.contents c.args.writer.now) (g.W.Write.contents c.loop-replies.writer))
-    none (c.loop-replies.invariant.stands.stood used) in
+    let stood = subst (λ (gathered : List ℕ). Stood (states_of c.args.databases.now.items) (states_of c.loop-replies.databases.items) c.loop-replies.totals.items (g.R.Read.remaining c.args.reader.now)
+    (left c.loop-replies.script.unread (g.R.Read.remaining c.loop-replies.reader)) (g.W.Write.contents c.args.writer.now) (g.W.Write.contents c.loop-replies.writer) gathered
+    (c.loop-replies.script.bytes_left + length c.loop-replies.script.unread)) none (c.loop-replies.invariant.stands.stood used) in
     let at_end = ended _ _ _ c.in_ok-next_line.field-0 c.loop-replies.script.unread c.next_line.new.self.line.items c.next_line.new.self.unread MAX_SCRIPT c.loop-replies.script.bytes_left
     c.if-branch.false c.loop-replies.invariant.spent next.taken in
-    finished _ _ _ _ _ _ _ c.in_ok-next_line.field-0 c.next_line.new.self.line.items c.next_line.new.self.unread c.next_line.new.self.bytes_left c.if-branch.false next.taken stood spent at_end
+    finished _ _ _ _ _ _ _ _ c.in_ok-next_line.field-0 c.next_line.new.self.line.items c.next_line.new.self.unread c.next_line.new.self.bytes_left (c.loop-replies.script.bytes_left + length c.loop-replies.script.unread) c.if-branch.false next.taken stood spent at_end
 
 pub returns-clause-end : goal.returns-clause-end
 returns-clause-end g c =

@@ -1,5 +1,0 @@
-use Rattle.escrow_core.proofs.Serving.{still_clean}
-use Rattle.escrow_server.proofs.serve.serve_request.Goals as goal
-
-pub returns-clause-clean : goal.returns-clause-clean
-returns-clause-clean g c = λ clean. still_clean _ _ _ c.step.ensures.crash clean

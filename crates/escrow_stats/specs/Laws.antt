@@ -1,0 +1,32 @@
+-- Believed: the statements of the laws in src/laws.rt.
+use Rattle.std.specs.Prelude.{◌≡◌, ◌+◌, ◌-◌, ◌^◌, ◌<◌, ◌≤◌, List, [], ◌∷◌, ◌++◌, length}
+use Rattle.escrow_machine.specs.declared.reply.Reply.{Reply}
+use Rattle.escrow_stats.specs.Tally.{kind_of, tally_of, with_one, sum_of}
+
+-- no replies have a tally of zeros
+abbrev pub NothingIsZero : Type 0
+NothingIsZero = tally_of [] ≡ record {
+  served = 0;
+  granted = 0;
+  broken = 0;
+  refused = 0;
+  commits = 0;
+  rollbacks = 0;
+  writes = 0;
+  queries = 0;
+}
+
+-- one reply more is one more of its kind
+abbrev pub OneMoreIsWithOne : Type 0
+OneMoreIsWithOne = (replies : List Reply) (r : Reply) → length replies < 2 ^ 64 - 1
+    → tally_of (replies ++ r ∷ []) ≡ with_one (tally_of replies) (kind_of r)
+
+-- two lists, one behind the other, have the sum of their tallies
+abbrev pub ListsAdd : Type 0
+ListsAdd = (before after : List Reply) → tally_of (before ++ after) ≡ sum_of (tally_of before) (tally_of after)
+
+-- all totals but served come to no more than served, and that to no more than there are replies
+pub record PartsAreWithin : Type 0 where
+  pub parts : (replies : List Reply) → let t = tally_of replies in
+      t.granted + t.broken + t.refused + t.commits + t.rollbacks + t.writes + t.queries ≤ t.served
+  pub served : (replies : List Reply) → (tally_of replies).served ≤ length replies

@@ -1,0 +1,14 @@
+//! Totals over replies: how many statements a session had served, and what became of them.
+//!
+//! Its one contract: each total of a list's tally is the number of its replies that count in it, by
+//! the kind of each ([`Kind::of`]); the tally of one reply more is made of the tally so far alone
+//! ([`Tally::with`]); and the lines that show a tally are exact to the byte ([`Tally::render`]).
+#![tactic(auto)]
+
+mod kind;
+pub mod laws;
+mod lines;
+mod tally;
+
+pub use kind::Kind;
+pub use tally::Tally;

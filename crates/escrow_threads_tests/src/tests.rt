@@ -1,0 +1,12 @@
+//! The tests.
+
+mod causes;
+mod databases;
+mod gates;
+mod histories;
+mod making;
+mod results;
+mod run;
+mod sharing;
+mod small;
+mod threads;
