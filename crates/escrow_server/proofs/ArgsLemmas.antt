@@ -11,7 +11,7 @@ use Rattle.escrow_server.specs.declared.args.ArgFault.{ArgFault}
 use Rattle.escrow_server.specs.declared.args.ArgFault.TheVariants as arg_fault
 use Rattle.escrow_server.specs.declared.args.Mode.{Mode}
 use Rattle.escrow_server.proofs.ArgsFaults.{IsOne}
-use Rattle.escrow_server.specs.declared.limits.TheConstants.{MAX_DATABASES}
+use Rattle.escrow_script.specs.declared.limits.TheConstants.{MAX_DATABASES}
 use Rattle.escrow_server.specs.Args.{status_at, fault_status, allowed, databases_of, mode_of, status_of, values_ask}
 
 -- without a mode, values ask nothing

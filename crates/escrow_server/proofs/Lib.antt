@@ -1,10 +1,7 @@
 pub mod ArgsFaults
 pub mod ArgsLemmas
 pub mod FoundLemmas
-pub mod LineLemmas
 pub mod ProgramLemmas
-pub mod ReadingLemmas
-pub mod ScriptLemmas
 pub mod ServeLemmas
 pub mod TotalsLemmas
 pub mod CleanDisks

@@ -9,11 +9,12 @@ use Rattle.std.proofs.lemmas.Option.{IfSome_then}
 use Rattle.escrow_machine.specs.State.{State}
 use Rattle.escrow_server.specs.declared.fault.RunFault.{RunFault}
 use Rattle.escrow_server.specs.declared.fault.RunFault.TheVariants as run_fault
-use Rattle.escrow_server.specs.declared.fault.ServeFault.{ServeFault}
-use Rattle.escrow_server.specs.declared.fault.ServeFault.TheVariants as fault
+use Rattle.escrow_script.specs.declared.fault.ServeFault.{ServeFault}
+use Rattle.escrow_script.specs.declared.fault.ServeFault.TheVariants as fault
 use Rattle.escrow_server.specs.Output.{ServesWhole, StopsWithin}
 use Rattle.escrow_server.specs.Program.{empty_states, run_status, EndsOverFiles, EndsScript, Stops, WritesFront, WritesNothing}
-use Rattle.escrow_server.proofs.ServeLemmas.{appends_more, appends_none, stopped_unserved}
+use Rattle.escrow_script.proofs.WrittenLemmas.{appends_more, appends_none}
+use Rattle.escrow_server.proofs.ServeLemmas.{stopped_unserved}
 
 -- all of the bytes were written, or fewer of them
 abbrev pub Writes : {X Z : Type 0} → Option (List ℕ) → Option (List ℕ) → List ℕ → Result X Z → Type 0

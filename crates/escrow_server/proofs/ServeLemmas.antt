@@ -1,55 +1,35 @@
--- What is written piece by piece, and lines that are served one by one.
-use Rattle.std.proofs.Common.{◌≡◌, ◌≢◌, ◌⊎◌, ℕ, ◌+◌, ◌<◌, ◌≤◌, List, [], ◌∷◌, ◌++◌, length, map, replicate, take, drop, Option, Some, None, arith, refl, sym, ap, subst, ◌∙◌, append_assoc, inl, inr}
-use Rattle.std.specs.Prelude.{Result, Ok, Err, OnErr, IfOk, IfErr, IsErrAnd, slice_get, slice_index_or, slice_set, option_map, IfSome, Bool, true, false, ⊤}
+-- Lines that are served one by one.
+use Rattle.std.proofs.Common.{◌≡◌, ◌⊎◌, ℕ, ◌+◌, ◌<◌, ◌≤◌, List, [], ◌∷◌, ◌++◌, length, map, replicate, take, drop, Option, Some, None, arith, refl, sym, ap, subst, ◌∙◌, append_assoc, inl, inr}
+use Rattle.std.specs.Prelude.{slice_get, slice_index_or, slice_set, option_map, IfSome, Bool, true, false}
 use Rattle.std.specs.Io.KnownBytes.{Appends, IsAtEnd}
-use Rattle.std.proofs.lemmas.List.{append-nil, take_all, take-append-drop, length-append, length-take, length-drop, length-map, map-set}
+use Rattle.std.proofs.lemmas.List.{append-nil, take-append-drop, length-append, length-map, map-set}
 use Rattle.std.proofs.lemmas.Option.{slice_get-get_or, slice_get-map}
-use Rattle.std.proofs.lemmas.Bool.{cases_lt}
 use Rattle.sqlite_trees.specs.declared.store.Store.{Ghosts}
 use Rattle.escrow_machine.specs.declared.reply.Reply.{Reply}
 use Rattle.escrow_core.specs.Seen.{Seen}
 use Rattle.escrow_machine.specs.State.{State}
-use Rattle.escrow_server.specs.declared.fault.ServeFault.{ServeFault}
-use Rattle.escrow_server.specs.declared.fault.ServeFault.TheVariants as fault
+use Rattle.escrow_script.specs.declared.fault.ServeFault.{ServeFault}
 use Rattle.escrow_machine.specs.Step as machine
 use Rattle.escrow_machine.specs.declared.event.Event.TheVariants as event
-use Rattle.escrow_server.specs.declared.line.Line.{Line}
-use Rattle.escrow_server.specs.declared.line.Line.TheVariants as line
-use Rattle.escrow_server.specs.Reading.{seen}
-use Rattle.escrow_server.specs.Line.{Reading, nothing, join, restart, statement, no_line, database_name, Reads, lines_of}
+use Rattle.escrow_script.specs.declared.line.Line.{Line}
+use Rattle.escrow_script.specs.declared.line.Line.TheVariants as line
+use Rattle.escrow_script.specs.Reading.{seen}
+use Rattle.escrow_script.specs.Line.{Reading, nothing, join, restart, statement, database_name, Reads, lines_of}
 use Rattle.escrow_reply.specs.Text.{rendered_whole}
-use Rattle.escrow_server.specs.Output.{Sitting, begun, state_in, states_of, HaveCleanDisks, ServesBytes, ServesLines, WritesLines, ServesWhole, Leaves, StopsWithin}
+use Rattle.escrow_script.specs.Written.{Leaves}
+use Rattle.escrow_server.specs.Output.{Sitting, begun, state_in, states_of, HaveCleanDisks, ServesBytes, ServesLines, WritesLines, ServesWhole, StopsWithin}
+use Rattle.escrow_script.proofs.LineLemmas.{names_one, restarts_one}
+use Rattle.escrow_script.proofs.TakenLemmas.{kept_line, Rests, rests_at_start, next_of, within_limit}
+use Rattle.escrow_script.proofs.WrittenLemmas.{appends_more, appends_none}
 use Rattle.escrow_server.specs.declared.totals.Totals.{Totals}
 use Rattle.escrow_server.specs.Totals.{no_totals, totals_after, AllSit, TextServed, LineServed}
 use Rattle.escrow_server.proofs.TotalsLemmas.{all_begun, all_states, line_of_none, line_of_statement, line_of_restart}
-use Rattle.escrow_server.specs.declared.limits.TheConstants.{MAX_LINE, MAX_SCRIPT}
-use Rattle.escrow_server.specs.Script.{TakesLine, Spends, left}
+use Rattle.escrow_script.specs.declared.limits.TheConstants.{MAX_LINE, MAX_SCRIPT}
+use Rattle.escrow_script.specs.Script.{TakesLine, Spends, left}
 
 -- databases, as contracts show them
 abbrev pub Databases : Type 0 → Type 0
 Databases S = List (Seen S)
-
--- what is written after what was written
-pub appends_more : (old mid new : Option (List ℕ)) (xs ys : List ℕ) → Appends old mid xs → Appends mid new ys → Appends old new (xs ++ ys)
-appends_more None mid new xs ys a b = tt
-appends_more (Some bs) None new xs ys a b = absurd a
-appends_more (Some bs) (Some cs) None xs ys a b = absurd b
-appends_more (Some bs) (Some cs) (Some ds) xs ys a b = b ∙ ap (λ (l : List ℕ). l ++ ys) a ∙ append_assoc bs xs ys
-
-pub appends_none : (bytes : Option (List ℕ)) → Appends bytes bytes []
-appends_none None = tt
-appends_none (Some bs) = sym (append-nil bs)
-
-kept_long : (databases : ℕ) (line kept : List ℕ) (reading : Reading) → kept ≡ take (MAX_LINE + 1) line → MAX_LINE < length line → Reads databases kept reading → reading ≡ no_line
-kept_long databases line kept reading e long (inl good) = absurd (omega (arith, good.0.0, ap length e, length-take (MAX_LINE + 1) line))
-kept_long databases line kept reading e long (inr bad) = bad.1
-
--- what is kept of a line is read as the line
-kept_line : (databases : ℕ) (line kept : List ℕ) (reading : Reading) → kept ≡ take (MAX_LINE + 1) line → Reads databases kept reading → Reads databases line reading
-kept_line databases line kept reading e reads = elim (cases_lt MAX_LINE (length line)) [
-  | inl long ↦ inr ((λ readable. omega (arith, readable.0)), kept_long databases line kept reading e long reads)
-  | inr short ↦ subst (λ (bytes : List ℕ). Reads databases bytes reading) (e ∙ take_all (MAX_LINE + 1) line (omega arith)) reads
-]
 
 serves_kept : (sittings new : List Sitting) (line kept out : List ℕ) → kept ≡ take (MAX_LINE + 1) line → ServesBytes sittings kept out new → ServesBytes sittings line out new
 serves_kept sittings new line kept out e serves = (serves.0, kept_line (length sittings) line kept serves.0 e serves.1, serves.2)
@@ -62,16 +42,6 @@ serves_more sittings mid new [] line out first h step =
     (first, [], new, here, (refl, refl), ap (λ (o : List ℕ). o ++ first) h.0 ∙ sym (append-nil first))
 serves_more sittings mid new (l ∷ ls) line out first h step =
     (h.0, h.1 ++ first, h.2, h.3, serves_more h.2 mid new ls line h.1 first h.4 step, ap (λ (o : List ℕ). o ++ first) h.5 ∙ append_assoc h.0 h.1 first)
-
--- the lines that were served and those that are left are the script's, where its bytes are known
-abbrev pub Rests : List (List ℕ) → Option (List ℕ) → Option (List ℕ) → Type 0
-Rests served None rest = ⊤
-Rests served (Some bytes) None = ⊥
-Rests served (Some bytes) (Some rest) = lines_of bytes ≡ served ++ lines_of rest
-
-rests_at_start : (script : Option (List ℕ)) → Rests [] script (left [] script)
-rests_at_start None = tt
-rests_at_start (Some bytes) = refl
 
 -- How a script stands: some of its lines were served, and left such states and totals; what they write was
 -- written but for what is gathered; and there were no more of them than the bytes that were spent.
@@ -120,23 +90,6 @@ stood_begun states totals script bytes unread gathered left_bytes are_none none_
   few = omega (arith, all, ap length none_unread);
   appends = appends_none bytes;
   rests = subst (λ (u : List ℕ). Rests [] script (left u script)) (sym none_unread) (rests_at_start script);
-}
-
--- the next line of a script, of which 4,097 bytes are kept
-record Next (script rest new_rest : Option (List ℕ)) (kept : List ℕ) (served : List (List ℕ)) : Type 0 where
-  pub line : List ℕ
-  pub is_kept : kept ≡ take (MAX_LINE + 1) line
-  pub rests : Rests (served ++ line ∷ []) script new_rest
-
-next_of : (script rest new_rest : Option (List ℕ)) (kept : List ℕ) (served : List (List ℕ)) → length kept ≤ MAX_LINE + 1
-    → TakesLine true rest new_rest kept → Rests served script rest → Next script rest new_rest kept served
-next_of None rest new_rest kept served short taken h = record { line = kept; is_kept = sym (take_all (MAX_LINE + 1) kept short); rests = tt }
-next_of (Some bytes) None new_rest kept served short taken h = absurd h
-next_of (Some bytes) (Some rest) None kept served short taken h = absurd taken
-next_of (Some bytes) (Some rest) (Some more) kept served short taken h = record {
-  line = taken.0;
-  is_kept = taken.2;
-  rests = h ∙ ap (λ (ls : List (List ℕ)). served ++ ls) taken.1 ∙ sym (append_assoc served (taken.0 ∷ []) (lines_of more));
 }
 
 -- A line's turn: the bytes that were kept of it, the databases and their totals before and after it, and
@@ -276,60 +229,6 @@ stopped_writing why states new totals script rest old_bytes mid_bytes new_bytes 
     stopped why states new totals script rest old_bytes new_bytes (drop len gathered) budget leaves
     (stood_in_front states new totals script rest old_bytes mid_bytes new_bytes (take len gathered) (drop len gathered) budget parted wrote)
 
--- of a fault that isn't the writer's, nothing is left to write
-pub leaves_nothing : (why : ServeFault) → why ≢ fault.Write → Leaves why []
-leaves_nothing (fault.Read cause) other = refl
-leaves_nothing fault.Write other = absurd (other refl)
-leaves_nothing fault.Memory other = tt
-
--- at a fault nothing is gathered, or memory was refused
-pub leaves_gathered : (why : ServeFault) (gathered : List ℕ) → why ≢ fault.Write → (gathered ≡ []) ⊎ (why ≡ fault.Memory) → Leaves why gathered
-leaves_gathered why gathered other (inl none) = subst (Leaves why) (sym none) (leaves_nothing why other)
-leaves_gathered why gathered other (inr memory) = subst (λ w. Leaves w gathered) (sym memory) tt
-
--- what is left at a fault of the writer
-pub leaves_some : (why : ServeFault) (bytes : List ℕ) (len : ℕ) → why ≡ fault.Write → len < length bytes → Leaves why (drop len bytes)
-leaves_some why bytes len write short =
-    let some : 0 < length (drop len bytes) = omega (arith, length-drop len bytes) in
-    rw write some
-
--- what holds however a call ends
-pub at_err : {X Z P : Type 0} (r : Result X Z) → P → OnErr r P
-at_err (Ok x) p = tt
-at_err (Err z) p = p
-
-pub from_err : {X Z P Q : Type 0} (r : Result X Z) → (P → Q) → OnErr r P → OnErr r Q
-from_err (Ok x) f p = tt
-from_err (Err z) f p = f p
-
--- what holds of a fault that was converted
-pub at_fault : {X Z : Type 0} (r : Result X Z) (why : Z) (P : Z → Type 0) → IsErrAnd r (λ e. e ≡ why) → P why → IfErr r P
-at_fault (Ok x) why P is p = tt
-at_fault (Err e) why P is p = subst P (sym is) p
-
-pub at_ok : {X Z : Type 0} (P Q : X → Type 0) (r : Result X Z) → ((x : X) → P x → Q x) → IfOk r P → IfOk r Q
-at_ok P Q (Ok x) f p = f x p
-at_ok P Q (Err z) f p = tt
-
-nothing_behind : (xs ys : List ℕ) → xs ++ ys ≡ [] → ys ≡ []
-nothing_behind [] ys e = e
-nothing_behind (x ∷ xs) ys e = cc
-
--- a script that was read whole had no more bytes than a script may have
-within_limit : (bytes : List ℕ) (remaining : Option (List ℕ)) (old new : ℕ) → Spends (Some bytes) remaining old new → IsAtEnd remaining → length bytes ≤ old
-within_limit bytes None old new spends ended = absurd spends
-within_limit bytes (Some rest) old new spends ended = omega (arith, spends, ap length ended)
-
--- at the script's end its reader is at its end
-pub ended : (script was remaining : Option (List ℕ)) (found : Bool) (was_unread kept unread : List ℕ) (limit now : ℕ) → found ≡ false → Spends script was limit now
-    → TakesLine found (left was_unread was) (left unread remaining) kept → IfSome script (λ bytes. IsAtEnd remaining)
-ended None was remaining found was_unread kept unread limit now is_false spends taken = tt
-ended (Some bytes) None remaining found was_unread kept unread limit now is_false spends taken = absurd spends
-ended (Some bytes) (Some rest) None found was_unread kept unread limit now is_false spends taken = tt
-ended (Some bytes) (Some rest) (Some more) found was_unread kept unread limit now is_false spends taken =
-    let none = subst (λ (f : Bool). TakesLine f (left was_unread (Some rest)) (left unread (Some more)) kept) is_false taken in
-    nothing_behind unread more none.1
-
 -- and all its lines are served
 stood_at_end : (states new : List State) (totals : List Totals) (bytes : List ℕ) (rest more remaining old_bytes new_bytes : Option (List ℕ)) (kept : List ℕ) (now budget : ℕ)
     → Stood states new totals (Some bytes) rest old_bytes new_bytes [] budget → TakesLine false rest more kept → Spends (Some bytes) remaining MAX_SCRIPT now → IsAtEnd remaining
@@ -367,23 +266,6 @@ nothing_served states totals bytes out found reads (inl is) none =
 nothing_served states totals bytes out found reads (inr is) none =
     line_of_none states totals bytes out join (subst (λ (f : Line). Reads (length states) bytes (seen f)) is reads) (λ sittings. (none, refl))
 
--- a statement is a line
-is_line : (place session : ℕ) (text : List ℕ) → statement place session text ≡ no_line → ⊥
-is_line place session text e = cc
-
--- a statement's line names one of the databases
-pub names_one : (databases : ℕ) (bytes : List ℕ) (place session : ℕ) (text : List ℕ) → Reads databases bytes (statement place session text) → place < databases
-names_one databases bytes place session text (inl good) = good.1.within
-names_one databases bytes place session text (inr bad) = absurd (is_line place session text bad.1)
-
--- so does a restart's
-is_restart : (place : ℕ) → restart place ≡ no_line → ⊥
-is_restart place e = cc
-
-pub restarts_one : (databases : ℕ) (bytes : List ℕ) (place : ℕ) → Reads databases bytes (restart place) → place < databases
-restarts_one databases bytes place (inl good) = good.1.within
-restarts_one databases bytes place (inr bad) = absurd (is_restart place bad.1)
-
 -- the state of one database, and those after it changes
 state_at : {S : Type 0} (databases : Databases S) (place : ℕ) (database : Seen S) → slice_get databases place ≡ Some database
     → slice_get (states_of databases) place ≡ Some (state_in database)
@@ -414,18 +296,3 @@ restarts_place databases totals place bytes name answer old after own counted re
     subst (λ (states : List State). LineServed (states_of databases) totals bytes (rendered_whole name answer) states (slice_set totals place counted)) (sym (map-set state_in databases place after))
     (line_of_restart (states_of databases) totals place bytes name answer old.state after.state own counted (reads_states databases bytes (restart place) reads)
     (state_at databases place old found) has is_name served is_counted)
-
--- nothing is gathered where no line is in hand; where one is, a fault is want of memory
-pub waits_for_none : (in_hand : Bool) (gathered : List ℕ) (why : ServeFault) → (in_hand ≡ false → gathered ≡ []) → (in_hand ≡ true → why ≡ fault.Memory)
-    → (gathered ≡ []) ⊎ (why ≡ fault.Memory)
-waits_for_none true gathered why waits cause = inr (cause refl)
-waits_for_none false gathered why waits cause = inl (waits refl)
-
--- where there was no next line, none was in hand
-pub nothing_waits : (found in_hand : Bool) (gathered : List ℕ) → found ≡ false → (in_hand ≡ true → found ≡ true) → (in_hand ≡ false → gathered ≡ []) → gathered ≡ []
-nothing_waits found true gathered is_false taken waits = absurd (let e = sym is_false ∙ taken refl in cc)
-nothing_waits found false gathered is_false taken waits = waits refl
-
--- a test tells that a line is in hand
-pub read_without : (tested in_hand : Bool) → tested ≡ in_hand → tested ≡ true → in_hand ≡ false → ⊥
-read_without tested in_hand same found none = let e : true ≡ false = sym found ∙ same ∙ none in cc

@@ -18,10 +18,10 @@ use Rattle.escrow_sql.specs.Parser.{Asks}
 use Rattle.escrow_stats.specs.declared.tally.Tally.{Tally}
 use Rattle.escrow_stats.specs.Tally.{tally_of}
 use Rattle.escrow_stats.specs.Text.{rendered_totals}
-use Rattle.escrow_server.specs.declared.limits.TheConstants.{MAX_SCRIPT}
+use Rattle.escrow_script.specs.declared.limits.TheConstants.{MAX_SCRIPT}
 use Rattle.escrow_server.specs.declared.totals.TheConstants.{SESSIONS}
 use Rattle.escrow_server.specs.declared.totals.Totals.{Totals}
-use Rattle.escrow_server.specs.Line.{Reading, restart, statement, database_name, Reads}
+use Rattle.escrow_script.specs.Line.{Reading, restart, statement, database_name, Reads}
 use Rattle.escrow_server.specs.Output.{Sitting, begun, replies_to, answered_after, Answers, PrintsText, ServesLine}
 use Rattle.escrow_server.specs.Totals.{no_totals, totals_after, AreTotals, Sits, AllSit, TextServed, LineServed}
 

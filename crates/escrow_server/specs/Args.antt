@@ -12,7 +12,7 @@ use Rattle.escrow_server.specs.declared.args.ArgFault.TheVariants as arg_fault
 use Rattle.escrow_server.specs.declared.args.Args.{Args}
 use Rattle.escrow_server.specs.declared.args.Mode.{Mode}
 use Rattle.escrow_server.specs.declared.args.Mode.TheVariants as mode
-use Rattle.escrow_server.specs.declared.limits.TheConstants.{MAX_DATABASES}
+use Rattle.escrow_script.specs.declared.limits.TheConstants.{MAX_DATABASES}
 
 -- THE COMMAND LINE, as clap's definitions take it
 

@@ -1,13 +1,10 @@
 -- Believed: the output of a script.
-use Rattle.std.specs.Prelude.{◌≡◌, ◌⊎◌, ℕ, ◌==◌, ◌<◌, ◌≤◌, Option, IsSomeAnd, List, [], ◌∷◌, ◌++◌, length, map, filter, slice_get, slice_set, codes, ⊤}
+use Rattle.std.specs.Prelude.{◌≡◌, ◌⊎◌, ℕ, ◌==◌, ◌≤◌, Option, IsSomeAnd, List, [], ◌∷◌, ◌++◌, length, map, filter, slice_get, slice_set}
 use Rattle.std.specs.Io.KnownBytes.{Appends}
 use Rattle.std.specs.List.{AllByRecursion}
 use Rattle.sqlite.specs.Held.{state}
 use Rattle.sqlite_trees.specs.declared.store.Store.{Ghosts}
-use Rattle.escrow_num.specs.declared.refusal.Refusal.{Refusal}
-use Rattle.escrow_num.specs.declared.refusal.Refusal.TheVariants as refusal
 use Rattle.escrow_sql.specs.declared.fault.ParseFault.{ParseFault}
-use Rattle.escrow_sql.specs.declared.fault.ParseFault.TheVariants as fault
 use Rattle.escrow_sql.specs.declared.statement.Statement.{Statement}
 use Rattle.escrow_sql.specs.declared.statement.Request.TheVariants as request
 use Rattle.escrow_sql.specs.Parser.{Asks, IsFaultIn}
@@ -19,13 +16,13 @@ use Rattle.escrow_machine.specs.State.{State}
 use Rattle.escrow_machine.specs.Step as machine
 use Rattle.escrow_machine.specs.Step.{StepOrRefusal}
 use Rattle.escrow_machine.specs.declared.event.Event.TheVariants as event
-use Rattle.escrow_reply.specs.Text.{rendered, rendered_whole, reply_lines, with_prefix}
+use Rattle.escrow_reply.specs.Text.{rendered, rendered_whole}
 use Rattle.escrow_stats.specs.Tally.{tally_of}
 use Rattle.escrow_stats.specs.Text.{rendered_totals}
-use Rattle.escrow_server.specs.declared.fault.ServeFault.{ServeFault}
-use Rattle.escrow_server.specs.declared.fault.ServeFault.TheVariants as serve_fault
-use Rattle.escrow_server.specs.declared.limits.TheConstants.{MAX_SCRIPT}
-use Rattle.escrow_server.specs.Line.{Reading, nothing, join, restart, statement, no_line, database_name, Reads, lines_of}
+use Rattle.escrow_script.specs.declared.fault.ServeFault.{ServeFault}
+use Rattle.escrow_script.specs.declared.limits.TheConstants.{MAX_SCRIPT}
+use Rattle.escrow_script.specs.Written.{fault_refusal, no_line_text, Leaves}
+use Rattle.escrow_script.specs.Line.{Reading, nothing, join, restart, statement, no_line, database_name, Reads, lines_of}
 
 -- the state in a database, as contracts show it
 abbrev pub state_in : {S : Type 0} → Seen S → State
@@ -38,11 +35,6 @@ states_of databases = map state_in databases
 -- the disk of each database's store has returned what was written
 abbrev pub HaveCleanDisks : {S : Type 0} → Ghosts S → List (Seen S) → Type 0
 HaveCleanDisks g databases = AllByRecursion (λ database. HasCleanDisk (state g database.store)) databases
-
--- the refusal of a text that isn't served: 11 with the column of its first fault, or 51
-abbrev pub fault_refusal : ParseFault → Refusal
-fault_refusal (fault.Syntax column) = refusal.Syntax column
-fault_refusal fault.Memory = refusal.Memory
 
 -- a text is a statement, and its answer is the machine's step or its refusal
 abbrev pub IsServed : State → ℕ → List ℕ → Reply → State → Type 0
@@ -57,10 +49,6 @@ IsRefused s text answer new = (f : ParseFault) × IsFaultIn text f × (answer �
 -- the answer to a text of a session, and the state after it
 abbrev pub Answers : State → ℕ → List ℕ → Reply → State → Type 0
 Answers s session text answer new = IsServed s session text answer new ⊎ IsRefused s text answer new
-
--- the reply to what is no line of a script
-abbrev pub no_line_text : List ℕ
-no_line_text = with_prefix (codes "script> ") (reply_lines (reply.Refused refusal.Line))
 
 -- WHAT A SCRIPT'S LINES DO
 
@@ -143,12 +131,6 @@ pub record ServesWhole (script : List ℕ) (states new : List State) (old_bytes 
   pub out : List ℕ
   pub output : Output script states out new
   pub appends : Appends old_bytes new_bytes out
-
--- after a fault of the reader no reply is left to write, and after one of the writer some of one is
-abbrev pub Leaves : ServeFault → List ℕ → Type 0
-Leaves (serve_fault.Read cause) unwritten = unwritten ≡ []
-Leaves serve_fault.Write unwritten = 0 < length unwritten
-Leaves serve_fault.Memory unwritten = ⊤
 
 -- What a fault leaves: some lines of the script from its first on were served, and a front of their
 -- output was written.

@@ -11,7 +11,7 @@ use Rattle.escrow_server.specs.declared.args.ArgFault.{ArgFault}
 use Rattle.escrow_server.specs.declared.args.ArgFault.TheVariants as arg_fault
 use Rattle.escrow_server.specs.declared.fault.RunFault.{RunFault}
 use Rattle.escrow_server.specs.declared.fault.RunFault.TheVariants as run_fault
-use Rattle.escrow_server.specs.declared.fault.ServeFault.{ServeFault}
+use Rattle.escrow_script.specs.declared.fault.ServeFault.{ServeFault}
 use Rattle.escrow_server.specs.Output.{ServesWhole, StopsWithin}
 
 -- WHERE STORES ARE

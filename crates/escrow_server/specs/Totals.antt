@@ -5,7 +5,7 @@ use Rattle.escrow_machine.specs.declared.reply.Reply.{Reply}
 use Rattle.escrow_machine.specs.declared.reply.Reply.TheVariants as reply
 use Rattle.escrow_machine.specs.State.{State}
 use Rattle.escrow_stats.specs.Tally.{tally_of}
-use Rattle.escrow_server.specs.declared.limits.TheConstants.{MAX_SCRIPT}
+use Rattle.escrow_script.specs.declared.limits.TheConstants.{MAX_SCRIPT}
 use Rattle.escrow_server.specs.declared.totals.TheConstants.{SESSIONS}
 use Rattle.escrow_server.specs.declared.totals.Totals.{Totals}
 use Rattle.escrow_server.specs.Output.{Sitting, PrintsText, ServesBytes, replies_to}

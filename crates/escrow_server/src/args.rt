@@ -3,10 +3,10 @@ ghost use Rattle.clap.specs.Words.{FailsBy, app_of, found_of, kind_of, matches_o
 ghost use Rattle.escrow_server.specs.declared.args.Args.{Args};
 ghost use Rattle.escrow_server.specs.Args.{app, asked_by, databases_of, databases_rule, fault_status, faults_of, mode_of, mode_rule, refused_status, status_of, store_rule, values_ask};
 
-use crate::limits::MAX_DATABASES;
 use clap::error::ErrorKind;
 use clap::{Arg, ArgAction, ArgMatches, Command, Error};
 use escrow_num::Text;
+use escrow_script::MAX_DATABASES;
 use std::alloc::{AllocError, Global};
 use std::convert::AsStr;
 

@@ -7,11 +7,10 @@ ghost use Rattle.escrow_server.specs.Output.{states_of, HaveCleanDisks};
 ghost use Rattle.escrow_server.specs.Program.{run_status, AreFound, IsFound, StartsAs};
 
 use crate::fault::RunFault;
-use crate::limits::MAX_DATABASES;
-use crate::names::database_name;
 use crate::site::Site;
 use crate::stores::{CloseFault, OpenFault, OpenStore, Opened, close};
 use escrow_core::Database;
+use escrow_script::{MAX_DATABASES, database_name};
 use escrow_tables::open_store;
 use sqlite::{Alter, Connection, File, FileStore};
 use std::alloc::Global;

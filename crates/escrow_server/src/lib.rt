@@ -1,5 +1,5 @@
-//! Scripts of statements: their lines, the arguments of the program, and what the program does with
-//! them.
+//! Scripts of statements: what databases answer to their lines, the arguments of the program, and what
+//! the program does with them.
 //!
 //! Its one contract: what [`serve_script`] writes, and the states of the databases after it, are
 //! those of the script's lines, served one after another by the machine. [`run_program`] is that of
@@ -9,21 +9,14 @@
 mod args;
 mod databases;
 mod fault;
-pub mod laws;
-mod limits;
-mod line;
-mod names;
 mod program;
-mod script;
 mod serve;
 mod site;
 mod stores;
 mod totals;
-mod unread;
 
 pub use args::{ArgFault, Args, Mode, read_args};
-pub use fault::{ReadFault, ServeFault};
-pub use limits::{MAX_DATABASES, MAX_LINE, MAX_READS, MAX_SCRIPT};
+pub use escrow_script::{MAX_DATABASES, MAX_LINE, MAX_READS, MAX_SCRIPT, ReadFault, ServeFault};
 pub use program::run_program;
 pub use serve::serve_script;
 pub use site::Site;

@@ -10,12 +10,11 @@ ghost use Rattle.escrow_server.specs.Program.{help_of, run_status, unread_status
 use crate::args::{ArgFault, Args, read_args};
 use crate::databases::{Unclosed, close_databases, open_databases};
 use crate::fault::RunFault;
-use crate::limits::MAX_DATABASES;
-use crate::names::database_name;
-use crate::serve::{serve_script, write_whole};
+use crate::serve::serve_script;
 use crate::site::Site;
 use crate::stores::{CloseFault, InFiles, InMemory, OpenStore, file_of};
 use escrow_core::Database;
+use escrow_script::{MAX_DATABASES, database_name, write_whole};
 use sqlite::Alter;
 use std::alloc::{AllocError, Global};
 use std::convert::AsStr;

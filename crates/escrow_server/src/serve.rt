@@ -1,28 +1,24 @@
-ghost use Rattle.std.specs.Prelude.{◌≡◌, ◌≤◌, ◌<◌, ◌++◌, [], List, ℕ, length, take, vec_len, OnOk, OnErr, IfOk, IfErr, IfSome, MatchOption};
-ghost use Rattle.std.specs.Io.KnownBytes.{Appends, IsAtEnd};
+ghost use Rattle.std.specs.Prelude.{◌≡◌, ◌≤◌, List, ℕ, vec_len, OnOk, OnErr, IfOk, IfErr, IfSome, MatchOption};
+ghost use Rattle.std.specs.Io.KnownBytes.{IsAtEnd};
 ghost use Rattle.sqlite.specs.Held.{state};
 ghost use Rattle.escrow_sql.specs.Parser.{Asks};
 ghost use Rattle.sqlite.specs.State.{HasCleanDisk};
 ghost use Rattle.escrow_machine.specs.Step.{IsServed};
-ghost use Rattle.escrow_server.specs.Output.{fault_refusal, states_of, Answers, HaveCleanDisks, ServesWhole, StopsWithin};
+ghost use Rattle.escrow_server.specs.Output.{states_of, Answers, HaveCleanDisks, ServesWhole, StopsWithin};
 ghost use Rattle.escrow_server.specs.Totals.{totals_after, LineServed, TextServed};
 
-use crate::fault::ServeFault;
-use crate::limits::MAX_DATABASES;
-use crate::line::{Line, classify};
-use crate::names::database_name;
-use crate::script::Script;
 use crate::totals::{Totals, totals_of};
 use escrow_core::{Database, Event, Reply};
 use escrow_num::{Refusal, Session};
 use escrow_reply::{render, render_lines, render_whole};
-use escrow_sql::{ParseFault, Request, parse};
+use escrow_script::{
+    Line, MAX_DATABASES, MOST_GATHERED, Script, ServeFault, classify, database_name, fault_refusal,
+    gather, write_gathered,
+};
+use escrow_sql::{Request, parse};
 use sqlite::Alter;
 use std::alloc::{AllocError, Global};
 use std::io::{Read, Write};
-
-/// How many bytes of replies are gathered at most before they are written, but for the last reply.
-const MOST_GATHERED: usize = 65_536;
 
 /// Serves a script: reads its lines in order, and serves each in the database that it names. Replies
 /// are gathered while the next line is in hand, and written before the reader is asked for more, so
@@ -63,30 +59,6 @@ pub fn serve_script<S: Alter, R: Read, W: Write>(
             write_gathered(writer, &mut replies)?;
         }
     }
-    Ok(())
-}
-
-/// Adds a reply to those that are gathered.
-fn gather(replies: &mut Vec<u8>, reply: Vec<u8>) -> Result<(), AllocError>
-    ensures ok { OnOk result (replies.new.items ≡ replies.old.items ++ reply.items) }
-    ensures err { OnErr result (replies.new.items ≡ replies.old.items) }
-{
-    if replies.is_empty() {
-        *replies = reply;
-        return Ok(());
-    }
-    replies.extend_from_slice(reply.as_slice())
-}
-
-/// Writes what is gathered, or a front of it.
-fn write_gathered<W: Write>(writer: &mut W, replies: &mut Vec<u8>) -> Result<(), ServeFault>
-    ensures ok { OnOk result (Appends (W.contents writer.old) (W.contents writer.new) replies.old.items) }
-    ensures none { OnOk result (replies.new.items ≡ []) }
-    ensures err { OnErr result ((len : ℕ) × (len < length replies.old.items) × Appends (W.contents writer.old) (W.contents writer.new) (take len replies.old.items)) }
-    ensures kind { IfErr result (λ fault. fault ≡ ServeFault.Write) }
-{
-    write_whole(writer, replies.as_slice())?;
-    replies.clear();
     Ok(())
 }
 
@@ -181,30 +153,4 @@ fn answer<S: Alter>(
         Ok(Request::Statistics) => None,
         Err(fault) => Some(Reply::Refused(fault_refusal(fault))),
     }
-}
-
-/// The refusal of a text that isn't served.
-fn fault_refusal(fault: ParseFault) -> Refusal
-    ensures { result ≡ fault_refusal fault }
-{
-    match fault {
-        ParseFault::Syntax { column } => Refusal::Syntax { column },
-        ParseFault::Memory => Refusal::Memory,
-    }
-}
-
-/// Writes all of the bytes, or fewer of them from the front on.
-pub(crate) fn write_whole<W: Write>(writer: &mut W, bytes: &[u8]) -> Result<(), ServeFault>
-    ensures ok { OnOk result (Appends (W.contents writer.old) (W.contents writer.new) bytes.now) }
-    ensures err { OnErr result ((len : ℕ) × (len < length bytes.now) × Appends (W.contents writer.old) (W.contents writer.new) (take len bytes.now)) }
-    ensures kind { IfErr result (λ fault. fault ≡ ServeFault.Write) }
-{
-    let mut rest = bytes;
-    while !rest.is_empty() {
-        match writer.write(rest) {
-            Ok(0) | Err(_) => return Err(ServeFault::Write),
-            Ok(count) => rest = &rest[count..],
-        }
-    }
-    Ok(())
 }

@@ -4,7 +4,7 @@ ghost use Rattle.escrow_machine.specs.declared.reply.Reply.{Reply};
 ghost use Rattle.escrow_stats.specs.Tally.{tally_of};
 ghost use Rattle.escrow_server.specs.Output.{replies_to};
 ghost use Rattle.escrow_server.specs.Totals.{no_totals, AreTotals};
-ghost use Rattle.escrow_server.specs.declared.limits.TheConstants.{MAX_SCRIPT};
+ghost use Rattle.escrow_script.specs.declared.limits.TheConstants.{MAX_SCRIPT};
 
 use escrow_core::Reply;
 use escrow_num::Session;

@@ -1,6 +1,6 @@
 use Rattle.std.proofs.Common.{◌≡◌, List, ℕ, sym, ap, subst, ◌∙◌}
 use Rattle.escrow_server.specs.Program.{help_of, WritesFront}
-use Rattle.escrow_server.proofs.ServeLemmas.{appends_none}
+use Rattle.escrow_script.proofs.WrittenLemmas.{appends_none}
 use Rattle.escrow_server.proofs.program.refuse.Goals.{in-Help, in-Wrong, in-Memory}
 use Rattle.escrow_server.proofs.program.refuse.Goals as goal
 

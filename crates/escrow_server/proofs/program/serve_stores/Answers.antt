@@ -3,7 +3,7 @@ use Rattle.escrow_server.specs.declared.fault.RunFault.TheVariants.{Unserved}
 use Rattle.escrow_server.specs.Output.{states_of}
 use Rattle.escrow_server.specs.Program.{AreFound}
 use Rattle.escrow_server.proofs.ProgramLemmas.{serves_from, stops_from, stops_unopened}
-use Rattle.escrow_server.proofs.ServeLemmas.{at_fault}
+use Rattle.escrow_script.proofs.OutcomeLemmas.{at_fault}
 use Rattle.escrow_server.proofs.program.serve_stores.Goals as goal
 
 pub returns-in_err-open_databases-clause-stopped : goal.returns-in_err-open_databases-clause-stopped

@@ -4,11 +4,14 @@ use Rattle.std.proofs.lemmas.Option.{slice_get-get_or}
 use Rattle.sqlite.specs.Held.{state}
 use Rattle.sqlite.specs.State.{HasCleanDisk}
 use Rattle.escrow_reply.specs.Text.{rendered_whole}
-use Rattle.escrow_server.specs.Line.{Reads, no_line, restart, statement}
-use Rattle.escrow_server.specs.Output.{no_line_text, states_of}
-use Rattle.escrow_server.specs.Reading.{seen}
+use Rattle.escrow_script.specs.Line.{Reads, no_line, restart, statement}
+use Rattle.escrow_script.specs.Written.{no_line_text}
+use Rattle.escrow_server.specs.Output.{states_of}
+use Rattle.escrow_script.specs.Reading.{seen}
 use Rattle.escrow_server.specs.Totals.{LineServed, TextServed}
-use Rattle.escrow_server.proofs.ServeLemmas.{reads_states, serves_place, names_one, restarts_one, restarts_place, nothing_served, at_err, at_ok, from_err}
+use Rattle.escrow_script.proofs.LineLemmas.{names_one, restarts_one}
+use Rattle.escrow_script.proofs.OutcomeLemmas.{at_err, at_ok, from_err}
+use Rattle.escrow_server.proofs.ServeLemmas.{reads_states, serves_place, restarts_place, nothing_served}
 use Rattle.escrow_server.proofs.TotalsLemmas.{line_of_none}
 use Rattle.escrow_server.proofs.CleanDisks.{all_after, all_before}
 use Rattle.escrow_server.proofs.serve.serve_line.Goals as goal

@@ -1,13 +1,16 @@
 use Rattle.std.proofs.Common.{◌≡◌, ℕ, ◌+◌, List, ◌++◌, length, replicate, vec_len, arith, rules, ap, subst, refl, sym, ◌∙◌}
 use Rattle.std.proofs.lemmas.List.{length-replicate}
 use Rattle.std.proofs.lemmas.Bool.{true≢false}
-use Rattle.escrow_server.specs.declared.fault.ServeFault.TheVariants as fault
+use Rattle.escrow_script.specs.declared.fault.ServeFault.TheVariants as fault
 use Rattle.escrow_server.specs.Output.{states_of}
-use Rattle.escrow_server.specs.Script.{left, has_line}
+use Rattle.escrow_script.specs.Script.{left, has_line}
 use Rattle.escrow_server.specs.Totals.{no_totals}
-use Rattle.escrow_server.proofs.ServeLemmas.{Stood, stands_begun, stands_written, stopped, stopped_at_start, stopped_writing, finished, ended, turn_of, turn_served, at_fault, leaves_gathered, leaves_some, waits_for_none, nothing_waits, read_without}
-use Rattle.escrow_server.proofs.ScriptLemmas.{spends_more}
-use Rattle.escrow_server.specs.declared.limits.TheConstants.{MAX_SCRIPT}
+use Rattle.escrow_script.proofs.OutcomeLemmas.{at_fault}
+use Rattle.escrow_script.proofs.TakenLemmas.{ended, read_without}
+use Rattle.escrow_script.proofs.WrittenLemmas.{leaves_gathered, leaves_some, waits_for_none, nothing_waits}
+use Rattle.escrow_server.proofs.ServeLemmas.{Stood, stands_begun, stands_written, stopped, stopped_at_start, stopped_writing, finished, turn_of, turn_served}
+use Rattle.escrow_script.proofs.ScriptLemmas.{spends_more}
+use Rattle.escrow_script.specs.declared.limits.TheConstants.{MAX_SCRIPT}
 use Rattle.escrow_server.proofs.serve.serve_script.Goals as goal
 
 pub returns-in_err-script-clause-fault : goal.returns-in_err-script-clause-fault

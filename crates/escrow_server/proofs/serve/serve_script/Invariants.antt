@@ -1,7 +1,7 @@
 use Rattle.std.proofs.Common.{◌≡◌, ◌+◌, true, false, [], length, vec_len}
-use Rattle.escrow_server.specs.Script.{left, has_line, HasEnded, Spends}
+use Rattle.escrow_script.specs.Script.{left, has_line, HasEnded, Spends}
 use Rattle.escrow_server.proofs.ServeLemmas.{Stands}
-use Rattle.escrow_server.specs.declared.limits.TheConstants.{MAX_SCRIPT}
+use Rattle.escrow_script.specs.declared.limits.TheConstants.{MAX_SCRIPT}
 use Rattle.escrow_server.proofs.serve.serve_script.Given as goal
 
 -- some lines of the script were served, what they write was written or is gathered, and each database has its

@@ -2,7 +2,7 @@ use Rattle.escrow_reply.specs.Text.{rendered}
 use Rattle.escrow_stats.specs.Text.{rendered_totals}
 use Rattle.std.proofs.Common.{List, ℕ, subst, sym}
 use Rattle.escrow_server.specs.Totals.{TextServed}
-use Rattle.escrow_server.proofs.ServeLemmas.{at_err, at_ok}
+use Rattle.escrow_script.proofs.OutcomeLemmas.{at_err, at_ok}
 use Rattle.escrow_server.proofs.TotalsLemmas.{text_answered, text_totals}
 use Rattle.escrow_server.proofs.serve.serve_text.Goals as goal
 

@@ -1,0 +1,129 @@
+-- What a close finds, and the output of a script.
+use Rattle.std.proofs.Common.{◌≡◌, ℕ, zero, suc, ◌+◌, ◌<◌, Some, List, [], ◌∷◌, length, map, slice_get, refl, sym, ap, subst, ◌∙◌, arith}
+use Rattle.std.specs.Prelude.{Option, None, IfSome}
+use Rattle.std.proofs.lemmas.List.{length-map}
+use Rattle.sqlite_trees.specs.declared.store.Store.{Ghosts}
+use Rattle.escrow_num.specs.Session.{IsSession}
+use Rattle.escrow_transcript.specs.declared.entry.Entry.{Entry}
+use Rattle.escrow_core.specs.Seen.{Seen}
+use Rattle.escrow_shards.specs.Begun.{Begun}
+use Rattle.escrow_shards.specs.Closing.{Closing, all_entries, opening_of}
+use Rattle.escrow_shards.specs.Opened.{AreRead, IsRead, seen_at}
+use Rattle.escrow_shards.specs.Piece.{Piece}
+use Rattle.escrow_shards.specs.Receipts.{receipts_of}
+use Rattle.escrow_shards.specs.Seat.{Seat}
+use Rattle.escrow_shards.specs.Sharing.{Sharing}
+use Rattle.escrow_shards.specs.Whole.{AreWhole, HasItsReceipts}
+use Rattle.escrow_script.specs.Line.{lines_of}
+use Rattle.escrow_free.specs.Desks.{desk_of, pass_of, answers_of, seat_after}
+use Rattle.escrow_free.specs.FreeOutput.{taken_by, DoLines, ServesFree}
+use Rattle.escrow_free.specs.Histories.{histories, histories_from, AreHistories}
+use Rattle.escrow_free.specs.Phases.{IsServed}
+use Rattle.escrow_free.specs.declared.desk.Desk.{Desk}
+use Rattle.escrow_free.proofs.Desks.{nothing_served}
+use Rattle.escrow_free.proofs.Lists.{some_same, none_some, at_below, below_at, all_at}
+use Rattle.escrow_free.proofs.Planning.{within_desks}
+
+map_at : {A B : Type 0} (f : A → B) (xs : List A) (i : ℕ) (x : A) → slice_get xs i ≡ Some x → slice_get (map f xs) i ≡ Some (f x)
+map_at f [] i x at = absurd (none_some x at)
+map_at f (y ∷ xs) zero x at = ap (λ z. Some (f z)) (some_same y x at)
+map_at f (y ∷ xs) (suc i) x at = map_at f xs i x at
+
+-- DATABASES
+
+read_at : {S : Type 0} (g : Ghosts S) (olds news : List (Seen S)) (i : ℕ) (old new : Seen S) → AreRead g olds news → slice_get olds i ≡ Some old → slice_get news i ≡ Some new → IsRead g old new
+read_at g [] news i old new all at there = absurd (none_some old at)
+read_at g (o ∷ olds) [] i old new all at there = absurd all
+read_at {S} g (o ∷ olds) (n ∷ news) zero old new all at there =
+    subst (λ (x : Seen S). IsRead g x new) (some_same o old at) (subst (λ (y : Seen S). IsRead g o y) (some_same n new there) all.0)
+read_at g (o ∷ olds) (n ∷ news) (suc i) old new all at there = read_at g olds news i old new all.1 at there
+
+read_long : {S : Type 0} (g : Ghosts S) (olds news : List (Seen S)) → AreRead g olds news → length news ≡ length olds
+read_long g [] [] all = refl
+read_long g [] (n ∷ news) all = absurd all
+read_long g (o ∷ olds) [] all = absurd all
+read_long g (o ∷ olds) (n ∷ news) all = ap suc (read_long g olds news all.1)
+
+pub openings_long : {S : Type 0} (g : Ghosts S) (databases : List (Seen S)) (openings : List (Begun S)) → AreRead g databases (map seen_at openings) → length openings ≡ length databases
+openings_long g databases openings read = sym (length-map openings seen_at) ∙ read_long g databases (map seen_at openings) read
+
+closed_long : {S : Type 0} (closed : List (Closing S)) (openings : List (Begun S)) → map opening_of closed ≡ openings → length closed ≡ length openings
+closed_long {S} closed openings same = sym (length-map closed opening_of) ∙ ap (length {A = Begun S}) same
+
+pub are_histories : {S : Type 0} (g : Ghosts S) (databases : List (Seen S)) (sharing : Sharing S) (seats : List Seat) (parts : List (Piece S)) (closed : List (Closing S))
+    → AreRead g databases (map seen_at sharing.openings) → AreWhole g sharing seats parts closed → AreHistories g databases parts closed
+are_histories {S} g databases sharing seats parts closed read whole = record {
+  count = closed_long closed sharing.openings whole.openings ∙ openings_long g databases sharing.openings read;
+  each = λ place database c at there.
+      record {
+        began = read_at g databases (map seen_at sharing.openings) place database (seen_at c.opening) read at
+            (map_at seen_at sharing.openings place c.opening (ap (λ (os : List (Begun S)). slice_get os place) (sym whole.openings) ∙ map_at opening_of closed place c there));
+        whole = whole.each place c there;
+      };
+}
+
+-- HISTORIES
+
+long_histories : {S : Type 0} (place : ℕ) (parts : List (Piece S)) (closed : List (Closing S)) → length (histories_from place parts closed) ≡ length closed
+long_histories place parts [] = refl
+long_histories place parts (c ∷ closed) = ap suc (long_histories (place + 1) parts closed)
+
+-- a history is that of the database at its place
+record HistoryAt {S : Type 0} (place : ℕ) (parts : List (Piece S)) (closed : List (Closing S)) (i : ℕ) (entries : List Entry) : Type 0 where
+  closing : Closing S
+  there : slice_get closed i ≡ Some closing
+  same : entries ≡ all_entries (place + i) parts closing
+
+history_at : {S : Type 0} (place : ℕ) (parts : List (Piece S)) (closed : List (Closing S)) (i : ℕ) (entries : List Entry) → slice_get (histories_from place parts closed) i ≡ Some entries
+    → HistoryAt place parts closed i entries
+history_at place parts [] i entries at = absurd (none_some entries at)
+history_at place parts (c ∷ closed) zero entries at = record {
+  closing = c;
+  there = refl;
+  same = sym (some_same (all_entries place parts c) entries at) ∙ ap (λ n. all_entries n parts c) (let e : place ≡ place + 0 = omega arith in e);
+}
+history_at place parts (c ∷ closed) (suc i) entries at =
+    let next = history_at (place + 1) parts closed i entries at in
+    record {
+      closing = next.closing;
+      there = next.there;
+      same = next.same ∙ ap (λ n. all_entries n parts next.closing) (let e : place + 1 + i ≡ place + suc i = omega arith in e);
+    }
+
+-- THE OUTPUT
+
+pub serves_free : {S : Type 0} (g : Ghosts S) (sharing : Sharing S) (parts : List (Piece S)) (closed : List (Closing S)) (script : List ℕ) (desks : List Desk) (old_bytes new_bytes : Option (List ℕ))
+    → AreWhole g sharing (map pass_of desks) parts closed → IsServed (length sharing.openings) script desks old_bytes new_bytes
+    → ServesFree script (histories parts closed) old_bytes new_bytes
+serves_free {S} g sharing parts closed script desks old_bytes new_bytes whole served = record {
+  limit = served.limit;
+  out = served.out;
+  output = record {
+    taken = served.taken;
+    lines = subst (λ n. DoLines n [] (lines_of script) served.out served.taken) (sym count) served.lines;
+    all = all;
+  };
+  appends = served.appends;
+} where
+  count : length (histories parts closed) ≡ length sharing.openings
+  count = long_histories 0 parts closed ∙ closed_long closed sharing.openings whole.openings
+
+  all : (place session : ℕ) (entries : List Entry) → slice_get (histories parts closed) place ≡ Some entries → IsSession session → taken_by place session served.taken ≡ receipts_of session entries
+  all place session entries at is =
+      let history = history_at 0 parts closed place entries at in
+      let below : place < length sharing.openings = subst (λ n. place < n) count (below_at (histories parts closed) place entries at) in
+      let desk = at_below desks (desk_of place session) (subst (λ n. desk_of place session < n) (sym served.count) (within_desks (length sharing.openings) place session below is)) in
+      let was = nothing_served (seat_after place session served.taken) (answers_of desk.0) (desk.0).pass (served.fits place session desk.0 is desk.1) in
+      let found : HasItsReceipts parts closed (desk.0).pass = all_at (HasItsReceipts parts closed) (map pass_of desks) (desk_of place session) (desk.0).pass whole.receipts (map_at pass_of desks (desk_of place session) desk.0 desk.1) in
+      let its : HasItsReceipts parts closed (seat_after place session served.taken) = subst (HasItsReceipts parts closed) was.same found in
+      let entry : all_entries place parts history.closing ≡ entries =
+      ap (λ n. all_entries n parts history.closing) (let e : place ≡ 0 + place = omega arith in e) ∙ sym history.same in
+      its history.closing history.there ∙ ap (receipts_of session) entry
+
+-- where the bytes of the script are known
+pub serves_each : {S : Type 0} (g : Ghosts S) (sharing : Sharing S) (parts : List (Piece S)) (closed : List (Closing S)) (script : Option (List ℕ)) (desks : List Desk) (seats : List Seat)
+    (old_bytes new_bytes : Option (List ℕ)) → seats ≡ map pass_of desks → AreWhole g sharing seats parts closed
+    → IfSome script (λ bytes. IsServed (length sharing.openings) bytes desks old_bytes new_bytes) → IfSome script (λ bytes. ServesFree bytes (histories parts closed) old_bytes new_bytes)
+serves_each g sharing parts closed None desks seats old_bytes new_bytes same whole served = tt
+serves_each g sharing parts closed (Some bytes) desks seats old_bytes new_bytes same whole served =
+    serves_free g sharing parts closed bytes desks old_bytes new_bytes (subst (λ (s : List Seat). AreWhole g sharing s parts closed) same whole) served

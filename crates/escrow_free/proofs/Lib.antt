@@ -1,0 +1,10 @@
+pub mod Closing
+pub mod Desks
+pub mod Fed
+pub mod Lists
+pub mod Marking
+pub mod Phases
+pub mod Planning
+pub mod Prints
+pub mod Ranks
+pub mod Turns

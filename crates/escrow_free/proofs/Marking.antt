@@ -1,0 +1,73 @@
+-- Steps of the loops over desks, marks and items.
+use Rattle.std.proofs.Common.{◌≡◌, ℕ, zero, suc, ◌+◌, ◌<◌, ◌≤◌, Bool, true, if◌then◌else◌, List, [], ◌∷◌, ◌++◌, length, map, take, drop, set, get_or, refl, sym, ap, ap₂, subst, ◌∙◌, append_assoc, arith}
+use Rattle.std.specs.List.{AllByRecursion}
+use Rattle.std.proofs.lemmas.List.{append-nil, drop_more, drop_all, take_all, take_more_set, drop-set-lt, map-append}
+use Rattle.escrow_sql.specs.declared.statement.Request.{Request}
+use Rattle.escrow_shards.specs.Seat.{Seat}
+use Rattle.escrow_free.specs.Desks.{pass_of}
+use Rattle.escrow_free.specs.Ranks.{marked_by, ranks_from}
+use Rattle.escrow_free.specs.declared.desk.Desk.{Desk}
+
+-- the items that are left, one step on
+drop_next : {A : Type 0} (xs : List A) (i : ℕ) (x : A) → i < length xs → x ≡ get_or xs i x → drop i xs ≡ x ∷ drop (i + 1) xs
+drop_next xs i x within same = drop_more xs i x within ∙ ap (λ y. y ∷ drop (i + 1) xs) (sym same)
+
+-- one item more marks its desk
+pub marked_more : (items : List (ℕ × Request)) (i : ℕ) (item : ℕ × Request) (marks all : List Bool) → i < length items → item ≡ get_or items i item
+    → marked_by (drop i items) marks ≡ all → marked_by (drop (i + 1) items) (set marks item.0 true) ≡ all
+marked_more items i item marks all within same so_far = sym (ap (λ (xs : List (ℕ × Request)). marked_by xs marks) (drop_next items i item within same)) ∙ so_far
+
+-- one desk more has its rank
+pub ranked_more : (marks : List Bool) (i n : ℕ) (mark : Bool) (ranks all : List ℕ) → i < length marks → mark ≡ get_or marks i mark
+    → ranks ++ ranks_from n (drop i marks) ≡ all → (ranks ++ n ∷ []) ++ ranks_from (if mark then n + 1 else n) (drop (i + 1) marks) ≡ all
+ranked_more marks i n mark ranks all within same so_far =
+    append_assoc ranks (n ∷ []) (ranks_from (if mark then n + 1 else n) (drop (i + 1) marks))
+    ∙ ap (λ (xs : List Bool). ranks ++ ranks_from n xs) (sym (drop_next marks i mark within same)) ∙ so_far
+
+-- one step where each item of a list becomes another, and where all have
+pub changed_more : {X : Type 0} (f : X → X) (xs all : List X) (i : ℕ) (x y : X) → i < length xs → y ≡ f (get_or xs i x)
+    → take i xs ++ map f (drop i xs) ≡ all → take (i + 1) (set xs i y) ++ map f (drop (i + 1) (set xs i y)) ≡ all
+changed_more f xs all i x y within new so_far =
+    ap₂ (λ before behind. before ++ map f behind) (take_more_set xs i y within) (drop-set-lt (i + 1) xs i y (omega arith))
+    ∙ append_assoc (take i xs) (y ∷ []) (map f (drop (i + 1) xs))
+    ∙ ap (λ z. take i xs ++ z ∷ map f (drop (i + 1) xs)) new
+    ∙ ap (λ zs. take i xs ++ map f zs) (sym (drop_more xs i x within)) ∙ so_far
+
+pub changed_all : {X : Type 0} (f : X → X) (xs all : List X) (i : ℕ) → length xs ≤ i → take i xs ++ map f (drop i xs) ≡ all → xs ≡ all
+changed_all f xs all i past so_far =
+    sym (append-nil xs) ∙ ap₂ (λ before behind. before ++ map f behind) (sym (take_all i xs past)) (sym (drop_all i xs past)) ∙ so_far
+
+-- one pass more
+pub passes_more : (desks : List Desk) (desk : Desk) (passes : List Seat) → passes ≡ map pass_of desks → passes ++ desk.pass ∷ [] ≡ map pass_of (desks ++ desk ∷ [])
+passes_more desks desk passes so_far = ap (λ (ps : List Seat). ps ++ desk.pass ∷ []) so_far ∙ sym (map-append pass_of desks (desk ∷ []))
+
+-- one less is left
+pub one_less : (left rest n m : ℕ) → left ≡ n → rest + 1 ≡ left → n ≡ m + 1 → rest ≡ m
+one_less left rest n m same gone short = omega arith
+
+-- a desk more is taken into a list, or left out of it
+module _ {X : Type 0} (F : List Bool → List Desk → List X) (marks : List Bool) (i : ℕ) (mark : Bool) (desks olds news : List Desk) (done all : List X)
+    (within : i < length marks) (same : mark ≡ get_or marks i mark) (are : desks ≡ olds) (so_far : done ++ F (drop i marks) desks ≡ all) where
+  now : F (drop i marks) desks ≡ F (mark ∷ drop (i + 1) marks) olds
+  now = ap₂ F (drop_next marks i mark within same) are
+
+  pub desk_taken : (x : X) → F (mark ∷ drop (i + 1) marks) olds ≡ x ∷ F (drop (i + 1) marks) news → (done ++ x ∷ []) ++ F (drop (i + 1) marks) news ≡ all
+  desk_taken x step = append_assoc done (x ∷ []) (F (drop (i + 1) marks) news) ∙ ap (λ (xs : List X). done ++ xs) (sym (now ∙ step)) ∙ so_far
+
+  pub desk_left : F (mark ∷ drop (i + 1) marks) olds ≡ F (drop (i + 1) marks) news → done ++ F (drop (i + 1) marks) news ≡ all
+  desk_left step = ap (λ (xs : List X). done ++ xs) (sym (now ∙ step)) ∙ so_far
+
+-- within a list it doesn't matter which value stands for one that isn't there
+pub any_default : {A : Type 0} (xs : List A) (i : ℕ) (d e : A) → i < length xs → get_or xs i d ≡ get_or xs i e
+any_default [] i d e below = absurd (omega (arith, below))
+any_default (x ∷ xs) zero d e below = refl
+any_default (x ∷ xs) (suc i) d e below = any_default xs i d e (omega (arith, below))
+
+-- what names a place before items are renamed does so one step on
+pub head_named : {A : Type 0} (P : A → Type 0) (xs : List A) (i : ℕ) (d : A) → i < length xs → AllByRecursion P (drop i xs) → P (get_or xs i d)
+head_named P xs i d within all = (subst (AllByRecursion P) (drop_more xs i d within) all).0
+
+pub tail_named : {A : Type 0} (P : A → Type 0) (xs : List A) (i : ℕ) (y : A) → i < length xs → AllByRecursion P (drop i xs) → AllByRecursion P (drop (i + 1) (set xs i y))
+tail_named P xs i y within all =
+    let rest = (subst (AllByRecursion P) (drop_more xs i y within) all).1 in
+    subst (AllByRecursion P) (sym (drop-set-lt (i + 1) xs i y (omega arith))) rest

@@ -1,0 +1,193 @@
+-- Desks that are marked, and their ranks among these.
+use Rattle.std.proofs.Common.{◌≡◌, ◌⊎◌, ℕ, zero, suc, ◌+◌, ◌<◌, Bool, true, false, eqb, if◌then◌else◌, List, [], ◌∷◌, map, length, set, replicate, slice_get, get_or, Some, All, refl, sym, ap, subst, ◌∙◌, inl, inr, arith}
+use Rattle.std.specs.List.{AllByRecursion}
+use Rattle.std.proofs.lemmas.Bool.{eq-eqb, ne_eqb, cases_eq}
+use Rattle.std.proofs.lemmas.List.{length-replicate}
+use Rattle.escrow_sql.specs.declared.statement.Request.{Request}
+use Rattle.escrow_shards.specs.Sharing.{Sharing, HasSeat}
+use Rattle.escrow_sessions.specs.Fed.{of}
+use Rattle.escrow_sessions.specs.Serving.{Serves}
+use Rattle.escrow_free.specs.Desks.{answers_of, HasDesk, ArePassesServed, AreServed}
+use Rattle.escrow_free.specs.Ranks.{marked_by, ranks_from, rank, renamed, parted, rested, merged}
+use Rattle.escrow_free.specs.declared.desk.Desk.{Desk}
+use Rattle.escrow_free.proofs.Lists.{some_same, none_some, long_set, set_here, below_at, at_below, all_places, all_parts}
+
+-- MARKS
+
+-- a mark that is there stays
+set_stays : (marks : List Bool) (i k : ℕ) → slice_get marks k ≡ Some true → slice_get (set marks i true) k ≡ Some true
+set_stays [] i k e = e
+set_stays (m ∷ marks) zero zero e = refl
+set_stays (m ∷ marks) zero (suc k) e = e
+set_stays (m ∷ marks) (suc i) zero e = e
+set_stays (m ∷ marks) (suc i) (suc k) e = set_stays marks i k e
+
+stays_marked : (items : List (ℕ × Request)) (marks : List Bool) (k : ℕ) → slice_get marks k ≡ Some true → slice_get (marked_by items marks) k ≡ Some true
+stays_marked [] marks k e = e
+stays_marked (item ∷ items) marks k e = stays_marked items (set marks item.0 true) k (set_stays marks item.0 k e)
+
+pub long_marked : (items : List (ℕ × Request)) (marks : List Bool) → length (marked_by items marks) ≡ length marks
+long_marked [] marks = refl
+long_marked (item ∷ items) marks = long_marked items (set marks item.0 true) ∙ long_set marks item.0 true
+
+-- an item names one of the marked desks
+abbrev pub IsMarked : List Bool → ℕ × Request → Type 0
+IsMarked marks item = slice_get marks item.0 ≡ Some true
+
+pub all_marked : (items : List (ℕ × Request)) (marks : List Bool) → AllByRecursion (λ x. x.0 < length marks) items → AllByRecursion (IsMarked (marked_by items marks)) items
+all_marked [] marks within = tt
+all_marked (item ∷ items) marks within = (
+  stays_marked items (set marks item.0 true) item.0 (set_here marks item.0 true within.0),
+  all_marked items (set marks item.0 true) (subst (λ n. AllByRecursion (λ (x : ℕ × Request). x.0 < n) items) (sym (long_set marks item.0 true)) within.1),
+)
+
+-- RANKS
+
+pub long_ranks : (n : ℕ) (marks : List Bool) → length (ranks_from n marks) ≡ length marks
+long_ranks n [] = refl
+long_ranks n (true ∷ marks) = ap suc (long_ranks (n + 1) marks)
+long_ranks n (false ∷ marks) = ap suc (long_ranks n marks)
+
+rank_at : (n : ℕ) (marks : List Bool) (k : ℕ) → k < length marks → get_or (ranks_from n marks) k 0 ≡ n + rank marks k
+rank_at n [] k below = absurd (omega (arith, below))
+rank_at n (true ∷ marks) zero below = omega arith
+rank_at n (false ∷ marks) zero below = omega arith
+rank_at n (true ∷ marks) (suc k) below = let more = rank_at (n + 1) marks k (omega (arith, below)) in omega arith
+rank_at n (false ∷ marks) (suc k) below = rank_at n marks k (omega (arith, below))
+
+suc_same : (a b : ℕ) → suc a ≡ suc b → a ≡ b
+suc_same a b e = omega arith
+
+no_mark : Some false ≡ Some true → ⊥
+no_mark e = cc
+
+-- marked desks of one rank are one
+same_rank : (marks : List Bool) (j k : ℕ) → slice_get marks j ≡ Some true → slice_get marks k ≡ Some true → rank marks j ≡ rank marks k → j ≡ k
+same_rank [] j k at there e = absurd (none_some true at)
+same_rank (m ∷ marks) zero zero at there e = refl
+same_rank (true ∷ marks) zero (suc k) at there e = absurd (omega (arith, e))
+same_rank (false ∷ marks) zero (suc k) at there e = absurd (no_mark at)
+same_rank (true ∷ marks) (suc j) zero at there e = absurd (omega (arith, e))
+same_rank (false ∷ marks) (suc j) zero at there e = absurd (no_mark there)
+same_rank (true ∷ marks) (suc j) (suc k) at there e = ap suc (same_rank marks j k at there (suc_same (rank marks j) (rank marks k) e))
+same_rank (false ∷ marks) (suc j) (suc k) at there e = ap suc (same_rank marks j k at there e)
+
+rank_of : (marks : List Bool) (item : ℕ × Request) → IsMarked marks item → (renamed (ranks_from 0 marks) item).0 ≡ rank marks item.0
+rank_of marks item at = let e = rank_at 0 marks item.0 (below_at marks item.0 true at) in omega (arith, e)
+
+if_same : (b c : Bool) (x : Request) (xs ys : List Request) → b ≡ c → xs ≡ ys → (if b then x ∷ xs else xs) ≡ (if c then x ∷ ys else ys)
+if_same b c x xs ys e f = rw (e, f) refl
+
+-- two tests that tell the same
+tests_same : (a b c d : ℕ) → (a ≡ b → c ≡ d) → (c ≡ d → a ≡ b) → eqb a b ≡ eqb c d
+tests_same a b c d there back = elim (cases_eq a b) [
+  | inl same ↦ eq-eqb a b same ∙ sym (eq-eqb c d (there same))
+  | inr apart ↦ ne_eqb a b apart ∙ sym (ne_eqb c d (λ same. apart (back same)))
+]
+
+-- the items of a marked desk are those that name its rank
+of_renamed : (marks : List Bool) (k : ℕ) (items : List (ℕ × Request)) → slice_get marks k ≡ Some true → AllByRecursion (IsMarked marks) items
+    → of (rank marks k) (map (renamed (ranks_from 0 marks)) items) ≡ of k items
+of_renamed marks k [] at all = refl
+of_renamed marks k (item ∷ items) at all =
+    let named = rank_of marks item all.0 in
+    if_same (eqb (renamed (ranks_from 0 marks) item).0 (rank marks k)) (eqb item.0 k) item.1 (of (rank marks k) (map (renamed (ranks_from 0 marks)) items)) (of k items)
+    (tests_same (renamed (ranks_from 0 marks) item).0 (rank marks k) item.0 k (λ e. same_rank marks item.0 k all.0 at (sym named ∙ e)) (λ e. named ∙ ap (rank marks) e))
+    (of_renamed marks k items at all.1)
+
+-- PARTS
+
+-- the pass of a marked desk stands at its rank
+pub parted_at : (marks : List Bool) (desks : List Desk) (k : ℕ) (desk : Desk) → slice_get marks k ≡ Some true → slice_get desks k ≡ Some desk
+    → slice_get (parted marks desks) (rank marks k) ≡ Some desk.pass
+parted_at [] desks k desk at there = absurd (none_some true at)
+parted_at (m ∷ marks) [] k desk at there = absurd (none_some desk there)
+parted_at (true ∷ marks) (d ∷ desks) zero desk at there = ap (λ (x : Desk). Some x.pass) (some_same d desk there)
+parted_at (false ∷ marks) (d ∷ desks) zero desk at there = absurd (no_mark at)
+parted_at (true ∷ marks) (d ∷ desks) (suc k) desk at there = parted_at marks desks k desk at there
+parted_at (false ∷ marks) (d ∷ desks) (suc k) desk at there = parted_at marks desks k desk at there
+
+parted_none : (marks : List Bool) → parted marks [] ≡ []
+parted_none [] = refl
+parted_none (true ∷ marks) = parted_none marks
+parted_none (false ∷ marks) = parted_none marks
+
+-- the passes are those of desks
+pub parted_seats : {S : Type 0} (sharing : Sharing S) (marks : List Bool) (desks : List Desk) → AllByRecursion (HasDesk sharing) desks → AllByRecursion (HasSeat sharing) (parted marks desks)
+parted_seats sharing [] desks all = tt
+parted_seats sharing (true ∷ marks) [] all = parted_seats sharing marks [] all
+parted_seats sharing (false ∷ marks) [] all = parted_seats sharing marks [] all
+parted_seats sharing (true ∷ marks) (d ∷ desks) all = (all.0, parted_seats sharing marks desks all.1)
+parted_seats sharing (false ∷ marks) (d ∷ desks) all = parted_seats sharing marks desks all.1
+
+-- what stands at a place of all: the desk that rested there, or one that was served, at its rank
+abbrev StoodAt : List Bool → List Desk → List Desk → ℕ → Desk → Type 0
+StoodAt marks desks served k new = (slice_get desks k ≡ Some new) ⊎ ((slice_get marks k ≡ Some true) × (slice_get served (rank marks k) ≡ Some new))
+
+stood_at : (marks : List Bool) (desks served : List Desk) (k : ℕ) (new : Desk) → length served ≡ length (parted marks desks) → length desks ≡ length marks
+    → slice_get (merged marks served (rested marks desks)) k ≡ Some new → StoodAt marks desks served k new
+stood_at [] desks served k new long all e = absurd (none_some new e)
+stood_at (m ∷ marks) [] served k new long all e = absurd (omega (arith, all))
+stood_at (true ∷ marks) (d ∷ desks) [] k new long all e = absurd (omega (arith, long))
+stood_at (true ∷ marks) (d ∷ desks) (s ∷ served) zero new long all e = inr (refl, e)
+stood_at (true ∷ marks) (d ∷ desks) (s ∷ served) (suc k) new long all e = stood_at marks desks served k new (omega (arith, long)) (omega (arith, all)) e
+stood_at (false ∷ marks) (d ∷ desks) served zero new long all e = inl e
+stood_at (false ∷ marks) (d ∷ desks) served (suc k) new long all e = stood_at marks desks served k new long (omega (arith, all)) e
+
+long_merged : (marks : List Bool) (desks served : List Desk) → length served ≡ length (parted marks desks) → length desks ≡ length marks
+    → length (merged marks served (rested marks desks)) ≡ length desks
+long_merged [] desks served long all = omega (arith, all)
+long_merged (m ∷ marks) [] served long all = absurd (omega (arith, all))
+long_merged (true ∷ marks) (d ∷ desks) [] long all = absurd (omega (arith, long))
+long_merged (true ∷ marks) (d ∷ desks) (s ∷ served) long all = ap suc (long_merged marks desks served (omega (arith, long)) (omega (arith, all)))
+long_merged (false ∷ marks) (d ∷ desks) served long all = ap suc (long_merged marks desks served long (omega (arith, all)))
+
+-- ALL TOGETHER
+
+-- the marks of items, over so many desks
+abbrev pub marks_over : List Desk → List (ℕ × Request) → List Bool
+marks_over desks items = marked_by items (replicate (length desks) false)
+
+module _ (desks : List Desk) (items : List (ℕ × Request)) (within : All (λ x. x.0 < length desks) items) where
+  marks : List Bool
+  marks = marks_over desks items
+
+  pub long_over : length (marks_over desks items) ≡ length desks
+  long_over = long_marked items (replicate (length desks) false) ∙ length-replicate (length desks) false
+
+  pub marked_over : AllByRecursion (IsMarked (marks_over desks items)) items
+  marked_over =
+      all_marked items (replicate (length desks) false)
+      (subst (λ n. AllByRecursion (λ (x : ℕ × Request). x.0 < n) items) (sym (length-replicate (length desks) false)) (all_parts (λ (x : ℕ × Request). x.0 < length desks) items within))
+
+  -- an item, by rank, names one of the passes
+  rank_within : (item : ℕ × Request) → IsMarked (marks_over desks items) item → (renamed (ranks_from 0 (marks_over desks items)) item).0 < length (parted (marks_over desks items) desks)
+  rank_within item at =
+      let here = at_below desks item.0 (subst (λ n. item.0 < n) long_over (below_at (marks_over desks items) item.0 true at)) in
+      let there = parted_at (marks_over desks items) desks item.0 here.0 at here.1 in
+      subst (λ r. r < length (parted (marks_over desks items) desks)) (sym (rank_of (marks_over desks items) item at))
+      (below_at (parted (marks_over desks items) desks) (rank (marks_over desks items) item.0) (here.0).pass there)
+
+  ranks_within : (xs : List (ℕ × Request)) → AllByRecursion (IsMarked (marks_over desks items)) xs
+      → AllByRecursion (λ x. x.0 < length (parted (marks_over desks items) desks)) (map (renamed (ranks_from 0 (marks_over desks items))) xs)
+  ranks_within [] all = tt
+  ranks_within (x ∷ xs) all = (rank_within x all.0, ranks_within xs all.1)
+
+  pub renamed_within : All (λ x. x.0 < length (parted (marks_over desks items) desks)) (map (renamed (ranks_from 0 (marks_over desks items))) items)
+  renamed_within = all_places (λ (x : ℕ × Request). x.0 < length (parted (marks_over desks items) desks)) (map (renamed (ranks_from 0 (marks_over desks items))) items) (ranks_within items marked_over)
+
+  -- the desks that are put together are those that were served
+  pub all_served : (served : List Desk) → ArePassesServed (parted (marks_over desks items) desks) (map (renamed (ranks_from 0 (marks_over desks items))) items) served
+      → AreServed desks items (merged (marks_over desks items) served (rested (marks_over desks items) desks))
+  all_served served passes = record {
+    count = long_merged (marks_over desks items) desks served passes.count (sym long_over);
+    each = λ k before after at_old at_new none. was k before after at_old none (stood_at (marks_over desks items) desks served k after passes.count (sym long_over) at_new);
+  } where
+    was : (k : ℕ) (before after : Desk) → slice_get desks k ≡ Some before → answers_of before ≡ [] → StoodAt (marks_over desks items) desks served k after
+        → Serves before.pass (of k items) (answers_of after) after.pass
+    was k before after at_old none (inl same) =
+        let e : before ≡ after = some_same before after (sym at_old ∙ same) in
+        subst (λ (d : Desk). Serves before.pass (of k items) (answers_of d) d.pass) e (rw none refl)
+    was k before after at_old none (inr there) =
+        subst (λ rs. Serves before.pass rs (answers_of after) after.pass) (of_renamed (marks_over desks items) k items there.0 marked_over)
+        (passes.each (rank (marks_over desks items) k) before.pass after (parted_at (marks_over desks items) desks k before there.0 at_old) there.1)

@@ -1,0 +1,45 @@
+use Rattle.std.proofs.Common.{◌≡◌, ◌∷◌, [], length, vec_len, refl, arith, ap, ◌∙◌, sym, subst, add-one}
+use Rattle.std.specs.List.{AllByRecursion}
+use Rattle.std.specs.Vec.Iter.{into_iter_items}
+use Rattle.escrow_free.specs.Printing.{HasItsDesk}
+use Rattle.escrow_free.proofs.Marking.{one_less}
+use Rattle.std.proofs.lemmas.List.{nil_from_length}
+use Rattle.std.proofs.lemmas.Result.{on_ok_weaker}
+use Rattle.escrow_free.proofs.Prints.{printed_none, printed_more, printed_all}
+use Rattle.escrow_free.proofs.printing.print_phase.Goals as goal
+
+pub loop-line-preserved : goal.loop-line-preserved
+loop-line-preserved g c =
+    let at = c.loop-line in
+    let steps : into_iter_items at.line-iterator ≡ c.in-Some.line ∷ into_iter_items c.next.new.self = c.in-Some.ensures.steps.0 in
+    let lines : AllByRecursion (HasItsDesk (vec_len c.args.desks.now)) (c.in-Some.line ∷ into_iter_items c.next.new.self) =
+    subst (AllByRecursion (HasItsDesk (vec_len c.args.desks.now))) steps at.invariant.lines in
+    record {
+      long = one_less _ _ _ _ at.invariant.long c.in-Some.ensures.steps.1 (ap length steps ∙ sym (add-one _));
+      count = c.print_line.ensures.count ∙ at.invariant.count;
+      lines = lines.1;
+      printed =
+          printed_more _ c.in-Some.line (into_iter_items c.next.new.self) c.args.desks.now.items at.desks.items c.print_line.new.desks.items
+          (g.W.Write.contents c.args.writer.now) (g.W.Write.contents at.writer) (g.W.Write.contents c.pass_on.new.writer) at.replies.items c.in_ok-reply.reply.items c.pass_on.new.replies.items
+          (c.in_ok-reply.ensures.printed _) c.in_ok-pass_on.ensures (rw (← steps) at.invariant.printed);
+    }
+
+pub loop-line-init : goal.loop-line-init
+loop-line-init g c =
+    let gives = c.into_iter-line-iterator.ensures.into_iter_gives in
+    let left = into_iter_items c.into_iter-line-iterator.result in
+    record {
+      long = c.into_iter-line-iterator.result.rest.ok.0;
+      count = refl;
+      lines = subst (AllByRecursion (HasItsDesk (vec_len c.args.desks.now))) (sym gives.0) c.requires;
+      printed = printed_none left c.args.desks.now.items (g.W.Write.contents c.args.writer.now) c.new-replies.result.items c.new-replies.ensures.items;
+    }
+
+pub returns-clause-printed : goal.returns-clause-printed
+returns-clause-printed g c =
+    let at = c.loop-line in
+    let gives = c.into_iter-line-iterator.ensures.into_iter_gives in
+    let none : into_iter_items at.line-iterator ≡ [] = nil_from_length (into_iter_items at.line-iterator) (omega (arith, at.invariant.long, c.in-None.ensures.steps.0)) in
+    on_ok_weaker c.write_gathered.result (λ wrote.
+    printed_all c.args.lines.items c.args.desks.now.items at.desks.items (into_iter_items at.line-iterator) (g.W.Write.contents c.args.writer.now) (g.W.Write.contents at.writer)
+    (g.W.Write.contents c.write_gathered.new.writer) at.replies.items none (rw (← gives.0) at.invariant.printed) wrote) c.write_gathered.ensures.ok

@@ -1,0 +1,14 @@
+use Rattle.std.proofs.Common.{◌≡◌, length, vec_len}
+use Rattle.std.specs.List.{AllByRecursion}
+use Rattle.std.specs.Vec.Iter.{into_iter_items, into_iter_len}
+use Rattle.escrow_free.specs.Printing.{HasItsDesk}
+use Rattle.escrow_free.proofs.Prints.{Printed}
+use Rattle.escrow_free.proofs.printing.print_phase.Given as goal
+
+abbrev pub invariant-loop-line : goal.invariant-loop-line
+invariant-loop-line g l = record {
+  long : into_iter_len l.line-iterator ≡ length (into_iter_items l.line-iterator);
+  count : vec_len l.desks ≡ vec_len l.fn.desks;
+  lines : AllByRecursion (HasItsDesk (vec_len l.fn.desks)) (into_iter_items l.line-iterator);
+  printed : Printed (into_iter_items l.initial.line-iterator) l.fn.desks.items (into_iter_items l.line-iterator) l.desks.items (g.W.Write.contents l.fn.writer) (g.W.Write.contents l.writer) l.replies.items;
+}

@@ -1,0 +1,19 @@
+use Rattle.std.proofs.Common.{◌≡◌, ◌+◌, ◌*◌, true, length, vec_len}
+use Rattle.escrow_num.specs.declared.session.TheConstants.Session.{MAX}
+use Rattle.escrow_script.specs.declared.limits.TheConstants.{MAX_SCRIPT}
+use Rattle.escrow_script.specs.Script.{left, HasEnded, Spends}
+use Rattle.escrow_free.proofs.Phases.{Stands}
+use Rattle.escrow_free.proofs.serve.serve_phases.Given as goal
+
+abbrev pub invariant-phases : goal.invariant-phases
+invariant-phases g l = record {
+  drained : vec_len l.drains.last_drained ≡ length l.shared.openings;
+  count : length l.desks.items ≡ length l.shared.openings * MAX;
+  stands : Stands (length l.shared.openings) (g.R.Read.remaining l.fn.reader) (left l.script.unread (g.R.Read.remaining l.reader))
+      (g.W.Write.contents l.fn.writer) (g.W.Write.contents l.writer) l.desks.items;
+  ended : l.script.has_ended ≡ true → HasEnded l.script.unread (g.R.Read.remaining l.reader);
+  spent : Spends (g.R.Read.remaining l.fn.reader) (g.R.Read.remaining l.reader) MAX_SCRIPT l.script.bytes_left;
+}
+
+abbrev pub decreases-phases : goal.decreases-phases
+decreases-phases g l = l.script.bytes_left + length l.script.unread

@@ -1,0 +1,70 @@
+-- Helps: the desks of sessions.
+use Rattle.std.specs.Prelude.{◌≡◌, ℕ, ◌+◌, ◌-◌, ◌*◌, Option, Some, None, List, [], ◌∷◌, length, slice_get}
+use Rattle.std.specs.Vec.Iter.{into_iter_items}
+use Rattle.escrow_num.specs.Session.{IsSession}
+use Rattle.escrow_num.specs.declared.session.TheConstants.Session.{MAX}
+use Rattle.escrow_sql.specs.declared.statement.Request.{Request}
+use Rattle.escrow_shards.specs.Seat.{Seat}
+use Rattle.escrow_shards.specs.Sharing.{Sharing, HasSeat}
+use Rattle.escrow_sessions.specs.Fed.{of}
+use Rattle.escrow_sessions.specs.Serving.{Serves}
+use Rattle.escrow_sessions.specs.declared.done.Done.{Done}
+use Rattle.escrow_sessions.specs.declared.done.Given.{Given}
+use Rattle.escrow_free.specs.FreeOutput.{Taken, taken_by}
+use Rattle.escrow_free.specs.declared.desk.Desk.{Desk}
+
+-- where the desk of a session of a database stands
+abbrev pub desk_of : ℕ → ℕ → ℕ
+desk_of place session = place * MAX + (session - 1)
+
+-- the pass of a desk, and the answers that it is still to give
+abbrev pub pass_of : Desk → Seat
+pass_of desk = desk.pass
+
+abbrev pub answers_of : Desk → List Given
+answers_of desk = into_iter_items desk.answers
+
+-- a desk of a pass, without answers
+abbrev pub IsNewDesk : Seat → Desk → Type 0
+IsNewDesk seat desk = (desk.pass ≡ seat) × (answers_of desk ≡ [])
+
+-- a desk of what a worker did
+abbrev pub IsDoneDesk : Done → Desk → Type 0
+IsDoneDesk done desk = (desk.pass ≡ done.pass) × (answers_of desk ≡ done.answers.items)
+
+-- the next of some answers, if there is one
+abbrev pub IsNext : List Given → Option Given → List Given → Type 0
+IsNext old (Some g) new = old ≡ g ∷ new
+IsNext old None new = (old ≡ []) × (new ≡ [])
+
+-- a desk's pass is for one of the databases and sessions
+abbrev pub HasDesk : {S : Type 0} → Sharing S → Desk → Type 0
+HasDesk sharing desk = HasSeat sharing desk.pass
+
+-- each session of each database has a desk
+pub record HaveSeats {S : Type 0} (sharing : Sharing S) (desks : List Desk) : Type 0 where
+  pub sessions : sharing.sessions ≡ MAX
+  pub count : length desks ≡ length sharing.openings * MAX
+
+-- passes were served: each has a desk, whose answers are given to the requests of the items that name its place
+pub record ArePassesServed (seats : List Seat) (items : List (ℕ × Request)) (served : List Desk) : Type 0 where
+  pub count : length served ≡ length seats
+  pub each : (place : ℕ) (seat : Seat) (desk : Desk) → slice_get seats place ≡ Some seat → slice_get served place ≡ Some desk
+      → Serves seat (of place items) (answers_of desk) desk.pass
+
+-- desks were served: where one had no answers left, its answers are given to the requests of the items that name it
+pub record AreServed (old : List Desk) (items : List (ℕ × Request)) (new : List Desk) : Type 0 where
+  pub count : length new ≡ length old
+  pub each : (place : ℕ) (before after : Desk) → slice_get old place ≡ Some before → slice_get new place ≡ Some after
+      → answers_of before ≡ [] → Serves before.pass (of place items) (answers_of after) after.pass
+
+-- the pass of a session whose lines took this
+abbrev pub seat_after : ℕ → ℕ → List Taken → Seat
+seat_after place session taken = record { database = place; session = session; receipts = taken_by place session taken }
+
+-- THE DESKS FIT what lines took: each pass went from what its session's lines took so far, over the answers that are
+-- still to be given, to the requests that are still to be answered.
+abbrev pub Fits : List (ℕ × Request) → List Taken → List Desk → Type 0
+Fits items taken desks =
+    (place session : ℕ) (desk : Desk) → IsSession session → slice_get desks (desk_of place session) ≡ Some desk
+    → Serves (seat_after place session taken) (of (desk_of place session) items) (answers_of desk) desk.pass

@@ -1,0 +1,29 @@
+-- Believed: the histories that are handed back.
+use Rattle.std.specs.Prelude.{◌≡◌, ℕ, ◌+◌, List, [], ◌∷◌, length, slice_get, Some}
+use Rattle.sqlite_trees.specs.declared.store.Store.{Ghosts}
+use Rattle.escrow_transcript.specs.declared.entry.Entry.{Entry}
+use Rattle.escrow_core.specs.Seen.{Seen}
+use Rattle.escrow_shards.specs.Closing.{Closing, IsWhole, all_entries}
+use Rattle.escrow_shards.specs.Opened.{IsRead, seen_at}
+use Rattle.escrow_shards.specs.Piece.{Piece}
+
+-- the histories of databases, from a place on: each is the entries of its parts, and then those of its last
+-- transcript
+abbrev pub histories_from : {S : Type 0} → ℕ → List (Piece S) → List (Closing S) → List (List Entry)
+histories_from place parts [] = []
+histories_from place parts (c ∷ closed) = all_entries place parts c ∷ histories_from (place + 1) parts closed
+
+abbrev pub histories : {S : Type 0} → List (Piece S) → List (Closing S) → List (List Entry)
+histories parts closed = histories_from 0 parts closed
+
+-- The history of a database began as the database was handed in, and is whole: as long as its disk had returned what
+-- was written, it is one legal run of the machine from there to the state in which the database is handed back.
+pub record IsHistory {S : Type 0} (g : Ghosts S) (place : ℕ) (parts : List (Piece S)) (database : Seen S) (c : Closing S) : Type 0 where
+  pub began : IsRead g database (seen_at c.opening)
+  pub whole : IsWhole g place parts c
+
+-- so it is with each database, by place
+pub record AreHistories {S : Type 0} (g : Ghosts S) (databases : List (Seen S)) (parts : List (Piece S)) (closed : List (Closing S)) : Type 0 where
+  pub count : length closed ≡ length databases
+  pub each : (place : ℕ) (database : Seen S) (c : Closing S) → slice_get databases place ≡ Some database → slice_get closed place ≡ Some c
+      → IsHistory g place parts database c

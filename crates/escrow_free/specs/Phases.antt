@@ -1,0 +1,39 @@
+-- Helps: phases that are read and served, one after another.
+use Rattle.std.specs.Prelude.{◌≡◌, ℕ, ◌≤◌, Option, Some, None, List, [], ◌*◌, ◌++◌, length, ⊤}
+use Rattle.std.specs.Io.KnownBytes.{Appends}
+use Rattle.escrow_num.specs.declared.session.TheConstants.Session.{MAX}
+use Rattle.escrow_script.specs.declared.limits.TheConstants.{MAX_SCRIPT}
+use Rattle.escrow_script.specs.Line.{lines_of}
+use Rattle.escrow_free.specs.Desks.{Fits}
+use Rattle.escrow_free.specs.FreeOutput.{Taken, DoLines}
+use Rattle.escrow_free.specs.Planning.{Plans}
+use Rattle.escrow_free.specs.declared.desk.Desk.{Desk}
+use Rattle.escrow_free.specs.declared.plan.Plan.{Plan}
+
+-- these lines, and those that are left, are the lines of the bytes, where these are known
+abbrev pub TakesLines : List (List ℕ) → Option (List ℕ) → Option (List ℕ) → Type 0
+TakesLines lines None rest = ⊤
+TakesLines lines (Some bytes) None = ⊥
+TakesLines lines (Some bytes) (Some rest) = lines_of bytes ≡ lines ++ lines_of rest
+
+-- some lines were read, where the bytes are known, and that is their plan
+pub record IsRead (databases : ℕ) (bytes rest : Option (List ℕ)) (plan : Plan) : Type 0 where
+  pub lines : List (List ℕ)
+  pub read : TakesLines lines bytes rest
+  pub plans : Plans databases lines plan.lines.items plan.items.items
+
+-- all bytes were read, where they are known
+abbrev pub IsOver : Option (List ℕ) → Option (List ℕ) → Type 0
+IsOver None rest = ⊤
+IsOver (Some bytes) None = ⊥
+IsOver (Some bytes) (Some rest) = rest ≡ []
+
+-- a script was served: what its lines do was written, and the desks fit what they took
+pub record IsServed (databases : ℕ) (script : List ℕ) (desks : List Desk) (old_bytes new_bytes : Option (List ℕ)) : Type 0 where
+  pub limit : length script ≤ MAX_SCRIPT
+  pub out : List ℕ
+  pub taken : List Taken
+  pub lines : DoLines databases [] (lines_of script) out taken
+  pub count : length desks ≡ databases * MAX
+  pub fits : Fits [] taken desks
+  pub appends : Appends old_bytes new_bytes out

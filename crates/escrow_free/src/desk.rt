@@ -1,0 +1,87 @@
+//! The desk of a session: its pass, and the answers that it is still to give.
+ghost use Rattle.std.specs.Prelude.{◌≡◌, ◌<◌, map, IfOk};
+ghost use Rattle.std.specs.List.{AllZip};
+ghost use Rattle.escrow_num.specs.Session.{IsSession};
+ghost use Rattle.escrow_free.specs.Desks.{IsNewDesk, IsDoneDesk, desk_of, pass_of};
+
+use escrow_num::Session;
+use escrow_script::MAX_DATABASES;
+use escrow_sessions::{Done, Given};
+use escrow_shards::Pass;
+use std::alloc::{AllocError, Global};
+use std::vec::IntoIter;
+
+/// A session between its calls: its pass, and the answers of a phase that aren't printed yet.
+#[derive(Drop)]
+pub(crate) struct Desk {
+    pub(crate) pass: Pass,
+    pub(crate) answers: IntoIter<Given>,
+}
+
+impl Desk {
+    ghost use Rattle.std.specs.Prelude.{◌≡◌};
+    ghost use Rattle.escrow_free.specs.Desks.{answers_of, IsNewDesk, IsNext};
+
+    /// A desk without answers, which takes no memory.
+    pub(crate) fn new(alloc: Global, pass: Pass) -> Self
+        ensures { IsNewDesk pass result }
+    {
+        Desk {
+            pass,
+            answers: Vec::new(alloc).into_iter(),
+        }
+    }
+
+    /// Its next answer, if it has one.
+    pub(crate) fn next_answer(&mut self) -> Option<Given>
+        ensures next { IsNext (answers_of self.old) result (answers_of self.new) }
+        ensures pass { self.new.pass ≡ self.old.pass }
+    {
+        self.answers.next()
+    }
+}
+
+/// Where the desk of a session of a database stands among all.
+pub(crate) fn desk_of(database: usize, session: Session) -> usize
+    requires { database < MAX_DATABASES }
+    ensures place { result ≡ desk_of database session }
+    ensures is_session { IsSession session }
+{
+    let first = database * usize::from(Session::MAX);
+    first + usize::from(session.get()) - 1
+}
+
+/// The desks of passes, without answers. Want of memory is the only error.
+pub(crate) fn desks_of(alloc: Global, passes: Vec<Pass>) -> Result<Vec<Desk>, AllocError>
+    ensures { IfOk result (λ desks. AllZip IsNewDesk passes.items desks.items) }
+{
+    let mut desks = Vec::with_capacity(alloc, passes.len())?;
+    for pass in passes {
+        desks.push(Desk::new(alloc, pass))?;
+    }
+    Ok(desks)
+}
+
+/// The desks of workers, with the answers that these gave. Want of memory is the only error.
+pub(crate) fn served_desks(alloc: Global, workers: Vec<Done>) -> Result<Vec<Desk>, AllocError>
+    ensures { IfOk result (λ desks. AllZip IsDoneDesk workers.items desks.items) }
+{
+    let mut desks = Vec::with_capacity(alloc, workers.len())?;
+    for done in workers {
+        let Done { pass, answers, .. } = done;
+        let answers = answers.into_iter();
+        desks.push(Desk { pass, answers })?;
+    }
+    Ok(desks)
+}
+
+/// The passes of desks. Want of memory is the only error.
+pub(crate) fn passes_of(alloc: Global, desks: Vec<Desk>) -> Result<Vec<Pass>, AllocError>
+    ensures { IfOk result (λ passes. passes.items ≡ map pass_of desks.items) }
+{
+    let mut passes = Vec::with_capacity(alloc, desks.len())?;
+    for desk in desks {
+        passes.push(desk.pass)?;
+    }
+    Ok(passes)
+}

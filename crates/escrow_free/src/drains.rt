@@ -1,0 +1,85 @@
+//! Long histories are handed out in parts.
+use crate::desk::Desk;
+use escrow_shards::{Part, Shared};
+use sqlite::Alter;
+use std::alloc::{AllocError, Global};
+use std::sync::Wait;
+
+/// From how many entries on a transcript is drained.
+const LONG: u64 = 32_768;
+
+/// The parts of histories that were handed out, and the number of the last entry in those of each database.
+#[derive(Drop)]
+pub(crate) struct Drains<S: Alter> {
+    pub(crate) parts: Vec<Part<S>>,
+    pub(crate) last_drained: Vec<u64>,
+}
+
+impl<S: Alter + Drop> Drains<S> {
+    ghost use Rattle.std.specs.Prelude.{◌≡◌, ◌<◌, length, vec_len, IfOk};
+
+    /// No parts, of so many databases. Want of memory is the only error.
+    pub(crate) fn new(alloc: Global, databases: usize) -> Result<Self, AllocError>
+        ensures { IfOk result (λ drains. vec_len drains.last_drained ≡ databases) }
+    {
+        let last_drained = vec![in alloc; 0; databases]?;
+        Ok(Drains {
+            parts: Vec::new(alloc),
+            last_drained,
+        })
+    }
+
+    /// Drains each database whose transcript is long, as the receipts at desks tell.
+    pub(crate) fn drain_long<R: Wait>(
+        &mut self,
+        rt: &R,
+        alloc: Global,
+        shared: &Shared<S>,
+        desks: &[Desk],
+    )
+        requires { vec_len self.old.last_drained ≡ length shared.now.openings }
+        ensures { vec_len self.new.last_drained ≡ vec_len self.old.last_drained }
+    {
+        for database in 0..self.last_drained.len() {
+            let last = last_number(database, desks);
+            if last.saturating_sub(self.last_drained[database]) >= LONG {
+                self.drain(rt, alloc, shared, database, last);
+            }
+        }
+    }
+
+    /// Drains a database whose last entry has a number. Where that is refused it is left as it is.
+    fn drain<R: Wait>(
+        &mut self,
+        rt: &R,
+        alloc: Global,
+        shared: &Shared<S>,
+        database: usize,
+        last: u64,
+    )
+        requires among { database < length shared.now.openings }
+        requires each { vec_len self.old.last_drained ≡ length shared.now.openings }
+        ensures { vec_len self.new.last_drained ≡ vec_len self.old.last_drained }
+    {
+        if self.parts.reserve(1).is_err() {
+            return;
+        }
+        if let Ok(part) = shared.drain(rt, alloc, database) {
+            self.parts.push_reserved(part);
+            self.last_drained[database] = last;
+        }
+    }
+}
+
+/// The number of the last entry of a database, as the receipts at its desks tell; 0 where it has none.
+fn last_number(database: usize, desks: &[Desk]) -> u64 {
+    let mut last = 0;
+    for desk in desks {
+        if desk.pass.database() == database {
+            if let Some(receipt) = desk.pass.receipts().last() {
+                last = last.max(receipt.number);
+            }
+        }
+    }
+    last
+}

@@ -1,0 +1,71 @@
+use escrow_num::Refusal;
+use escrow_script::{ReadFault, ServeFault};
+use escrow_shards::Cause;
+use std::alloc::AllocError;
+use thiserror::Error;
+
+/// Why a script whose sessions run at the same time isn't served to its end. Nothing is handed back.
+#[derive(Clone, Copy, Debug, Error)]
+pub enum FreeFault {
+    /// The reader answered an error, or gave more than a script may have.
+    #[error("the script can't be read: {0}")]
+    Read(ReadFault),
+    /// The writer answered an error, or took nothing of what was left to write.
+    #[error("a reply can't be written")]
+    Write,
+    /// Memory was refused outside a statement.
+    #[error("out of memory")]
+    Memory,
+    /// A store failed when it was read at the beginning.
+    #[error("a store can't be read")]
+    Store,
+    /// A transaction is open in a database that was handed in.
+    #[error("a transaction is open")]
+    Open,
+    /// A phase asks more sessions than may run at the same time.
+    #[error("too many sessions in a phase")]
+    Sessions,
+    /// The histories of the databases don't fit what their sessions were answered.
+    #[error("the histories don't fit the replies")]
+    Mismatch,
+}
+
+impl FreeFault {
+    /// Why databases aren't shared.
+    pub(crate) fn of_sharing(cause: Refusal) -> Self {
+        match cause {
+            Refusal::TransactionOpen => FreeFault::Open,
+            Refusal::Memory => FreeFault::Memory,
+            _ => FreeFault::Store,
+        }
+    }
+
+    /// Why their histories aren't handed back.
+    pub(crate) fn of_close(cause: Cause) -> Self {
+        match cause {
+            Cause::Memory => FreeFault::Memory,
+            Cause::Passes | Cause::Parts { .. } | Cause::Receipts { .. } => FreeFault::Mismatch,
+        }
+    }
+}
+
+impl From<AllocError> for FreeFault {
+    ghost use Rattle.std.specs.Prelude.{◌≡◌};
+    ghost use Rattle.escrow_free.specs.declared.fault.FreeFault.TheVariants.{Memory};
+
+    ghost from_gives = { λ _ e. e ≡ Memory };
+
+    fn from(_error: AllocError) -> FreeFault {
+        FreeFault::Memory
+    }
+}
+
+impl From<ServeFault> for FreeFault {
+    fn from(fault: ServeFault) -> FreeFault {
+        match fault {
+            ServeFault::Read(cause) => FreeFault::Read(cause),
+            ServeFault::Write => FreeFault::Write,
+            ServeFault::Memory => FreeFault::Memory,
+        }
+    }
+}

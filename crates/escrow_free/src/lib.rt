@@ -1,0 +1,19 @@
+//! Scripts whose sessions run at the same time, phase by phase.
+//!
+//! Its one contract: what [`serve_free`] writes follows from the script's lines and from the histories
+//! that it hands back, each of them one legal run of the machine.
+#![tactic(auto)]
+
+mod desk;
+mod drains;
+mod fault;
+mod marks;
+mod parting;
+mod phase;
+mod plan;
+mod printing;
+mod reading;
+mod serve;
+
+pub use fault::FreeFault;
+pub use serve::serve_free;

@@ -1,0 +1,47 @@
+//! The desks that items name, and their ranks among these.
+ghost use Rattle.std.specs.Prelude.{◌≡◌, ◌<◌, false, length, map, replicate, All, IfOk};
+ghost use Rattle.escrow_free.specs.Ranks.{marked_by, ranks_from, renamed};
+
+use escrow_sql::Request;
+use std::alloc::{AllocError, Global};
+
+/// Marks the desks that items name, of so many. Want of memory is the only error.
+pub(crate) fn marks_of(
+    alloc: Global,
+    desks: usize,
+    items: &[(usize, Request)],
+) -> Result<Vec<bool>, AllocError>
+    requires { All (λ x. x.0 < desks) items.now }
+    ensures { IfOk result (λ marks. marks.items ≡ marked_by items.now (replicate desks false)) }
+{
+    let mut marks = vec![in alloc; false; desks]?;
+    for (desk, _) in items {
+        marks[*desk] = true;
+    }
+    Ok(marks)
+}
+
+/// How many marked desks stand before each desk. Want of memory is the only error.
+pub(crate) fn ranks_of(alloc: Global, marks: &[bool]) -> Result<Vec<usize>, AllocError>
+    ensures { IfOk result (λ ranks. ranks.items ≡ ranks_from 0 marks.now) }
+{
+    let mut ranks = Vec::with_capacity(alloc, marks.len())?;
+    let mut next = 0;
+    for mark in marks {
+        ranks.push(next)?;
+        if *mark {
+            next += 1;
+        }
+    }
+    Ok(ranks)
+}
+
+/// Has each item name its desk by rank.
+pub(crate) fn rename(ranks: &[usize], items: &mut [(usize, Request)])
+    requires { All (λ x. x.0 < length ranks.now) items.old }
+    ensures { items.new ≡ map (renamed ranks.now) items.old }
+{
+    for item in items.iter_mut() {
+        item.0 = ranks[item.0];
+    }
+}

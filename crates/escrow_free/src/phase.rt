@@ -1,0 +1,68 @@
+//! The sessions of a phase, served at the same time.
+ghost use Rattle.std.specs.Prelude.{◌≡◌, ◌<◌, length, All, IfOk};
+ghost use Rattle.std.specs.List.{AllByRecursion};
+ghost use Rattle.escrow_shards.specs.Sharing.{HasSeat};
+ghost use Rattle.escrow_free.specs.Desks.{ArePassesServed, AreServed, HasDesk};
+
+use crate::desk::{Desk, desks_of, served_desks};
+use crate::fault::FreeFault;
+use crate::marks::{marks_of, ranks_of, rename};
+use crate::parting::{merge, part};
+use escrow_sessions::{Cause, NotFed, run_fed};
+use escrow_shards::{Gate, Pass, Shared};
+use escrow_sql::Request;
+use sqlite::Alter;
+use std::alloc::Global;
+use std::sync::Wait;
+use std::thread::Threads;
+
+/// Serves the requests of a phase: each by its session, those of one session in order, and the sessions at the same
+/// time. It may wait.
+///
+/// # Errors
+///
+/// [`FreeFault::Sessions`] where more sessions are asked than workers may be started, and
+/// [`FreeFault::Memory`].
+pub(crate) fn run_phase<S: Alter + Send, R: Threads + Wait + Sync, G: Gate + Sync>(
+    rt: &R,
+    alloc: Global,
+    shared: &Shared<S>,
+    desks: Vec<Desk>,
+    mut items: Vec<(usize, Request)>,
+    gate: &G,
+) -> Result<Vec<Desk>, FreeFault>
+    requires seats { AllByRecursion (HasDesk shared.now) desks.items }
+    requires places { All (λ x. x.0 < length desks.items) items.items }
+    ensures { IfOk result (λ new. AreServed desks.items items.items new.items) }
+{
+    let marks = marks_of(alloc, desks.len(), items.as_slice())?;
+    let ranks = ranks_of(alloc, marks.as_slice())?;
+    rename(ranks.as_slice(), items.as_mut_slice());
+    let (passes, idle) = part(alloc, marks.as_slice(), desks)?;
+    let served = serve_passes(rt, alloc, shared, passes, items, gate)?;
+    let desks = merge(alloc, marks.as_slice(), served, idle)?;
+    Ok(desks)
+}
+
+/// Serves items by the workers of the passes that they name by place. Where memory is refused before a worker is
+/// started, nothing is served.
+fn serve_passes<S: Alter + Send, R: Threads + Wait + Sync, G: Gate + Sync>(
+    rt: &R,
+    alloc: Global,
+    shared: &Shared<S>,
+    passes: Vec<Pass>,
+    items: Vec<(usize, Request)>,
+    gate: &G,
+) -> Result<Vec<Desk>, FreeFault>
+    requires seats { AllByRecursion (HasSeat shared.now) passes.items }
+    requires places { All (λ x. x.0 < length passes.items) items.items }
+    ensures { IfOk result (λ served. ArePassesServed passes.items items.items served.items) }
+{
+    match run_fed(rt, alloc, shared, passes, items.into_iter(), gate) {
+        Ok(done) => Ok(served_desks(alloc, done)?),
+        Err(NotFed { passes, cause, .. }) => match cause {
+            Cause::TooMany => Err(FreeFault::Sessions),
+            Cause::Memory => Ok(desks_of(alloc, passes)?),
+        },
+    }
+}

@@ -1,0 +1,109 @@
+//! What is to be done for the lines of a phase.
+ghost use Rattle.std.specs.Prelude.{◌≡◌, ◌≤◌, ◌<◌, OnOk};
+
+use crate::desk::desk_of;
+use escrow_num::Session;
+use escrow_script::{Line, MAX_DATABASES, classify};
+use escrow_sql::{ParseFault, Request, parse};
+use std::alloc::{AllocError, Global};
+
+/// What is printed for a line.
+#[derive(Clone, Copy, Debug)]
+pub(crate) enum Planned {
+    /// That it is no line.
+    NoLine,
+    /// Why its text isn't served.
+    Refused {
+        /// The place of the database, from 0.
+        database: usize,
+        /// The session that asks.
+        session: Session,
+        /// What its text lacks.
+        fault: ParseFault,
+    },
+    /// The next answer of its session.
+    Asked {
+        /// The place of the database, from 0.
+        database: usize,
+        /// The session that asks.
+        session: Session,
+    },
+}
+
+/// What is to be done for lines: what is printed, for each that prints something, and the requests that are
+/// served, each with the place of its session's desk. Both stand in the order of the lines.
+#[derive(Drop)]
+pub(crate) struct Plan {
+    pub(crate) lines: Vec<Planned>,
+    pub(crate) items: Vec<(usize, Request)>,
+}
+
+impl Plan {
+    ghost use Rattle.std.specs.Prelude.{◌≡◌, ◌≤◌, ◌<◌, [], OnOk};
+    ghost use Rattle.escrow_free.specs.Adding.{Adds, AddsText};
+
+    /// The plan of no lines.
+    pub(crate) fn new(alloc: Global) -> Self
+        ensures lines { result.lines.items ≡ [] }
+        ensures items { result.items.items ≡ [] }
+    {
+        Plan {
+            lines: Vec::new(alloc),
+            items: Vec::new(alloc),
+        }
+    }
+
+    /// Adds a line of a script for so many databases, and answers whether it ends the phase. Want of memory is the
+    /// only error.
+    pub(crate) fn add(
+        &mut self,
+        alloc: Global,
+        databases: usize,
+        line: &[u8],
+    ) -> Result<bool, AllocError>
+        requires { databases ≤ MAX_DATABASES }
+        ensures { OnOk result (Adds databases line.now self.old self.new) }
+    {
+        match classify(databases, line) {
+            Line::Nothing => Ok(false),
+            Line::Join => Ok(true),
+            Line::NoLine | Line::Restart { .. } => {
+                self.lines.push(Planned::NoLine)?;
+                Ok(false)
+            }
+            Line::Statement {
+                database,
+                session,
+                text,
+            } => {
+                self.add_text(alloc, database, session, text)?;
+                Ok(false)
+            }
+        }
+    }
+
+    /// Adds the text of a session. Want of memory is the only error.
+    fn add_text(
+        &mut self,
+        alloc: Global,
+        database: usize,
+        session: Session,
+        text: &str,
+    ) -> Result<(), AllocError>
+        requires { database < MAX_DATABASES }
+        ensures { OnOk result (AddsText database session text.now self.old self.new) }
+    {
+        match parse(alloc, text) {
+            Ok(request) => {
+                self.items.push((desk_of(database, session), request))?;
+                self.lines.push(Planned::Asked { database, session })?;
+            }
+            Err(fault) => self.lines.push(Planned::Refused {
+                database,
+                session,
+                fault,
+            })?,
+        }
+        Ok(())
+    }
+}

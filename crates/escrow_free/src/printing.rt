@@ -1,0 +1,96 @@
+//! What the lines of a phase print, in their order.
+ghost use Rattle.std.specs.Prelude.{◌≡◌, [], ◌∷◌, ◌++◌, List, ℕ, vec_len, IfOk, OnOk};
+ghost use Rattle.std.specs.Io.KnownBytes.{Appends};
+ghost use Rattle.std.specs.List.{AllByRecursion};
+ghost use Rattle.escrow_free.specs.declared.plan.Planned.{Planned};
+ghost use Rattle.escrow_free.specs.Printing.{given_text, HasItsDesk, PassesOn, PrintsTo};
+
+use crate::desk::{Desk, desk_of};
+use crate::plan::Planned;
+use escrow_machine::Reply;
+use escrow_num::{Refusal, Session};
+use escrow_reply::{render, render_lines};
+use escrow_script::{
+    MOST_GATHERED, ServeFault, database_name, fault_refusal, gather, write_gathered,
+};
+use escrow_sessions::Given;
+use escrow_shards::Answer;
+use std::alloc::{AllocError, Global};
+use std::io::Write;
+
+/// Prints what is planned for the lines of a phase, in order: where a line asks, its session's next answer.
+pub(crate) fn print_phase<W: Write>(
+    alloc: Global,
+    desks: &mut Vec<Desk>,
+    lines: Vec<Planned>,
+    writer: &mut W,
+) -> Result<(), ServeFault>
+    requires { AllByRecursion (HasItsDesk (vec_len desks.old)) lines.items }
+    ensures printed { OnOk result ((out : List ℕ) × Appends (W.contents writer.old) (W.contents writer.new) out × PrintsTo lines.items desks.old.items out [] desks.new.items) }
+    ensures count { vec_len desks.new ≡ vec_len desks.old }
+{
+    let mut replies = Vec::new(alloc);
+    for line in lines {
+        let reply = print_line(alloc, desks, line)?;
+        pass_on(writer, &mut replies, reply)?;
+    }
+    write_gathered(writer, &mut replies)
+}
+
+/// Gathers a reply, and writes what is gathered once it is much.
+fn pass_on<W: Write>(
+    writer: &mut W,
+    replies: &mut Vec<u8>,
+    reply: Vec<u8>,
+) -> Result<(), ServeFault>
+    ensures { OnOk result (PassesOn (W.contents writer.old) (W.contents writer.new) (replies.old.items ++ reply.items) replies.new.items) }
+{
+    gather(replies, reply)?;
+    if replies.len() >= MOST_GATHERED {
+        write_gathered(writer, replies)?;
+    }
+    Ok(())
+}
+
+/// What is printed for a line. Want of memory is the only error.
+fn print_line(alloc: Global, desks: &mut Vec<Desk>, line: Planned) -> Result<Vec<u8>, AllocError>
+    requires { HasItsDesk (vec_len desks.old) line }
+    ensures printed { IfOk result (λ out. (plan : List Planned) → PrintsTo (line ∷ plan) desks.old.items out.items plan desks.new.items) }
+    ensures count { vec_len desks.new ≡ vec_len desks.old }
+{
+    match line {
+        Planned::NoLine => render_lines(alloc, "script> ", &Reply::Refused(Refusal::Line)),
+        Planned::Refused {
+            database,
+            session,
+            fault,
+        } => {
+            let reply = Reply::Refused(fault_refusal(fault));
+            render(alloc, database_name(database), session, &reply)
+        }
+        Planned::Asked { database, session } => {
+            let given = desks[desk_of(database, session)].next_answer();
+            print_given(alloc, database_name(database), session, given)
+        }
+    }
+}
+
+/// What is printed of an answer; where there is none, that its statement wasn't served for want of memory. Want of
+/// memory is the only error.
+fn print_given(
+    alloc: Global,
+    name: &str,
+    session: Session,
+    given: Option<Given>,
+) -> Result<Vec<u8>, AllocError>
+    ensures { IfOk result (λ out. out.items ≡ given_text name.now session given) }
+{
+    match given {
+        Some(Given::Reply(Answer::Served(reply))) => render(alloc, name, session, &reply),
+        Some(Given::Reply(Answer::Unserved(refusal))) => {
+            render(alloc, name, session, &Reply::Refused(refusal))
+        }
+        Some(Given::Totals(totals)) => totals.render(alloc, name, session),
+        None => render(alloc, name, session, &Reply::Refused(Refusal::Memory)),
+    }
+}

@@ -1,0 +1,49 @@
+//! The lines of a phase, read and planned.
+ghost use Rattle.std.specs.Prelude.{◌≡◌, ◌≤◌, ◌<◌, ◌+◌, true, false, length, IfOk, OnOk};
+ghost use Rattle.escrow_script.specs.Script.{left, HasEnded, Spends};
+ghost use Rattle.escrow_free.specs.Phases.{IsRead, IsOver};
+
+use crate::plan::Plan;
+use escrow_script::{MAX_DATABASES, Script, ServeFault};
+use std::alloc::Global;
+use std::io::Read;
+
+/// The lines of a phase.
+#[derive(Drop)]
+pub(crate) struct Phase {
+    pub(crate) plan: Plan,
+    // It was ended by a line; otherwise the script has no more.
+    pub(crate) has_more: bool,
+}
+
+/// Reads the lines of the next phase of a script, up to `@join` or to the script's end, and plans them.
+pub(crate) fn read_phase<R: Read>(
+    alloc: Global,
+    databases: usize,
+    script: &mut Script,
+    reader: &mut R,
+) -> Result<Phase, ServeFault>
+    requires few { databases ≤ MAX_DATABASES }
+    requires ended { script.old.has_ended ≡ true → HasEnded script.old.unread (R.remaining reader.old) }
+    ensures read { IfOk result (λ phase. IsRead databases (left script.old.unread (R.remaining reader.old)) (left script.new.unread (R.remaining reader.new)) phase.plan) }
+    ensures less { IfOk result (λ phase. phase.has_more ≡ true →
+        script.new.bytes_left + length script.new.unread < script.old.bytes_left + length script.old.unread) }
+    ensures spent { OnOk result (Spends (R.remaining reader.old) (R.remaining reader.new) script.old.bytes_left script.new.bytes_left) }
+    ensures ended { OnOk result (script.new.has_ended ≡ true → HasEnded script.new.unread (R.remaining reader.new)) }
+    ensures over { IfOk result (λ phase. phase.has_more ≡ false →
+        IsOver (left script.old.unread (R.remaining reader.old)) (left script.new.unread (R.remaining reader.new))) }
+{
+    let mut plan = Plan::new(alloc);
+    'lines: while script.next_line(reader)? {
+        if plan.add(alloc, databases, script.line())? {
+            return Ok(Phase {
+                plan,
+                has_more: true,
+            });
+        }
+    }
+    Ok(Phase {
+        plan,
+        has_more: false,
+    })
+}

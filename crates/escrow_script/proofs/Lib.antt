@@ -1,0 +1,6 @@
+pub mod LineLemmas
+pub mod OutcomeLemmas
+pub mod ReadingLemmas
+pub mod ScriptLemmas
+pub mod TakenLemmas
+pub mod WrittenLemmas

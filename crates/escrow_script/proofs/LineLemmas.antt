@@ -1,0 +1,514 @@
+-- Where a line may be cut, and what it is made of.
+use Rattle.std.proofs.Common.{◌≡◌, ◌≢◌, ◌⊎◌, ◌==◌, ◌&&◌, ◌||◌, not, if◌then◌else◌, ℕ, zero, suc, ◌+◌, ◌-◌, ◌*◌, ◌^◌, ◌/◌, ◌%◌, ◌<◌, ◌≤◌, Bool, true, false, List, [], ◌∷◌, ◌++◌, length, take, drop, get_or, get_or-take, take-append-drop, Option, Some, None, arith, refl, sym, ap, subst, ◌∙◌, append_assoc, Bor, inl, inr, add-one}
+use Rattle.std.specs.Bool.{Decides}
+use Rattle.std.specs.Prelude.{nat_eq, nat_le, codes, decimal, bytes_eq, MatchOption, IfNone}
+use Rattle.std.specs.Char.{is_ascii_digit}
+use Rattle.std.specs.List.{AllPass, prefix_len, list_all, starts_with}
+use Rattle.std.specs.Str.{IsUtf8, IsCharBoundary}
+use Rattle.std.specs.Str.Parse.{AllDigits}
+use Rattle.std.proofs.lemmas.Bool.{eqb-true, cases_lt, true≢false, and_parts, and_from, not-false, or_parts, or_right, or_cases, le-leb, leb-true}
+use Rattle.std.proofs.lemmas.Bool.Decides.{nat_tests, Decides-eqb}
+use Rattle.std.proofs.lemmas.Fmt.{decimal_digit, decimal_step, decimal_is_IsNumeral}
+use Rattle.std.proofs.lemmas.List.{nil_from_length, length-take}
+use Rattle.std.proofs.lemmas.List.Sums.{prefix_len_passes, prefix_len-le-length, AllPass-from_list_all, list_all-from_AllPass}
+use Rattle.std.proofs.lemmas.Slice.Eq.{starts_is, bytes_eq-Decides}
+use Rattle.std.proofs.lemmas.Str.{IsCharBoundary-start, IsCharBoundary-after_ascii}
+use Rattle.std.proofs.lemmas.Str.Parse.{digit_from_value}
+use Rattle.std.proofs.lemmas.Str.Pattern.{IsSplitOnceResult, split_after, split_parts}
+use Rattle.clap.proofs.CutLemmas.{Lacks}
+use Rattle.escrow_num.specs.Session.{IsSession}
+use Rattle.escrow_script.specs.Line.{Reading, nothing, join, restart, statement, no_line, is_blank, after_blanks, database_name, IsComment, IsJoin, IsRestart, IsStatement, IsMadeOf, Reads}
+use Rattle.escrow_script.specs.declared.limits.TheConstants.{MAX_DATABASES}
+use Rattle.escrow_script.specs.Reading.{is_nothing, is_join, is_first_digit, named_place, database_place, restart_of, session_of, word_len}
+
+-- WHERE A LINE MAY BE CUT
+
+-- a blank is an ASCII character
+blank_is_ascii : (c : ℕ) → is_blank c ≡ true → c < 128
+blank_is_ascii c h = grind (arith, nat_tests)
+
+-- a text may be cut behind its blanks
+pub boundary_after_blanks : (line : List ℕ) (n : ℕ) → IsUtf8 line → n ≡ prefix_len is_blank line → IsCharBoundary line n
+boundary_after_blanks line zero utf8 e = IsCharBoundary-start line utf8
+boundary_after_blanks line (suc m) utf8 e =
+    let within : m < length line = omega (arith, prefix_len-le-length is_blank line) in
+    let blank : is_blank (get_or line m 0) ≡ true = prefix_len_passes is_blank line m 0 (omega arith) in
+    let cut : IsCharBoundary line (m + 1) = IsCharBoundary-after_ascii line m utf8 within (blank_is_ascii (get_or line m 0) blank) in
+    let same : m + 1 ≡ suc m = add-one m in
+    subst (λ (n : ℕ). IsCharBoundary line n) same cut
+
+-- THE PARTS OF A STATEMENT
+
+-- a byte that is no digit isn't in digits
+digits_lack : (c : ℕ) (ds : List ℕ) → (c < 48) ⊎ (57 < c) → AllDigits 10 ds → Lacks c ds
+digits_lack c [] none digits i within = absurd (omega arith)
+digits_lack c (d ∷ ds) none digits zero within = λ same. let range = digit_from_value d digits.0 in omega (arith, range.0, range.1, none)
+digits_lack c (d ∷ ds) none digits (suc i) within = digits_lack c ds none digits.1 i (omega arith)
+
+decimal_lacks : (c n : ℕ) → (c < 48) ⊎ (57 < c) → n < 2 ^ 64 → Lacks c (decimal n)
+decimal_lacks c n none small = digits_lack c (decimal n) none (decimal_is_IsNumeral n small).0.1
+
+Lacks-cons : (c x : ℕ) (xs : List ℕ) → x ≢ c → Lacks c xs → Lacks c (x ∷ xs)
+Lacks-cons c x xs other lacks zero within = other
+Lacks-cons c x xs other lacks (suc i) within = lacks i (omega arith)
+
+bank_lacks : (rest : List ℕ) → Lacks 46 rest → Lacks 46 (codes "bank" ++ rest)
+bank_lacks rest lacks =
+    Lacks-cons 46 98 (codes "ank" ++ rest) (omega arith) (Lacks-cons 46 97 (codes "nk" ++ rest) (omega arith)
+    (Lacks-cons 46 110 (codes "k" ++ rest) (omega arith) (Lacks-cons 46 107 rest (omega arith) lacks)))
+
+name_lacks : (place : ℕ) → place < MAX_DATABASES → Lacks 46 (database_name place)
+name_lacks zero few = bank_lacks [] (λ i within. absurd (omega arith))
+name_lacks (suc place) few =
+    let further : (suc place == 0) ≡ false = grind (arith, nat_tests) in
+    rw further (bank_lacks (decimal (suc place + 1)) (decimal_lacks 46 (suc place + 1) (inl (omega arith)) (omega arith)))
+
+-- a statement, with its parts from right to left
+statement_parts : (name number text : List ℕ) → name ++ codes "." ++ number ++ codes ":" ++ text ≡ name ++ 46 ∷ (number ++ 58 ∷ text)
+statement_parts name number text =
+    append_assoc (name ++ codes "." ++ number) (codes ":") text ∙ append_assoc (name ++ codes ".") number (58 ∷ text) ∙ append_assoc name (codes ".") (number ++ 58 ∷ text)
+
+-- the parts of a statement
+pub record Parts (content : List ℕ) (place session : ℕ) (text : List ℕ) : Type 0 where
+  pub name_lacks : Lacks 46 (database_name place)
+  pub number_lacks : Lacks 58 (decimal session)
+  pub whole : content ≡ database_name place ++ 46 ∷ (decimal session ++ 58 ∷ text)
+
+pub parts_of : (databases : ℕ) (content : List ℕ) (place session : ℕ) (text : List ℕ) → databases ≤ MAX_DATABASES
+    → IsStatement databases content place session text → Parts content place session text
+parts_of databases content place session text few is = record {
+  name_lacks = name_lacks place (omega (arith, is.within));
+  number_lacks = decimal_lacks 58 session (inr (omega arith)) (omega (arith, is.is_session.1));
+  whole = is.parts ∙ statement_parts (database_name place) (decimal session) text;
+}
+
+-- a content that is cut at its first point, and what is behind that at its first colon
+abbrev pub Cut : Type 0
+Cut = Option (Bor (List ℕ) × Bor (List ℕ))
+
+-- no statement
+abbrev pub NoStatement : ℕ → List ℕ → Type 0
+NoStatement databases content = (place session : ℕ) (text : List ℕ) → IsStatement databases content place session text → ⊥
+
+pub no_point : (databases : ℕ) (content : List ℕ) (at_point : Cut) → databases ≤ MAX_DATABASES → IsSplitOnceResult 46 content at_point → at_point ≡ None → NoStatement databases content
+no_point databases content at_point few cut none place session text is =
+    let parts = parts_of databases content place session text few is in
+    let found = split_after 46 content (database_name place) (decimal session ++ 58 ∷ text) at_point cut (omega arith) parts.whole parts.name_lacks in
+    subst (λ (r : Cut). MatchOption r ⊥ (λ x. (x.0.now ≡ database_name place) × (x.1.now ≡ decimal session ++ 58 ∷ text))) none found
+
+-- the two parts of a content that is cut at its point are those of the statement
+at_point_of : (databases : ℕ) (content : List ℕ) (at_point : Cut) (x : Bor (List ℕ) × Bor (List ℕ)) (place session : ℕ) (text : List ℕ) → databases ≤ MAX_DATABASES
+    → IsSplitOnceResult 46 content at_point → at_point ≡ Some x → IsStatement databases content place session text
+    → (x.0.now ≡ database_name place) × (x.1.now ≡ decimal session ++ 58 ∷ text)
+at_point_of databases content at_point x place session text few cut some is =
+    let parts = parts_of databases content place session text few is in
+    let found = split_after 46 content (database_name place) (decimal session ++ 58 ∷ text) at_point cut (omega arith) parts.whole parts.name_lacks in
+    subst (λ (r : Cut). MatchOption r ⊥ (λ x. (x.0.now ≡ database_name place) × (x.1.now ≡ decimal session ++ 58 ∷ text))) some found
+
+pub no_colon : (databases : ℕ) (content : List ℕ) (at_point at_colon : Cut) (x : Bor (List ℕ) × Bor (List ℕ)) → databases ≤ MAX_DATABASES
+    → IsSplitOnceResult 46 content at_point → at_point ≡ Some x → IsSplitOnceResult 58 x.1.now at_colon → at_colon ≡ None → NoStatement databases content
+no_colon databases content at_point at_colon x few cut some cut_again none place session text is =
+    let parts = parts_of databases content place session text few is in
+    let both = at_point_of databases content at_point x place session text few cut some is in
+    let found = split_after 58 x.1.now (decimal session) text at_colon cut_again (omega arith) both.1 parts.number_lacks in
+    subst (λ (r : Cut). MatchOption r ⊥ (λ y. (y.0.now ≡ decimal session) × (y.1.now ≡ text))) none found
+
+pub no_name : (databases : ℕ) (content : List ℕ) (at_point : Cut) (x : Bor (List ℕ) × Bor (List ℕ)) → databases ≤ MAX_DATABASES
+    → IsSplitOnceResult 46 content at_point → at_point ≡ Some x → ((place : ℕ) → place < databases → x.0.now ≡ database_name place → ⊥) → NoStatement databases content
+no_name databases content at_point x few cut some unknown place session text is =
+    let both = at_point_of databases content at_point x place session text few cut some is in
+    unknown place is.within both.0
+
+-- digits that spell a session
+abbrev pub Spell : List ℕ → ℕ → Type 0
+Spell digits session = IsSession session × (digits ≡ decimal session)
+
+pub no_number : (databases : ℕ) (content : List ℕ) (at_point at_colon : Cut) (x y : Bor (List ℕ) × Bor (List ℕ)) → databases ≤ MAX_DATABASES
+    → IsSplitOnceResult 46 content at_point → at_point ≡ Some x → IsSplitOnceResult 58 x.1.now at_colon → at_colon ≡ Some y
+    → ((session : ℕ) → Spell y.0.now session → ⊥) → NoStatement databases content
+no_number databases content at_point at_colon x y few cut some cut_again some_again unknown place session text is =
+    let parts = parts_of databases content place session text few is in
+    let both = at_point_of databases content at_point x place session text few cut some is in
+    let found = split_after 58 x.1.now (decimal session) text at_colon cut_again (omega arith) both.1 parts.number_lacks in
+    let again = subst (λ (r : Cut). MatchOption r ⊥ (λ y. (y.0.now ≡ decimal session) × (y.1.now ≡ text))) some_again found in
+    unknown session (is.is_session, again.0)
+
+-- and a statement that is found is one
+pub statement_found : (databases : ℕ) (content : List ℕ) (at_point at_colon : Cut) (x y : Bor (List ℕ) × Bor (List ℕ)) (place session : ℕ)
+    → IsSplitOnceResult 46 content at_point → at_point ≡ Some x → IsSplitOnceResult 58 x.1.now at_colon → at_colon ≡ Some y
+    → (place < databases) × (x.0.now ≡ database_name place) → Spell y.0.now session → IsStatement databases content place session y.1.now
+statement_found databases content at_point at_colon x y place session cut some cut_again some_again named spelled =
+    let first = subst (λ (r : Cut). MatchOption r (Lacks 46 content) (λ x. (content ≡ x.0.now ++ (46 ∷ x.1.now)) × Lacks 46 x.0.now)) some (split_parts 46 content at_point cut (omega arith)) in
+    let second = subst (λ (r : Cut). MatchOption r (Lacks 58 x.1.now) (λ y. (x.1.now ≡ y.0.now ++ (58 ∷ y.1.now)) × Lacks 58 y.0.now)) some_again (split_parts 58 x.1.now at_colon cut_again (omega arith)) in
+    record {
+      within = named.0;
+      is_session = spelled.0;
+      parts = first.0 ∙ ap (λ (name : List ℕ). name ++ 46 ∷ x.1.now) named.1 ∙ ap (λ (rest : List ℕ). database_name place ++ 46 ∷ rest) second.0
+          ∙ ap (λ (number : List ℕ). database_name place ++ 46 ∷ (number ++ 58 ∷ y.1.now)) spelled.1
+          ∙ sym (statement_parts (database_name place) (decimal session) y.1.now);
+    }
+
+-- THE PLACE OF A NAME
+
+place_of_more : (n : ℕ) (name : List ℕ) (found : Option ℕ) → (name ≡ database_name n → ⊥)
+    → MatchOption found ((place : ℕ) → place < n → name ≡ database_name place → ⊥) (λ place. (place < n) × (name ≡ database_name place))
+    → MatchOption found ((place : ℕ) → place < suc n → name ≡ database_name place → ⊥) (λ place. (place < suc n) × (name ≡ database_name place))
+place_of_more n name (Some place) other rest = (omega (arith, rest.0), rest.1)
+place_of_more n name None other rest = λ place within same. elim (cases_lt place n) [
+  | inl below ↦ rest place below same
+  | inr above ↦ let is : place ≡ n = omega arith in other (same ∙ ap database_name is)
+]
+
+place_of_step : (n : ℕ) (name : List ℕ) (same : Bool) → bytes_eq (database_name n) name ≡ same
+    → MatchOption (database_place n name) ((place : ℕ) → place < n → name ≡ database_name place → ⊥) (λ place. (place < n) × (name ≡ database_name place))
+    → MatchOption (database_place (suc n) name) ((place : ℕ) → place < suc n → name ≡ database_name place → ⊥) (λ place. (place < suc n) × (name ≡ database_name place))
+place_of_step n name true same rest = rw same (omega arith, sym ((bytes_eq-Decides (database_name n) name).0 same))
+place_of_step n name false same rest = rw same (place_of_more n name (database_place n name) (λ e. true≢false (sym ((bytes_eq-Decides (database_name n) name).1 (sym e)) ∙ same)) rest)
+
+-- a place that is found has the name, and where none is found no place has it
+pub place_of_is : (databases : ℕ) (name : List ℕ)
+    → MatchOption (database_place databases name) ((place : ℕ) → place < databases → name ≡ database_name place → ⊥) (λ place. (place < databases) × (name ≡ database_name place))
+place_of_is zero name = λ place within. absurd (omega arith)
+place_of_is (suc n) name = place_of_step n name (bytes_eq (database_name n) name) refl (place_of_is n name)
+
+-- THE SESSION OF DIGITS
+
+one_digit : (a : ℕ) → 49 ≤ a → a ≤ 57 → Spell (a ∷ []) (a - 48)
+one_digit a low high =
+    let back : 48 + (a - 48) ≡ a = omega arith in
+    ((omega arith, omega arith), ap (λ (d : ℕ). d ∷ []) (sym back) ∙ sym (decimal_digit (a - 48) (omega arith)))
+
+two_digits : (a b : ℕ) → 49 ≤ a → a ≤ 57 → 48 ≤ b → b ≤ 57 → (a - 48) * 10 + (b - 48) ≤ 64 → Spell (a ∷ b ∷ []) ((a - 48) * 10 + (b - 48))
+two_digits a b low high low_b high_b few =
+    let n = (a - 48) * 10 + (b - 48) in
+    let tens : n / 10 ≡ a - 48 = omega arith in
+    let ones : n % 10 ≡ b - 48 = omega arith in
+    let first : 48 + (a - 48) ≡ a = omega arith in
+    let second : 48 + (b - 48) ≡ b = omega arith in
+    let front : decimal (n / 10) ≡ a ∷ [] = ap decimal tens ∙ decimal_digit (a - 48) (omega arith) ∙ ap (λ (d : ℕ). d ∷ []) first in
+    let back : 48 + n % 10 ≡ b = ap (λ (d : ℕ). 48 + d) ones ∙ second in
+    let whole : decimal n ≡ a ∷ b ∷ [] = decimal_step n (omega arith) (omega arith) ∙ ap (λ (d : List ℕ). d ++ ((48 + n % 10) ∷ [])) front ∙ ap (λ (d : ℕ). a ∷ d ∷ []) back in
+    ((omega arith, omega arith), sym whole)
+
+-- a session has one digit or two
+session_digits : (session : ℕ) → IsSession session
+    → ((session < 10) × (decimal session ≡ (48 + session) ∷ [])) ⊎ ((10 ≤ session) × (decimal session ≡ (48 + session / 10) ∷ (48 + session % 10) ∷ []))
+session_digits session is = elim (cases_lt session 10) [
+  | inl below ↦ inl (below, decimal_digit session below)
+  | inr above ↦ inr (above, decimal_step session above (omega (arith, is.1)) ∙ ap (λ (d : List ℕ). d ++ ((48 + session % 10) ∷ [])) (decimal_digit (session / 10) (omega (arith, is.1))))
+]
+
+-- a session that digits spell has as many digits
+empty_spells : (session : ℕ) → Spell [] session → ⊥
+empty_spells session spell = elim (session_digits session spell.0) [
+  | inl one ↦ omega (arith, ap length (spell.1 ∙ one.1))
+  | inr two ↦ omega (arith, ap length (spell.1 ∙ two.1))
+]
+
+one_spells : (a session : ℕ) → Spell (a ∷ []) session → is_first_digit a ≡ true
+one_spells a session spell = elim (session_digits session spell.0) [
+  | inl one ↦
+      let same : a ≡ 48 + session = ap (λ (ds : List ℕ). get_or ds 0 0) (spell.1 ∙ one.1) in
+      let low = spell.0.0 in
+      let high = one.0 in
+      grind (arith, nat_tests)
+  | inr two ↦ absurd (omega (arith, ap length (spell.1 ∙ two.1)))
+]
+
+two_spell : (a b session : ℕ) → Spell (a ∷ b ∷ []) session → (is_first_digit a && (is_ascii_digit b && nat_le ((a - 48) * 10 + (b - 48)) 64)) ≡ true
+two_spell a b session spell = elim (session_digits session spell.0) [
+  | inl one ↦ absurd (omega (arith, ap length (spell.1 ∙ one.1)))
+  | inr two ↦
+      let tens : a ≡ 48 + session / 10 = ap (λ (ds : List ℕ). get_or ds 0 0) (spell.1 ∙ two.1) in
+      let ones : b ≡ 48 + session % 10 = ap (λ (ds : List ℕ). get_or ds 1 0) (spell.1 ∙ two.1) in
+      let high = spell.0.1 in
+      let low_a : nat_le 49 a ≡ true = le-leb 49 a (omega arith) in
+      let high_a : nat_le a 57 ≡ true = le-leb a 57 (omega arith) in
+      let low_b : nat_le 48 b ≡ true = le-leb 48 b (omega arith) in
+      let high_b : nat_le b 57 ≡ true = le-leb b 57 (omega arith) in
+      let few : nat_le ((a - 48) * 10 + (b - 48)) 64 ≡ true = le-leb ((a - 48) * 10 + (b - 48)) 64 (omega arith) in
+      rw (low_a, high_a, low_b, high_b, few) refl
+]
+
+more_spell : (a b c session : ℕ) (digits : List ℕ) → Spell (a ∷ b ∷ c ∷ digits) session → ⊥
+more_spell a b c session digits spell = elim (session_digits session spell.0) [
+  | inl one ↦ omega (arith, ap length (spell.1 ∙ one.1))
+  | inr two ↦ omega (arith, ap length (spell.1 ∙ two.1))
+]
+
+first_digit_range : (a : ℕ) → is_first_digit a ≡ true → (49 ≤ a) × (a ≤ 57)
+first_digit_range a first =
+    let parts = and_parts (nat_le 49 a) (nat_le a 57) first in
+    (leb-true 49 a parts.0, leb-true a 57 parts.1)
+
+session_of_one : (a : ℕ) (first : Bool) → is_first_digit a ≡ first
+    → MatchOption (session_of (a ∷ [])) ((session : ℕ) → Spell (a ∷ []) session → ⊥) (Spell (a ∷ []))
+session_of_one a true is =
+    let range = first_digit_range a is in
+    rw is (one_digit a range.0 range.1)
+session_of_one a false is = rw is (λ session spell. true≢false (sym (one_spells a session spell) ∙ is))
+
+session_of_two : (a b : ℕ) (good : Bool) → (is_first_digit a && (is_ascii_digit b && nat_le ((a - 48) * 10 + (b - 48)) 64)) ≡ good
+    → MatchOption (session_of (a ∷ b ∷ [])) ((session : ℕ) → Spell (a ∷ b ∷ []) session → ⊥) (Spell (a ∷ b ∷ []))
+session_of_two a b true is =
+    let parts = and_parts (is_first_digit a) (is_ascii_digit b && nat_le ((a - 48) * 10 + (b - 48)) 64) is in
+    let more = and_parts (is_ascii_digit b) (nat_le ((a - 48) * 10 + (b - 48)) 64) parts.1 in
+    let digit = and_parts (nat_le 48 b) (nat_le b 57) more.0 in
+    let range = first_digit_range a parts.0 in
+    rw is (two_digits a b range.0 range.1 (leb-true 48 b digit.0) (leb-true b 57 digit.1) (leb-true ((a - 48) * 10 + (b - 48)) 64 more.1))
+session_of_two a b false is = rw is (λ session spell. true≢false (sym (two_spell a b session spell) ∙ is))
+
+-- a session that is found is spelled, and where none is found none is
+pub session_of_is : (digits : List ℕ) → MatchOption (session_of digits) ((session : ℕ) → Spell digits session → ⊥) (Spell digits)
+session_of_is [] = empty_spells
+session_of_is (a ∷ []) = session_of_one a (is_first_digit a) refl
+session_of_is (a ∷ b ∷ []) = session_of_two a b (is_first_digit a && (is_ascii_digit b && nat_le ((a - 48) * 10 + (b - 48)) 64)) refl
+session_of_is (a ∷ b ∷ c ∷ digits) = λ session. more_spell a b c session digits
+
+-- WHAT A CONTENT IS MADE OF
+
+same_byte : (a b : ℕ) → Decides (nat_eq a b) (a ≡ b)
+same_byte a b = Decides-eqb a b
+
+-- nothing, or a comment
+pub is_nothing_made : (databases : ℕ) (content : List ℕ) → is_nothing content ≡ true → IsMadeOf databases content nothing
+is_nothing_made databases content is = elim (or_cases (length content == 0) (starts_with nat_eq content (codes "--")) is) [
+  | inl none ↦ inl (nil_from_length content (eqb-true (length content) 0 none))
+  | inr dashes ↦ inr (drop 2 content, (starts_is same_byte content (codes "--") (starts_with nat_eq content (codes "--")) refl).0 dashes)
+]
+
+pub nothing_is : (content : List ℕ) → ((content ≡ []) ⊎ IsComment content) → is_nothing content ≡ true
+nothing_is content (inl none) = rw none refl
+nothing_is content (inr comment) = or_right (length content == 0) (starts_with nat_eq content (codes "--"))
+    ((starts_is same_byte content (codes "--") (starts_with nat_eq content (codes "--")) refl).1 comment.0 comment.1)
+
+-- `@join`
+pub is_join_made : (content : List ℕ) → is_join content ≡ true → IsJoin content
+is_join_made content is =
+    let parts = and_parts (starts_with nat_eq content (codes "@join")) (list_all is_blank (drop 5 content)) is in (
+      drop 5 content,
+      AllPass-from_list_all is_blank (drop 5 content) parts.1,
+      (starts_is same_byte content (codes "@join") (starts_with nat_eq content (codes "@join")) refl).0 parts.0,
+    )
+
+pub join_is : (content : List ℕ) → IsJoin content → is_join content ≡ true
+join_is content made =
+    let blanks : drop 5 content ≡ made.0 = ap (drop 5) made.2 in
+    and_from (starts_with nat_eq content (codes "@join")) (list_all is_blank (drop 5 content))
+    ((starts_is same_byte content (codes "@join") (starts_with nat_eq content (codes "@join")) refl).1 made.0 made.2)
+    (ap (list_all is_blank) blanks ∙ list_all-from_AllPass is_blank made.0 made.1)
+
+-- a content that is none of these is no line
+pub made_of_none : (databases : ℕ) (content : List ℕ) → is_nothing content ≡ false → is_join content ≡ false
+    → ((place : ℕ) → IsRestart databases content place → ⊥)
+    → ((place session : ℕ) (text : List ℕ) → IsStatement databases content place session text → ⊥)
+    → (reading : Reading) → IsMadeOf databases content reading → ⊥
+made_of_none databases content something no_join no_restarts no_statement nothing made = true≢false (sym (nothing_is content made) ∙ something)
+made_of_none databases content something no_join no_restarts no_statement join made = true≢false (sym (join_is content made) ∙ no_join)
+made_of_none databases content something no_join no_restarts no_statement (restart place) made = no_restarts place made
+made_of_none databases content something no_join no_restarts no_statement (statement place session text) made = no_statement place session text made
+made_of_none databases content something no_join no_restarts no_statement no_line made = made
+
+-- WHAT A LINE IS READ AS
+
+-- what holds where there is nothing
+pub at_none : {X : Type 0} (P : Type 0) (r : Option X) → r ≡ None → P → IfNone r P
+at_none {X} P r none p = subst (λ (r : Option X). IfNone r P) (sym none) p
+
+-- a name that isn't found is no database's
+pub no_place : (databases : ℕ) (name : List ℕ) (found : Option ℕ) → found ≡ database_place databases name → found ≡ None
+    → (place : ℕ) → place < databases → name ≡ database_name place → ⊥
+no_place databases name found is none =
+    subst (λ (r : Option ℕ). MatchOption r ((place : ℕ) → place < databases → name ≡ database_name place → ⊥) (λ place. (place < databases) × (name ≡ database_name place)))
+    (sym is ∙ none) (place_of_is databases name)
+
+pub this_place : (databases : ℕ) (name : List ℕ) (found : Option ℕ) (place : ℕ) → found ≡ database_place databases name → found ≡ Some place
+    → (place < databases) × (name ≡ database_name place)
+this_place databases name found place is some =
+    subst (λ (r : Option ℕ). MatchOption r ((place : ℕ) → place < databases → name ≡ database_name place → ⊥) (λ place. (place < databases) × (name ≡ database_name place)))
+    (sym is ∙ some) (place_of_is databases name)
+
+-- digits of which no session is found spell none
+pub no_session : (digits : List ℕ) (found : Option ℕ) → found ≡ session_of digits → found ≡ None → (session : ℕ) → Spell digits session → ⊥
+no_session digits found is none =
+    subst (λ (r : Option ℕ). MatchOption r ((session : ℕ) → Spell digits session → ⊥) (Spell digits)) (sym is ∙ none) (session_of_is digits)
+
+pub this_session : (digits : List ℕ) (found : Option ℕ) (session : ℕ) → found ≡ session_of digits → found ≡ Some session → Spell digits session
+this_session digits found session is some =
+    subst (λ (r : Option ℕ). MatchOption r ((session : ℕ) → Spell digits session → ⊥) (Spell digits)) (sym is ∙ some) (session_of_is digits)
+
+-- THE PARTS OF A RESTART
+
+-- what passes a test, in front of what doesn't begin so
+prefix_before : (p : ℕ → Bool) (xs ys : List ℕ) → list_all p xs ≡ true → prefix_len p ys ≡ 0 → prefix_len p (xs ++ ys) ≡ length xs
+prefix_before p [] ys all stops = stops
+prefix_before p (x ∷ xs) ys all stops =
+    let parts = and_parts (p x) (list_all p xs) all in
+    let rest = prefix_before p xs ys parts.1 stops in
+    rw parts.0 (omega (arith, rest))
+
+drop_front : (xs ys : List ℕ) → drop (length xs) (xs ++ ys) ≡ ys
+drop_front [] ys = refl
+drop_front (x ∷ xs) ys = drop_front xs ys
+
+take_front : (xs ys : List ℕ) → take (length xs) (xs ++ ys) ≡ xs
+take_front [] ys = refl
+take_front (x ∷ xs) ys = ap (λ (rest : List ℕ). x ∷ rest) (take_front xs ys)
+
+-- a name has no blank
+digits_plain : (ds : List ℕ) → AllDigits 10 ds → list_all (λ c. not (is_blank c)) ds ≡ true
+digits_plain [] digits = refl
+digits_plain (d ∷ ds) digits =
+    let range = digit_from_value d digits.0 in
+    let low = range.0 in
+    let plain : is_blank d ≡ false = grind (arith, nat_tests) in
+    and_from (not (is_blank d)) (list_all (λ c. not (is_blank c)) ds) (ap not plain) (digits_plain ds digits.1)
+
+name_plain : (place : ℕ) → place < MAX_DATABASES → list_all (λ c. not (is_blank c)) (database_name place) ≡ true
+name_plain zero few = refl
+name_plain (suc place) few =
+    let further : (suc place == 0) ≡ false = grind (arith, nat_tests) in
+    rw further (digits_plain (decimal (suc place + 1)) (decimal_is_IsNumeral (suc place + 1) (omega arith)).0.1)
+
+name_begins : (place : ℕ) (back : List ℕ) → prefix_len is_blank (database_name place ++ back) ≡ 0
+name_begins zero back = refl
+name_begins (suc place) back =
+    let further : (suc place == 0) ≡ false = grind (arith, nat_tests) in
+    rw further refl
+
+-- blanks end a name
+blanks_end : (back : List ℕ) → AllPass is_blank back → prefix_len (λ c. not (is_blank c)) back ≡ 0
+blanks_end [] blank = refl
+blanks_end (b ∷ back) blank =
+    let is : is_blank b ≡ true = blank 0 0 (omega arith) in
+    rw is refl
+
+-- the place of a name, by how many blanks stand before it and how long it is
+abbrev pick : ℕ → List ℕ → ℕ → ℕ → Option ℕ
+pick databases named front len = if front == 0 || not (list_all is_blank (drop len named)) then None else database_place databases (take len named)
+
+-- what stands behind `@restart`, by its parts
+module _ (front back : List ℕ) (place : ℕ) (few : place < MAX_DATABASES) (front_blank : AllPass is_blank front) (back_blank : AllPass is_blank back) where
+  blanks_before : prefix_len is_blank (front ++ (database_name place ++ back)) ≡ length front
+  blanks_before = prefix_before is_blank front (database_name place ++ back) (list_all-from_AllPass is_blank front front_blank) (name_begins place back)
+
+  name_behind : after_blanks (front ++ (database_name place ++ back)) ≡ database_name place ++ back
+  name_behind = ap (λ (n : ℕ). drop n (front ++ (database_name place ++ back))) blanks_before ∙ drop_front front (database_name place ++ back)
+
+  name_len : word_len (database_name place ++ back) ≡ length (database_name place)
+  name_len = prefix_before (λ c. not (is_blank c)) (database_name place) back (name_plain place few) (blanks_end back back_blank)
+
+  name_alone : take (word_len (database_name place ++ back)) (database_name place ++ back) ≡ database_name place
+  name_alone = ap (λ (n : ℕ). take n (database_name place ++ back)) name_len ∙ take_front (database_name place) back
+
+  named_found : (databases : ℕ) → 0 < length front → named_place databases (front ++ (database_name place ++ back)) ≡ database_place databases (database_name place)
+  named_found databases apart =
+      let bytes = front ++ (database_name place ++ back) in
+      let some : (length front == 0) ≡ false = grind (arith, nat_tests) in
+      let rest : drop (length (database_name place)) (database_name place ++ back) ≡ back = drop_front (database_name place) back in
+      let name : take (length (database_name place)) (database_name place ++ back) ≡ database_name place = take_front (database_name place) back in
+      let blank : list_all is_blank back ≡ true = list_all-from_AllPass is_blank back back_blank in
+      ap (λ (m : List ℕ). pick databases m (prefix_len is_blank bytes) (word_len m)) name_behind
+      ∙ ap (λ (n : ℕ). pick databases (database_name place ++ back) n (word_len (database_name place ++ back))) blanks_before
+      ∙ ap (λ (n : ℕ). pick databases (database_name place ++ back) (length front) n) name_len
+      ∙ rw (some, rest, blank, name) refl
+
+-- the word that stands behind `@restart`
+abbrev pub word_of : List ℕ → List ℕ
+word_of content = take (word_len (after_blanks (drop 8 content))) (after_blanks (drop 8 content))
+
+-- is the name of the database that is restarted
+pub restart_names : (databases : ℕ) (content : List ℕ) (place : ℕ) → databases ≤ MAX_DATABASES → IsRestart databases content place → word_of content ≡ database_name place
+restart_names databases content place few is =
+    let small : place < MAX_DATABASES = omega (arith, is.within) in
+    ap (λ (rest : List ℕ). take (word_len (after_blanks rest)) (after_blanks rest)) (ap (drop 8) is.parts)
+    ∙ ap (λ (m : List ℕ). take (word_len m) m) (name_behind is.front is.back place small is.front_blank is.back_blank)
+    ∙ name_alone is.front is.back place small is.front_blank is.back_blank
+
+restart_found : (databases : ℕ) (content : List ℕ) (place : ℕ) → databases ≤ MAX_DATABASES → IsRestart databases content place → restart_of databases content ≡ database_place databases (database_name place)
+restart_found databases content place few is =
+    let small : place < MAX_DATABASES = omega (arith, is.within) in
+    let starts : starts_with nat_eq content (codes "@restart") ≡ true =
+    (starts_is same_byte content (codes "@restart") (starts_with nat_eq content (codes "@restart")) refl).1 (is.front ++ (database_name place ++ is.back)) is.parts in
+    let behind : drop 8 content ≡ is.front ++ (database_name place ++ is.back) = ap (drop 8) is.parts in
+    ap (λ (b : Bool). if b then named_place databases (drop 8 content) else None) starts ∙ ap (named_place databases) behind
+    ∙ named_found is.front is.back place small is.front_blank is.back_blank databases is.apart
+
+-- `@restart`: where no place is found it is none, and a place that is found is that
+pub no_restart : (databases : ℕ) (content : List ℕ) (found : Option ℕ) → databases ≤ MAX_DATABASES → found ≡ restart_of databases content → found ≡ None
+    → (place : ℕ) → IsRestart databases content place → ⊥
+no_restart databases content found few is none place restarts =
+    no_place databases (database_name place) found (is ∙ restart_found databases content place few restarts) none place restarts.within refl
+
+-- the parts that are found behind `@restart`
+record Named (databases : ℕ) (bytes : List ℕ) (place : ℕ) : Type 0 where
+  pub within : place < databases
+  pub front : List ℕ
+  pub back : List ℕ
+  pub apart : 0 < length front
+  pub front_blank : AllPass is_blank front
+  pub back_blank : AllPass is_blank back
+  pub parts : bytes ≡ front ++ (database_name place ++ back)
+
+named_made : (databases : ℕ) (bytes : List ℕ) (place : ℕ) (none : Bool)
+    → (prefix_len is_blank bytes == 0 || not (list_all is_blank (drop (word_len (after_blanks bytes)) (after_blanks bytes)))) ≡ none
+    → (if none then None else database_place databases (take (word_len (after_blanks bytes)) (after_blanks bytes))) ≡ Some place → Named databases bytes place
+named_made databases bytes place true is found = absurd (cc)
+named_made databases bytes place false is found =
+    let n = prefix_len is_blank bytes in
+    let named = after_blanks bytes in
+    let parts = or_parts (n == 0) (not (list_all is_blank (drop (word_len named) named))) is in
+    let here = this_place databases (take (word_len named) named) (Some place) place (sym found) refl in
+    let some = parts.0 in
+    let more : 0 < n = grind (arith, nat_tests) in
+    let long = prefix_len-le-length is_blank bytes in
+    record {
+      within = here.0;
+      front = take n bytes;
+      back = drop (word_len named) named;
+      apart = omega (arith, more, long, length-take n bytes);
+      front_blank = λ k d inside.
+          let below : k < n = omega (arith, inside, length-take n bytes) in
+          ap is_blank (get_or-take n bytes k d below) ∙ prefix_len_passes is_blank bytes k d below;
+      back_blank = AllPass-from_list_all is_blank (drop (word_len named) named) (not-false (list_all is_blank (drop (word_len named) named)) parts.1);
+      parts = sym (take-append-drop n bytes) ∙ ap (λ (m : List ℕ). take n bytes ++ m)
+          (sym (take-append-drop (word_len named) named) ∙ ap (λ (name : List ℕ). name ++ drop (word_len named) named) here.1);
+    }
+
+restart_by : (databases : ℕ) (content : List ℕ) (place : ℕ) (starts : Bool) → starts_with nat_eq content (codes "@restart") ≡ starts
+    → (if starts then named_place databases (drop 8 content) else None) ≡ Some place → IsRestart databases content place
+restart_by databases content place false is found = absurd (cc)
+restart_by databases content place true is found =
+    let named = named_made databases (drop 8 content) place _ refl found in
+    record {
+      within = named.within;
+      front = named.front;
+      back = named.back;
+      apart = named.apart;
+      front_blank = named.front_blank;
+      back_blank = named.back_blank;
+      parts = (starts_is same_byte content (codes "@restart") (starts_with nat_eq content (codes "@restart")) refl).0 is
+          ∙ ap (λ (rest : List ℕ). codes "@restart" ++ rest) named.parts;
+    }
+
+pub restart_made : (databases : ℕ) (content : List ℕ) (found : Option ℕ) (place : ℕ) → found ≡ restart_of databases content → found ≡ Some place → IsRestart databases content place
+restart_made databases content found place is some = restart_by databases content place (starts_with nat_eq content (codes "@restart")) refl (sym is ∙ some)
+
+-- THE DATABASE THAT A LINE NAMES
+
+-- a statement is a line
+is_line : (place session : ℕ) (text : List ℕ) → statement place session text ≡ no_line → ⊥
+is_line place session text e = cc
+
+-- a statement's line names one of the databases
+pub names_one : (databases : ℕ) (bytes : List ℕ) (place session : ℕ) (text : List ℕ) → Reads databases bytes (statement place session text) → place < databases
+names_one databases bytes place session text (inl good) = good.1.within
+names_one databases bytes place session text (inr bad) = absurd (is_line place session text bad.1)
+
+-- so does a restart's
+is_restart : (place : ℕ) → restart place ≡ no_line → ⊥
+is_restart place e = cc
+
+pub restarts_one : (databases : ℕ) (bytes : List ℕ) (place : ℕ) → Reads databases bytes (restart place) → place < databases
+restarts_one databases bytes place (inl good) = good.1.within
+restarts_one databases bytes place (inr bad) = absurd (is_restart place bad.1)

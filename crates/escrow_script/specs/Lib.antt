@@ -1,0 +1,5 @@
+pub mod Laws
+pub mod Line
+pub mod Reading
+pub mod Script
+pub mod Written

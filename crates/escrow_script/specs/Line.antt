@@ -1,0 +1,100 @@
+-- Believed: the lines of a script, and what each is made of.
+use Rattle.std.specs.Prelude.{◌≡◌, ◌≤◌, ◌<◌, ◌⊎◌, ℕ, ◌+◌, ◌-◌, ◌==◌, Bool, ◌||◌, if◌then◌else◌, List, [], ◌∷◌, ◌++◌, length, take, drop, slice_index, codes, decimal}
+use Rattle.std.specs.List.{AllPass, prefix_len}
+use Rattle.std.specs.Str.{IsUtf8}
+use Rattle.escrow_num.specs.Session.{IsSession}
+use Rattle.escrow_script.specs.declared.limits.TheConstants.{MAX_LINE}
+
+-- THE LINES OF A SCRIPT
+
+-- a byte in front of the first line
+abbrev pub onto_first : ℕ → List (List ℕ) → List (List ℕ)
+onto_first b [] = (b ∷ []) ∷ []
+onto_first b (first ∷ lines) = (b ∷ first) ∷ lines
+
+-- the lines of a script: each is the bytes up to a line feed, and the bytes after the last line feed
+-- are a line if there are any
+abbrev pub lines_of : List ℕ → List (List ℕ)
+lines_of [] = []
+lines_of (b ∷ bytes) = if b == 10 then [] ∷ lines_of bytes else onto_first b (lines_of bytes)
+
+-- THE NAMES OF DATABASES
+
+-- the database at a place, from 0: the first is called `bank`, and each further one `bank` and its
+-- number, from 2 on
+abbrev pub database_name : ℕ → List ℕ
+database_name place = if place == 0 then codes "bank" else codes "bank" ++ decimal (place + 1)
+
+-- WHAT A LINE IS
+
+-- a line asks nothing; it ends a phase; it restarts a database, by its place; it is a statement, of a
+-- database by its place, of a session, and with a text; or it is no line
+pub data Reading : Type 0 where
+  nothing : Reading
+  join : Reading
+  restart : ℕ → Reading
+  statement : ℕ → ℕ → List ℕ → Reading
+  no_line : Reading
+
+-- a space or a tab
+abbrev pub is_blank : ℕ → Bool
+is_blank c = c == 32 || c == 9
+
+-- a line without the one carriage return at its end, if it ends so
+abbrev pub without_return : List ℕ → List ℕ
+without_return bytes = if slice_index bytes (length bytes - 1) == 13 then take (length bytes - 1) bytes else bytes
+
+-- a text without the spaces and tabs at its beginning
+abbrev pub after_blanks : List ℕ → List ℕ
+after_blanks bytes = drop (prefix_len is_blank bytes) bytes
+
+-- the content of a line: what is left without its carriage return and its blanks in front
+abbrev pub content_of : List ℕ → List ℕ
+content_of bytes = after_blanks (without_return bytes)
+
+-- a comment begins with two dashes
+abbrev pub IsComment : List ℕ → Type 0
+IsComment content = (rest : List ℕ) × (content ≡ codes "--" ++ rest)
+
+-- `@join`, and nothing but blanks behind it
+abbrev pub IsJoin : List ℕ → Type 0
+IsJoin content = (blanks : List ℕ) × AllPass is_blank blanks × (content ≡ codes "@join" ++ blanks)
+
+-- `@restart`, blanks, the name of one of so many databases, and nothing but blanks behind it
+pub record IsRestart (databases : ℕ) (content : List ℕ) (place : ℕ) : Type 0 where
+  pub within : place < databases
+  pub front : List ℕ
+  pub back : List ℕ
+  pub apart : 0 < length front
+  pub front_blank : AllPass is_blank front
+  pub back_blank : AllPass is_blank back
+  pub parts : content ≡ codes "@restart" ++ (front ++ (database_name place ++ back))
+
+-- a statement: the name of one of so many databases, a point, a session in decimal, a colon, and the text
+pub record IsStatement (databases : ℕ) (content : List ℕ) (place session : ℕ) (text : List ℕ) : Type 0 where
+  pub within : place < databases
+  pub is_session : IsSession session
+  pub parts : content ≡ database_name place ++ codes "." ++ decimal session ++ codes ":" ++ text
+
+-- what the content of a line is made of, of each reading
+abbrev pub IsMadeOf : ℕ → List ℕ → Reading → Type 0
+IsMadeOf databases content nothing = (content ≡ []) ⊎ IsComment content
+IsMadeOf databases content join = IsJoin content
+IsMadeOf databases content (restart place) = IsRestart databases content place
+IsMadeOf databases content (statement place session text) = IsStatement databases content place session text
+IsMadeOf databases content no_line = ⊥
+
+-- the content is made of this, or it is no line as it is made of nothing of these
+abbrev pub ReadsContent : ℕ → List ℕ → Reading → Type 0
+ReadsContent databases content no_line = (reading : Reading) → IsMadeOf databases content reading → ⊥
+ReadsContent databases content reading = IsMadeOf databases content reading
+
+-- a line that can be read has at most 4,096 bytes, and they are UTF-8
+abbrev pub IsReadable : List ℕ → Type 0
+IsReadable bytes = (length bytes ≤ MAX_LINE) × IsUtf8 bytes
+
+-- WHAT A LINE IS, for so many databases: a readable line is what its content is made of, and any other
+-- is no line
+abbrev pub Reads : ℕ → List ℕ → Reading → Type 0
+Reads databases bytes reading =
+    (IsReadable bytes × ReadsContent databases (content_of bytes) reading) ⊎ ((IsReadable bytes → ⊥) × (reading ≡ no_line))

@@ -1,0 +1,45 @@
+-- Helps: how the lines of a script are read.
+use Rattle.std.specs.Prelude.{◌≡◌, ℕ, ◌+◌, ◌==◌, ◌&&◌, Bool, true, false, nat_lt, Option, Some, None, List, [], ◌∷◌, ◌++◌, length, take, drop, ⊤}
+use Rattle.std.specs.Io.KnownBytes.{prepend_known, IsAtEnd}
+use Rattle.std.specs.List.{position_or_len}
+use Rattle.escrow_script.specs.Line.{lines_of}
+use Rattle.escrow_script.specs.declared.limits.TheConstants.{MAX_LINE}
+
+-- a line feed
+abbrev pub is_feed : ℕ → Bool
+is_feed b = b == 10
+
+-- a line is in hand: reads are left, and a line feed stands among the bytes that were read and aren't taken
+abbrev pub has_line : ℕ → List ℕ → Bool
+has_line reads unread = nat_lt 0 reads && nat_lt (position_or_len is_feed unread) (length unread)
+
+-- the bytes that a script has left: those that were read and aren't taken, and those of its reader,
+-- where these are known
+abbrev pub left : List ℕ → Option (List ℕ) → Option (List ℕ)
+left unread remaining = prepend_known unread remaining
+
+-- a script has nothing left: all that was read is taken, and its reader is at its end
+abbrev pub HasEnded : List ℕ → Option (List ℕ) → Type 0
+HasEnded unread remaining = (unread ≡ []) × IsAtEnd remaining
+
+-- what a reader gave, where its bytes are known, was taken from what a script may still have
+abbrev pub Spends : Option (List ℕ) → Option (List ℕ) → ℕ → ℕ → Type 0
+Spends None rest old new = ⊤
+Spends (Some bytes) None old new = ⊥
+Spends (Some bytes) (Some rest) old new = length bytes + new ≡ length rest + old
+
+-- The next line was taken: the bytes that were left are its bytes and the rest's lines, and of its
+-- bytes as many were kept as a line may have and one more. Or there was none, and nothing is left.
+abbrev pub TakesLine : Bool → Option (List ℕ) → Option (List ℕ) → List ℕ → Type 0
+TakesLine found None rest kept = ⊤
+TakesLine found (Some bytes) None kept = ⊥
+TakesLine true (Some bytes) (Some rest) kept = (line : List ℕ) × (lines_of bytes ≡ line ∷ lines_of rest) × (kept ≡ take (MAX_LINE + 1) line)
+TakesLine false (Some bytes) (Some rest) kept = (lines_of bytes ≡ []) × (rest ≡ [])
+
+-- The bytes up to the first line feed went from what is unread to a line, of which as many bytes are
+-- kept as it may have and one more, and the line feed was taken; or all of them, where there is no line
+-- feed.
+pub record Moves (found : Bool) (unread rest line kept : List ℕ) : Type 0 where
+  pub is_found : found ≡ nat_lt (position_or_len is_feed unread) (length unread)
+  pub is_rest : rest ≡ drop (position_or_len is_feed unread + 1) unread
+  pub is_kept : kept ≡ take (MAX_LINE + 1) (line ++ take (position_or_len is_feed unread) unread)

@@ -1,0 +1,85 @@
+ghost use Rattle.std.specs.Prelude.{◌≡◌};
+ghost use Rattle.escrow_script.specs.Written.{fault_refusal};
+
+use crate::limits::MAX_SCRIPT;
+use escrow_num::Refusal;
+use escrow_sql::ParseFault;
+use std::alloc::AllocError;
+use std::io::{self, ErrorKind};
+use thiserror::Error;
+
+/// Why a script can't be read to its end.
+#[derive(Clone, Copy, Debug, Error)]
+pub enum ReadFault {
+    /// It has more bytes than a script may have.
+    #[error("it is longer than {MAX_SCRIPT} bytes")]
+    TooLong,
+    /// What it is to be read from is closed.
+    #[error("standard input is closed")]
+    Closed,
+    /// What it is to be read from is a folder.
+    #[error("standard input is a folder")]
+    Folder,
+    /// The system fails.
+    #[error("{0}")]
+    System(io::Error),
+}
+
+/// The number of Linux's error for a descriptor that is closed, EBADF, which is of no kind.
+const BAD_DESCRIPTOR: i32 = 9;
+
+impl From<io::Error> for ReadFault {
+    fn from(error: io::Error) -> ReadFault {
+        match error.kind() {
+            ErrorKind::IsADirectory => ReadFault::Folder,
+            _ if error.raw_os_error() == Some(BAD_DESCRIPTOR) => ReadFault::Closed,
+            _ => ReadFault::System(error),
+        }
+    }
+}
+
+/// Why a script isn't served to its end. The lines before the fault are served.
+#[derive(Clone, Copy, Debug, Error)]
+pub enum ServeFault {
+    /// The reader answered an error, or gave more than a script may have.
+    #[error("the script can't be read: {0}")]
+    Read(ReadFault),
+    /// The writer answered an error, or took nothing of what was left to write.
+    #[error("a reply can't be written")]
+    Write,
+    /// Memory was refused outside a statement.
+    #[error("out of memory")]
+    Memory,
+}
+
+impl From<AllocError> for ServeFault {
+    ghost use Rattle.std.specs.Prelude.{◌≡◌};
+    ghost use Rattle.escrow_script.specs.declared.fault.ServeFault.TheVariants.{Memory};
+
+    ghost from_gives = { λ _ e. e ≡ Memory };
+
+    fn from(_error: AllocError) -> ServeFault {
+        ServeFault::Memory
+    }
+}
+
+impl From<ReadFault> for ServeFault {
+    ghost use Rattle.std.specs.Prelude.{◌≡◌};
+    ghost use Rattle.escrow_script.specs.declared.fault.ServeFault.TheVariants.{Read};
+
+    ghost from_gives = { λ f e. e ≡ Read f };
+
+    fn from(fault: ReadFault) -> ServeFault {
+        ServeFault::Read(fault)
+    }
+}
+
+/// The refusal of a text that isn't served: 11 with the column of its first fault, or 51 for want of memory.
+pub fn fault_refusal(fault: ParseFault) -> Refusal
+    ensures { result ≡ fault_refusal fault }
+{
+    match fault {
+        ParseFault::Syntax { column } => Refusal::Syntax { column },
+        ParseFault::Memory => Refusal::Memory,
+    }
+}

@@ -1,0 +1,165 @@
+ghost use Rattle.std.specs.Prelude.{◌≡◌, ◌≢◌, ◌≤◌, ◌<◌, ◌+◌, ◌++◌, [], length, take, true, false, vec_len, IfOk, IfErr, OnOk};
+ghost use Rattle.std.specs.List.{position_or_len};
+ghost use Rattle.std.specs.Io.KnownBytes.{Consumes, IsAtEnd};
+ghost use Rattle.escrow_script.specs.Script.{is_feed};
+ghost use Rattle.escrow_script.specs.declared.limits.TheConstants.{MAX_LINE, MAX_SCRIPT};
+
+use crate::fault::{ReadFault, ServeFault};
+use crate::limits::{MAX_LINE, MAX_READS, MAX_SCRIPT};
+use crate::unread::Unread;
+use memchr::memchr;
+use std::alloc::{AllocError, Global};
+use std::io::Read;
+
+/// A script that is read line by line: the bytes that aren't taken yet, and the line that was taken
+/// last. One byte more than a line may have is kept of a longer one, which tells that it is too
+/// long.
+#[derive(Debug, Drop)]
+pub struct Script {
+    unread: Unread,
+    line: Vec<u8>,
+    bytes_left: usize,
+    reads_left: usize,
+    // The reader has said that it is at its end, and isn't asked again.
+    has_ended: bool,
+    ghost short: { vec_len line ≤ MAX_LINE + 1 },
+    ghost few: { bytes_left ≤ MAX_SCRIPT },
+}
+
+impl Script {
+    ghost use Rattle.escrow_script.specs.Script.{left, has_line, HasEnded, Spends, TakesLine, Moves};
+
+    /// A script of which nothing is read.
+    ///
+    /// # Errors
+    ///
+    /// Memory is short.
+    pub fn new(alloc: Global) -> Result<Script, AllocError>
+        ensures { IfOk result (λ s. (s.unread ≡ []) × (s.bytes_left ≡ MAX_SCRIPT) × (s.has_ended ≡ false)) }
+    {
+        Ok(Script {
+            unread: Unread::new(alloc)?,
+            line: Vec::new(alloc),
+            bytes_left: MAX_SCRIPT,
+            reads_left: MAX_READS,
+            has_ended: false,
+        })
+    }
+
+    /// The line that was taken last, without its line feed: all of it, or its first bytes, one more than
+    /// a line may have.
+    pub fn line(&self) -> &[u8]
+        ensures value { result.now ≡ self.now.line.items }
+        ensures within { length result.now ≤ MAX_LINE + 1 }
+    {
+        self.line.as_slice()
+    }
+
+    /// Whether the next line is in hand, so that it is taken without a read.
+    pub fn has_line(&self) -> bool
+        ensures { result ≡ has_line self.now.reads_left self.now.unread }
+    {
+        let bytes = self.unread.as_slice();
+        self.reads_left > 0 && line_len(bytes) < bytes.len()
+    }
+
+    /// Takes the next line, and answers whether there was one. A line that is in hand is taken, or memory
+    /// is refused. A reader that has said that it is at its end isn't asked again: at a terminal it would go on.
+    ///
+    /// Each call is given the same reader.
+    ///
+    /// # Errors
+    ///
+    /// [`ServeFault::Read`] where the reader answers an error, gives more than [`MAX_SCRIPT`] bytes, or is called
+    /// more than [`MAX_READS`] times; [`ServeFault::Memory`] for want of memory. It is no other.
+    pub fn next_line<R: Read>(&mut self, reader: &mut R) -> Result<bool, ServeFault>
+        requires ended { self.old.has_ended ≡ true → HasEnded self.old.unread (R.remaining reader.old) }
+        ensures taken { IfOk result (λ found. TakesLine found (left self.old.unread (R.remaining reader.old))
+            (left self.new.unread (R.remaining reader.new)) self.new.line.items) }
+        ensures less { IfOk result (λ found. found ≡ true →
+            self.new.bytes_left + length self.new.unread < self.old.bytes_left + length self.old.unread) }
+        ensures spent { OnOk result (Spends (R.remaining reader.old) (R.remaining reader.new) self.old.bytes_left self.new.bytes_left) }
+        ensures in_hand { IfOk result (λ found. has_line self.old.reads_left self.old.unread ≡ true → found ≡ true) }
+        ensures cause { IfErr result (λ fault. has_line self.old.reads_left self.old.unread ≡ true → fault ≡ ServeFault.Memory) }
+        ensures ended { IfOk result (λ _. self.new.has_ended ≡ true → HasEnded self.new.unread (R.remaining reader.new)) }
+        // The writer has no part in it.
+        ensures kind { IfErr result (λ fault. fault ≢ ServeFault.Write) }
+    {
+        if self.has_ended {
+            return Ok(false);
+        }
+        self.line.clear();
+        while self.reads_left > 0 {
+            if self.take_front()? {
+                return Ok(true);
+            }
+            if self.fill(reader)? == 0 {
+                self.has_ended = true;
+                return Ok(!self.line.is_empty());
+            }
+        }
+        Err(ServeFault::Read(ReadFault::TooLong))
+    }
+
+    /// Moves the unread bytes up to a line feed into the line, and answers whether there was one.
+    fn take_front(&mut self) -> Result<bool, AllocError>
+        ensures moved { IfOk result (λ found. Moves found self.old.unread self.new.unread self.old.line.items self.new.line.items) }
+        ensures less { IfOk result (λ found. vec_len self.new.line + length self.new.unread ≤ vec_len self.old.line + length self.old.unread) }
+        ensures fewer { IfOk result (λ found. found ≡ true →
+            vec_len self.new.line + length self.new.unread < vec_len self.old.line + length self.old.unread) }
+        ensures bytes { self.new.bytes_left ≡ self.old.bytes_left }
+        ensures reads { self.new.reads_left ≡ self.old.reads_left }
+        ensures ended { self.new.has_ended ≡ self.old.has_ended }
+    {
+        let bytes = self.unread.as_slice();
+        let len = line_len(bytes);
+        let found = len < bytes.len();
+        keep(&mut self.line, &bytes[..len])?;
+        self.unread.skip(len + 1);
+        Ok(found)
+    }
+
+    /// Reads the next bytes, once all that were read are taken, and answers how many.
+    fn fill<R: Read>(&mut self, reader: &mut R) -> Result<usize, ServeFault>
+        requires taken { self.old.unread ≡ [] }
+        requires more { 1 ≤ self.old.reads_left }
+        ensures read { OnOk result (Consumes (R.remaining reader.old) (R.remaining reader.new) self.new.unread) }
+        ensures count { IfOk result (λ count. count ≡ length self.new.unread) }
+        ensures end { IfOk result (λ count. count ≡ 0 → IsAtEnd (R.remaining reader.new)) }
+        ensures line { self.new.line ≡ self.old.line }
+        ensures bytes { IfOk result (λ count. self.new.bytes_left + count ≡ self.old.bytes_left) }
+        ensures reads { self.new.reads_left + 1 ≡ self.old.reads_left }
+        ensures ended { self.new.has_ended ≡ self.old.has_ended }
+        ensures kind { IfErr result (λ fault. fault ≢ ServeFault.Write) }
+    {
+        self.reads_left -= 1;
+        let count = self.unread.fill(reader)?;
+        if count > self.bytes_left {
+            return Err(ServeFault::Read(ReadFault::TooLong));
+        }
+        self.bytes_left -= count;
+        Ok(count)
+    }
+}
+
+/// How many bytes stand before the first line feed, or in all where there is none.
+fn line_len(bytes: &[u8]) -> usize
+    ensures value { result ≡ position_or_len is_feed bytes.now }
+    ensures within { result ≤ length bytes.now }
+{
+    match memchr(b'\n', bytes) {
+        Some(place) => place,
+        None => bytes.len(),
+    }
+}
+
+/// Adds bytes to a line, of which no more than one more than a line may have are kept.
+fn keep(line: &mut Vec<u8>, bytes: &[u8]) -> Result<(), AllocError>
+    requires { vec_len line.old ≤ MAX_LINE + 1 }
+    ensures ok { OnOk result (line.new.items ≡ take (MAX_LINE + 1) (line.old.items ++ bytes.now)) }
+    ensures short { vec_len line.new ≤ MAX_LINE + 1 }
+{
+    let room = MAX_LINE + 1 - line.len();
+    line.extend_from_slice(&bytes[..room.min(bytes.len())])?;
+    Ok(())
+}

@@ -1,0 +1,63 @@
+ghost use Rattle.std.specs.Prelude.{◌≡◌, ◌<◌, ◌++◌, [], ℕ, length, take, OnOk, OnErr, IfErr};
+ghost use Rattle.std.specs.Io.KnownBytes.{Appends};
+
+use crate::fault::ServeFault;
+use std::alloc::AllocError;
+use std::io::Write;
+
+/// How many bytes of replies are gathered at most before they are written, but for the last reply.
+pub const MOST_GATHERED: usize = 65_536;
+
+/// Adds a reply to those that are gathered.
+///
+/// # Errors
+///
+/// Memory is short, and what was gathered is as it was.
+pub fn gather(replies: &mut Vec<u8>, reply: Vec<u8>) -> Result<(), AllocError>
+    ensures ok { OnOk result (replies.new.items ≡ replies.old.items ++ reply.items) }
+    ensures err { OnErr result (replies.new.items ≡ replies.old.items) }
+{
+    if replies.is_empty() {
+        *replies = reply;
+        return Ok(());
+    }
+    replies.extend_from_slice(reply.as_slice())
+}
+
+/// Writes what is gathered, after which nothing is gathered, or a front of it.
+///
+/// # Errors
+///
+/// [`ServeFault::Write`], and no other: the writer answered an error, or took nothing of what was left. What it
+/// took before is a front of what is gathered, and not all of it.
+pub fn write_gathered<W: Write>(writer: &mut W, replies: &mut Vec<u8>) -> Result<(), ServeFault>
+    ensures ok { OnOk result (Appends (W.contents writer.old) (W.contents writer.new) replies.old.items) }
+    ensures none { OnOk result (replies.new.items ≡ []) }
+    ensures err { OnErr result ((len : ℕ) × (len < length replies.old.items) × Appends (W.contents writer.old) (W.contents writer.new) (take len replies.old.items)) }
+    ensures kind { IfErr result (λ fault. fault ≡ ServeFault.Write) }
+{
+    write_whole(writer, replies.as_slice())?;
+    replies.clear();
+    Ok(())
+}
+
+/// Writes all of the bytes, or fewer of them from the front on.
+///
+/// # Errors
+///
+/// [`ServeFault::Write`], and no other: the writer answered an error, or took nothing of what was left. What it
+/// took before is a front of the bytes, and not all of them.
+pub fn write_whole<W: Write>(writer: &mut W, bytes: &[u8]) -> Result<(), ServeFault>
+    ensures ok { OnOk result (Appends (W.contents writer.old) (W.contents writer.new) bytes.now) }
+    ensures err { OnErr result ((len : ℕ) × (len < length bytes.now) × Appends (W.contents writer.old) (W.contents writer.new) (take len bytes.now)) }
+    ensures kind { IfErr result (λ fault. fault ≡ ServeFault.Write) }
+{
+    let mut rest = bytes;
+    while !rest.is_empty() {
+        match writer.write(rest) {
+            Ok(0) | Err(_) => return Err(ServeFault::Write),
+            Ok(count) => rest = &rest[count..],
+        }
+    }
+    Ok(())
+}

@@ -1,9 +1,0 @@
-use Rattle.std.specs.Prelude.{refl}
-use Rattle.escrow_server.proofs.laws.limits.Goals as goal
-
-pub returns : goal.returns
-returns c = record {
-  databases = refl;
-  lines = refl;
-  scripts = refl;
-}

@@ -1,0 +1,6 @@
+pub mod AtOnce
+pub mod Channel
+pub mod Gaining
+pub mod InOrder
+pub mod Meeting
+pub mod Placing

@@ -1,0 +1,16 @@
+-- Believed: what fed workers did.
+use Rattle.std.specs.Prelude.{◌≡◌, ℕ, ◌==◌, if◌then◌else◌, List, [], ◌∷◌, length, slice_get, Some}
+use Rattle.escrow_sql.specs.declared.statement.Request.{Request}
+use Rattle.escrow_shards.specs.Seat.{Seat}
+use Rattle.escrow_sessions.specs.Serving.{IsDone}
+use Rattle.escrow_sessions.specs.declared.done.Done.{Done}
+
+-- the requests of the items that name a place, in order
+abbrev pub of : ℕ → List (ℕ × Request) → List Request
+of place [] = []
+of place (item ∷ items) = if item.0 == place then item.1 ∷ of place items else of place items
+
+-- FED WORKERS. Each did what a worker does with the requests of the items that name its place.
+pub record AreFed (seats : List Seat) (items : List (ℕ × Request)) (done : List Done) : Type 0 where
+  pub count : length done ≡ length seats
+  pub each : (place : ℕ) (seat : Seat) (d : Done) → slice_get seats place ≡ Some seat → slice_get done place ≡ Some d → IsDone seat (of place items) d

@@ -1,0 +1,8 @@
+pub mod Fed
+pub mod Kept
+pub mod Laws
+pub mod Line
+pub mod Rule
+pub mod Serving
+pub mod Slots
+pub mod Work

@@ -1,0 +1,185 @@
+ghost use Rattle.std.specs.Prelude.{◌≡◌, ◌↔◌, ℕ, ◌<◌, ◌≤◌, List, [], length, vec_len, All, IfOk, IfErr, OnOk};
+ghost use Rattle.std.specs.Iterator.{IsFinite, Drains, HoldsAlong};
+ghost use Rattle.std.specs.List.{AllByRecursion, AllZip};
+ghost use Rattle.std.specs.Vec.{vec_capacity};
+ghost use Rattle.escrow_sql.specs.declared.statement.Request.{Request};
+ghost use Rattle.escrow_shards.specs.Sharing.{HasSeat};
+ghost use Rattle.escrow_sessions.specs.declared.feed.TheConstants.{MAX_WORKERS};
+ghost use Rattle.escrow_sessions.specs.Fed.{AreFed};
+ghost use Rattle.escrow_sessions.specs.Slots.{AreFurther, AreEnded, IsNewSlot, JoinsAs};
+
+use crate::done::Done;
+use crate::feed::{Cause, MAX_WORKERS};
+use crate::hall::Hall;
+use crate::not_fed::NotFed;
+use crate::rule::Item;
+use crate::slot::{Slot, start_fed};
+use escrow_shards::{Gate, Pass, Shared};
+use escrow_sql::Request;
+use sqlite::Alter;
+use std::alloc::Global;
+use std::sync::Wait;
+use std::sync::atomic::AtomicU64;
+use std::thread;
+use std::thread::{Scope, Threads};
+
+/// Serves items as they come, each by the worker of the place that it names among the passes. All workers are
+/// started before the first item is asked for, and each item is sent to its worker before the next is asked for. What
+/// each worker did stands in the order of the passes. It may wait: a worker that is [`MAX_WAITING`] requests behind
+/// holds up those that come.
+///
+/// [`MAX_WAITING`]: crate::MAX_WAITING
+///
+/// # Errors
+///
+/// [`Cause::TooMany`] where there are more than [`MAX_WORKERS`] passes, and only there;
+/// [`Cause::Memory`]. No worker was started then, and passes and items are handed back.
+pub fn run_fed<
+    S: Alter + Send,
+    R: Threads + Wait + Sync,
+    G: Gate + Sync,
+    I: Iterator<Item = (usize, Request)> + Drop,
+>(
+    rt: &R,
+    alloc: Global,
+    shared: &Shared<S>,
+    passes: Vec<Pass>,
+    items: I,
+    gate: &G,
+) -> Result<Vec<Done>, NotFed<I>>
+    requires seats { AllByRecursion (HasSeat shared.now) passes.items }
+    requires can { I.can_next items }
+    requires ends { IsFinite (I.remaining items) }
+    requires places { HoldsAlong I.next_gives items (All (λ x. x.0 < length passes.items)) }
+    ensures done { IfOk result (λ done. (xs : List (ℕ × Request)) × Drains I.next_gives items xs × AreFed passes.items xs done.items) }
+    ensures within { OnOk result (length passes.items ≤ MAX_WORKERS) }
+    ensures back { IfErr result (λ e. (e.passes ≡ passes) × (e.items ≡ items)) }
+    ensures cause { IfErr result (λ e. (e.cause ≡ Cause.TooMany) ↔ (MAX_WORKERS < length passes.items)) }
+{
+    serve_fed(rt, alloc, shared, passes, items, gate)
+}
+
+/// The same, in any hall.
+fn serve_fed<
+    H: Hall + Sync,
+    R: Threads + Wait + Sync,
+    G: Gate + Sync,
+    I: Iterator<Item = (usize, Request)> + Drop,
+>(
+    rt: &R,
+    alloc: Global,
+    hall: &H,
+    passes: Vec<Pass>,
+    items: I,
+    gate: &G,
+) -> Result<Vec<Done>, NotFed<I>>
+    requires seats { AllByRecursion (H.has_seat hall.now) passes.items }
+    requires can { I.can_next items }
+    requires ends { IsFinite (I.remaining items) }
+    requires places { HoldsAlong I.next_gives items (All (λ x. x.0 < length passes.items)) }
+    ensures done { IfOk result (λ done. (xs : List (ℕ × Request)) × Drains I.next_gives items xs × AreFed passes.items xs done.items) }
+    ensures within { OnOk result (length passes.items ≤ MAX_WORKERS) }
+    ensures back { IfErr result (λ e. (e.passes ≡ passes) × (e.items ≡ items)) }
+    ensures cause { IfErr result (λ e. (e.cause ≡ Cause.TooMany) ↔ (MAX_WORKERS < length passes.items)) }
+{
+    if passes.len() > MAX_WORKERS {
+        let cause = Cause::TooMany;
+        return Err(NotFed {
+            passes,
+            items,
+            cause,
+        });
+    }
+    let slots = Vec::with_capacity(alloc, passes.len());
+    let done = Vec::with_capacity(alloc, passes.len());
+    let (Ok(slots), Ok(done)) = (slots, done) else {
+        let cause = Cause::Memory;
+        return Err(NotFed {
+            passes,
+            items,
+            cause,
+        });
+    };
+    let absent = AtomicU64::new(u64::MAX);
+    Ok(thread::scope(
+        thread::scope_env(),
+        rt,
+        |scope| -> Vec<Done>
+            requires seats { AllByRecursion (H.has_seat hall.now) passes.items }
+            requires can { I.can_next items }
+            requires ends { IsFinite (I.remaining items) }
+            requires places { HoldsAlong I.next_gives items (All (λ x. x.0 < length passes.items)) }
+            requires few { length passes.items ≤ MAX_WORKERS }
+            requires no_slot { slots.items ≡ [] }
+            requires room { vec_len passes ≤ vec_capacity slots }
+            requires none_done { done.items ≡ [] }
+            requires done_fit { vec_len passes ≤ vec_capacity done }
+            ensures { (xs : List (ℕ × Request)) × Drains I.next_gives items xs × AreFed passes.items xs result.items }
+        {
+            let mut slots = start_all(scope, rt, alloc, hall, gate, &absent, passes, slots);
+            feed(rt, &mut slots, items);
+            end(rt, &mut slots);
+            join_all(rt, slots, done)
+        },
+    ))
+}
+
+/// Starts a worker for each pass, into room that was taken for them.
+fn start_all<'s, E, H: Hall + Sync, R: Wait + Sync, G: Gate + Sync>(
+    scope: &Scope<'s, E>,
+    rt: &'s R,
+    alloc: Global,
+    hall: &'s H,
+    gate: &'s G,
+    absent: &'s AtomicU64,
+    passes: Vec<Pass>,
+    mut slots: Vec<Slot>,
+) -> Vec<Slot>
+    requires seats { AllByRecursion (H.has_seat hall.now) passes.items }
+    requires empty { slots.items ≡ [] }
+    requires room { vec_len passes ≤ vec_capacity slots }
+    ensures { AllZip IsNewSlot passes.items result.items }
+{
+    for pass in passes {
+        let place = slots.len() as u64;
+        slots.push_reserved(start_fed(scope, rt, alloc, hall, gate, absent, place, pass));
+    }
+    slots
+}
+
+/// Sends each item to the worker of its place.
+fn feed<R: Wait, I: Iterator<Item = (usize, Request)> + Drop>(
+    rt: &R,
+    slots: &mut Vec<Slot>,
+    items: I,
+)
+    requires can { I.can_next items }
+    requires ends { IsFinite (I.remaining items) }
+    requires places { HoldsAlong I.next_gives items (All (λ x. x.0 < length slots.old.items)) }
+    ensures { (xs : List (ℕ × Request)) × Drains I.next_gives items xs × AreFurther xs slots.old.items slots.new.items }
+{
+    for (place, request) in items {
+        slots[place].send(rt, Item::One(request));
+    }
+}
+
+/// Tells each worker that no request comes any more.
+fn end<R: Wait>(rt: &R, slots: &mut Vec<Slot>)
+    ensures { AreEnded slots.old.items slots.new.items }
+{
+    for place in 0..slots.len() {
+        slots[place].send(rt, Item::End);
+    }
+}
+
+/// Waits for the workers, and puts what they did into room that was taken for it.
+fn join_all<R: Threads>(rt: &R, slots: Vec<Slot>, mut done: Vec<Done>) -> Vec<Done>
+    requires empty { done.items ≡ [] }
+    requires room { vec_len slots ≤ vec_capacity done }
+    ensures { AllZip JoinsAs slots.items result.items }
+{
+    for slot in slots {
+        done.push_reserved(slot.join(rt));
+    }
+    done
+}

@@ -1,0 +1,71 @@
+//! What requests are given.
+ghost use Rattle.std.specs.Prelude.{◌≡◌, ◌-◌, ◌^◌, ◌<◌, ◌++◌, List, length};
+ghost use Rattle.escrow_machine.specs.declared.reply.Reply.{Reply};
+ghost use Rattle.escrow_stats.specs.Tally.{tally_of};
+ghost use Rattle.escrow_shards.specs.Answer.{IsAnswered};
+ghost use Rattle.escrow_sessions.specs.Kept.{reply_of, AreKept};
+ghost use Rattle.escrow_sessions.specs.Serving.{replies_of, IsGiven};
+
+use crate::done::Given;
+use crate::hall::Hall;
+use escrow_shards::{Answer, Gate, Pass, Receipt};
+use escrow_sql::{Request, Statement};
+use escrow_stats::Tally;
+use std::alloc::Global;
+use std::sync::Wait;
+
+/// What a request of the session of a pass is given. The totals of its replies are kept from the first asking for
+/// them on.
+pub(crate) fn give<H: Hall, R: Wait, G: Gate>(
+    rt: &R,
+    alloc: Global,
+    hall: &H,
+    pass: &mut Pass,
+    totals: &mut Option<Tally>,
+    request: &Request,
+    gate: &G,
+) -> Given
+    requires seat { H.has_seat hall.now pass.old }
+    requires kept { AreKept totals.old (replies_of pass.old.receipts) }
+    ensures given { IsGiven request.now result pass.old pass.new }
+    ensures seat { H.has_seat hall.now pass.new }
+    ensures kept { AreKept totals.new (replies_of pass.new.receipts) }
+{
+    match request {
+        Request::Statement(statement) => {
+            let n = (pass.receipts().len() as u64).saturating_add(1);
+            gate.before(rt, pass.database(), pass.session(), n);
+            let answer = hall.serve(rt, alloc, pass, statement, gate);
+            count(totals, &answer);
+            Given::Reply(answer)
+        }
+        Request::Statistics => {
+            let tally = match *totals {
+                Some(tally) => tally,
+                None => tally(pass.receipts()),
+            };
+            *totals = Some(tally);
+            Given::Totals(tally)
+        }
+    }
+}
+
+/// Counts a reply that was served in totals that are kept.
+fn count(totals: &mut Option<Tally>, answer: &Answer)
+    ensures { (replies : List Reply) → length replies < 2 ^ 64 - 1 → AreKept totals.old replies → AreKept totals.new (replies ++ reply_of answer.now) }
+{
+    if let (Some(tally), Answer::Served(reply)) = (*totals, answer) {
+        *totals = Some(tally.with(reply));
+    }
+}
+
+/// The tally of the replies of receipts.
+fn tally(receipts: &[Receipt]) -> Tally
+    ensures { result ≡ tally_of (replies_of receipts.now) }
+{
+    let mut tally = Tally::new();
+    for receipt in receipts {
+        tally = tally.with(&receipt.reply);
+    }
+    tally
+}

@@ -1,0 +1,45 @@
+use escrow_shards::{Answer, Gate, Pass, Shared};
+use escrow_sql::Statement;
+use sqlite::Alter;
+use std::alloc::Global;
+use std::sync::Wait;
+
+/// What serves statements for workers: databases that threads share. Workers go by this, and not by the store, so
+/// that it is shown once that they may be shared.
+pub(crate) trait Hall {
+    ghost use Rattle.escrow_shards.specs.Answer.{IsAnswered};
+    ghost use Rattle.escrow_shards.specs.Seat.{Seat};
+
+    /// A seat is for one of its databases and sessions.
+    ghost has_seat: { Self → Seat → Type 0 };
+
+    /// Serves a statement of the session of a pass, as [`Shared::call_gated`] does.
+    fn serve<R: Wait, G: Gate>(
+        &self,
+        rt: &R,
+        alloc: Global,
+        pass: &mut Pass,
+        statement: &Statement,
+        gate: &G,
+    ) -> Answer
+        requires { has_seat self.now pass.old }
+        ensures answered { IsAnswered result statement.now pass.old pass.new }
+        ensures seat { has_seat self.now pass.new };
+}
+
+impl<S: Alter> Hall for Shared<S> {
+    ghost use Rattle.escrow_shards.specs.Sharing.{HasSeat};
+
+    ghost has_seat = { HasSeat };
+
+    fn serve<R: Wait, G: Gate>(
+        &self,
+        rt: &R,
+        alloc: Global,
+        pass: &mut Pass,
+        statement: &Statement,
+        gate: &G,
+    ) -> Answer {
+        self.call_gated(rt, alloc, pass, statement, gate)
+    }
+}

@@ -1,0 +1,122 @@
+ghost use Rattle.std.specs.Prelude.{◌≡◌, ◌↔◌, ◌<◌, ◌≤◌, [], length, vec_len, IfOk, IfErr, OnOk};
+ghost use Rattle.std.specs.List.{AllByRecursion, AllZip};
+ghost use Rattle.std.specs.Vec.{vec_capacity};
+ghost use Rattle.escrow_sessions.specs.declared.feed.TheConstants.{MAX_WORKERS};
+ghost use Rattle.escrow_sessions.specs.Serving.{AreDone, HasItsSeat};
+ghost use Rattle.escrow_sessions.specs.Work.{IsWorkerOf, CameOf};
+
+use crate::done::Done;
+use crate::feed::{Cause, Feed, MAX_WORKERS, NotRun};
+use crate::hall::Hall;
+use crate::lists::Listed;
+use crate::team::{Worker, start};
+use escrow_shards::{Gate, Shared};
+use sqlite::Alter;
+use std::alloc::Global;
+use std::sync::Wait;
+use std::sync::atomic::AtomicU64;
+use std::thread;
+use std::thread::{Scope, Threads};
+
+/// Serves feeds at the same time, each by a worker on a thread of its own. What each did stands in
+/// the order of the feeds. It may wait.
+///
+/// # Errors
+///
+/// [`Cause::TooMany`] where there are more than [`MAX_WORKERS`] feeds, and only there;
+/// [`Cause::Memory`]. No worker was started then, and the feeds are handed back.
+pub fn run_sessions<S: Alter + Send, R: Threads + Wait + Sync, G: Gate + Sync>(
+    rt: &R,
+    alloc: Global,
+    shared: &Shared<S>,
+    feeds: Vec<Feed>,
+    gate: &G,
+) -> Result<Vec<Done>, NotRun>
+    requires { AllByRecursion (HasItsSeat shared.now) feeds.items }
+    ensures done { IfOk result (λ done. AreDone feeds.items done.items) }
+    ensures within { OnOk result (length feeds.items ≤ MAX_WORKERS) }
+    ensures back { IfErr result (λ e. e.feeds ≡ feeds) }
+    ensures cause { IfErr result (λ e. (e.cause ≡ Cause.TooMany) ↔ (MAX_WORKERS < length feeds.items)) }
+{
+    serve_lists(rt, alloc, shared, feeds, gate)
+}
+
+/// The same, in any hall.
+fn serve_lists<H: Hall + Sync, R: Threads + Wait + Sync, G: Gate + Sync>(
+    rt: &R,
+    alloc: Global,
+    hall: &H,
+    feeds: Vec<Feed>,
+    gate: &G,
+) -> Result<Vec<Done>, NotRun>
+    requires { AllByRecursion (λ f. H.has_seat hall.now f.pass) feeds.items }
+    ensures done { IfOk result (λ done. AreDone feeds.items done.items) }
+    ensures within { OnOk result (length feeds.items ≤ MAX_WORKERS) }
+    ensures back { IfErr result (λ e. e.feeds ≡ feeds) }
+    ensures cause { IfErr result (λ e. (e.cause ≡ Cause.TooMany) ↔ (MAX_WORKERS < length feeds.items)) }
+{
+    if feeds.len() > MAX_WORKERS {
+        let cause = Cause::TooMany;
+        return Err(NotRun { feeds, cause });
+    }
+    let workers = Vec::with_capacity(alloc, feeds.len());
+    let done = Vec::with_capacity(alloc, feeds.len());
+    let (Ok(workers), Ok(done)) = (workers, done) else {
+        let cause = Cause::Memory;
+        return Err(NotRun { feeds, cause });
+    };
+    let absent = AtomicU64::new(u64::MAX);
+    Ok(thread::scope(
+        thread::scope_env(),
+        rt,
+        |scope| -> Vec<Done>
+            requires seats { AllByRecursion (λ f. H.has_seat hall.now f.pass) feeds.items }
+            requires no_worker { workers.items ≡ [] }
+            requires room { vec_len feeds ≤ vec_capacity workers }
+            requires none_done { done.items ≡ [] }
+            requires done_fit { vec_len feeds ≤ vec_capacity done }
+            ensures { AreDone feeds.items result.items }
+        {
+            let workers = start_all(scope, rt, alloc, hall, gate, &absent, feeds, workers);
+            join_all(rt, workers, done)
+        },
+    ))
+}
+
+/// Starts a worker for each feed, into room that was taken for them.
+fn start_all<'s, E, H: Hall + Sync, R: Wait + Sync, G: Gate + Sync>(
+    scope: &Scope<'s, E>,
+    rt: &'s R,
+    alloc: Global,
+    hall: &'s H,
+    gate: &'s G,
+    absent: &'s AtomicU64,
+    feeds: Vec<Feed>,
+    mut workers: Vec<Worker<Listed>>,
+) -> Vec<Worker<Listed>>
+    requires seats { AllByRecursion (λ f. H.has_seat hall.now f.pass) feeds.items }
+    requires empty { workers.items ≡ [] }
+    requires room { vec_len feeds ≤ vec_capacity workers }
+    ensures { AllZip IsWorkerOf feeds.items result.items }
+{
+    for feed in feeds {
+        let Feed { pass, requests } = feed;
+        let left = requests.into_iter();
+        let place = workers.len() as u64;
+        let source = Listed { left };
+        workers.push_reserved(start(scope, rt, alloc, hall, gate, absent, place, pass, source));
+    }
+    workers
+}
+
+/// Waits for workers, and puts what they did into room that was taken for it.
+fn join_all<R: Threads>(rt: &R, workers: Vec<Worker<Listed>>, mut done: Vec<Done>) -> Vec<Done>
+    requires empty { done.items ≡ [] }
+    requires room { vec_len workers ≤ vec_capacity done }
+    ensures { AllZip CameOf workers.items result.items }
+{
+    for worker in workers {
+        done.push_reserved(worker.join(rt).done);
+    }
+    done
+}

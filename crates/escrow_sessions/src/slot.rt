@@ -1,0 +1,76 @@
+//! A worker that is fed.
+ghost use Rattle.std.specs.Prelude.{[], ◌∷◌, ◌++◌, List};
+ghost use Rattle.escrow_shards.specs.Seat.{Seat};
+ghost use Rattle.escrow_sessions.specs.Slots.{IsSlot, JoinsAs};
+ghost use Rattle.escrow_sessions.specs.declared.rule.Item.{Item};
+
+use crate::done::{Done, Ended};
+use crate::fed_worker::FedWorker;
+use crate::hall::Hall;
+use crate::line::open;
+use crate::rule::Item;
+use crate::team::{Worked, Worker, start};
+use escrow_shards::{Gate, Pass};
+use std::alloc::Global;
+use std::sync::Wait;
+use std::sync::atomic::AtomicU64;
+use std::thread::{Scope, Threads};
+
+/// A worker that is fed through a channel, or one that wasn't had, to which nothing is sent.
+#[derive(Drop)]
+pub(crate) enum Slot {
+    Fed(FedWorker),
+    Absent(Done),
+}
+
+/// Makes a channel, and then starts a worker that takes from it.
+pub(crate) fn start_fed<'s, E, H: Hall + Sync, R: Wait + Sync, G: Gate + Sync>(
+    scope: &Scope<'s, E>,
+    rt: &'s R,
+    alloc: Global,
+    hall: &'s H,
+    gate: &'s G,
+    absent: &'s AtomicU64,
+    place: u64,
+    pass: Pass,
+) -> Slot
+    requires { H.has_seat hall.now pass }
+    ensures { IsSlot pass [] result }
+{
+    let Ok((line, taker)) = open(alloc) else {
+        return Slot::Absent(Done {
+            pass,
+            answers: Vec::new(alloc),
+            ended: Ended::NotStarted,
+        });
+    };
+    match start(scope, rt, alloc, hall, gate, absent, place, pass, taker) {
+        Worker::Absent(Worked { done, source }) => {
+            line.meet(source);
+            Slot::Absent(done)
+        }
+        Worker::Started(thread) => Slot::Fed(FedWorker { line, thread }),
+    }
+}
+
+impl Slot {
+    /// Sends a message to the worker, if it was had. It may wait until there is room.
+    pub(crate) fn send<R: Wait>(&mut self, rt: &R, item: Item)
+        ensures { (seat : Seat) (sent : List Item) → IsSlot seat sent self.old → IsSlot seat (sent ++ item ∷ []) self.new }
+    {
+        match self {
+            Slot::Fed(fed) => fed.send(rt, item),
+            Slot::Absent(_) => drop(item),
+        }
+    }
+
+    /// What came of the worker, once its thread has ended.
+    pub(crate) fn join<R: Threads>(self, rt: &R) -> Done
+        ensures { JoinsAs self result }
+    {
+        match self {
+            Slot::Fed(fed) => fed.join(rt),
+            Slot::Absent(done) => done,
+        }
+    }
+}

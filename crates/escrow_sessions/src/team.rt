@@ -1,0 +1,119 @@
+//! Workers, each on a thread of its own.
+ghost use Rattle.std.specs.Prelude.{◌≡◌};
+ghost use Rattle.escrow_shards.specs.Seat.{Seat};
+ghost use Rattle.escrow_sessions.specs.Work.{IsWorked, IsWorker};
+
+use crate::done::{Done, Ended};
+use crate::hall::Hall;
+use crate::source::Source;
+use crate::worker::serve;
+use escrow_shards::{Gate, Pass};
+use std::alloc::Global;
+use std::snapshot::Snapshot;
+use std::sync::Wait;
+use std::sync::atomic::{AtomicU64, Ordering};
+use std::thread::{Promise, PromisedHandle, Scope, Threads};
+
+/// What came of a worker: what it did, and its source as it left it.
+#[derive(Drop)]
+pub(crate) struct Worked<Q> {
+    pub(crate) done: Done,
+    pub(crate) source: Q,
+}
+
+/// What a worker begins with. What comes of it is known by that.
+#[derive(Drop)]
+pub(crate) struct Work<Q> {
+    pub(crate) pass: Snapshot<Pass>,
+    pub(crate) source: Snapshot<Q>,
+}
+
+impl<Q: Source> Promise<Worked<Q>> for Work<Q> {
+    ghost use Rattle.escrow_sessions.specs.Work.{IsWorked};
+
+    ghost kept_by = { λ w r. IsWorked Q.gives w.pass.value w.source.value r };
+}
+
+/// A worker that was started on a thread, or one that couldn't be had, and what came of it.
+#[derive(Drop)]
+pub(crate) enum Worker<Q: Source + Drop> {
+    Started(PromisedHandle<Worked<Q>, Work<Q>>),
+    Absent(Worked<Q>),
+}
+
+/// Starts a worker on a thread of a scope. Where no thread is to be had the worker is marked as absent, by its
+/// place, and called here: so it hands back what it was given, and serves nothing.
+pub(crate) fn start<
+    's,
+    E,
+    H: Hall + Sync,
+    R: Wait + Sync,
+    G: Gate + Sync,
+    Q: Source + Send + Drop + 's,
+>(
+    scope: &Scope<'s, E>,
+    rt: &'s R,
+    alloc: Global,
+    hall: &'s H,
+    gate: &'s G,
+    absent: &'s AtomicU64,
+    place: u64,
+    pass: Pass,
+    source: Q,
+) -> Worker<Q>
+    requires { H.has_seat hall.now pass }
+    ensures { IsWorker Q.gives pass source result }
+{
+    let work = Work {
+        pass: Snapshot::of(&pass),
+        source: Snapshot::of(&source),
+    };
+    let run = move || attend(rt, alloc, hall, gate, absent, place, pass, source);
+    match scope.spawn_with(work, run) {
+        Ok(handle) => Worker::Started(handle),
+        Err(refused) => {
+            absent.store(place, Ordering::SeqCst);
+            Worker::Absent((refused.value)())
+        }
+    }
+}
+
+/// The work of a worker: to serve what its source gives, unless it is marked as absent.
+fn attend<H: Hall, R: Wait, G: Gate, Q: Source>(
+    rt: &R,
+    alloc: Global,
+    hall: &H,
+    gate: &G,
+    absent: &AtomicU64,
+    place: u64,
+    pass: Pass,
+    mut source: Q,
+) -> Worked<Q>
+    requires { H.has_seat hall.now pass }
+    ensures { IsWorked Q.gives pass source result }
+{
+    if absent.load(Ordering::SeqCst) == place {
+        let answers = Vec::new(alloc);
+        let ended = Ended::NotStarted;
+        let done = Done {
+            pass,
+            answers,
+            ended,
+        };
+        return Worked { done, source };
+    }
+    let done = serve(rt, alloc, hall, pass, &mut source, gate);
+    Worked { done, source }
+}
+
+impl<Q: Source + Drop> Worker<Q> {
+    /// What came of it, once its thread has ended.
+    pub(crate) fn join<R: Threads>(self, rt: &R) -> Worked<Q>
+        ensures { (pass : Seat) (source : Q) → IsWorker Q.gives pass source self → IsWorked Q.gives pass source result }
+    {
+        match self {
+            Worker::Started(handle) => handle.join(rt),
+            Worker::Absent(worked) => worked,
+        }
+    }
+}

@@ -1,0 +1,65 @@
+//! What a worker does: it gives each request of its source what it asks for.
+ghost use Rattle.std.specs.Prelude.{◌≡◌, List, None};
+ghost use Rattle.std.specs.Iterator.{YieldsThen};
+ghost use Rattle.escrow_sql.specs.declared.statement.Request.{Request};
+ghost use Rattle.escrow_sessions.specs.Work.{IsServed};
+
+use crate::done::{Done, Ended};
+use crate::giving::give;
+use crate::hall::Hall;
+use crate::source::Source;
+use escrow_shards::{Gate, Pass};
+use std::alloc::Global;
+use std::sync::Wait;
+use std::unreachable;
+
+/// Serves what a source gives, up to its end, in the session of a pass. Where room for the next answer isn't had
+/// the rest is taken, and not served.
+pub(crate) fn serve<H: Hall, R: Wait, G: Gate, Q: Source>(
+    rt: &R,
+    alloc: Global,
+    hall: &H,
+    mut pass: Pass,
+    source: &mut Q,
+    gate: &G,
+) -> Done
+    requires { H.has_seat hall.now pass }
+    ensures { IsServed Q.gives pass source.old result source.new }
+{
+    let mut answers = Vec::new(alloc);
+    let mut totals = None;
+    for _ in rt.forever() {
+        let Some(request) = source.next(rt) else {
+            return Done {
+                pass,
+                answers,
+                ended: Ended::All,
+            };
+        };
+        if answers.reserve(1).is_err() {
+            drop(request);
+            skip(rt, source);
+            return Done {
+                pass,
+                answers,
+                ended: Ended::Stopped,
+            };
+        }
+        answers.push_reserved(give(rt, alloc, hall, &mut pass, &mut totals, &request, gate));
+        drop(request);
+    }
+    unreachable!()
+}
+
+/// Takes what a source gives, up to its end.
+fn skip<R: Wait, Q: Source>(rt: &R, source: &mut Q)
+    ensures { (skipped : List Request) × YieldsThen Q.gives source.old skipped None source.new }
+{
+    for _ in rt.forever() {
+        let Some(request) = source.next(rt) else {
+            return;
+        };
+        drop(request);
+    }
+    unreachable!()
+}

@@ -1,0 +1,7 @@
+use Rattle.std.proofs.Common.{length, ◌∙◌}
+use Rattle.escrow_sessions_tests.proofs.Deals.{all_dealt}
+use Rattle.escrow_sessions_tests.proofs.tests.feeding.feed_all.Goals as goal
+
+pub run_fed-requires-clause-places : goal.run_fed-requires-clause-places
+run_fed-requires-clause-places g c κs within =
+    all_dealt (λ s. s.places) (length c.seated-passes.result.items) c.new-items.result (c.new-items.ensures ∙ c.len.ensures ∙ c.seated-passes.result.ok.0)

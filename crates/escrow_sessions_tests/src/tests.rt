@@ -1,0 +1,7 @@
+//! The tests.
+
+mod feeding;
+mod hall;
+mod meeting;
+mod results;
+mod workers;
