@@ -1,5 +1,5 @@
 -- Items that are dealt out name places that there are.
-use Rattle.std.proofs.Common.{ℕ, ◌<◌, List, [], ◌∷◌, ◌≡◌, Option, Some, All, subst, ◌∙◌}
+use Rattle.std.proofs.Common.{ℕ, ◌<◌, List, [], ◌∷◌, ◌≡◌, All, subst, ◌∙◌}
 use Rattle.std.specs.Iterator.{Yields, HoldsAlong}
 use Rattle.std.specs.List.{AllByRecursion}
 use Rattle.std.proofs.lemmas.List.Elements.{All-from_recursion}

@@ -1,0 +1,5 @@
+//! Tests of scripts whose sessions run at the same time.
+#![tactic(auto)]
+
+#[cfg(test)]
+mod tests;
