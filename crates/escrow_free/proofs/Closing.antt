@@ -21,7 +21,7 @@ use Rattle.escrow_free.specs.Histories.{histories, histories_from, AreHistories}
 use Rattle.escrow_free.specs.Phases.{IsServed}
 use Rattle.escrow_free.specs.declared.desk.Desk.{Desk}
 use Rattle.escrow_free.proofs.Desks.{nothing_served}
-use Rattle.escrow_free.proofs.Lists.{some_same, none_some, at_below, below_at, all_at}
+use Rattle.escrow_sessions.proofs.Places.{some_same, none_some, at_below, below_at, all_at}
 use Rattle.escrow_free.proofs.Planning.{within_desks}
 
 map_at : {A B : Type 0} (f : A → B) (xs : List A) (i : ℕ) (x : A) → slice_get xs i ≡ Some x → slice_get (map f xs) i ≡ Some (f x)
@@ -64,17 +64,17 @@ are_histories {S} g databases sharing seats parts closed read whole = record {
 
 -- HISTORIES
 
-long_histories : {S : Type 0} (place : ℕ) (parts : List (Piece S)) (closed : List (Closing S)) → length (histories_from place parts closed) ≡ length closed
+pub long_histories : {S : Type 0} (place : ℕ) (parts : List (Piece S)) (closed : List (Closing S)) → length (histories_from place parts closed) ≡ length closed
 long_histories place parts [] = refl
 long_histories place parts (c ∷ closed) = ap suc (long_histories (place + 1) parts closed)
 
 -- a history is that of the database at its place
-record HistoryAt {S : Type 0} (place : ℕ) (parts : List (Piece S)) (closed : List (Closing S)) (i : ℕ) (entries : List Entry) : Type 0 where
-  closing : Closing S
-  there : slice_get closed i ≡ Some closing
-  same : entries ≡ all_entries (place + i) parts closing
+pub record HistoryAt {S : Type 0} (place : ℕ) (parts : List (Piece S)) (closed : List (Closing S)) (i : ℕ) (entries : List Entry) : Type 0 where
+  pub closing : Closing S
+  pub there : slice_get closed i ≡ Some closing
+  pub same : entries ≡ all_entries (place + i) parts closing
 
-history_at : {S : Type 0} (place : ℕ) (parts : List (Piece S)) (closed : List (Closing S)) (i : ℕ) (entries : List Entry) → slice_get (histories_from place parts closed) i ≡ Some entries
+pub history_at : {S : Type 0} (place : ℕ) (parts : List (Piece S)) (closed : List (Closing S)) (i : ℕ) (entries : List Entry) → slice_get (histories_from place parts closed) i ≡ Some entries
     → HistoryAt place parts closed i entries
 history_at place parts [] i entries at = absurd (none_some entries at)
 history_at place parts (c ∷ closed) zero entries at = record {

@@ -14,7 +14,7 @@ use Rattle.escrow_sessions.specs.declared.done.Given.{Given}
 use Rattle.escrow_free.specs.Desks.{desk_of, answers_of, IsNewDesk, HasDesk, HaveSeats, AreServed, seat_after, Fits}
 use Rattle.escrow_free.specs.FreeOutput.{Taken}
 use Rattle.escrow_free.specs.declared.desk.Desk.{Desk}
-use Rattle.escrow_free.proofs.Lists.{some_same, at_below, below_at, beside, all_of_each, zip_long}
+use Rattle.escrow_sessions.proofs.Places.{some_same, at_below, below_at, beside, all_of_each, zip_long}
 
 -- what no request was given
 pub record Nothing (seat : Seat) (gs : List Given) (new : Seat) : Type 0 where

@@ -15,7 +15,7 @@ use Rattle.escrow_sessions.specs.declared.done.Done.{Done}
 use Rattle.escrow_sessions.specs.declared.done.Given.{Given}
 use Rattle.escrow_free.specs.Desks.{answers_of, IsNewDesk, IsDoneDesk, ArePassesServed}
 use Rattle.escrow_free.specs.declared.desk.Desk.{Desk}
-use Rattle.escrow_free.proofs.Lists.{some_same, at_below, below_at, beside, zip_long, all_parts, all_places, all_front}
+use Rattle.escrow_sessions.proofs.Places.{some_same, at_below, below_at, beside, zip_long, all_parts, all_places, all_front}
 
 -- what a list gave is what it had in front
 yields_front : {A Z : Type 0} (xs : List A) (s t : IntoIter A Z) → Yields (into_iter_steps {X = A} {Z = Z}) s xs t → into_iter_items s ≡ xs ++ into_iter_items t

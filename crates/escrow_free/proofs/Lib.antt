@@ -1,7 +1,6 @@
 pub mod Closing
 pub mod Desks
 pub mod Fed
-pub mod Lists
 pub mod Marking
 pub mod Phases
 pub mod Planning

@@ -10,7 +10,7 @@ use Rattle.escrow_sessions.specs.Serving.{Serves}
 use Rattle.escrow_free.specs.Desks.{answers_of, HasDesk, ArePassesServed, AreServed}
 use Rattle.escrow_free.specs.Ranks.{marked_by, ranks_from, rank, renamed, parted, rested, merged}
 use Rattle.escrow_free.specs.declared.desk.Desk.{Desk}
-use Rattle.escrow_free.proofs.Lists.{some_same, none_some, long_set, set_here, below_at, at_below, all_places, all_parts}
+use Rattle.escrow_sessions.proofs.Places.{some_same, none_some, long_set, set_here, below_at, at_below, all_places, all_parts}
 
 -- MARKS
 

@@ -21,7 +21,7 @@ use Rattle.escrow_free.specs.Printing.{given_text, Matches, GoesOn, PrintsTo}
 use Rattle.escrow_free.specs.declared.desk.Desk.{Desk}
 use Rattle.escrow_free.specs.declared.plan.Planned.{Planned}
 use Rattle.escrow_free.specs.declared.plan.Planned.TheVariants as planned
-use Rattle.escrow_free.proofs.Lists.{set_cases}
+use Rattle.escrow_sessions.proofs.Places.{set_cases}
 
 -- WHAT A SESSION TOOK
 

@@ -1,5 +1,5 @@
 -- Workers and what came of them, list by list.
-use Rattle.std.proofs.Common.{◌≡◌, ℕ, suc, ◌+◌, ◌≤◌, List, [], ◌∷◌, length, None, refl, ap, ◌∙◌, arith, inl, inr}
+use Rattle.std.proofs.Common.{◌≡◌, ℕ, ◌+◌, ◌≤◌, List, [], ◌∷◌, length, None, ap, ◌∙◌, arith, inl, inr}
 use Rattle.std.specs.Iterator.{Yields}
 use Rattle.std.specs.List.{AllZip}
 use Rattle.std.specs.Vec.Iter.{into_iter_items}
@@ -54,10 +54,3 @@ one_less left rest n m same gone short = omega arith
 
 pub room_stays : (count left rest new capacity wide : ℕ) → count + left ≤ capacity → rest + 1 ≡ left → new ≡ count + 1 → wide ≡ capacity → new + rest ≤ wide
 room_stays count left rest new capacity wide fits gone more same = omega arith
-
--- both are as long
-pub zip_long : {A B : Type 0} (R : A → B → Type 0) (xs : List A) (ys : List B) → AllZip R xs ys → length xs ≡ length ys
-zip_long R [] [] all = refl
-zip_long R [] (y ∷ ys) none = absurd none
-zip_long R (x ∷ xs) [] none = absurd none
-zip_long R (x ∷ xs) (y ∷ ys) all = ap suc (zip_long R xs ys all.1)

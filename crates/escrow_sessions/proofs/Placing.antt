@@ -1,5 +1,5 @@
 -- Messages that are sent to places.
-use Rattle.std.proofs.Common.{◌≡◌, ◌≢◌, ℕ, zero, suc, ◌+◌, ◌<◌, ◌≤◌, ◌⊎◌, Bool, true, false, eqb, if◌then◌else◌, List, [], ◌∷◌, ◌++◌, length, set, get_or, slice_get, slice_index_or, Option, Some, None, All, refl, sym, ap, ◌∙◌, inl, inr, append_assoc, subst, arith}
+use Rattle.std.proofs.Common.{◌≡◌, ◌≢◌, ℕ, ◌+◌, ◌<◌, ◌≤◌, ◌⊎◌, Bool, true, false, eqb, if◌then◌else◌, List, [], ◌∷◌, ◌++◌, length, set, get_or, slice_get, slice_index_or, Option, Some, All, refl, sym, ap, ◌∙◌, inl, inr, append_assoc, subst, arith}
 use Rattle.std.specs.Iterator.{Yields, HoldsAlong}
 use Rattle.std.specs.List.{AllZip}
 use Rattle.std.proofs.lemmas.Bool.{eq-eqb, ne_eqb}
@@ -14,50 +14,8 @@ use Rattle.escrow_sessions.specs.declared.done.Done.{Done}
 use Rattle.escrow_sessions.specs.declared.rule.Item.{Item}
 use Rattle.escrow_sessions.specs.declared.rule.Item.TheVariants.{One}
 use Rattle.escrow_sessions.specs.declared.slot.Slot.{Slot}
-use Rattle.escrow_sessions.proofs.AtOnce.{zip_long}
+use Rattle.escrow_sessions.proofs.Places.{some_same, long_set, set_cases, at_below, below_at, beside, zip_long}
 use Rattle.escrow_sessions.proofs.InOrder.{then_one}
-
--- PLACES OF A LIST
-
-some_same : {A : Type 0} (x y : A) → Some x ≡ Some y → x ≡ y
-some_same x y same = cc
-
-none_some : {A : Type 0} (y : A) → None ≡ Some y → ⊥
-none_some y same = cc
-
--- what stands at a place once one was written
-set_cases : {A : Type 0} (xs : List A) (i j : ℕ) (x y : A) → slice_get (set xs i x) j ≡ Some y → ((j ≡ i) × (x ≡ y)) ⊎ ((j ≢ i) × (slice_get xs j ≡ Some y))
-set_cases [] i j x y e = absurd (none_some y e)
-set_cases (z ∷ xs) zero zero x y e = inl (refl, some_same x y e)
-set_cases (z ∷ xs) zero (suc j) x y e = inr ((λ h. omega arith), e)
-set_cases (z ∷ xs) (suc i) zero x y e = inr ((λ h. omega arith), e)
-set_cases (z ∷ xs) (suc i) (suc j) x y e = further (set_cases xs i j x y e) where
-  further : ((j ≡ i) × (x ≡ y)) ⊎ ((j ≢ i) × (slice_get xs j ≡ Some y)) → ((suc j ≡ suc i) × (x ≡ y)) ⊎ ((suc j ≢ suc i) × (slice_get xs j ≡ Some y))
-  further (inl h) = inl (ap suc h.0, h.1)
-  further (inr h) = let apart = h.0 in inr ((λ same. apart (omega arith)), h.1)
-
-long_set : {A : Type 0} (xs : List A) (i : ℕ) (x : A) → length (set xs i x) ≡ length xs
-long_set [] i x = refl
-long_set (z ∷ xs) zero x = refl
-long_set (z ∷ xs) (suc i) x = ap suc (long_set xs i x)
-
--- something stands at each place below the length
-at_below : {A : Type 0} (xs : List A) (i : ℕ) → i < length xs → (x : A) × (slice_get xs i ≡ Some x)
-at_below [] i below = absurd (omega (arith, below))
-at_below (x ∷ xs) zero below = (x, refl)
-at_below (x ∷ xs) (suc i) below = at_below xs i (omega (arith, below))
-
-below_at : {A : Type 0} (xs : List A) (i : ℕ) (x : A) → slice_get xs i ≡ Some x → i < length xs
-below_at [] i x e = absurd (none_some x e)
-below_at (z ∷ xs) zero x e = omega arith
-below_at (z ∷ xs) (suc i) x e = let more = below_at xs i x e in omega arith
-
--- what stands beside it in another list
-beside : {A B : Type 0} (R : A → B → Type 0) (xs : List A) (ys : List B) (i : ℕ) (x : A) → AllZip R xs ys → slice_get xs i ≡ Some x → (y : B) × ((slice_get ys i ≡ Some y) × R x y)
-beside R [] ys i x all e = absurd (none_some x e)
-beside R (z ∷ xs) [] i x none e = absurd none
-beside R (z ∷ xs) (w ∷ ys) zero x all e = (w, (refl, subst (λ a. R a w) (some_same z x e) all.0))
-beside R (z ∷ xs) (w ∷ ys) (suc i) x all e = beside R xs ys i x all.1 e
 
 -- THE REQUESTS OF A PLACE
 

@@ -12,7 +12,8 @@ pub trait Gate {
 }
 
 /// A gate that does nothing.
-pub(crate) struct NoGate;
+#[derive(Clone, Copy, Debug)]
+pub struct NoGate;
 
 impl Gate for NoGate {
     fn before<R: Wait>(&self, _: &R, _: usize, _: Session, _: u64) {}

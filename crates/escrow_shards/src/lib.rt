@@ -28,7 +28,7 @@ mod start;
 pub use answer::Answer;
 pub use cause::{Audit, Cause, MakeFault, Mismatch};
 pub use closed::Closed;
-pub use gate::Gate;
+pub use gate::{Gate, NoGate};
 pub use opening::Opening;
 pub use part::Part;
 pub use pass::Pass;

@@ -1,7 +1,7 @@
 use Rattle.std.proofs.Common.{◌≡◌, ◌∷◌, [], length, ap, ◌∙◌, append_assoc, sym, add-one, refl}
 use Rattle.std.specs.Vec.Iter.{into_iter_items}
 use Rattle.escrow_free.specs.Desks.{IsDoneDesk}
-use Rattle.escrow_free.proofs.Lists.{zip_one}
+use Rattle.escrow_sessions.proofs.Places.{zip_one}
 use Rattle.escrow_free.proofs.Marking.{one_less}
 use Rattle.escrow_free.proofs.desk.served_desks.Goals as goal
 

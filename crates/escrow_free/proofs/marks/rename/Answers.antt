@@ -1,6 +1,6 @@
 use Rattle.std.proofs.Common.{◌<◌, length, map, refl, arith, rules}
 use Rattle.escrow_free.specs.Ranks.{renamed}
-use Rattle.escrow_free.proofs.Lists.{all_parts}
+use Rattle.escrow_sessions.proofs.Places.{all_parts}
 use Rattle.escrow_free.proofs.Marking.{head_named, tail_named, changed_more}
 use Rattle.escrow_free.proofs.marks.rename.Goals as goal
 

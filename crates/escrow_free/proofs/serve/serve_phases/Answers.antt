@@ -7,7 +7,7 @@ use Rattle.escrow_script.proofs.ScriptLemmas.{spends_more}
 use Rattle.escrow_free.specs.Phases.{IsRead}
 use Rattle.escrow_free.specs.Printing.{HasItsDesk}
 use Rattle.escrow_free.proofs.Desks.{all_have_desks}
-use Rattle.escrow_free.proofs.Lists.{all_places}
+use Rattle.escrow_sessions.proofs.Places.{all_places}
 use Rattle.escrow_free.proofs.Phases.{stands_more, finished, at_end, over_all}
 use Rattle.escrow_free.proofs.Planning.{plan_desks, item_desks}
 use Rattle.escrow_free.proofs.serve.serve_phases.Goals as goal

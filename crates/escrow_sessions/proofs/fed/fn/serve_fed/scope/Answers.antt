@@ -1,7 +1,7 @@
 use Rattle.std.proofs.Common.{◌<◌, All, sym, subst, ◌∙◌}
 use Rattle.std.specs.Iterator.{HoldsAlong}
 use Rattle.escrow_sessions.specs.Slots.{IsNewSlot}
-use Rattle.escrow_sessions.proofs.AtOnce.{zip_long}
+use Rattle.escrow_sessions.proofs.Places.{zip_long}
 use Rattle.escrow_sessions.proofs.Placing.{all_fed}
 use Rattle.escrow_sessions.proofs.fed.fn.serve_fed.scope.Goals as goal
 

@@ -1,6 +1,7 @@
 use Rattle.std.proofs.Common.{sym, ◌∙◌}
 use Rattle.escrow_sessions.specs.Work.{IsWorkerOf}
-use Rattle.escrow_sessions.proofs.AtOnce.{zip_long, all_done}
+use Rattle.escrow_sessions.proofs.AtOnce.{all_done}
+use Rattle.escrow_sessions.proofs.Places.{zip_long}
 use Rattle.escrow_sessions.proofs.run.fn.serve_lists.scope.Goals as goal
 
 pub join_all-requires : goal.join_all-requires
