@@ -7,7 +7,10 @@ const TITLE: &[u8] = b"== ";
 /// The comment at the head of a script that says that it goes on with the store of the part before it.
 const AGAIN: &[u8] = b"-- opened again\n";
 
-/// The comment behind it that says how many databases there are, in decimal.
+/// The comment behind it that says that the sessions of a phase run at the same time.
+const FREE: &[u8] = b"-- free\n";
+
+/// The comment behind both that says how many databases there are, in decimal.
 const DATABASES: &[u8] = b"-- databases: ";
 
 /// A part of a file: its title, empty for a file without titles, and its bytes.
@@ -41,13 +44,30 @@ impl Part<'_> {
         self.text.starts_with(AGAIN)
     }
 
+    /// The mode of the program that serves the script, as the command line names it.
+    pub(crate) fn mode(&self) -> &[u8] {
+        if self.behind_again().starts_with(FREE) {
+            b"free"
+        } else {
+            b"run"
+        }
+    }
+
     /// How many databases the part is a script for, in decimal.
     pub(crate) fn databases(&self) -> &[u8] {
-        let text = self.text.as_slice();
-        let text = text.strip_prefix(AGAIN).unwrap_or(text);
-        match text.strip_prefix(DATABASES) {
+        match without(self.behind_again(), FREE).strip_prefix(DATABASES) {
             Some(rest) => rest.split(|byte| *byte == b'\n').next().unwrap_or_default(),
             None => b"1",
         }
     }
+
+    /// The text without the comment about the store.
+    fn behind_again(&self) -> &[u8] {
+        without(self.text.as_slice(), AGAIN)
+    }
+}
+
+/// The text without the comment, if it begins with it.
+fn without<'a>(text: &'a [u8], comment: &[u8]) -> &'a [u8] {
+    text.strip_prefix(comment).unwrap_or(text)
 }

@@ -5,3 +5,4 @@ pub mod ProgramLemmas
 pub mod ServeLemmas
 pub mod TotalsLemmas
 pub mod CleanDisks
+pub mod Runs

@@ -7,13 +7,15 @@ use Rattle.std.proofs.lemmas.List.{take_all, take-append-le}
 use Rattle.std.proofs.lemmas.Bool.{true≢false}
 use Rattle.std.proofs.lemmas.Option.{IfSome_then}
 use Rattle.escrow_machine.specs.State.{State}
+use Rattle.escrow_server.specs.declared.args.Mode.{Mode}
+use Rattle.escrow_server.specs.declared.args.Mode.TheVariants as mode
 use Rattle.escrow_server.specs.declared.fault.RunFault.{RunFault}
 use Rattle.escrow_server.specs.declared.fault.RunFault.TheVariants as run_fault
-use Rattle.escrow_script.specs.declared.fault.ServeFault.{ServeFault}
 use Rattle.escrow_script.specs.declared.fault.ServeFault.TheVariants as fault
+use Rattle.escrow_server.specs.Free.{RunsFree}
 use Rattle.escrow_server.specs.Output.{ServesWhole, StopsWithin}
-use Rattle.escrow_server.specs.Program.{empty_states, run_status, EndsOverFiles, EndsScript, Stops, WritesFront, WritesNothing}
-use Rattle.escrow_script.proofs.WrittenLemmas.{appends_more, appends_none}
+use Rattle.escrow_server.specs.Program.{empty_states, run_status, EndsFree, EndsInMemory, EndsOverFiles, EndsScript, Stops, WritesFront, WritesNothing}
+use Rattle.escrow_script.proofs.WrittenLemmas.{appends_more}
 use Rattle.escrow_server.proofs.ServeLemmas.{stopped_unserved}
 
 -- all of the bytes were written, or fewer of them
@@ -47,28 +49,12 @@ front_second old mid new first second (Err z) wrote went more = absurd (true≢f
 -- WITHOUT A LINE SERVED
 
 -- nor where the words couldn't be read for want of memory
-pub ends_unserved : (count status : ℕ) (script rest old_bytes new_bytes : Option (List ℕ)) → status ≡ 1 → Appends old_bytes new_bytes []
-    → IfSome script (λ bytes. EndsScript count status bytes rest old_bytes new_bytes)
-ends_unserved count status None rest old_bytes new_bytes failed wrote = tt
-ends_unserved count status (Some bytes) rest old_bytes new_bytes failed wrote =
+pub ends_unserved : (asked : Mode) (count status : ℕ) (script rest old_bytes new_bytes : Option (List ℕ)) → status ≡ 1 → Appends old_bytes new_bytes []
+    → IfSome script (λ bytes. EndsInMemory asked count status bytes rest old_bytes new_bytes)
+ends_unserved asked count status None rest old_bytes new_bytes failed wrote = tt
+ends_unserved mode.Free count status (Some bytes) rest old_bytes new_bytes failed wrote = inr (inl failed)
+ends_unserved mode.Run count status (Some bytes) rest old_bytes new_bytes failed wrote =
     inr (inl (failed, fault.Memory, empty_states count, stopped_unserved fault.Memory (empty_states count) bytes old_bytes new_bytes tt wrote))
-
--- where a store isn't opened, nothing is read or written
-pub stops_unopened : (why : RunFault) (starts : List State → Type 0) (new : List State) (script bytes : Option (List ℕ)) → run_status why ≡ 3
-    → IfSome script (λ s. Stops why starts new s script bytes bytes)
-stops_unopened why starts new None bytes is = tt
-stops_unopened (run_fault.Unopened database place cause) starts new (Some script) bytes is = (refl, appends_none bytes)
-stops_unopened (run_fault.Unserved why) starts new (Some script) bytes is = absurd (omega (arith, is))
-
--- FROM SUCH STATES
-
-pub serves_from : (starts : List State → Type 0) (old new : List State) (script old_bytes new_bytes : Option (List ℕ)) → starts old
-    → IfSome script (λ s. ServesWhole s old new old_bytes new_bytes) → IfSome script (λ s. (from : List State) × starts from × ServesWhole s from new old_bytes new_bytes)
-serves_from starts old new script old_bytes new_bytes are serves = IfSome_then script serves (λ s whole. (old, are, whole))
-
-pub stops_from : (why : ServeFault) (starts : List State → Type 0) (old new : List State) (script rest old_bytes new_bytes : Option (List ℕ)) → starts old
-    → IfSome script (λ s. StopsWithin why s old new old_bytes new_bytes) → IfSome script (λ s. Stops (run_fault.Unserved why) starts new s rest old_bytes new_bytes)
-stops_from why starts old new script rest old_bytes new_bytes are stops = IfSome_then script stops (λ s within. (old, are, within))
 
 -- HOW A RUN ENDS
 
@@ -80,16 +66,48 @@ at_stop (run_fault.Unopened database place cause) status count starts new script
     IfSome_then script stops (λ s kept. inr (inr (is, kept.0, kept.1)))
 at_stop (run_fault.Unserved why) status count starts new script rest old_bytes new_bytes are_empty is stops =
     IfSome_then script stops (λ s from. inr (inl (is, why, new, subst (λ (ss : List State). StopsWithin why s ss new old_bytes new_bytes) (are_empty from.0 from.1) from.2)))
+at_stop (run_fault.Unjoined why) status count starts new script rest old_bytes new_bytes are_empty is stops =
+    IfSome_then script stops (λ s never. absurd never)
 
-pub ends_in_memory : {X : Type 0} (served : Result X RunFault) (status count : ℕ) (starts : List State → Type 0) (new : List State) (script rest old_bytes new_bytes : Option (List ℕ))
+ends_in_turn : {X : Type 0} (served : Result X RunFault) (status count : ℕ) (starts : List State → Type 0) (new : List State) (script rest old_bytes new_bytes : Option (List ℕ))
     → ((old : List State) → starts old → old ≡ empty_states count) → OnOk served (status ≡ 0) → IfErr served (λ why. status ≡ run_status why)
     → OnOk served (IfSome script (λ s. (from : List State) × starts from × ServesWhole s from new old_bytes new_bytes))
     → IfErr served (λ why. IfSome script (λ s. Stops why starts new s rest old_bytes new_bytes))
     → IfSome script (λ s. EndsScript count status s rest old_bytes new_bytes)
-ends_in_memory (Ok x) status count starts new script rest old_bytes new_bytes are_empty ok err serves stops =
+ends_in_turn (Ok x) status count starts new script rest old_bytes new_bytes are_empty ok err serves stops =
     IfSome_then script serves (λ s from. inl (ok, new, subst (λ (ss : List State). ServesWhole s ss new old_bytes new_bytes) (are_empty from.0 from.1) from.2))
-ends_in_memory (Err why) status count starts new script rest old_bytes new_bytes are_empty ok err serves stops =
+ends_in_turn (Err why) status count starts new script rest old_bytes new_bytes are_empty ok err serves stops =
     at_stop why status count starts new script rest old_bytes new_bytes are_empty err stops
+
+at_free_stop : (why : RunFault) (status count : ℕ) (script rest old_bytes new_bytes : Option (List ℕ)) → status ≡ run_status why
+    → (run_status why ≡ 3 → Keeps script rest × WritesNothing old_bytes new_bytes) → IfSome script (λ s. EndsFree count status s rest old_bytes new_bytes)
+at_free_stop why status count None rest old_bytes new_bytes is unopened = tt
+at_free_stop (run_fault.Unopened database place cause) status count (Some script) rest old_bytes new_bytes is unopened = let kept = unopened refl in inr (inr (is, kept.0, kept.1))
+at_free_stop (run_fault.Unserved why) status count (Some script) rest old_bytes new_bytes is unopened = inr (inl is)
+at_free_stop (run_fault.Unjoined why) status count (Some script) rest old_bytes new_bytes is unopened = inr (inl is)
+
+ends_free : {X : Type 0} (served : Result X RunFault) (status count : ℕ) (starts : List State → Type 0) (script rest old_bytes new_bytes : Option (List ℕ))
+    → ((old : List State) → starts old → old ≡ empty_states count) → OnOk served (status ≡ 0) → IfErr served (λ why. status ≡ run_status why)
+    → OnOk served (IfSome script (λ s. (from : List State) × starts from × RunsFree s from old_bytes new_bytes))
+    → IfErr served (λ why. run_status why ≡ 3 → Keeps script rest × WritesNothing old_bytes new_bytes)
+    → IfSome script (λ s. EndsFree count status s rest old_bytes new_bytes)
+ends_free (Ok x) status count starts script rest old_bytes new_bytes are_empty ok err runs unopened =
+    IfSome_then script runs (λ s from. inl (ok, subst (λ (ss : List State). RunsFree s ss old_bytes new_bytes) (are_empty from.0 from.1) from.2))
+ends_free (Err why) status count starts script rest old_bytes new_bytes are_empty ok err runs unopened =
+    at_free_stop why status count script rest old_bytes new_bytes err unopened
+
+-- as the mode asks
+pub ends_in_memory : {X : Type 0} (asked : Mode) (served : Result X RunFault) (status count : ℕ) (starts : List State → Type 0) (new : List State) (script rest old_bytes new_bytes : Option (List ℕ))
+    → ((old : List State) → starts old → old ≡ empty_states count) → OnOk served (status ≡ 0) → IfErr served (λ why. status ≡ run_status why)
+    → (asked ≡ mode.Run → OnOk served (IfSome script (λ s. (from : List State) × starts from × ServesWhole s from new old_bytes new_bytes)))
+    → (asked ≡ mode.Run → IfErr served (λ why. IfSome script (λ s. Stops why starts new s rest old_bytes new_bytes)))
+    → (asked ≡ mode.Free → OnOk served (IfSome script (λ s. (from : List State) × starts from × RunsFree s from old_bytes new_bytes)))
+    → IfErr served (λ why. run_status why ≡ 3 → Keeps script rest × WritesNothing old_bytes new_bytes)
+    → IfSome script (λ s. EndsInMemory asked count status s rest old_bytes new_bytes)
+ends_in_memory mode.Run served status count starts new script rest old_bytes new_bytes are_empty ok err serves stops runs unopened =
+    ends_in_turn served status count starts new script rest old_bytes new_bytes are_empty ok err (serves refl) (stops refl)
+ends_in_memory mode.Free served status count starts new script rest old_bytes new_bytes are_empty ok err serves stops runs unopened =
+    ends_free served status count starts script rest old_bytes new_bytes are_empty ok err (runs refl) unopened
 
 -- over files
 at_file_stop : (why : RunFault) (status : ℕ) (script rest old_bytes new_bytes : Option (List ℕ)) → status ≡ run_status why
@@ -97,6 +115,7 @@ at_file_stop : (why : RunFault) (status : ℕ) (script rest old_bytes new_bytes 
 at_file_stop why status None rest old_bytes new_bytes is unopened = tt
 at_file_stop (run_fault.Unopened database place cause) status (Some script) rest old_bytes new_bytes is unopened = let kept = unopened refl in inr (inr (is, kept.0, kept.1))
 at_file_stop (run_fault.Unserved why) status (Some script) rest old_bytes new_bytes is unopened = inr (inl is)
+at_file_stop (run_fault.Unjoined why) status (Some script) rest old_bytes new_bytes is unopened = inr (inl is)
 
 pub ends_over_files : {X : Type 0} (served : Result X RunFault) (status : ℕ) (script rest old_bytes new_bytes : Option (List ℕ))
     → OnOk served (status ≡ 0) → IfErr served (λ why. status ≡ run_status why) → OnOk served (IfSome script (λ _. IsAtEnd rest))

@@ -41,7 +41,7 @@ faults_of words = fault_of app words
 -- the mode of a name
 abbrev pub mode_of : Option Text → Option Mode
 mode_of None = None
-mode_of (Some name) = if bytes_eq name (codes "run") then Some mode.Run else None
+mode_of (Some name) = if bytes_eq name (codes "run") then Some mode.Run else if bytes_eq name (codes "free") then Some mode.Free else None
 
 -- a number of databases, from 1 to 16
 abbrev pub allowed : ℕ → Option ℕ

@@ -1,4 +1,5 @@
 pub mod Args
+pub mod Free
 pub mod Output
 pub mod Program
 pub mod Totals

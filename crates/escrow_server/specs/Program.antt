@@ -9,9 +9,12 @@ use Rattle.escrow_tables.specs.Committed.{Holds}
 use Rattle.escrow_machine.specs.State.{State, empty, opened}
 use Rattle.escrow_server.specs.declared.args.ArgFault.{ArgFault}
 use Rattle.escrow_server.specs.declared.args.ArgFault.TheVariants as arg_fault
+use Rattle.escrow_server.specs.declared.args.Mode.{Mode}
+use Rattle.escrow_server.specs.declared.args.Mode.TheVariants as mode
 use Rattle.escrow_server.specs.declared.fault.RunFault.{RunFault}
 use Rattle.escrow_server.specs.declared.fault.RunFault.TheVariants as run_fault
 use Rattle.escrow_script.specs.declared.fault.ServeFault.{ServeFault}
+use Rattle.escrow_server.specs.Free.{RunsFree}
 use Rattle.escrow_server.specs.Output.{ServesWhole, StopsWithin}
 
 -- WHERE STORES ARE
@@ -74,14 +77,16 @@ help_of arg_fault.Memory = []
 abbrev pub run_status : RunFault → ℕ
 run_status (run_fault.Unopened database place cause) = 3
 run_status (run_fault.Unserved fault) = 1
+run_status (run_fault.Unjoined fault) = 1
 
--- what is left where a script isn't served to its end, from these states to those: where a store can't be
--- opened, nothing is read or written
+-- what is left where a script isn't served to its end, line after line, from these states to those: where a store
+-- can't be opened, nothing is read or written; no fault is one of sessions at the same time
 abbrev pub Stops : RunFault → (List State → Type 0) → List State → List ℕ → Option (List ℕ) → Option (List ℕ) → Option (List ℕ) → Type 0
 Stops (run_fault.Unopened database place cause) starts new script rest old_bytes new_bytes = Keeps (Some script) rest × WritesNothing old_bytes new_bytes
 Stops (run_fault.Unserved fault) starts new script rest old_bytes new_bytes = (old : List State) × starts old × StopsWithin fault script old new old_bytes new_bytes
+Stops (run_fault.Unjoined fault) starts new script rest old_bytes new_bytes = ⊥
 
--- A script was served with status 0, from such states to these; or it ended at a fault, with status 1; or a
+-- A script was served line after line with status 0, from such states to these; or it ended at a fault, with status 1; or a
 -- store couldn't be opened, with status 3, and nothing was read or written.
 abbrev pub Ends : (List State → Type 0) → List State → ℕ → List ℕ → Option (List ℕ) → Option (List ℕ) → Option (List ℕ) → Type 0
 Ends starts new status script rest old_bytes new_bytes =
@@ -95,6 +100,19 @@ EndsScript count status script rest old_bytes new_bytes =
     ((status ≡ 0) × (new : List State) × ServesWhole script (empty_states count) new old_bytes new_bytes)
     ⊎ ((status ≡ 1) × (fault : ServeFault) × (new : List State) × StopsWithin fault script (empty_states count) new old_bytes new_bytes)
     ⊎ ((status ≡ 3) × Keeps (Some script) rest × WritesNothing old_bytes new_bytes)
+
+-- The sessions of each phase at the same time, in so many databases that were empty: the script was served with status
+-- 0; or it ended at a fault, with status 1, of which no contract knows what it leaves; or a store couldn't be opened.
+abbrev pub EndsFree : ℕ → ℕ → List ℕ → Option (List ℕ) → Option (List ℕ) → Option (List ℕ) → Type 0
+EndsFree count status script rest old_bytes new_bytes =
+    ((status ≡ 0) × RunsFree script (empty_states count) old_bytes new_bytes)
+    ⊎ (status ≡ 1)
+    ⊎ ((status ≡ 3) × Keeps (Some script) rest × WritesNothing old_bytes new_bytes)
+
+-- In memory: as the mode asks.
+abbrev pub EndsInMemory : Mode → ℕ → ℕ → List ℕ → Option (List ℕ) → Option (List ℕ) → Option (List ℕ) → Type 0
+EndsInMemory mode.Run count status script rest old_bytes new_bytes = EndsScript count status script rest old_bytes new_bytes
+EndsInMemory mode.Free count status script rest old_bytes new_bytes = EndsFree count status script rest old_bytes new_bytes
 
 -- Over files, of which no contract knows what they hold: with status 0 the script was read to its end, and with
 -- status 3 a store couldn't be opened, and nothing was read or written.

@@ -15,6 +15,8 @@ use std::convert::AsStr;
 pub enum Mode {
     /// To serve a script, line after line.
     Run,
+    /// To serve a script phase by phase, the sessions of a phase at the same time.
+    Free,
 }
 
 /// The arguments of the program.
@@ -56,7 +58,7 @@ impl ArgFault {
     }
 }
 
-/// Reads the words of a command line, the program's name first: `run`, `--store PATH`, which may be left
+/// Reads the words of a command line, the program's name first: `run` or `free`, `--store PATH`, which may be left
 /// out, and `--databases N` with N from 1 to 16, which is 1 where it isn't given.
 ///
 /// # Errors
@@ -91,7 +93,7 @@ fn command<'a>(alloc: Global) -> Result<Command<'a>, AllocError>
     ensures { IfOk result (λ command. app_of command ≡ app) }
 {
     Command::new(alloc, "escrowd")
-        .override_usage("escrowd run [--store <PATH>] [--databases <N>]")
+        .override_usage("escrowd <MODE> [--store <PATH>] [--databases <N>]")
         .about(ABOUT)
         .after_help(AFTER_HELP)
         .arg(mode_arg(alloc))?
@@ -108,7 +110,7 @@ fn mode_arg<'a>(alloc: Global) -> Arg<'a>
         .required(true)
         .action(ArgAction::Set)
         .value_name("MODE")
-        .help("What to do: `run` serves the script line after line")
+        .help("`run` serves line after line, `free` the sessions of a phase at the same time")
 }
 
 /// `--store PATH`.
@@ -140,7 +142,7 @@ fn databases_arg<'a>(alloc: Global) -> Arg<'a>
 const ABOUT: &str = "A server of tables whose RESERVABLE columns many sessions change at once.
 
 It reads a script from standard input, one statement a line, and writes the
-replies to standard output, each as soon as its line is served.";
+replies to standard output.";
 
 const AFTER_HELP: &str =
     "A line of the script is a database, a point, a session from 1 to 64, a colon
@@ -154,12 +156,19 @@ and a statement:
 The line `@restart bank` restarts that database: what is open in it is dropped.
 Empty lines and lines that begin with -- are passed over.
 
+`run` serves one line after another, and writes each reply as soon as its line is
+served. `free` serves the lines up to `@join` in one phase: its sessions, at most
+64, run at the same time, and the replies are written after it, in the order of
+the lines. At the end it looks whether what the sessions were answered fits one
+history of each database. `@restart` is refused there.
+
 A store's file is made where there is none, and what was committed there is found
 again by the next run. Without --store everything is gone at the end.
 
 Exit status: 0 when all was served and written, 1 when the script can't be read,
-a reply can't be written or memory is short, 2 for wrong arguments, 3 when a
-store can't be opened, in which case nothing was read.
+a reply can't be written, memory is short, a phase has too many sessions or a
+history doesn't fit, 2 for wrong arguments, 3 when a store can't be opened, in
+which case nothing was read.
 
 escrowd 0.9. Later versions add statements, answer those of this one as it
 does, and read the stores that it wrote.";
@@ -171,7 +180,7 @@ fn asked(alloc: Global, matches: &ArgMatches<'_>) -> Result<Args, ArgFault>
     ensures databases { IfOk result (λ args. (1 ≤ args.databases) × (args.databases ≤ MAX_DATABASES)) }
 {
     let Some(mode) = mode_of(matches.get_str("mode")) else {
-        return Err(wrong(alloc, "the mode has to be `run`\n"));
+        return Err(wrong(alloc, "the mode has to be `run` or `free`\n"));
     };
     let Some(databases) = databases_of(matches.get_str("databases")) else {
         return Err(wrong(alloc, "--databases has to be a number from 1 to 16\n"));
@@ -202,6 +211,7 @@ fn mode_of(name: Option<&str>) -> Option<Mode>
 {
     match name {
         Some("run") => Some(Mode::Run),
+        Some("free") => Some(Mode::Free),
         _ => None,
     }
 }

@@ -1,4 +1,5 @@
 use crate::stores::OpenFault;
+use escrow_free::FreeFault;
 use escrow_script::ServeFault;
 
 /// Why the program ends before its script is served to its end.
@@ -15,6 +16,8 @@ pub(crate) enum RunFault {
     },
     /// The script isn't served to its end.
     Unserved(ServeFault),
+    /// It isn't, with its sessions at the same time.
+    Unjoined(FreeFault),
 }
 
 impl RunFault {
@@ -28,7 +31,7 @@ impl RunFault {
     {
         match self {
             RunFault::Unopened { .. } => 3,
-            RunFault::Unserved(_) => 1,
+            RunFault::Unserved(_) | RunFault::Unjoined(_) => 1,
         }
     }
 }
@@ -41,5 +44,16 @@ impl From<ServeFault> for RunFault {
 
     fn from(fault: ServeFault) -> RunFault {
         RunFault::Unserved(fault)
+    }
+}
+
+impl From<FreeFault> for RunFault {
+    ghost use Rattle.std.specs.Prelude.{◌≡◌};
+    ghost use Rattle.escrow_server.specs.declared.fault.RunFault.TheVariants.{Unjoined};
+
+    ghost from_gives = { λ f e. e ≡ Unjoined f };
+
+    fn from(fault: FreeFault) -> RunFault {
+        RunFault::Unjoined(fault)
     }
 }

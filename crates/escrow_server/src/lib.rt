@@ -3,12 +3,14 @@
 //!
 //! Its one contract: what [`serve_script`] writes, and the states of the databases after it, are
 //! those of the script's lines, served one after another by the machine. [`run_program`] is that of
-//! a whole command line, with its exit status.
+//! a whole command line, with its exit status; where the sessions of a phase run at the same time, the
+//! script is served by [`serve_free`].
 #![tactic(auto)]
 
 mod args;
 mod databases;
 mod fault;
+mod free;
 mod program;
 mod serve;
 mod site;
@@ -16,6 +18,7 @@ mod stores;
 mod totals;
 
 pub use args::{ArgFault, Args, Mode, read_args};
+pub use escrow_free::{FreeFault, serve_free};
 pub use escrow_script::{MAX_DATABASES, MAX_LINE, MAX_READS, MAX_SCRIPT, ReadFault, ServeFault};
 pub use program::run_program;
 pub use serve::serve_script;

@@ -3,13 +3,15 @@ ghost use Rattle.std.specs.Io.KnownBytes.{IsAtEnd, Keeps};
 ghost use Rattle.std.specs.Process.{exit_status};
 ghost use Rattle.escrow_machine.specs.State.{State};
 ghost use Rattle.escrow_server.specs.declared.args.Args.{Args};
+ghost use Rattle.escrow_server.specs.Free.{HoldCleanDisks, RunsFree};
 ghost use Rattle.escrow_server.specs.Args.{asked_by, fault_status, refused_status};
 ghost use Rattle.escrow_server.specs.Output.{states_of, HaveCleanDisks, ServesWhole};
-ghost use Rattle.escrow_server.specs.Program.{help_of, run_status, unread_status, AreFound, EndsOverFiles, EndsScript, IsQuiet, SaysWhy, Stops, TellsOfStores, WritesFront, WritesNothing};
+ghost use Rattle.escrow_server.specs.Program.{help_of, run_status, unread_status, AreFound, EndsInMemory, EndsOverFiles, IsQuiet, SaysWhy, Stops, TellsOfStores, WritesFront, WritesNothing};
 
-use crate::args::{ArgFault, Args, read_args};
+use crate::args::{ArgFault, Args, Mode, read_args};
 use crate::databases::{Unclosed, close_databases, open_databases};
 use crate::fault::RunFault;
+use crate::free::serve_phases;
 use crate::serve::serve_script;
 use crate::site::Site;
 use crate::stores::{CloseFault, InFiles, InMemory, OpenStore, file_of};
@@ -21,18 +23,25 @@ use std::convert::AsStr;
 use std::env::Env;
 use std::io::{ErrorKind, Read, Write};
 use std::process::ExitCode;
+use std::sync::Wait;
+use std::thread::Threads;
 use std::{env, io};
 
-/// Runs the program: reads the words of its command line from `line`, opens the databases that they ask, in
-/// memory or in files, and serves the script that comes from `input`, with the replies to `output`. Help
-/// goes to `output` too, and why the program ends early to `errors`. At the end, and where the program ends early,
-/// the stores in files are closed; one that can't be is told of on `errors`, and doesn't change the status.
+/// Runs the program, with files from `rt` and the threads of workers from `threads`: reads the words of its command
+/// line from `line`, opens the databases that they ask, in
+/// memory or in files, and serves the script that comes from `input`, with the replies to `output`: line after line, or
+/// the sessions of a phase at the same time. Help goes to `output` too, and why the program ends early to `errors`. At
+/// the end, and where the program ends early, the stores in files are closed; one that can't be is told of on `errors`,
+/// and doesn't change the status. Where sessions at the same time aren't served to the end, the logs of the stores
+/// stay beside them. It may wait.
 ///
 /// Exit status: 0 when all was served and written, and for help; 1 when the script can't be read, a
-/// reply can't be written or memory is short; 2 for wrong arguments, one that isn't UTF-8 among them;
-/// 3 when the store of a database can't be opened, before anything is read.
-pub fn run_program<E: Env, R: Read, W: Write, F: Write>(
+/// reply can't be written, memory is short, a phase asks more than 64 sessions or the histories don't fit; 2 for wrong
+/// arguments, one that isn't UTF-8 among them; 3 when the store of a database can't be opened, before anything is
+/// read.
+pub fn run_program<T: Threads + Wait + Sync, E: Env, R: Read, W: Write, F: Write>(
     rt: &HostRuntime,
+    threads: &T,
     line: &E,
     input: &mut R,
     output: &mut W,
@@ -44,7 +53,7 @@ pub fn run_program<E: Env, R: Read, W: Write, F: Write>(
     ensures said { exit_status result ≢ 0 → SaysWhy (F.contents errors.old) (F.contents errors.new) }
 {
     let status = match words(rt.alloc(), line) {
-        Ok(words) => run_words(rt, words.as_slice(), input, output, errors),
+        Ok(words) => run_words(rt, threads, words.as_slice(), input, output, errors),
         Err(error) => without_words(errors, error.kind()),
     };
     ExitCode::from(status)
@@ -73,16 +82,17 @@ fn without_words<F: Write>(errors: &mut F, error: ErrorKind) -> u8
 }
 
 /// Runs the program with the words of its command line, its name first, and answers the exit status.
-fn run_words<S: AsStr, R: Read, W: Write, F: Write>(
+fn run_words<T: Threads + Wait + Sync, S: AsStr, R: Read, W: Write, F: Write>(
     rt: &HostRuntime,
+    threads: &T,
     words: &[S],
     input: &mut R,
     output: &mut W,
     errors: &mut F,
 ) -> u8
-    // Words that ask have the script served, in as many databases as they ask: in memory, or in files.
+    // Words that ask have the script served, in as many databases as they ask, and in their mode: in memory, or in files.
     ensures asked { (args : Args) → asked_by (map S.text words.now) ≡ Some args → args.path ≡ None → IfSome (R.remaining input.old) (λ script.
-        EndsScript args.databases result script (R.remaining input.new) (W.contents output.old) (W.contents output.new)) }
+        EndsInMemory args.mode args.databases result script (R.remaining input.new) (W.contents output.old) (W.contents output.new)) }
     ensures stored { (args : Args) → asked_by (map S.text words.now) ≡ Some args → IsSome args.path → IfSome (R.remaining input.old) (λ script.
         EndsOverFiles result script (R.remaining input.new) (W.contents output.old) (W.contents output.new)) }
 
@@ -98,14 +108,15 @@ fn run_words<S: AsStr, R: Read, W: Write, F: Write>(
     ensures said { result ≢ 0 → SaysWhy (F.contents errors.old) (F.contents errors.new) }
 {
     match read_args(rt.alloc(), words) {
-        Ok(args) => run_args(rt, &args, input, output, errors),
+        Ok(args) => run_args(rt, threads, &args, input, output, errors),
         Err(fault) => refuse(output, errors, &fault),
     }
 }
 
 /// Serves the script in the databases that arguments ask, and answers the exit status.
-fn run_args<R: Read, W: Write, F: Write>(
+fn run_args<T: Threads + Wait + Sync, R: Read, W: Write, F: Write>(
     rt: &HostRuntime,
+    threads: &T,
     args: &Args,
     input: &mut R,
     output: &mut W,
@@ -114,7 +125,7 @@ fn run_args<R: Read, W: Write, F: Write>(
     requires least { 1 ≤ args.now.databases }
     requires most { args.now.databases ≤ MAX_DATABASES }
     ensures memory { args.now.path ≡ None → IfSome (R.remaining input.old) (λ script.
-        EndsScript args.now.databases result script (R.remaining input.new) (W.contents output.old) (W.contents output.new)) }
+        EndsInMemory args.now.mode args.now.databases result script (R.remaining input.new) (W.contents output.old) (W.contents output.new)) }
     ensures files { IfSome (R.remaining input.old) (λ script.
         EndsOverFiles result script (R.remaining input.new) (W.contents output.old) (W.contents output.new)) }
     ensures silent { args.now.path ≡ None → result ≡ 0 → WritesNothing (F.contents errors.old) (F.contents errors.new) }
@@ -127,8 +138,10 @@ fn run_args<R: Read, W: Write, F: Write>(
         None => {
             let mut databases = Vec::new(alloc);
             let served = serve_stores(
+                threads,
                 alloc,
                 &InMemory,
+                args.mode,
                 args.databases,
                 &mut databases,
                 &mut sites,
@@ -141,8 +154,10 @@ fn run_args<R: Read, W: Write, F: Write>(
             let path = path.as_str();
             let mut databases = Vec::new(alloc);
             let served = serve_stores(
+                threads,
                 alloc,
                 &InFiles { rt, path },
+                args.mode,
                 args.databases,
                 &mut databases,
                 &mut sites,
@@ -156,10 +171,18 @@ fn run_args<R: Read, W: Write, F: Write>(
 }
 
 /// Opens so many stores, and serves the script in the databases over them, which are left in `databases`, and where
-/// their files are in `sites`.
-fn serve_stores<S: Alter + Drop, O: OpenStore<S>, R: Read, W: Write>(
+/// their files are in `sites`. It may wait.
+fn serve_stores<
+    S: Alter + Drop + Send,
+    T: Threads + Wait + Sync,
+    O: OpenStore<S>,
+    R: Read,
+    W: Write,
+>(
+    rt: &T,
     alloc: Global,
     stores: &O,
+    mode: Mode,
     count: u8,
     databases: &mut Vec<Database<S>>,
     sites: &mut Vec<Option<Site>>,
@@ -169,19 +192,26 @@ fn serve_stores<S: Alter + Drop, O: OpenStore<S>, R: Read, W: Write>(
     requires least { 1 ≤ count }
     requires most { count ≤ MAX_DATABASES }
     requires none { databases.old.items ≡ [] }
-    // Where each disk has returned what was written, the script was served from the states that the stores
-    // held.
-    ensures served { HaveCleanDisks S.Store databases.new.items → OnOk result (IfSome (R.remaining input.old) (λ script. (old : List State)
+    // Line after line: where each disk has returned what was written, the script was served from the states that the
+    // stores held.
+    ensures served { mode ≡ Mode.Run → HaveCleanDisks S.Store databases.new.items → OnOk result (IfSome (R.remaining input.old) (λ script. (old : List State)
         × AreFound (O.may_hold stores.now) count old × ServesWhole script old (states_of databases.new.items) (W.contents output.old) (W.contents output.new))) }
-    ensures stopped { HaveCleanDisks S.Store databases.new.items → IfErr result (λ fault. IfSome (R.remaining input.old) (λ script.
+    ensures stopped { mode ≡ Mode.Run → HaveCleanDisks S.Store databases.new.items → IfErr result (λ fault. IfSome (R.remaining input.old) (λ script.
         Stops fault (AreFound (O.may_hold stores.now) count) (states_of databases.new.items) script (R.remaining input.new) (W.contents output.old) (W.contents output.new))) }
+
+    // Sessions at the same time: so it was where disks always return what was written.
+    ensures free { mode ≡ Mode.Free → HoldCleanDisks S.Store → OnOk result (IfSome (R.remaining input.old) (λ script. (old : List State)
+        × AreFound (O.may_hold stores.now) count old × RunsFree script old (W.contents output.old) (W.contents output.new))) }
 
     // Whatever the stores do, all of the script was read, or nothing was where a store isn't opened.
     ensures end { OnOk result (IfSome (R.remaining input.old) (λ script. IsAtEnd (R.remaining input.new))) }
     ensures unopened { IfErr result (λ fault. run_status fault ≡ 3 → Keeps (R.remaining input.old) (R.remaining input.new) × WritesNothing (W.contents output.old) (W.contents output.new)) }
 {
     open_databases(alloc, stores, count, databases, sites)?;
-    serve_script(alloc, databases, input, output)?;
+    match mode {
+        Mode::Run => serve_script(alloc, databases, input, output)?,
+        Mode::Free => serve_phases(rt, alloc, databases, input, output)?,
+    }
     Ok(())
 }
 
@@ -270,6 +300,7 @@ fn stop<F: Write>(errors: &mut F, fault: RunFault, text: Result<String, AllocErr
 fn explained(alloc: Global, path: Option<&str>, fault: RunFault) -> Result<String, AllocError> {
     match fault {
         RunFault::Unserved(fault) => format!(in alloc; "{fault}\n"),
+        RunFault::Unjoined(fault) => format!(in alloc; "{fault}\n"),
         RunFault::Unopened {
             database,
             place,

@@ -8,6 +8,7 @@ fn main(rt: HostRuntime) -> ExitCode {
     run_program(
         &rt,
         &rt,
+        &rt,
         &mut rt.stdin(),
         &mut rt.stdout(),
         &mut rt.stderr(),

@@ -5,7 +5,9 @@ use sqlite::{Connection, Error, ErrorCode};
 use std::fs;
 use std::io::{self, Read};
 use std::process::{Abort, ExitCode};
+use std::sync::Wait;
 use std::test::Fail;
+use std::thread::Threads;
 
 /// Runs over one file, one after another: the script, and the replies. Each finds what the ones before it
 /// committed, and none of what was open.
@@ -25,6 +27,12 @@ const AGAIN: [(&str, &str); 3] = [
         "bank.1> ID | N\nbank.1> 1 | 3\nbank.1> OK rows 1\n",
     ),
 ];
+
+/// The modes of those runs, each mode behind the other.
+const BY_TURNS: [[&[u8]; 3]; 2] = [[b"free", b"run", b"free"], [b"run", b"free", b"run"]];
+
+/// Both modes.
+const MODES: [&[u8]; 2] = [b"run", b"free"];
 
 /// Paths at which no store is opened, and what is said of each.
 const UNOPENED: [(&str, &str); 10] = [
@@ -98,9 +106,9 @@ fn fresh(rt: &HostRuntime, folder: &str) -> Result<(), Fail> {
 }
 
 /// Serves a script over a store in a file, and compares what it gives.
-fn assert_stored<A: Abort>(
+fn assert_stored<T: Abort + Threads + Wait + Sync>(
     rt: &HostRuntime,
-    to: &A,
+    to: &T,
     path: &str,
     script: &str,
     status: u8,
@@ -134,7 +142,10 @@ fn paths(rt: HostRuntime) -> Result<(), Fail> {
         }
     }
     for (path, errors) in UNOPENED {
-        assert_stored(&rt, &rt, path, "bank.1: COMMIT\n", 3, "", errors)?;
+        for mode in MODES {
+            let words = [b"escrowd".as_slice(), mode, b"--store", path.as_bytes()];
+            assert_run(&rt, &rt, &words, b"bank.1: COMMIT\n", 3, "", errors)?;
+        }
     }
     assert_eq!(rt; names(&rt, "files_paths")?.as_str(), STANDING);
     let kept = fs::read(&rt, "files_paths/note.db")?;
@@ -175,24 +186,29 @@ fn several_databases(rt: HostRuntime) -> Result<(), Fail> {
         " many.db many.db.2 many.db.3"
     );
     fs::create_dir(&rt, "files_several/two.db.2")?;
-    let words = [
-        b"escrowd".as_slice(),
-        b"run",
-        b"--databases",
-        b"2",
-        b"--store",
-        b"files_several/two.db",
-    ];
-    assert_run(
-        &rt,
-        &rt,
-        &words,
-        b"bank.1: COMMIT\n",
-        3,
-        "",
-        "escrowd: the store of bank2, `files_several/two.db.2`, can't be opened: it is no plain file, or it has several names\n",
-    )?;
-    assert!(rt; !fs::exists(&rt, "files_several/two.db-wal")?);
+    for mode in MODES {
+        let words = [
+            b"escrowd".as_slice(),
+            mode,
+            b"--databases",
+            b"2",
+            b"--store",
+            b"files_several/two.db",
+        ];
+        assert_run(
+            &rt,
+            &rt,
+            &words,
+            b"bank.1: COMMIT\n",
+            3,
+            "",
+            "escrowd: the store of bank2, `files_several/two.db.2`, can't be opened: it is no plain file, or it has several names\n",
+        )?;
+        assert_eq!(rt;
+            names(&rt, "files_several")?.as_str(),
+            " many.db many.db.2 many.db.3 two.db two.db.2"
+        );
+    }
     fs::remove_dir_all(&rt, "files_several")?;
     Ok(())
 }
@@ -259,10 +275,102 @@ fn one_file_at_rest(rt: HostRuntime) -> Result<(), Fail> {
     let line = CommandLine { words: &words };
     let mut said = Vec::new(rt.alloc());
     let mut input = b"bank.1: UPDATE T SET N = N + 5 WHERE ID = 1\nbank.1: COMMIT\n".as_slice();
-    let code = run_program(&rt, &line, &mut input, &mut Broken, &mut said);
+    let code = run_program(&rt, &rt, &line, &mut input, &mut Broken, &mut said);
     assert!(rt; code == ExitCode::FAILURE);
     assert_eq!(rt; names(&rt, "files_rest")?.as_str(), " bank.db copy.db");
     fs::remove_dir_all(&rt, "files_rest")?;
+    Ok(())
+}
+
+/// What one run commits the next one finds, whichever of them has its sessions at the same time, and each leaves
+/// one file.
+#[test]
+fn modes(rt: HostRuntime) -> Result<(), Fail> {
+    for modes in BY_TURNS {
+        fresh(&rt, "files_modes")?;
+        for (mode, (script, replies)) in modes.iter().zip(AGAIN) {
+            let words = [
+                b"escrowd".as_slice(),
+                *mode,
+                b"--store",
+                b"files_modes/bank.db",
+            ];
+            assert_run(&rt, &rt, &words, script.as_bytes(), 0, replies, "")?;
+            assert_eq!(rt; names(&rt, "files_modes")?.as_str(), " bank.db");
+        }
+    }
+    fs::remove_dir_all(&rt, "files_modes")?;
+    Ok(())
+}
+
+/// What stands in the folder of two stores that sessions at the same time were stopped over, and once they were
+/// closed.
+const STOPPED: &str = " bank.db bank.db-wal bank.db.2 bank.db.2-wal";
+
+const CLOSED: &str = " bank.db bank.db.2";
+
+/// Commits before, and leaves a reservation open.
+const BEFORE: &str = "bank.1: CREATE TABLE T (ID INTEGER PRIMARY KEY, N INTEGER RESERVABLE)\n\
+                      bank.1: INSERT INTO T VALUES (1, 10)\n\
+                      bank.1: UPDATE T SET N = N + 1 WHERE ID = 1\n\
+                      @join\n\
+                      bank2.1: COMMIT\n";
+
+const BEFORE_REPLIES: &str = "bank.1> OK created T\nbank.1> OK inserted\nbank.1> OK reserved 1\n";
+
+/// Where sessions at the same time aren't served to the end, what they committed stands, in two files a store. The
+/// next run finds it, whatever its mode, and leaves one file.
+#[test]
+fn stopped(rt: HostRuntime) -> Result<(), Fail> {
+    let mut crowd = String::from_str(rt.alloc(), BEFORE)?;
+    for session in 1..=64u8 {
+        write!(crowd, "bank.{session}: COMMIT\n")?;
+    }
+    for mode in MODES {
+        fresh(&rt, "files_stopped")?;
+        let mut words = [
+            b"escrowd".as_slice(),
+            b"free",
+            b"--databases",
+            b"2",
+            b"--store",
+            b"files_stopped/bank.db",
+        ];
+        let errors = "escrowd: too many sessions in a phase\n";
+        assert_run(
+            &rt,
+            &rt,
+            &words,
+            crowd.as_bytes(),
+            1,
+            BEFORE_REPLIES,
+            errors,
+        )?;
+        assert_eq!(rt; names(&rt, "files_stopped")?.as_str(), STOPPED);
+        words[1] = mode;
+        let select = b"bank.2: SELECT * FROM T\n";
+        let rows = "bank.2> ID | N\nbank.2> 1 | 10\nbank.2> OK rows 1\n";
+        assert_run(&rt, &rt, &words, select, 0, rows, "")?;
+        assert_eq!(rt; names(&rt, "files_stopped")?.as_str(), CLOSED);
+
+        // The replies can't be written.
+        words[1] = b"free";
+        let line = CommandLine { words: &words };
+        let mut said = Vec::new(rt.alloc());
+        let mut input = b"bank.1: UPDATE T SET N = N + 5 WHERE ID = 1\nbank.1: COMMIT\n".as_slice();
+        let code = run_program(&rt, &rt, &line, &mut input, &mut Broken, &mut said);
+        assert!(rt; code == ExitCode::FAILURE);
+        assert_eq!(rt;
+            str::from_utf8(said.as_slice())?,
+            "escrowd: a reply can't be written\n"
+        );
+        assert_eq!(rt; names(&rt, "files_stopped")?.as_str(), STOPPED);
+        words[1] = mode;
+        let rows = "bank.2> ID | N\nbank.2> 1 | 15\nbank.2> OK rows 1\n";
+        assert_run(&rt, &rt, &words, select, 0, rows, "")?;
+        assert_eq!(rt; names(&rt, "files_stopped")?.as_str(), CLOSED);
+    }
+    fs::remove_dir_all(&rt, "files_stopped")?;
     Ok(())
 }
 
@@ -288,30 +396,37 @@ const UNCLOSED: &str =
 /// A store that can't be closed is told of, and the status stays: 0 where all was served, and 1 behind a fault.
 #[test]
 fn unclosed(rt: HostRuntime) -> Result<(), Fail> {
-    fresh(&rt, "files_unclosed")?;
-    let words = [
+    let mut output = Vec::new(rt.alloc());
+    let mut said = Vec::new(rt.alloc());
+    let mut reader = Cutting {
+        rt: &rt,
+        script: b"",
+        log: "files_unclosed/bank.db-wal",
+    };
+    let mut words = [
         b"escrowd".as_slice(),
         b"run",
         b"--store",
         b"files_unclosed/bank.db",
     ];
-    let line = CommandLine { words: &words };
-    let mut output = Vec::new(rt.alloc());
-    let mut said = Vec::new(rt.alloc());
-    let mut reader = Cutting {
-        rt: &rt,
-        script: b"bank.1: COMMIT\n",
-        log: "files_unclosed/bank.db-wal",
-    };
-    let code = run_program(&rt, &line, &mut reader, &mut output, &mut said);
-    assert!(rt; code == ExitCode::SUCCESS);
-    assert_eq!(rt; str::from_utf8(said.as_slice())?, UNCLOSED);
-    assert_eq!(rt; output.as_slice(), b"bank.1> OK committed 0\n".as_slice());
+    for mode in [b"free".as_slice(), b"run"] {
+        fresh(&rt, "files_unclosed")?;
+        output.clear();
+        said.clear();
+        reader.script = b"bank.1: COMMIT\n";
+        words[1] = mode;
+        let line = CommandLine { words: &words };
+        let code = run_program(&rt, &rt, &line, &mut reader, &mut output, &mut said);
+        assert!(rt; code == ExitCode::SUCCESS);
+        assert_eq!(rt; str::from_utf8(said.as_slice())?, UNCLOSED);
+        assert_eq!(rt; output.as_slice(), b"bank.1> OK committed 0\n".as_slice());
+    }
 
     fresh(&rt, "files_unclosed")?;
     said.clear();
     reader.script = b"bank.1: COMMIT\n";
-    let code = run_program(&rt, &line, &mut reader, &mut Broken, &mut said);
+    let line = CommandLine { words: &words };
+    let code = run_program(&rt, &rt, &line, &mut reader, &mut Broken, &mut said);
     assert!(rt; code == ExitCode::FAILURE);
     let told = str::from_utf8(said.as_slice())?;
     let rest = told.strip_prefix("escrowd: a reply can't be written\n");

@@ -1,0 +1,28 @@
+-- Believed: the output of a script whose sessions run at the same time, in databases that the program opened.
+use Rattle.std.specs.Prelude.{◌≡◌, ℕ, Option, Some, List, length, slice_get}
+use Rattle.sqlite.specs.Held.{Held, state}
+use Rattle.sqlite.specs.State.{HasCleanDisk}
+use Rattle.sqlite_trees.specs.declared.store.Store.{Ghosts}
+use Rattle.escrow_machine.specs.State.{State}
+use Rattle.escrow_transcript.specs.declared.entry.Entry.{Entry}
+use Rattle.escrow_transcript.specs.Legal.{AreNumbered, AreSteps}
+use Rattle.escrow_free.specs.FreeOutput.{ServesFree}
+
+-- stores of a kind whose disks always return what was written
+abbrev pub HoldCleanDisks : {S : Type 0} → Ghosts S → Type 0
+HoldCleanDisks {S} g = (store : Held S) → HasCleanDisk (state g store)
+
+-- a history is a run of the machine from a state to some other, its entries numbered from 1
+abbrev pub RunsFrom : State → List Entry → Type 0
+RunsFrom s entries = (end : State) × AreSteps s entries end × AreNumbered 0 entries
+
+-- so many histories as states, each a run from the state at its place
+pub record AreRuns (states : List State) (histories : List (List Entry)) : Type 0 where
+  pub count : length histories ≡ length states
+  pub each : (place : ℕ) (s : State) (entries : List Entry) → slice_get states place ≡ Some s → slice_get histories place ≡ Some entries → RunsFrom s entries
+
+-- THE OUTPUT OF A SCRIPT whose sessions run at the same time: there are histories, each a run of the machine from the
+-- state of its database, and what was written follows from the script's lines and them alone
+abbrev pub RunsFree : List ℕ → List State → Option (List ℕ) → Option (List ℕ) → Type 0
+RunsFree script states old_bytes new_bytes =
+    (histories : List (List Entry)) × AreRuns states histories × ServesFree script histories old_bytes new_bytes

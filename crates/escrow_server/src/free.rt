@@ -1,0 +1,52 @@
+//! Scripts whose sessions run at the same time, in databases that the program opened.
+ghost use Rattle.std.specs.Prelude.{◌≡◌, ◌≤◌, vec_len, OnOk, IfSome};
+ghost use Rattle.std.specs.Vec.{vec_capacity};
+ghost use Rattle.std.specs.Io.KnownBytes.{IsAtEnd};
+ghost use Rattle.escrow_server.specs.Free.{HoldCleanDisks, RunsFree};
+ghost use Rattle.escrow_server.specs.Output.{states_of};
+
+use escrow_core::Database;
+use escrow_free::{FreeFault, serve_free};
+use escrow_script::MAX_DATABASES;
+use escrow_shards::{Closed, NoGate};
+use sqlite::Alter;
+use std::alloc::Global;
+use std::io::{Read, Write};
+use std::mem;
+use std::sync::Wait;
+use std::thread::Threads;
+
+/// Serves a script phase by phase, the sessions of a phase at the same time, and leaves the databases as their
+/// histories end. After a fault none is left. It may wait.
+pub(crate) fn serve_phases<S: Alter + Drop + Send, T: Threads + Wait + Sync, R: Read, W: Write>(
+    rt: &T,
+    alloc: Global,
+    databases: &mut Vec<Database<S>>,
+    reader: &mut R,
+    writer: &mut W,
+) -> Result<(), FreeFault>
+    requires some { 1 ≤ vec_len databases.old }
+    requires few { vec_len databases.old ≤ MAX_DATABASES }
+    ensures served { HoldCleanDisks S.Store → OnOk result (IfSome (R.remaining reader.old) (λ script.
+        RunsFree script (states_of databases.old.items) (W.contents writer.old) (W.contents writer.new))) }
+    ensures end { OnOk result (IfSome (R.remaining reader.old) (λ script. IsAtEnd (R.remaining reader.new))) }
+{
+    // What is handed back has to be kept, so room for it is made before.
+    let room = Vec::with_capacity(alloc, usize::from(MAX_DATABASES))?;
+    let handed = mem::replace(databases, room);
+    let audit = serve_free(rt, alloc, handed, reader, writer, &NoGate)?;
+    put_back(databases, audit.closed);
+    Ok(())
+}
+
+/// Puts databases that came out of their locks where there is room for them.
+fn put_back<S: Alter + Drop>(databases: &mut Vec<Database<S>>, closed: Vec<Closed<S>>)
+    requires none { vec_len databases.old ≡ 0 }
+    requires room { MAX_DATABASES ≤ vec_capacity databases.old }
+    requires few { vec_len closed ≤ MAX_DATABASES }
+{
+    for ended in closed {
+        let (database, _) = ended.into_parts();
+        databases.push_reserved(database);
+    }
+}
