@@ -1,25 +1,19 @@
 //! The tests.
 mod faults;
+mod gates;
+mod histories;
 mod scripts;
+mod streams;
 
 use escrow_core::Database;
 use escrow_free::{FreeFault, serve_free};
 use escrow_memory::BlockStore;
-use escrow_num::Session;
-use escrow_shards::{Audit, Gate};
+use escrow_shards::{Audit, Gate, NoGate};
 use escrow_tables::open_store;
+use std::io::{Read, Write};
 use std::process::Abort;
 use std::sync::Wait;
 use std::thread::Threads;
-
-/// A gate that does nothing.
-struct Open;
-
-impl Gate for Open {
-    fn before<R: Wait>(&self, _: &R, _: usize, _: Session, _: u64) {}
-
-    fn inside<R: Wait>(&self, _: &R, _: usize, _: Session, _: u64) {}
-}
 
 /// So many databases without tables, over stores in memory.
 fn databases<R: Abort + AllocGlobal>(rt: &R, count: usize) -> Vec<Database<BlockStore>> {
@@ -41,6 +35,18 @@ fn databases<R: Abort + AllocGlobal>(rt: &R, count: usize) -> Vec<Database<Block
     databases
 }
 
+/// Serves what a reader gives in databases, past a gate.
+fn serve_in<R: Abort + AllocGlobal + Threads + Wait + Sync, I: Read, W: Write, G: Gate + Sync>(
+    rt: &R,
+    databases: Vec<Database<BlockStore>>,
+    reader: &mut I,
+    writer: &mut W,
+    gate: &G,
+) -> Result<Audit<BlockStore>, FreeFault> {
+    assert!(rt; !databases.is_empty() && databases.len() <= 16);
+    serve_free(rt, rt.alloc(), databases, reader, writer, gate)
+}
+
 /// Serves a script in so many databases without tables, and answers what is written.
 fn serve<R: Abort + AllocGlobal + Threads + Wait + Sync>(
     rt: &R,
@@ -50,8 +56,7 @@ fn serve<R: Abort + AllocGlobal + Threads + Wait + Sync>(
     let mut written = Vec::new(rt.alloc());
     let mut reader = script.as_bytes();
     let databases = databases(rt, count);
-    assert!(rt; !databases.is_empty() && databases.len() <= 16);
-    let served = serve_free(rt, rt.alloc(), databases, &mut reader, &mut written, &Open);
+    let served = serve_in(rt, databases, &mut reader, &mut written, &NoGate);
     (written, served)
 }
 

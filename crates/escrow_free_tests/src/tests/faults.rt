@@ -1,7 +1,8 @@
 //! Why a script isn't served to its end.
-use super::{Open, check, databases, serve};
-use escrow_free::{FreeFault, serve_free};
+use super::{check, databases, serve, serve_in};
+use escrow_free::FreeFault;
 use escrow_num::Session;
+use escrow_shards::NoGate;
 use escrow_sql::{Request, parse};
 use std::process::Abort;
 use std::test::Fail;
@@ -28,7 +29,7 @@ fn sessions(rt: HostRuntime) -> Result<(), Fail> {
     Ok(())
 }
 
-/// Nothing may be open in a database that is handed in.
+/// Nothing may be open in a database that is handed in. Nothing is read then.
 #[test]
 fn open(rt: HostRuntime) {
     let mut databases = databases(&rt, 2);
@@ -40,10 +41,8 @@ fn open(rt: HostRuntime) {
     }
     let mut written = Vec::new(rt.alloc());
     let mut reader = "bank.1: COMMIT".as_bytes();
-    let served = if databases.len() == 2 {
-        serve_free(&rt, rt.alloc(), databases, &mut reader, &mut written, &Open)
-    } else {
-        rt.panic("two databases")
-    };
+    let served = serve_in(&rt, databases, &mut reader, &mut written, &NoGate);
     assert!(rt; matches!(served, Err(FreeFault::Open)));
+    assert!(rt; written.is_empty());
+    assert_eq!(rt; reader.len(), 14);
 }

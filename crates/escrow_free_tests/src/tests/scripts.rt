@@ -56,7 +56,12 @@ fn counter(rt: HostRuntime) -> Result<(), Fail> {
     }
     script.push_str("@join\nbank.1: SELECT * FROM COUNTER")?;
     let (written, served) = serve(&rt, 1, script.as_str());
-    assert!(rt; served.is_ok());
+    let Ok(audit) = served else {
+        rt.panic("served")
+    };
+    for closed in &audit.closed {
+        assert_eq!(rt; closed.entries().len(), 1_603);
+    }
     let Ok(written) = str::from_utf8(written.as_slice()) else {
         rt.panic("text")
     };
@@ -90,6 +95,13 @@ fn long(rt: HostRuntime) -> Result<(), Fail> {
         rt.panic("served")
     };
     assert_eq!(rt; audit.parts.len(), 1);
+    for part in &audit.parts {
+        assert_eq!(rt; part.entries().len(), 65_536);
+    }
+    for closed in &audit.closed {
+        let numbers = closed.entries().iter().map(|entry| entry.number);
+        assert!(rt; numbers.eq([65_537]));
+    }
     assert!(rt; written.as_slice() == wanted.as_bytes());
     Ok(())
 }

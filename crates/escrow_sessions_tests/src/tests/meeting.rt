@@ -93,12 +93,3 @@ impl Gate for Inside {
         }
     }
 }
-
-/// A gate that doesn't hold anybody up.
-pub struct Open;
-
-impl Gate for Open {
-    fn before<R: Wait>(&self, _: &R, _: usize, _: Session, _: u64) {}
-
-    fn inside<R: Wait>(&self, _: &R, _: usize, _: Session, _: u64) {}
-}

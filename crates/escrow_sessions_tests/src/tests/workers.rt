@@ -1,12 +1,12 @@
 //! Workers: that they run at the same time, what each answers, and what is handed back.
 use super::feeding::{BOTH, By, Work, feed_all, feeds_of, seated, serve_all};
 use super::hall::{close_whole, hall};
-use super::meeting::{Before, Inside, Meeting, Open, has_come};
+use super::meeting::{Before, Inside, Meeting, has_come};
 use super::results::{made, push, refused};
 use escrow_machine::Reply;
 use escrow_num::Session;
 use escrow_sessions::{Cause, Done, Ended, Given, MAX_WORKERS, run_fed, run_sessions};
-use escrow_shards::{Answer, Gate, Pass};
+use escrow_shards::{Answer, Gate, NoGate, Pass};
 use escrow_sql::{Request, Statement};
 use escrow_stats::Tally;
 use std::process::Abort;
@@ -188,7 +188,7 @@ fn fed_live(rt: HostRuntime) {
 fn all_hits(rt: HostRuntime) {
     for by in BOTH {
         let (shared, passes) = hall(&rt, 1, SESSIONS);
-        let done = serve_all(&rt, by, &shared, passes, HITS, &Open);
+        let done = serve_all(&rt, by, &shared, passes, HITS, &NoGate);
         check_all(&rt, by, &done, 200);
         check_ids(&rt, &done);
         for closed in &close_whole(&rt, shared, passes_of(&rt, done)) {
@@ -202,7 +202,7 @@ fn all_hits(rt: HostRuntime) {
 fn totals_so_far(rt: HostRuntime) {
     for by in BOTH {
         let (shared, passes) = hall(&rt, 1, 1);
-        let done = serve_all(&rt, by, &shared, passes, TOTALS, &Open);
+        let done = serve_all(&rt, by, &shared, passes, TOTALS, &NoGate);
         check_all(&rt, by, &done, 5);
         for worker in &done {
             let first = totals_of(&rt, worker.answers.get(0));
@@ -222,7 +222,7 @@ fn totals_so_far(rt: HostRuntime) {
 fn too_many(rt: HostRuntime) {
     let (shared, passes) = hall(&rt, 5, 13);
     let feeds = feeds_of(&rt, &shared, passes, COMMIT);
-    let refusal = run_sessions(&rt, rt.alloc(), &shared, feeds, &Open);
+    let refusal = run_sessions(&rt, rt.alloc(), &shared, feeds, &NoGate);
     let refusal = refused(&rt, refusal, "too many");
     assert_eq!(rt; refusal.cause, Cause::TooMany);
     assert_eq!(rt; refusal.feeds.len(), MAX_WORKERS + 1);
@@ -230,12 +230,12 @@ fn too_many(rt: HostRuntime) {
     for feed in refusal.feeds {
         push(&rt, &mut passes, feed.pass);
     }
-    let refusal = feed_all(&rt, &shared, passes, COMMIT, &Open);
+    let refusal = feed_all(&rt, &shared, passes, COMMIT, &NoGate);
     let refusal = refused(&rt, refusal, "too many");
     assert_eq!(rt; refusal.cause, Cause::TooMany);
     let mut passes = refusal.passes;
     let last = passes.pop().expect(&rt, "the last pass");
-    let done = serve_all(&rt, By::Channels, &shared, passes, COMMIT, &Open);
+    let done = serve_all(&rt, By::Channels, &shared, passes, COMMIT, &NoGate);
     assert_eq!(rt; done.len(), MAX_WORKERS);
     check_all(&rt, By::Channels, &done, 1);
     let mut passes = passes_of(&rt, done);
