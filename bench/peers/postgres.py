@@ -1,0 +1,119 @@
+"""A PostgreSQL server for bench/peers/sessions.
+
+Its rows are locked by the transactions that change them. It listens at a socket in the file system alone, and waits for no disk: `fsync`,
+`synchronous_commit` and `full_page_writes` are off. The program's amount is a column, and its floor stands in WHERE. The rows that are changed
+stand on pages of their own, half of which is free for their versions.
+"""
+import glob
+import os
+import pwd
+import re
+import resource
+import shutil
+import signal
+import subprocess
+import tempfile
+import time
+
+START = 1_000_000_000
+# Where the rows that are changed stand: more than a page's rows from each other.
+APART = 200
+TABLE = f"""
+CREATE TABLE hot (id integer PRIMARY KEY, amount bigint NOT NULL) WITH (fillfactor = 50);
+INSERT INTO hot SELECT id, {START} FROM generate_series(0, {64 * APART - 1}) id;
+VACUUM ANALYZE hot;
+"""
+OPTIONS = {"listen_addresses": "", "fsync": "off", "synchronous_commit": "off", "full_page_writes": "off"}
+
+
+def found(name):
+    """Where a program of the server is, if it is installed."""
+    return shutil.which(name) or next(iter(sorted(glob.glob(f"/usr/lib/postgresql/*/bin/{name}"))[::-1]), None)
+
+
+def lacks():
+    """The programs that are wanted and aren't installed."""
+    return [name for name in ("initdb", "postgres", "pgbench", "psql") if not found(name)]
+
+
+class Server:
+    """A server in a folder of its own, as long as it is in hand. It refuses to run as root, so that root runs it as `nobody`."""
+
+    def __enter__(self):
+        self.folder = tempfile.TemporaryDirectory()
+        who = {}
+        if os.geteuid() == 0:
+            nobody = pwd.getpwnam("nobody")
+            os.chown(self.folder.name, nobody.pw_uid, nobody.pw_gid)
+            who = {"user": nobody.pw_uid, "group": nobody.pw_gid, "extra_groups": []}
+        self.data = f"{self.folder.name}/data"
+        words = [found("initdb"), "--no-sync", "--auth=trust", "--username=bench", "--encoding=UTF8", "--no-locale", f"--pgdata={self.data}"]
+        subprocess.run(words, cwd=self.folder.name, stdout=subprocess.DEVNULL, check=True, **who)
+        options = OPTIONS | {"unix_socket_directories": self.folder.name}
+        words = [found("postgres"), "-D", self.data, *(word for name, value in options.items() for word in ("-c", f"{name}={value}"))]
+        with open(f"{self.folder.name}/log", "w") as log:
+            self.process = subprocess.Popen(words, cwd=self.folder.name, stdout=log, stderr=log, **who)
+        while not self.is_ready():
+            if self.process.poll() is not None:
+                with open(f"{self.folder.name}/log") as log:
+                    raise SystemExit(f"postgres: {log.read()}")
+            time.sleep(0.05)
+        return self
+
+    def __exit__(self, *_):
+        self.process.send_signal(signal.SIGINT)
+        self.process.wait()
+        self.folder.cleanup()
+
+    def psql(self):
+        return [found("psql"), "-h", self.folder.name, "-U", "bench", "-d", "postgres", "-X", "-q", "-A", "-t", "-v", "ON_ERROR_STOP=1"]
+
+    def is_ready(self):
+        return subprocess.run([*self.psql(), "-c", "SELECT 1"], stdout=subprocess.DEVNULL, stderr=subprocess.DEVNULL).returncode == 0
+
+    def ask(self, text):
+        return subprocess.run(self.psql(), input=text, capture_output=True, text=True, check=True).stdout.strip()
+
+    def spent(self):
+        """The processor time of the server and of all processes that it has started, in seconds."""
+        ticks = 0
+        for stat in glob.glob("/proc/[0-9]*/stat"):
+            try:
+                with open(stat) as it:
+                    numbers = it.read().rpartition(")")[2].split()
+            except (FileNotFoundError, ProcessLookupError):
+                continue
+            if int(stat.split("/")[2]) == self.process.pid:
+                ticks += sum(map(int, numbers[11:15]))
+            elif int(numbers[1]) == self.process.pid:
+                ticks += sum(map(int, numbers[11:13]))
+        return ticks / os.sysconf("SC_CLK_TCK")
+
+    def transactions(self, own, clients, count, in_block):
+        """Has clients make so many transactions each, of one UPDATE, and answers the seconds of all by the clock, and the processor seconds
+        of the server and of the clients. An UPDATE that isn't in a block of BEGIN and COMMIT is a transaction by itself."""
+        self.ask("DROP TABLE IF EXISTS hot;" + TABLE)
+        key = f"{APART} * :client_id" if own else "0"
+        update = "UPDATE hot SET amount = amount - 1 WHERE id = :id AND amount - 1 >= 0;"
+        lines = [f"\\set id {key}", *(["BEGIN;", update, "COMMIT;"] if in_block else [update])]
+        with tempfile.NamedTemporaryFile("w", suffix=".sql") as script:
+            script.write("".join(f"{line}\n" for line in lines))
+            script.flush()
+            words = [found("pgbench"), "-h", self.folder.name, "-U", "bench", "-n", "-M", "prepared", "-f", script.name]
+            words += ["-c", str(clients), "-j", str(min(clients, os.cpu_count())), "-t", str(count), "postgres"]
+            server, client = self.spent(), spent_by_children()
+            said = subprocess.run(words, capture_output=True, text=True, check=True).stdout
+            client = spent_by_children() - client
+            time.sleep(0.1)
+            server = self.spent() - server
+        rate = float(re.search(r"tps = ([\d.]+) \(without initial connection time\)", said)[1])
+        taken = self.ask(f"SELECT sum({START} - amount), count(*) FROM hot WHERE amount <> {START}")
+        if taken != f"{clients * count}|{clients if own else 1}":
+            raise SystemExit(f"postgres: {taken} taken, and not {clients * count}")
+        return clients * count / rate, server, client
+
+
+def spent_by_children():
+    """The processor time of all programs that were run and have ended."""
+    usage = resource.getrusage(resource.RUSAGE_CHILDREN)
+    return usage.ru_utime + usage.ru_stime
