@@ -1,5 +1,5 @@
 -- What a database with its transcript keeps over its calls.
-use Rattle.std.specs.Prelude.{◌≡◌, ℕ, ◌+◌, ◌≤◌, ◌<◌, true, false, Option, Some, None, MatchOption, Result, Ok, Err, IsOk, OnErr, IsTrue, Bool, ◌⊎◌, [], length}
+use Rattle.std.specs.Prelude.{◌≡◌, ℕ, ◌+◌, ◌≤◌, ◌<◌, true, false, Option, Some, None, MatchOption, Result, Ok, Err, IsOk, OnErr, IsTrue, Bool, ◌⊎◌, [], length, Vec}
 use Rattle.std.proofs.Common.{refl, sym, subst, arith, inl, inr}
 use Rattle.std.proofs.lemmas.Bool.{false≢true}
 use Rattle.std.proofs.lemmas.List.{length_push}
@@ -28,10 +28,11 @@ use Rattle.escrow_history.specs.Inside.{history_of}
 
 module _ {S : Type 0} (g : Ghosts S) where
   -- a transcript begins at a base, which is what the database holds
-  pub begun_keeps : (d : Seen S) (base : Base) → (HasCleanDisk (state g d.store) → d.state ≡ started base.image) → base.before + MAX_ENTRIES ≤ MAX_NUMBER → IsKept g (history_of d base [])
-  begun_keeps d base is numbers = record {
-    legal = λ clean. subst (IsLegal base []) (sym (is clean)) (nothing_is_legal base);
-    few = omega arith;
+  pub begun_keeps : {Z : Type 0} (d : Seen S) (base : Base) (entries : Vec Entry Z) → entries.items ≡ [] → (HasCleanDisk (state g d.store) → d.state ≡ started base.image)
+      → base.before + MAX_ENTRIES ≤ MAX_NUMBER → IsKept g (history_of d base entries)
+  begun_keeps d base entries none is numbers = record {
+    legal = λ clean. rw none (subst (IsLegal base []) (sym (is clean)) (nothing_is_legal base));
+    few = rw none (omega arith);
     numbers = numbers;
   }
 

@@ -1,2 +1,3 @@
-pub mod Kept
 mod NeverFull
+mod Promised
+pub mod Kept

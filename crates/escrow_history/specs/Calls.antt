@@ -1,5 +1,5 @@
 -- Believed: what a call makes of a database and its transcript.
-use Rattle.std.specs.Prelude.{◌≡◌, ◌⊎◌, ℕ, ◌+◌, None, [], ◌∷◌, ◌++◌, length}
+use Rattle.std.specs.Prelude.{◌≡◌, ◌⊎◌, ℕ, ◌+◌, false, IsTrue, None, [], ◌∷◌, ◌++◌, length}
 use Rattle.sqlite.specs.Held.{state}
 use Rattle.sqlite.specs.State.{HasCleanDisk}
 use Rattle.sqlite_trees.specs.declared.store.Store.{Ghosts}
@@ -7,8 +7,11 @@ use Rattle.escrow_num.specs.declared.refusal.Refusal.{Refusal}
 use Rattle.escrow_num.specs.declared.refusal.Refusal.TheVariants as refusal
 use Rattle.escrow_num.specs.Refusal.{refusal_for}
 use Rattle.escrow_sql.specs.declared.statement.Statement.{Statement}
+use Rattle.escrow_sql.specs.Copies.{holds_memory}
 use Rattle.escrow_machine.specs.declared.reply.Reply.{Reply}
+use Rattle.escrow_machine.specs.Promised.{is_promised}
 use Rattle.escrow_machine.specs.Reply.{failure_of}
+use Rattle.escrow_machine.specs.State.{State}
 use Rattle.escrow_machine.specs.Step.{IsStep}
 use Rattle.escrow_history.specs.declared.served.Unserved.{Unserved}
 use Rattle.escrow_history.specs.declared.served.Unserved.TheVariants.{Full, Failed}
@@ -29,6 +32,11 @@ pub record Stays {S : Type 0} (g : Ghosts S) (old new : History S) : Type 0 wher
   pub entries : new.entries ≡ old.entries
   pub unchanged : HasCleanDisk (state g new.store) → new.state ≡ old.state
 
+-- Nothing is asked of a statement but an entry: it is served whatever memory there is and whatever the store does, and a
+-- copy of it takes no memory. ROLLBACK, ROLLBACK TO, and COMMIT of a session that holds no reservation are such.
+abbrev pub NeedsAnEntry : State → ℕ → Statement → Type 0
+NeedsAnEntry s session asked = IsTrue (is_promised s session asked) × (holds_memory asked ≡ false)
+
 -- the refusals that tell of a failure: 51 and 60
 abbrev pub IsFailed : Refusal → Type 0
 IsFailed r = (r ≡ refusal.Memory) ⊎ (r ≡ refusal.Store)
@@ -40,6 +48,10 @@ IsNotBegun r = (r ≡ refusal.TransactionOpen) ⊎ IsFailed r
 -- why no transcript is handed out: something is open, too few numbers are left, or a failure
 abbrev pub IsNotDrained : Refusal → Type 0
 IsNotDrained r = (r ≡ refusal.TransactionOpen) ⊎ ((r ≡ refusal.TranscriptFull) ⊎ IsFailed r)
+
+-- why no room is taken for entries: a transcript may not have so many, or memory is short
+abbrev pub IsNoRoom : Refusal → Type 0
+IsNoRoom r = (r ≡ refusal.TranscriptFull) ⊎ (r ≡ refusal.Memory)
 
 -- the refusal that tells why a statement wasn't served
 abbrev pub unserved_as : Unserved → Refusal

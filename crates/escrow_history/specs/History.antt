@@ -1,6 +1,6 @@
 -- Believed: what contracts see of a database with its transcript, and what it keeps.
-use Rattle.std.specs.Prelude.{◌+◌, ◌≤◌, List, length, refl}
-use Rattle.std.specs.Coded.{Coded, code_by, coded×, coded_list}
+use Rattle.std.specs.Prelude.{ℕ, ◌+◌, ◌≤◌, List, length, refl}
+use Rattle.std.specs.Coded.{Coded, code_by, coded×, coded_list, coded_ℕ}
 use Rattle.sqlite.specs.Held.{Held, held_code, state}
 use Rattle.sqlite.specs.State.{HasCleanDisk}
 use Rattle.sqlite_trees.specs.declared.store.Store.{Ghosts}
@@ -14,17 +14,19 @@ use Rattle.escrow_transcript.specs.declared.transcript.TheConstants.Transcript.{
 use Rattle.escrow_transcript.specs.Legal.{IsLegal}
 
 -- What contracts see of a database with its transcript: the connection to its store, its state, the base where the
--- transcript began, and the entries since.
+-- transcript began, the entries since, and for how many more of them room was taken.
 pub record History (S : Type 0) : Type 0 where
   pub store : Held S
   pub state : State
   pub base : Base
   pub entries : List Entry
+  pub room : ℕ
 
 abbrev pub history_code : {S : Type 0} → Coded S → Coded (History S)
 history_code {S} store =
-    code_by (Held S × (State × (Base × List Entry))) (coded× (held_code store) (coded× state_code (coded× base_row.the_row.coded (coded_list entry_row.the_row.coded))))
-    (λ h. (h.store, (h.state, (h.base, h.entries)))) (λ p. record { store = p.0; state = p.1.0; base = p.1.1.0; entries = p.1.1.1 }) (λ _. refl)
+    code_by (Held S × (State × (Base × (List Entry × ℕ))))
+    (coded× (held_code store) (coded× state_code (coded× base_row.the_row.coded (coded× (coded_list entry_row.the_row.coded) coded_ℕ))))
+    (λ h. (h.store, (h.state, (h.base, (h.entries, h.room))))) (λ p. record { store = p.0; state = p.1.0; base = p.1.1.0; entries = p.1.1.1.0; room = p.1.1.1.1 }) (λ _. refl)
 
 -- What it keeps: while the disk has returned what was written, the transcript is legal from its base to the state; it
 -- has no more entries than it may have, and a number is left for each of these.

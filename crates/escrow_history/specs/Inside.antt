@@ -1,10 +1,15 @@
 -- Helps: what the fields of a database with its transcript hold.
-use Rattle.std.specs.Prelude.{List}
+use Rattle.std.specs.Prelude.{ℕ, ◌-◌, min, Vec, vec_len, vec_capacity}
 use Rattle.escrow_core.specs.Seen.{Seen}
 use Rattle.escrow_transcript.specs.declared.base.Base.{Base}
 use Rattle.escrow_transcript.specs.declared.entry.Entry.{Entry}
+use Rattle.escrow_transcript.specs.declared.transcript.TheConstants.Transcript.{MAX_ENTRIES}
 use Rattle.escrow_history.specs.History.{History}
 
+-- for how many entries more a list has room: for as many as it can take without growing, and a transcript may have
+abbrev pub room_of : {Z : Type 0} → Vec Entry Z → ℕ
+room_of entries = min (vec_capacity entries) MAX_ENTRIES - vec_len entries
+
 -- the history that a database, a base and entries are
-abbrev pub history_of : {S : Type 0} → Seen S → Base → List Entry → History S
-history_of d base entries = record { store = d.store; state = d.state; base = base; entries = entries }
+abbrev pub history_of : {S Z : Type 0} → Seen S → Base → Vec Entry Z → History S
+history_of d base entries = record { store = d.store; state = d.state; base = base; entries = entries.items; room = room_of entries }

@@ -1,4 +1,4 @@
-ghost use Rattle.std.specs.Prelude.{◌≡◌, ◌⊎◌, ◌<◌, ◌++◌, ◌∷◌, [], true, None, Some, IfOk, IfErr, OnOk, OnErr};
+ghost use Rattle.std.specs.Prelude.{◌≡◌, ◌⊎◌, ◌+◌, ◌<◌, ◌++◌, ◌∷◌, [], true, None, Some, IfOk, IfErr, OnOk, OnErr};
 ghost use Rattle.std.specs.Vec.{vec_len, vec_capacity};
 ghost use Rattle.escrow_machine.specs.Reply.{failure_of, holds_memory};
 
@@ -41,13 +41,13 @@ impl<S: Alter> Model for Audited<S> {
 
     ghost coded = { history_code S.code };
 
-    ghost view = { λ a. history_of a.database a.base a.entries.items };
+    ghost view = { λ a. history_of a.database a.base a.entries };
 
-    ghost invariant = { λ a. IsKept S.Store (history_of a.database a.base a.entries.items) };
+    ghost invariant = { λ a. IsKept S.Store (history_of a.database a.base a.entries) };
 }
 
 impl<S: Alter> Audited<S> {
-    ghost use Rattle.std.specs.Prelude.{◌≡◌, ◌↔◌, ◌+◌, ◌≤◌, ◌<◌, [], true, false, length, IfOk, IfErr, IsErrOf, OnOk, OnErr};
+    ghost use Rattle.std.specs.Prelude.{◌≡◌, ◌↔◌, ◌+◌, ◌≤◌, ◌<◌, [], true, false, length, IfOk, IfErr, IsErrOf, IsOk, MatchResult, OnOk, OnErr};
     ghost use Rattle.sqlite.specs.Held.{state};
     ghost use Rattle.sqlite.specs.State.{HasCleanDisk};
     ghost use Rattle.escrow_machine.specs.State.{has_open};
@@ -55,7 +55,7 @@ impl<S: Alter> Audited<S> {
     ghost use Rattle.escrow_transcript.specs.declared.transcript.TheConstants.Transcript.{MAX_ENTRIES, MAX_NUMBER};
     ghost use Rattle.escrow_transcript.specs.Image.{started};
     ghost use Rattle.escrow_transcript.specs.Legal.{IsLegal};
-    ghost use Rattle.escrow_history.specs.Calls.{Appends, Stays, IsNotBegun, IsNotDrained};
+    ghost use Rattle.escrow_history.specs.Calls.{Appends, Stays, NeedsAnEntry, IsNoRoom, IsNotBegun, IsNotDrained};
     ghost use Rattle.escrow_history.specs.History.{IsKept};
 
     /// A database with a transcript that begins at what it holds. It begins at the first number.
@@ -142,13 +142,50 @@ impl<S: Alter> Audited<S> {
         (database, transcript)
     }
 
+    /// For how many entries more room was taken: 0 to 65,536. As many statements that need nothing but
+    /// room for an entry are served: ROLLBACK, ROLLBACK TO, and COMMIT of a session that holds no
+    /// reservation. Others may fail for what they take besides.
+    pub fn room(&self) -> u32
+        ensures { result ≡ self.now.room }
+    {
+        let most = self.entries.capacity().min(Transcript::MAX_ENTRIES);
+        (most - self.entries.len()) as u32
+    }
+
+    /// Takes room for so many entries more, besides those that the transcript has. Each entry uses up
+    /// at most one of them; where the transcript is handed out, what is left may go with it.
+    ///
+    /// # Errors
+    ///
+    /// [`Refusal::TranscriptFull`] just where the transcript may not have so many;
+    /// [`Refusal::Memory`]. Nothing has changed then.
+    pub fn make_room(&mut self, count: u32) -> Result<(), Refusal>
+        ensures store { self.new.store ≡ self.old.store }
+        ensures state { self.new.state ≡ self.old.state }
+        ensures base { self.new.base ≡ self.old.base }
+        ensures entries { self.new.entries ≡ self.old.entries }
+        ensures room { OnOk result (count ≤ self.new.room) }
+        ensures keeps { self.old.room ≤ self.new.room }
+        ensures full { IsErrOf result Refusal.TranscriptFull ↔ (MAX_ENTRIES < length self.old.entries + count) }
+        ensures only { IfErr result IsNoRoom }
+    {
+        let count = count as usize;
+        if Transcript::MAX_ENTRIES - self.entries.len() < count {
+            return Err(Refusal::TranscriptFull);
+        }
+        self.entries.reserve(count)?;
+        Ok(())
+    }
+
     /// Serves one statement of a session, and adds its entry to the transcript. Room for the entry, and
     /// what it keeps of the statement, are taken before the database is asked.
     ///
     /// # Errors
     ///
     /// [`Unserved::Full`] just where the transcript has as many entries as it may have, before anything
-    /// else; [`Unserved::Failed`] for want of memory or by the store. Nothing has changed then.
+    /// else; [`Unserved::Failed`] for want of memory or by the store. Nothing has changed then. Where
+    /// room was taken ([`Audited::make_room`]), ROLLBACK, ROLLBACK TO, and COMMIT of a session that
+    /// holds no reservation are served.
     pub fn serve(
         &mut self,
         alloc: Global,
@@ -159,6 +196,8 @@ impl<S: Alter> Audited<S> {
         ensures kept { IfOk result (λ r. r.kept ≡ r.reply) }
         ensures unserved { OnErr result (Stays S.Store self.old self.new) }
         ensures full { IsErrOf result Unserved.Full ↔ (length self.old.entries ≡ MAX_ENTRIES) }
+        ensures promised { 0 < self.old.room → NeedsAnEntry self.old.state session statement.now → IsOk result }
+        ensures room { MatchResult result (λ _. self.old.room ≤ self.new.room + 1) (λ _. self.old.room ≤ self.new.room) }
         ensures clean { HasCleanDisk (state S.Store self.new.store) → HasCleanDisk (state S.Store self.old.store) }
     {
         if self.entries.len() == Transcript::MAX_ENTRIES {
@@ -267,7 +306,8 @@ fn two_copies(alloc: Global, reply: &Reply) -> Result<(Reply, Reply), AllocError
 /// Adds an entry, for which there is room.
 fn keep(entries: &mut Vec<Entry>, entry: Entry)
     requires { vec_len entries.old < vec_capacity entries.old }
-    ensures { entries.new.items ≡ entries.old.items ++ entry ∷ [] }
+    ensures items { entries.new.items ≡ entries.old.items ++ entry ∷ [] }
+    ensures room { (vec_len entries.new ≡ vec_len entries.old + 1) × (vec_capacity entries.new ≡ vec_capacity entries.old) }
 {
     entries.push_reserved(entry);
 }
