@@ -11,14 +11,15 @@ use escrow_machine::Reply;
 use escrow_num::{Refusal, Session};
 use escrow_reply::{render, render_lines};
 use escrow_script::{
-    MOST_GATHERED, ServeFault, database_name, fault_refusal, gather, write_gathered,
+    MOST_GATHERED, ServeFault, database_name, fault_refusal, gather, out_of_memory, write_gathered,
 };
 use escrow_sessions::Given;
 use escrow_shards::Answer;
 use std::alloc::{AllocError, Global};
 use std::io::Write;
 
-/// Prints what is planned for the lines of a phase, in order: where a line asks, its session's next answer.
+/// Prints what is planned for the lines of a phase, in order: where a line asks, its session's next answer. Where
+/// memory is refused, what is gathered is written first.
 pub(crate) fn print_phase<W: Write>(
     alloc: Global,
     desks: &mut Vec<Desk>,
@@ -31,7 +32,9 @@ pub(crate) fn print_phase<W: Write>(
 {
     let mut replies = Vec::new(alloc);
     for line in lines {
-        let reply = print_line(alloc, desks, line)?;
+        let Ok(reply) = print_line(alloc, desks, line) else {
+            return Err(out_of_memory(writer, &mut replies));
+        };
         pass_on(writer, &mut replies, reply)?;
     }
     write_gathered(writer, &mut replies)
@@ -45,7 +48,9 @@ fn pass_on<W: Write>(
 ) -> Result<(), ServeFault>
     ensures { OnOk result (PassesOn (W.contents writer.old) (W.contents writer.new) (replies.old.items ++ reply.items) replies.new.items) }
 {
-    gather(replies, reply)?;
+    let Ok(()) = gather(replies, reply) else {
+        return Err(out_of_memory(writer, replies));
+    };
     if replies.len() >= MOST_GATHERED {
         write_gathered(writer, replies)?;
     }

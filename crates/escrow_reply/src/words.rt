@@ -1,4 +1,5 @@
-ghost use Rattle.std.specs.Prelude.{◌≡◌, ◌++◌, OnOk, codes, decimal};
+ghost use Rattle.std.specs.Prelude.{◌≡◌, ◌≤◌, ◌+◌, ◌++◌, OnOk, length, codes, decimal};
+ghost use Rattle.escrow_reply.specs.Room.{TakesRoom};
 ghost use Rattle.escrow_reply.specs.Text.{reply_text, refusal_text, breach_text, side_text};
 
 use crate::push::{push_bytes, push_counted, push_measure, push_text};
@@ -8,7 +9,8 @@ use std::alloc::AllocError;
 
 /// The words of a reply's last line.
 pub(crate) fn push_words(line: &mut Vec<u8>, reply: &Reply) -> Result<(), AllocError>
-    ensures { OnOk result (line.new.items ≡ line.old.items ++ reply_text reply.now) }
+    ensures text { OnOk result (line.new.items ≡ line.old.items ++ reply_text reply.now) }
+    ensures room { TakesRoom result line.old line.new 174 }
 {
     match reply {
         Reply::Refused(refusal) => push_refused(line, refusal),
@@ -34,7 +36,8 @@ pub(crate) fn push_words(line: &mut Vec<u8>, reply: &Reply) -> Result<(), AllocE
 
 /// Words and a name behind them.
 fn push_named(line: &mut Vec<u8>, words: &str, name: Name) -> Result<(), AllocError>
-    ensures { OnOk result (line.new.items ≡ line.old.items ++ (words.now ++ name)) }
+    ensures text { OnOk result (line.new.items ≡ line.old.items ++ (words.now ++ name)) }
+    ensures room { TakesRoom result line.old line.new (length words.now + 36) }
 {
     push_text(line, words)?;
     push_bytes(line, name.as_bytes())
@@ -47,7 +50,8 @@ fn push_named_count(
     name: Name,
     count: u64,
 ) -> Result<(), AllocError>
-    ensures { OnOk result (line.new.items ≡ line.old.items ++ (words.now ++ name ++ codes " " ++ decimal count)) }
+    ensures text { OnOk result (line.new.items ≡ line.old.items ++ (words.now ++ name ++ codes " " ++ decimal count)) }
+    ensures room { TakesRoom result line.old line.new (length words.now + 77) }
 {
     push_named(line, words, name)?;
     push_counted(line, " ", count)
@@ -55,7 +59,8 @@ fn push_named_count(
 
 /// A refusal's number and its words.
 fn push_refused(line: &mut Vec<u8>, refusal: &Refusal) -> Result<(), AllocError>
-    ensures { OnOk result (line.new.items ≡ line.old.items ++ reply_text (Reply.Refused refusal.now)) }
+    ensures text { OnOk result (line.new.items ≡ line.old.items ++ reply_text (Reply.Refused refusal.now)) }
+    ensures room { TakesRoom result line.old line.new 174 }
 {
     push_counted(line, "ERR ", u64::from(refusal.number()))?;
     push_text(line, " ")?;
@@ -64,7 +69,8 @@ fn push_refused(line: &mut Vec<u8>, refusal: &Refusal) -> Result<(), AllocError>
 
 /// The words for a refusal.
 fn push_refusal(line: &mut Vec<u8>, refusal: &Refusal) -> Result<(), AllocError>
-    ensures { OnOk result (line.new.items ≡ line.old.items ++ refusal_text refusal.now) }
+    ensures text { OnOk result (line.new.items ≡ line.old.items ++ refusal_text refusal.now) }
+    ensures room { TakesRoom result line.old line.new 129 }
 {
     match refusal {
         Refusal::Syntax { column } => { push_counted(line, "syntax column ", u64::from(*column)) }
@@ -97,7 +103,8 @@ fn push_refusal(line: &mut Vec<u8>, refusal: &Refusal) -> Result<(), AllocError>
 
 /// A limit that could be broken: the check, the side, the worst value and the limit.
 fn push_breach(line: &mut Vec<u8>, breach: &Breach) -> Result<(), AllocError>
-    ensures { OnOk result (line.new.items ≡ line.old.items ++ breach_text breach.now) }
+    ensures text { OnOk result (line.new.items ≡ line.old.items ++ breach_text breach.now) }
+    ensures room { TakesRoom result line.old line.new 129 }
 {
     push_bytes(line, breach.check.as_bytes())?;
     push_text(line, side_words(breach.side))?;
@@ -107,7 +114,8 @@ fn push_breach(line: &mut Vec<u8>, breach: &Breach) -> Result<(), AllocError>
 
 /// The word for a side, behind a space.
 fn side_words(side: Side) -> &'static str
-    ensures { result.now ≡ codes " " ++ side_text side }
+    ensures text { result.now ≡ codes " " ++ side_text side }
+    ensures short { length result.now ≤ 5 }
 {
     match side {
         Side::Low => " low",

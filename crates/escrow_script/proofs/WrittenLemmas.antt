@@ -1,5 +1,5 @@
 -- What is gathered and written piece by piece, and what a fault leaves of it.
-use Rattle.std.proofs.Common.{◌≡◌, ◌≢◌, ◌⊎◌, ℕ, ◌<◌, List, [], ◌++◌, length, drop, Option, Some, None, arith, refl, sym, ap, subst, ◌∙◌, append_assoc, inl, inr}
+use Rattle.std.proofs.Common.{◌≡◌, ℕ, ◌<◌, List, [], ◌++◌, length, drop, Option, Some, None, arith, refl, sym, ap, ◌∙◌, append_assoc}
 use Rattle.std.specs.Prelude.{Bool, true, false}
 use Rattle.std.specs.Io.KnownBytes.{Appends}
 use Rattle.std.proofs.lemmas.List.{append-nil, length-drop}
@@ -18,28 +18,11 @@ pub appends_none : (bytes : Option (List ℕ)) → Appends bytes bytes []
 appends_none None = tt
 appends_none (Some bs) = sym (append-nil bs)
 
--- of a fault that isn't the writer's, nothing is left to write
-pub leaves_nothing : (why : ServeFault) → why ≢ fault.Write → Leaves why []
-leaves_nothing (fault.Read cause) other = refl
-leaves_nothing fault.Write other = absurd (other refl)
-leaves_nothing fault.Memory other = tt
-
--- at a fault nothing is gathered, or memory was refused
-pub leaves_gathered : (why : ServeFault) (gathered : List ℕ) → why ≢ fault.Write → (gathered ≡ []) ⊎ (why ≡ fault.Memory) → Leaves why gathered
-leaves_gathered why gathered other (inl none) = subst (Leaves why) (sym none) (leaves_nothing why other)
-leaves_gathered why gathered other (inr memory) = subst (λ w. Leaves w gathered) (sym memory) tt
-
 -- what is left at a fault of the writer
 pub leaves_some : (why : ServeFault) (bytes : List ℕ) (len : ℕ) → why ≡ fault.Write → len < length bytes → Leaves why (drop len bytes)
 leaves_some why bytes len write short =
     let some : 0 < length (drop len bytes) = omega (arith, length-drop len bytes) in
     rw write some
-
--- nothing is gathered where no line is in hand; where one is, a fault is want of memory
-pub waits_for_none : (in_hand : Bool) (gathered : List ℕ) (why : ServeFault) → (in_hand ≡ false → gathered ≡ []) → (in_hand ≡ true → why ≡ fault.Memory)
-    → (gathered ≡ []) ⊎ (why ≡ fault.Memory)
-waits_for_none true gathered why waits cause = inr (cause refl)
-waits_for_none false gathered why waits cause = inl (waits refl)
 
 -- where there was no next line, none was in hand
 pub nothing_waits : (found in_hand : Bool) (gathered : List ℕ) → found ≡ false → (in_hand ≡ true → found ≡ true) → (in_hand ≡ false → gathered ≡ []) → gathered ≡ []

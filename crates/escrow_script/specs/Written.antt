@@ -1,5 +1,5 @@
 -- Believed: refusals that no database decides, and what a fault leaves unwritten.
-use Rattle.std.specs.Prelude.{◌≡◌, ◌<◌, ℕ, List, [], length, codes, ⊤}
+use Rattle.std.specs.Prelude.{◌≡◌, ◌<◌, ℕ, List, [], length, codes}
 use Rattle.escrow_num.specs.declared.refusal.Refusal.{Refusal}
 use Rattle.escrow_num.specs.declared.refusal.Refusal.TheVariants as refusal
 use Rattle.escrow_sql.specs.declared.fault.ParseFault.{ParseFault}
@@ -18,8 +18,8 @@ fault_refusal fault.Memory = refusal.Memory
 abbrev pub no_line_text : List ℕ
 no_line_text = with_prefix (codes "script> ") (reply_lines (reply.Refused refusal.Line))
 
--- after a fault of the reader no reply is left to write, and after one of the writer some of one is
+-- after want of memory, or a fault of the reader, no reply is left to write, and after one of the writer some of one is
 abbrev pub Leaves : ServeFault → List ℕ → Type 0
 Leaves (serve_fault.Read cause) unwritten = unwritten ≡ []
 Leaves serve_fault.Write unwritten = 0 < length unwritten
-Leaves serve_fault.Memory unwritten = ⊤
+Leaves serve_fault.Memory unwritten = unwritten ≡ []

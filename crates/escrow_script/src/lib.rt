@@ -2,7 +2,7 @@
 //!
 //! Its one contract: [`Script::next_line`] takes the lines of what a reader gives, one after another,
 //! and [`classify`] tells what each is. Replies are gathered and written by [`gather`] and
-//! [`write_gathered`].
+//! [`write_gathered`], and by [`out_of_memory`] where memory is refused.
 #![tactic(auto)]
 
 mod fault;
@@ -19,4 +19,4 @@ pub use limits::{MAX_DATABASES, MAX_LINE, MAX_READS, MAX_SCRIPT};
 pub use line::{Line, classify};
 pub use names::database_name;
 pub use script::Script;
-pub use written::{MOST_GATHERED, gather, write_gathered, write_whole};
+pub use written::{MOST_GATHERED, gather, out_of_memory, write_gathered, write_whole};

@@ -1,5 +1,6 @@
-ghost use Rattle.std.specs.Prelude.{◌≡◌, ◌<◌, ◌++◌, [], ℕ, length, take, OnOk, OnErr, IfErr};
+ghost use Rattle.std.specs.Prelude.{◌≡◌, ◌<◌, ◌≤◌, ◌++◌, [], ℕ, length, take, drop, vec_capacity, OnOk, OnErr, IfErr};
 ghost use Rattle.std.specs.Io.KnownBytes.{Appends};
+ghost use Rattle.escrow_script.specs.Written.{Leaves};
 
 use crate::fault::ServeFault;
 use std::alloc::AllocError;
@@ -12,10 +13,11 @@ pub const MOST_GATHERED: usize = 65_536;
 ///
 /// # Errors
 ///
-/// Memory is short, and what was gathered is as it was.
+/// Memory is short, and what was gathered is as it was, with the room that it had.
 pub fn gather(replies: &mut Vec<u8>, reply: Vec<u8>) -> Result<(), AllocError>
     ensures ok { OnOk result (replies.new.items ≡ replies.old.items ++ reply.items) }
     ensures err { OnErr result (replies.new.items ≡ replies.old.items) }
+    ensures room { OnErr result (vec_capacity replies.old ≤ vec_capacity replies.new) }
 {
     if replies.is_empty() {
         *replies = reply;
@@ -39,6 +41,17 @@ pub fn write_gathered<W: Write>(writer: &mut W, replies: &mut Vec<u8>) -> Result
     write_whole(writer, replies.as_slice())?;
     replies.clear();
     Ok(())
+}
+
+/// Writes what is gathered where memory was refused, and answers the fault: want of memory, once all of it is written,
+/// or the writer's.
+pub fn out_of_memory<W: Write>(writer: &mut W, replies: &mut Vec<u8>) -> ServeFault
+    ensures { (len : ℕ) × Appends (W.contents writer.old) (W.contents writer.new) (take len replies.old.items) × Leaves result (drop len replies.old.items) }
+{
+    match write_gathered(writer, replies) {
+        Ok(()) => ServeFault::Memory,
+        Err(fault) => fault,
+    }
 }
 
 /// Writes all of the bytes, or fewer of them from the front on.

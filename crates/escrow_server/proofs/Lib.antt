@@ -3,6 +3,7 @@ pub mod ArgsLemmas
 pub mod FoundLemmas
 pub mod ProgramLemmas
 pub mod ServeLemmas
+pub mod ShownLemmas
 pub mod TotalsLemmas
 pub mod CleanDisks
 pub mod Runs

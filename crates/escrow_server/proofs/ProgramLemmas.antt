@@ -54,7 +54,7 @@ pub ends_unserved : (asked : Mode) (count status : ℕ) (script rest old_bytes n
 ends_unserved asked count status None rest old_bytes new_bytes failed wrote = tt
 ends_unserved mode.Free count status (Some bytes) rest old_bytes new_bytes failed wrote = inr (inl failed)
 ends_unserved mode.Run count status (Some bytes) rest old_bytes new_bytes failed wrote =
-    inr (inl (failed, fault.Memory, empty_states count, stopped_unserved fault.Memory (empty_states count) bytes old_bytes new_bytes tt wrote))
+    inr (inl (failed, fault.Memory, empty_states count, stopped_unserved fault.Memory (empty_states count) bytes old_bytes new_bytes refl wrote))
 
 -- HOW A RUN ENDS
 

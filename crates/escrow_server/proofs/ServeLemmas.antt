@@ -1,11 +1,15 @@
 -- Lines that are served one by one.
-use Rattle.std.proofs.Common.{◌≡◌, ◌⊎◌, ℕ, ◌+◌, ◌<◌, ◌≤◌, List, [], ◌∷◌, ◌++◌, length, map, replicate, take, drop, Option, Some, None, arith, refl, sym, ap, subst, ◌∙◌, append_assoc, inl, inr}
-use Rattle.std.specs.Prelude.{slice_get, slice_index_or, slice_set, option_map, IfSome, Bool, true, false}
+use Rattle.std.proofs.Common.{◌≡◌, ◌⊎◌, ℕ, ◌+◌, ◌<◌, ◌≤◌, List, [], ◌∷◌, ◌++◌, length, map, replicate, take, drop, Option, Some, None, arith, refl, sym, ap, subst, ◌∙◌, append_assoc, inl, inr, lit<, lit≤}
+use Rattle.std.specs.Prelude.{◌==◌, slice_get, slice_index_or, slice_set, option_map, codes, decimal, IfSome, Bool, true, false, Result, Ok, Err}
 use Rattle.std.specs.Io.KnownBytes.{Appends, IsAtEnd}
+use Rattle.std.proofs.lemmas.Bool.{cases_Bool}
+use Rattle.std.proofs.lemmas.Fmt.{length-decimal-le}
 use Rattle.std.proofs.lemmas.List.{append-nil, take-append-drop, length-append, length-map, map-set}
 use Rattle.std.proofs.lemmas.Option.{slice_get-get_or, slice_get-map}
 use Rattle.sqlite_trees.specs.declared.store.Store.{Ghosts}
+use Rattle.escrow_num.specs.declared.failure.Failure.{Failure}
 use Rattle.escrow_machine.specs.declared.reply.Reply.{Reply}
+use Rattle.escrow_machine.specs.Reply.{holds_memory, restart_reply}
 use Rattle.escrow_core.specs.Seen.{Seen}
 use Rattle.escrow_machine.specs.State.{State}
 use Rattle.escrow_script.specs.declared.fault.ServeFault.{ServeFault}
@@ -16,6 +20,7 @@ use Rattle.escrow_script.specs.declared.line.Line.TheVariants as line
 use Rattle.escrow_script.specs.Reading.{seen}
 use Rattle.escrow_script.specs.Line.{Reading, nothing, join, restart, statement, database_name, Reads, lines_of}
 use Rattle.escrow_reply.specs.Text.{rendered_whole}
+use Rattle.escrow_reply.specs.declared.short.TheConstants.{MAX_FRONT}
 use Rattle.escrow_script.specs.Written.{Leaves}
 use Rattle.escrow_server.specs.Output.{Sitting, begun, state_in, states_of, HaveCleanDisks, ServesBytes, ServesLines, WritesLines, ServesWhole, StopsWithin}
 use Rattle.escrow_script.proofs.LineLemmas.{names_one, restarts_one}
@@ -24,7 +29,7 @@ use Rattle.escrow_script.proofs.WrittenLemmas.{appends_more, appends_none}
 use Rattle.escrow_server.specs.declared.totals.Totals.{Totals}
 use Rattle.escrow_server.specs.Totals.{no_totals, totals_after, AllSit, TextServed, LineServed}
 use Rattle.escrow_server.proofs.TotalsLemmas.{all_begun, all_states, line_of_none, line_of_statement, line_of_restart}
-use Rattle.escrow_script.specs.declared.limits.TheConstants.{MAX_LINE, MAX_SCRIPT}
+use Rattle.escrow_script.specs.declared.limits.TheConstants.{MAX_DATABASES, MAX_LINE, MAX_SCRIPT}
 use Rattle.escrow_script.specs.Script.{TakesLine, Spends, left}
 
 -- databases, as contracts show them
@@ -148,16 +153,18 @@ turn_stood states mid new totals counted script rest new_rest old_bytes new_byte
       rests = next.rests;
     }
 
-pub turn_served : {S : Type 0} (g : Ghosts S) (old mid new : Databases S) (totals counted : List Totals) (script rest new_rest old_bytes new_bytes : Option (List ℕ)) (gathered first all : List ℕ) (budget less : ℕ)
-    → Turn g mid new totals counted rest new_rest first budget less → all ≡ gathered ++ first → Stands g old mid totals script rest old_bytes new_bytes gathered budget
-    → Stands g old new counted script new_rest old_bytes new_bytes all less
-turn_served g old mid new totals counted script rest new_rest old_bytes new_bytes gathered first all budget less turn is_all stands =
-    subst (λ (a : List ℕ). Stands g old new counted script new_rest old_bytes new_bytes a less) (sym is_all)
+pub turn_served : {S : Type 0} (g : Ghosts S) (old mid new : Databases S) (totals counted : List Totals) (script rest new_rest old_bytes new_bytes now_bytes : Option (List ℕ)) (gathered held first all : List ℕ) (budget less : ℕ)
+    → Turn g mid new totals counted rest new_rest first budget less → now_bytes ≡ new_bytes → held ≡ gathered → all ≡ held ++ first
+    → Stands g old mid totals script rest old_bytes new_bytes gathered budget → Stands g old new counted script new_rest old_bytes now_bytes all less
+turn_served g old mid new totals counted script rest new_rest old_bytes new_bytes now_bytes gathered held first all budget less turn is_now is_held is_all stands =
+    let whole : all ≡ gathered ++ first = is_all ∙ ap (λ (l : List ℕ). l ++ first) is_held in
+    subst (λ (b : Option (List ℕ)). Stands g old new counted script new_rest old_bytes b all less) (sym is_now)
+    (subst (λ (a : List ℕ). Stands g old new counted script new_rest old_bytes new_bytes a less) (sym whole)
     (record {
       stood = λ used. turn_stood (states_of old) (states_of mid) (states_of new) totals counted script rest new_rest old_bytes new_bytes turn.kept gathered first budget less turn.short turn.taken
           (turn.step used) turn.spent (stands.stood (turn.clean used));
       clean = λ used. stands.clean (turn.clean used);
-    })
+    }))
 
 -- what was gathered is written
 stood_written : (states new : List State) (totals : List Totals) (script rest old_bytes mid_bytes new_bytes : Option (List ℕ)) (gathered left_over : List ℕ) (budget : ℕ)
@@ -296,3 +303,15 @@ restarts_place databases totals place bytes name answer old after own counted re
     subst (λ (states : List State). LineServed (states_of databases) totals bytes (rendered_whole name answer) states (slice_set totals place counted)) (sym (map-set state_in databases place after))
     (line_of_restart (states_of databases) totals place bytes name answer old.state after.state own counted (reads_states databases bytes (restart place) reads)
     (state_at databases place old found) has is_name served is_counted)
+
+-- a database's name is short enough to stand in front of a short reply
+pub name_short : (place : ℕ) → place < MAX_DATABASES → length (database_name place) ≤ MAX_FRONT
+name_short place within = elim (cases_Bool (place == 0)) [
+  | inl e ↦ rw e (lit≤ tt)
+  | inr e ↦ rw e (let digits = length-decimal-le 2 (place + 1) (lit< tt) (omega arith) (omega arith) in omega (arith, length-append (codes "bank") (decimal (place + 1))))
+]
+
+-- the reply to a restart is short
+pub restart_short : (outcome : Result (Unit {0}) Failure) → holds_memory (restart_reply outcome) ≡ false
+restart_short (Ok done) = refl
+restart_short (Err failed) = refl

@@ -1,21 +1,29 @@
-ghost use Rattle.std.specs.Prelude.{◌≡◌, ◌≤◌, List, ℕ, vec_len, OnOk, OnErr, IfOk, IfErr, IfSome, MatchOption};
-ghost use Rattle.std.specs.Io.KnownBytes.{IsAtEnd};
+ghost use Rattle.std.specs.Prelude.{◌≡◌, ◌≤◌, ◌<◌, ◌+◌, ◌⊎◌, ◌++◌, [], List, ℕ, true, false, length, take, drop, vec_len, vec_capacity, OnOk, OnErr, IfOk, IfErr, IfSome, MatchOption};
+ghost use Rattle.std.specs.Io.KnownBytes.{Appends, IsAtEnd};
 ghost use Rattle.sqlite.specs.Held.{state};
 ghost use Rattle.escrow_sql.specs.Parser.{Asks};
 ghost use Rattle.sqlite.specs.State.{HasCleanDisk};
+ghost use Rattle.escrow_machine.specs.Reply.{holds_memory};
 ghost use Rattle.escrow_machine.specs.Step.{IsServed};
+ghost use Rattle.escrow_reply.specs.Text.{rendered};
+ghost use Rattle.escrow_script.specs.Script.{left, has_line, HasEnded, Spends, TakesLine};
+ghost use Rattle.escrow_script.specs.Written.{Leaves};
+ghost use Rattle.escrow_stats.specs.Text.{rendered_totals};
 ghost use Rattle.escrow_server.specs.Output.{states_of, Answers, HaveCleanDisks, ServesWhole, StopsWithin};
 ghost use Rattle.escrow_server.specs.Totals.{totals_after, LineServed, TextServed};
 
 use crate::totals::{Totals, totals_of};
 use escrow_core::{Database, Event, Reply};
 use escrow_num::{Refusal, Session};
-use escrow_reply::{render, render_lines, render_whole};
+use escrow_reply::{
+    MAX_FRONT, MAX_SHORT, is_short, push_short, push_short_line, push_short_whole, render,
+};
 use escrow_script::{
     Line, MAX_DATABASES, MOST_GATHERED, Script, ServeFault, classify, database_name, fault_refusal,
-    gather, write_gathered,
+    gather, out_of_memory, write_gathered,
 };
 use escrow_sql::{Request, parse};
+use escrow_stats::Tally;
 use sqlite::Alter;
 use std::alloc::{AllocError, Global};
 use std::io::{Read, Write};
@@ -25,8 +33,9 @@ use std::io::{Read, Write};
 /// that whoever waits for a reply has it. There are 1 to 16 databases. SHOW STATISTICS shows what its
 /// session was answered in this call, since the last restart of its database.
 ///
-/// After a fault the lines served so far stand in the databases, and what was written is a front of
-/// their replies.
+/// After a fault the lines served so far stand in the databases, and all of their replies were written,
+/// unless the writer failed: then a front of them. A line is served only once there is room for a short reply,
+/// as any is but a query's; a query whose lines can't be had for want of memory is answered 51.
 pub fn serve_script<S: Alter, R: Read, W: Write>(
     alloc: Global,
     databases: &mut Vec<Database<S>>,
@@ -42,7 +51,7 @@ pub fn serve_script<S: Alter, R: Read, W: Write>(
         ServesWhole script (states_of databases.old.items) (states_of databases.new.items) (W.contents writer.old) (W.contents writer.new))) }
     ensures end { OnOk result (IfSome (R.remaining reader.old) (λ script. IsAtEnd (R.remaining reader.new))) }
 
-    // After a fault some lines were served, and a front of their output was written.
+    // After a fault some lines were served, and their output was written, or a front of it where the writer failed.
     ensures fault { HaveCleanDisks S.Store databases.new.items → IfErr result (λ fault. IfSome (R.remaining reader.old) (λ script.
         StopsWithin fault script (states_of databases.old.items) (states_of databases.new.items) (W.contents writer.old) (W.contents writer.new))) }
 
@@ -52,9 +61,8 @@ pub fn serve_script<S: Alter, R: Read, W: Write>(
     let mut script = Script::new(alloc)?;
     let mut totals = totals_of(alloc, databases.len())?;
     let mut replies = Vec::new(alloc);
-    while script.next_line(reader)? {
-        let reply = serve_line(alloc, databases, &mut totals, script.line())?;
-        gather(&mut replies, reply)?;
+    while take_line(&mut script, reader, writer, &mut replies)? {
+        serve_line(alloc, databases, &mut totals, script.line(), &mut replies);
         if replies.len() >= MOST_GATHERED || !script.has_line() {
             write_gathered(writer, &mut replies)?;
         }
@@ -62,29 +70,63 @@ pub fn serve_script<S: Alter, R: Read, W: Write>(
     Ok(())
 }
 
-/// Serves one line, and answers the lines of its reply, of which there may be none.
+/// Takes the next line, with room for a short reply to it, and answers whether there was one. Where memory is
+/// refused what is gathered is written first, and a line that was taken isn't to be served.
+fn take_line<R: Read, W: Write>(
+    script: &mut Script,
+    reader: &mut R,
+    writer: &mut W,
+    replies: &mut Vec<u8>,
+) -> Result<bool, ServeFault>
+    requires ended { script.old.has_ended ≡ true → HasEnded script.old.unread (R.remaining reader.old) }
+    requires waits { has_line script.old.reads_left script.old.unread ≡ false → replies.old.items ≡ [] }
+    ensures taken { IfOk result (λ found. TakesLine found (left script.old.unread (R.remaining reader.old))
+        (left script.new.unread (R.remaining reader.new)) script.new.line.items) }
+    ensures less { IfOk result (λ found. found ≡ true →
+        script.new.bytes_left + length script.new.unread < script.old.bytes_left + length script.old.unread) }
+    ensures spent { OnOk result (Spends (R.remaining reader.old) (R.remaining reader.new) script.old.bytes_left script.new.bytes_left) }
+    ensures in_hand { IfOk result (λ found. has_line script.old.reads_left script.old.unread ≡ true → found ≡ true) }
+    ensures ended { IfOk result (λ _. script.new.has_ended ≡ true → HasEnded script.new.unread (R.remaining reader.new)) }
+    ensures room { IfOk result (λ found. found ≡ true → vec_len replies.new + MAX_SHORT ≤ vec_capacity replies.new) }
+    ensures gathered { OnOk result (replies.new.items ≡ replies.old.items) }
+    ensures unwritten { OnOk result (W.contents writer.new ≡ W.contents writer.old) }
+    ensures fault { IfErr result (λ why. (len : ℕ) × Appends (W.contents writer.old) (W.contents writer.new) (take len replies.old.items)
+        × Leaves why (drop len replies.old.items)) }
+{
+    match script.next_line(reader) {
+        Ok(true) => match replies.reserve(MAX_SHORT) {
+            Ok(()) => Ok(true),
+            Err(_) => Err(out_of_memory(writer, replies)),
+        },
+        Ok(false) => Ok(false),
+        Err(ServeFault::Read(cause)) => Err(ServeFault::Read(cause)),
+        Err(ServeFault::Memory | ServeFault::Write) => Err(out_of_memory(writer, replies)),
+    }
+}
+
+/// Serves one line, and gathers the lines of its reply, of which there may be none. There is room for a short one.
 fn serve_line<S: Alter>(
     alloc: Global,
     databases: &mut Vec<Database<S>>,
     totals: &mut Vec<Totals>,
     line: &[u8],
-) -> Result<Vec<u8>, AllocError>
+    replies: &mut Vec<u8>,
+)
     requires few { vec_len databases.old ≤ MAX_DATABASES }
     requires each { vec_len totals.old ≡ vec_len databases.old }
-    ensures ok { HaveCleanDisks S.Store databases.new.items → IfOk result (λ out.
-        LineServed (states_of databases.old.items) totals.old.items line.now out.items (states_of databases.new.items) totals.new.items) }
-    ensures err { HaveCleanDisks S.Store databases.new.items → OnErr result ((out : List ℕ) ×
+    requires room { vec_len replies.old + MAX_SHORT ≤ vec_capacity replies.old }
+    ensures served { (out : List ℕ) × (replies.new.items ≡ replies.old.items ++ out) × (HaveCleanDisks S.Store databases.new.items →
         LineServed (states_of databases.old.items) totals.old.items line.now out (states_of databases.new.items) totals.new.items) }
     ensures len { vec_len databases.new ≡ vec_len databases.old }
     ensures each { vec_len totals.new ≡ vec_len totals.old }
     ensures clean { HaveCleanDisks S.Store databases.new.items → HaveCleanDisks S.Store databases.old.items }
 {
     match classify(databases.len(), line) {
-        Line::Nothing | Line::Join => Ok(Vec::new(alloc)),
-        Line::NoLine => render_lines(alloc, "script> ", &Reply::Refused(Refusal::Line)),
+        Line::Nothing | Line::Join => {}
+        Line::NoLine => push_short_line(replies, "script> ", &Reply::Refused(Refusal::Line)),
         Line::Restart { database } => {
             let reply = restart(alloc, &mut databases[database], &mut totals[database]);
-            render_whole(alloc, database_name(database), &reply)
+            push_short_whole(replies, database_name(database), &reply);
         }
         Line::Statement {
             database,
@@ -93,7 +135,15 @@ fn serve_line<S: Alter>(
         } => {
             let name = database_name(database);
             let totals = &mut totals[database];
-            serve_text(alloc, name, &mut databases[database], totals, session, text)
+            serve_text(
+                alloc,
+                name,
+                &mut databases[database],
+                totals,
+                session,
+                text,
+                replies,
+            );
         }
     }
 }
@@ -102,6 +152,7 @@ fn serve_line<S: Alter>(
 fn restart<S: Alter>(alloc: Global, database: &mut Database<S>, totals: &mut Totals) -> Reply
     ensures served { HasCleanDisk (state S.Store database.new.store) → IsServed database.old.state Event.Restart result database.new.state }
     ensures totals { totals.new ≡ totals_after result totals.old }
+    ensures short { holds_memory result ≡ false }
     ensures clean { HasCleanDisk (state S.Store database.new.store) → HasCleanDisk (state S.Store database.old.store) }
 {
     let outcome = database.restart(alloc);
@@ -111,7 +162,7 @@ fn restart<S: Alter>(alloc: Global, database: &mut Database<S>, totals: &mut Tot
     Reply::to_restart(outcome)
 }
 
-/// Serves the text of a statement, and answers the lines of its reply.
+/// Serves the text of a statement, and gathers the lines of its reply. There is room for a short one.
 fn serve_text<S: Alter>(
     alloc: Global,
     name: &str,
@@ -119,20 +170,82 @@ fn serve_text<S: Alter>(
     totals: &mut Totals,
     session: Session,
     text: &str,
-) -> Result<Vec<u8>, AllocError>
-    ensures ok { HasCleanDisk (state S.Store database.new.store) → IfOk result (λ out.
-        TextServed name.now database.old.state totals.old session text.now out.items database.new.state totals.new) }
-    ensures err { HasCleanDisk (state S.Store database.new.store) → OnErr result ((out : List ℕ) ×
+    replies: &mut Vec<u8>,
+)
+    requires front { length name.now ≤ MAX_FRONT }
+    requires room { vec_len replies.old + MAX_SHORT ≤ vec_capacity replies.old }
+    ensures served { (out : List ℕ) × (replies.new.items ≡ replies.old.items ++ out) × (HasCleanDisk (state S.Store database.new.store) →
         TextServed name.now database.old.state totals.old session text.now out database.new.state totals.new) }
     ensures clean { HasCleanDisk (state S.Store database.new.store) → HasCleanDisk (state S.Store database.old.store) }
 {
     match answer(alloc, database, session, text) {
         Some(reply) => {
-            totals.count(session, &reply);
-            render(alloc, name, session, &reply)
+            let given = give(alloc, name, session, reply, replies);
+            totals.count(session, &given);
         }
-        None => totals.of(session).render(alloc, name, session),
+        None => match gather_totals(alloc, name, session, totals.of(session), replies) {
+            Ok(()) => {}
+            Err(_) => {
+                let refused = Reply::Refused(Refusal::Memory);
+                push_short(replies, name, session, &refused);
+                totals.count(session, &refused);
+            }
+        },
     }
+}
+
+/// Gathers the lines of a reply, and answers the reply that was given: a query is refused where its lines can't be
+/// had for want of memory. There is room for any other reply.
+fn give(alloc: Global, name: &str, session: Session, reply: Reply, replies: &mut Vec<u8>) -> Reply
+    requires front { length name.now ≤ MAX_FRONT }
+    requires room { vec_len replies.old + MAX_SHORT ≤ vec_capacity replies.old }
+    ensures gathered { replies.new.items ≡ replies.old.items ++ rendered name.now session result }
+    ensures given { (result ≡ reply) ⊎ ((holds_memory reply ≡ true) × (result ≡ Reply.Refused Refusal.Memory)) }
+{
+    if is_short(&reply) {
+        push_short(replies, name, session, &reply);
+        return reply;
+    }
+    match gather_shown(alloc, name, session, &reply, replies) {
+        Ok(()) => reply,
+        Err(_) => {
+            let refused = Reply::Refused(Refusal::Memory);
+            push_short(replies, name, session, &refused);
+            refused
+        }
+    }
+}
+
+/// Gathers the lines of a reply, for which memory is taken. Where it is refused, there is as much room as before.
+fn gather_shown(
+    alloc: Global,
+    name: &str,
+    session: Session,
+    reply: &Reply,
+    replies: &mut Vec<u8>,
+) -> Result<(), AllocError>
+    ensures ok { OnOk result (replies.new.items ≡ replies.old.items ++ rendered name.now session reply.now) }
+    ensures err { OnErr result (replies.new.items ≡ replies.old.items) }
+    ensures room { OnErr result (vec_capacity replies.old ≤ vec_capacity replies.new) }
+{
+    let lines = render(alloc, name, session, reply)?;
+    gather(replies, lines)
+}
+
+/// Gathers the lines of totals, for which memory is taken. Where it is refused, there is as much room as before.
+fn gather_totals(
+    alloc: Global,
+    name: &str,
+    session: Session,
+    totals: Tally,
+    replies: &mut Vec<u8>,
+) -> Result<(), AllocError>
+    ensures ok { OnOk result (replies.new.items ≡ replies.old.items ++ rendered_totals name.now session totals) }
+    ensures err { OnErr result (replies.new.items ≡ replies.old.items) }
+    ensures room { OnErr result (vec_capacity replies.old ≤ vec_capacity replies.new) }
+{
+    let lines = totals.render(alloc, name, session)?;
+    gather(replies, lines)
 }
 
 /// The reply to a text, or `None` where it asks for totals, which no database has. A text that is no

@@ -20,8 +20,8 @@ loop-line-preserved g c =
       lines = lines.1;
       printed =
           printed_more _ c.in-Some.line (into_iter_items c.next.new.self) c.args.desks.now.items at.desks.items c.print_line.new.desks.items
-          (g.W.Write.contents c.args.writer.now) (g.W.Write.contents at.writer) (g.W.Write.contents c.pass_on.new.writer) at.replies.items c.in_ok-reply.reply.items c.pass_on.new.replies.items
-          (c.in_ok-reply.ensures.printed _) c.in_ok-pass_on.ensures (rw (← steps) at.invariant.printed);
+          (g.W.Write.contents c.args.writer.now) (g.W.Write.contents at.writer) (g.W.Write.contents c.pass_on.new.writer) at.replies.items c.in-Ok.reply.items c.pass_on.new.replies.items
+          (c.in-Ok.ensures.printed _) c.in_ok-pass_on.ensures (rw (← steps) at.invariant.printed);
     }
 
 pub loop-line-init : goal.loop-line-init
