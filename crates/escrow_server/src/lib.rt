@@ -22,5 +22,5 @@ pub use escrow_free::{FreeFault, serve_free};
 pub use escrow_script::{MAX_DATABASES, MAX_LINE, MAX_READS, MAX_SCRIPT, ReadFault, ServeFault};
 pub use program::run_program;
 pub use serve::serve_script;
-pub use site::Site;
+pub use site::{Outlook, Site};
 pub use stores::{CloseFault, InFiles, InMemory, OpenFault, OpenStore, Opened};

@@ -1,46 +1,66 @@
 //! The files of a store.
 
+use sqlite::Unknown;
+use sqlite_std_file::OpenError;
 use std::alloc::{AllocError, Global};
-use std::fs::{self, OpenOptions};
+use std::fs::{self, File, OpenOptions};
 use std::io::{self, ErrorKind, Read};
 use std::os::unix::fs::MetadataExt;
+use std::path::Path;
 
-/// The two files of a store, the database and its log, and which of them the program makes.
+/// Where a path leads, and what stood there before anything was locked.
 #[derive(Debug, Drop)]
-pub struct Site {
+pub struct Outlook {
     database: String,
     log: String,
     makes_database: bool,
     makes_log: bool,
-    // How long the log was when both files were locked.
+    // How long the log was.
     log_len: u64,
 }
 
-impl Site {
+/// The two files of a store, the database and its log, and which of them the program makes. Both are locked.
+#[derive(Debug, Drop)]
+pub struct Site {
+    outlook: Outlook,
+    // Which files they are, and how long the log was when both were locked.
+    database: Option<Identity>,
+    log: Option<Identity>,
+    log_len: u64,
+}
+
+/// Which file of the system's a file is, whatever it is called: its device, and its number there.
+#[derive(Clone, Copy, Debug, PartialEq, Eq)]
+struct Identity {
+    device: u64,
+    number: u64,
+}
+
+impl Outlook {
     /// Looks where a path leads, and what stands there. Where nothing does, both files are made, and a path
     /// that is no link names them.
     ///
     /// # Errors
     ///
     /// What the system says, and that memory is short.
-    pub(crate) fn look(rt: &HostRuntime, path: &str) -> io::Result<Site> {
+    pub fn look(rt: &HostRuntime, path: &str) -> io::Result<Outlook> {
         match fs::canonicalize(rt, path) {
-            Ok(real) => Site::beside(rt, real.as_str(), false),
-            Err(error) if error.kind() == ErrorKind::NotFound => Site::beside(rt, path, true),
+            Ok(real) => Outlook::beside(rt, real.as_str(), false),
+            Err(error) if error.kind() == ErrorKind::NotFound => Outlook::beside(rt, path, true),
             Err(error) => Err(error),
         }
     }
 
-    /// The site of a database, with the log beside it.
-    fn beside(rt: &HostRuntime, database: &str, makes_database: bool) -> io::Result<Site> {
+    /// The files of a database, with the log beside it.
+    fn beside(rt: &HostRuntime, database: &str, makes_database: bool) -> io::Result<Outlook> {
         let log = with_suffix(rt.alloc(), database, "-wal")?;
-        let makes_log = found(rt, log.as_str())?.is_none();
-        Ok(Site {
+        let found = found(rt, log.as_str())?;
+        Ok(Outlook {
             database: String::from_str(rt.alloc(), database)?,
             log,
             makes_database,
-            makes_log,
-            log_len: 0,
+            makes_log: found.is_none(),
+            log_len: found.map_or(0, |log| log.len()),
         })
     }
 
@@ -80,30 +100,75 @@ impl Site {
         }
     }
 
-    /// Looks again, with both files locked: what isn't empty was made by somebody else.
-    pub(crate) fn look_again(&mut self, rt: &HostRuntime) {
-        self.makes_database &= len(rt, self.database.as_str()) == Some(0);
-        self.log_len = len(rt, self.log.as_str()).unwrap_or(0);
-        self.makes_log &= self.log_len == 0;
+    /// Reads the folder of the files, which has to be synced once they are made.
+    ///
+    /// # Errors
+    ///
+    /// What the system says.
+    pub(crate) fn read_folder(&self, rt: &HostRuntime) -> io::Result<()> {
+        let folder = match Path::new(self.database.as_str()).parent() {
+            Some(folder) if !folder.as_str().is_empty() => folder.as_str(),
+            _ => ".",
+        };
+        let _folder = File::open(rt, folder)?;
+        Ok(())
     }
 
+    /// Locks a log that stands there without its database, and lets it go: another program has it open where
+    /// the database was moved meanwhile. A log is locked as the file of a database is, so it is opened as one,
+    /// and what that makes beside it is taken away.
+    ///
+    /// # Errors
+    ///
+    /// That it is in use, what the system says, and that memory is short.
+    pub(crate) fn try_lone_log(&self, rt: &HostRuntime) -> Result<(), OpenError> {
+        if !self.makes_database || self.makes_log {
+            return Ok(());
+        }
+        let beside = with_suffix(rt.alloc(), self.log.as_str(), "-wal")?;
+        let makes_beside = found(rt, beside.as_str())?.is_none();
+        let files = sqlite_std_file::open(rt, self.log.as_str(), Unknown)?;
+        if makes_beside {
+            let _ = fs::remove_file(rt, beside.as_str());
+        }
+        drop(files);
+        Ok(())
+    }
+
+    /// Looks again, with both files locked: what isn't empty was made by somebody else, and so was a database
+    /// whose log has grown, since a new one is all in its log.
+    pub fn look_again(mut self, rt: &HostRuntime) -> Site {
+        let log_len = len(rt, self.log.as_str()).unwrap_or(0);
+        self.makes_database &= len(rt, self.database.as_str()) == Some(0)
+            && log_len == self.log_len;
+        self.makes_log &= log_len == 0;
+        Site {
+            database: file_at(rt, self.database.as_str()),
+            log: file_at(rt, self.log.as_str()),
+            outlook: self,
+            log_len,
+        }
+    }
+}
+
+impl Site {
     /// Puts back what stood there: takes away what the program has made, and cuts off what opening a log
     /// writes behind it. Both files have to be locked; what can't be put back stays.
     pub(crate) fn put_back(&self, rt: &HostRuntime) {
-        let _ = if self.makes_log {
-            fs::remove_file(rt, self.log.as_str())
+        if self.outlook.makes_log {
+            self.remove_log(rt);
         } else {
-            cut(rt, self.log.as_str(), self.log_len)
-        };
-        if self.makes_database {
-            let _ = fs::remove_file(rt, self.database.as_str());
+            let _ = cut(rt, self.outlook.log.as_str(), self.log, self.log_len);
+        }
+        if self.outlook.makes_database {
+            remove(rt, self.outlook.database.as_str(), self.database);
         }
     }
 
     /// Takes away a log that was copied into its database. Both files have to be locked; a log that can't be
     /// taken away stays, and holds nothing.
     pub(crate) fn remove_log(&self, rt: &HostRuntime) {
-        let _ = fs::remove_file(rt, self.log.as_str());
+        remove(rt, self.outlook.log.as_str(), self.log);
     }
 }
 
@@ -129,11 +194,31 @@ fn len(rt: &HostRuntime, path: &str) -> Option<u64> {
     }
 }
 
-/// Cuts a file off, if it is longer.
-fn cut(rt: &HostRuntime, path: &str, most: u64) -> io::Result<()> {
-    let file = OpenOptions::new().write(true).open(rt, path)?;
-    if file.metadata()?.len() > most {
-        file.set_len(most)?;
+/// Which file stands at a path, if one does.
+fn file_at(rt: &HostRuntime, path: &str) -> Option<Identity> {
+    match fs::symlink_metadata(rt, path) {
+        Ok(found) if found.is_file() => Some(Identity {
+            device: found.dev(),
+            number: found.ino(),
+        }),
+        _ => None,
+    }
+}
+
+/// Takes a file away, if it still stands at its path: another one that came there since is left.
+fn remove(rt: &HostRuntime, path: &str, file: Option<Identity>) {
+    if file.is_some() && file_at(rt, path) == file {
+        let _ = fs::remove_file(rt, path);
+    }
+}
+
+/// Cuts a file off, if it still stands at its path and is longer.
+fn cut(rt: &HostRuntime, path: &str, file: Option<Identity>, most: u64) -> io::Result<()> {
+    if file.is_some() && file_at(rt, path) == file {
+        let file = OpenOptions::new().write(true).open(rt, path)?;
+        if file.metadata()?.len() > most {
+            file.set_len(most)?;
+        }
     }
     Ok(())
 }

@@ -6,7 +6,7 @@ ghost use Rattle.escrow_cells.specs.Tables.{no_schema};
 ghost use Rattle.escrow_rows.specs.Answers.{IsUsable};
 ghost use Rattle.escrow_server.specs.Program.{file_of};
 
-use crate::site::Site;
+use crate::site::{Outlook, Site};
 use escrow_memory::BlockStore;
 use escrow_num::Failure;
 use escrow_tables::Unverified;
@@ -198,12 +198,8 @@ impl OpenStore<FileStore<File>> for InFiles<'_> {
             return Err(OpenFault::Path);
         }
         let file = file_of(alloc, self.path, place)?;
-        let mut site = Site::look(self.rt, file.as_str())?;
-        let connection = open_file(self.rt, file.as_str(), &mut site)?;
-        Ok(Opened {
-            connection,
-            site: Some(site),
-        })
+        let outlook = Outlook::look(self.rt, file.as_str())?;
+        open_file(self.rt, file.as_str(), outlook)
     }
 
     fn put_back(&self, site: &Site) {
@@ -236,17 +232,20 @@ pub(crate) fn file_of(alloc: Global, path: &str, place: u8) -> Result<String, Al
 fn open_file(
     rt: &HostRuntime,
     path: &str,
-    site: &mut Site,
-) -> Result<Connection<FileStore<File>>, OpenFault> {
-    test_site(rt, site)?;
+    outlook: Outlook,
+) -> Result<Opened<Connection<FileStore<File>>>, OpenFault> {
+    test_outlook(rt, &outlook)?;
     let Ok(random) = RandomState::new(rt) else {
         return Err(OpenFault::Store);
     };
     let options = Options::new(random.hash_one(&0u8));
     let files = sqlite_std_file::open(rt, path, Unknown)?;
-    site.look_again(rt);
+    let site = outlook.look_again(rt);
     match Connection::open_files_with(rt.alloc(), files, options, false) {
-        Ok(connection) => Ok(connection),
+        Ok(connection) => Ok(Opened {
+            connection,
+            site: Some(site),
+        }),
         Err((error, left)) => {
             // While the files are open nobody else uses them.
             let files = left.into_files();
@@ -259,16 +258,18 @@ fn open_file(
 
 /// Refuses what would be refused anyway, before a file is made beside it, and a file of a single byte, which
 /// would be made a store.
-fn test_site(rt: &HostRuntime, site: &Site) -> Result<(), OpenFault> {
-    if site.is_one_byte(rt)? {
+fn test_outlook(rt: &HostRuntime, outlook: &Outlook) -> Result<(), OpenFault> {
+    if outlook.is_one_byte(rt)? {
         return Err(OpenFault::Foreign);
     }
-    if site.is_blocked(rt)? {
+    if outlook.is_blocked(rt)? {
         return Err(OpenFault::NoFile);
     }
-    if site.has_journal_alone(rt)? {
+    if outlook.has_journal_alone(rt)? {
         return Err(OpenFault::Journal);
     }
+    outlook.read_folder(rt)?;
+    outlook.try_lone_log(rt)?;
     Ok(())
 }
 

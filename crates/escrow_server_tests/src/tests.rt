@@ -2,9 +2,11 @@
 mod ends;
 mod files;
 mod many;
+mod moved;
 mod program;
 mod replies;
 mod streams;
+mod unclosed;
 mod words;
 
 use escrow_core::Database;

@@ -2,16 +2,15 @@
 use super::program::{Broken, CommandLine, assert_run};
 use escrow_server::{CloseFault, InFiles, OpenFault, OpenStore, run_program};
 use sqlite::{Connection, Error, ErrorCode};
-use std::fs;
-use std::io::{self, Read};
 use std::process::{Abort, ExitCode};
 use std::sync::Wait;
 use std::test::Fail;
 use std::thread::Threads;
+use std::{fs, io};
 
 /// Runs over one file, one after another: the script, and the replies. Each finds what the ones before it
 /// committed, and none of what was open.
-const AGAIN: [(&str, &str); 3] = [
+pub(super) const AGAIN: [(&str, &str); 3] = [
     (
         "bank.1: CREATE TABLE T (ID INTEGER PRIMARY KEY, N INTEGER RESERVABLE)\n\
          bank.1: INSERT INTO T VALUES (1, 10)\n\
@@ -32,7 +31,7 @@ const AGAIN: [(&str, &str); 3] = [
 const BY_TURNS: [[&[u8]; 3]; 2] = [[b"free", b"run", b"free"], [b"run", b"free", b"run"]];
 
 /// Both modes.
-const MODES: [&[u8]; 2] = [b"run", b"free"];
+pub(super) const MODES: [&[u8]; 2] = [b"run", b"free"];
 
 /// Paths at which no store is opened, and what is said of each.
 const UNOPENED: [(&str, &str); 10] = [
@@ -83,7 +82,7 @@ const STANDING: &str =
     " -.db byte.db b\u{e4}nk \u{1f4b0}.db empty.db folder.db gone.db-journal log.db-wal made.db note.db";
 
 /// What stands in a folder, each name behind a blank.
-fn names(rt: &HostRuntime, folder: &str) -> Result<String, Fail> {
+pub(super) fn names(rt: &HostRuntime, folder: &str) -> Result<String, Fail> {
     let mut found = Vec::new(rt.alloc());
     for entry in fs::read_dir(rt, folder)? {
         let entry = entry?;
@@ -99,14 +98,14 @@ fn names(rt: &HostRuntime, folder: &str) -> Result<String, Fail> {
 }
 
 /// Makes an empty folder for a test's files.
-fn fresh(rt: &HostRuntime, folder: &str) -> Result<(), Fail> {
+pub(super) fn fresh(rt: &HostRuntime, folder: &str) -> Result<(), Fail> {
     let _ = fs::remove_dir_all(rt, folder);
     fs::create_dir(rt, folder)?;
     Ok(())
 }
 
 /// Serves a script over a store in a file, and compares what it gives.
-fn assert_stored<T: Abort + Threads + Wait + Sync>(
+pub(super) fn assert_stored<T: Abort + Threads + Wait + Sync>(
     rt: &HostRuntime,
     to: &T,
     path: &str,
@@ -156,7 +155,34 @@ fn paths(rt: HostRuntime) -> Result<(), Fail> {
     Ok(())
 }
 
-/// Each database is in a file of its own, and where one of them isn't opened, nothing is served.
+/// A script that makes a table in each of three databases, and its replies.
+const SEVERAL: (&str, &str) = (
+    "bank.1: CREATE TABLE A (ID INTEGER PRIMARY KEY, N INTEGER RESERVABLE)\n\
+     bank2.1: CREATE TABLE B (ID INTEGER PRIMARY KEY, N INTEGER RESERVABLE)\n\
+     bank3.1: CREATE TABLE C (ID INTEGER PRIMARY KEY, N INTEGER RESERVABLE)\n",
+    "bank.1> OK created A\nbank2.1> OK created B\nbank3.1> OK created C\n",
+);
+
+/// The files of these databases, each opened alone, and what shows which one it is.
+const ALONE: [(&str, &str, &str); 3] = [
+    (
+        "files_several/many.db",
+        "bank.1: SELECT * FROM A\n",
+        "bank.1> ID | N\nbank.1> OK rows 0\n",
+    ),
+    (
+        "files_several/many.db.2",
+        "bank.1: SELECT * FROM B\n",
+        "bank.1> ID | N\nbank.1> OK rows 0\n",
+    ),
+    (
+        "files_several/many.db.3",
+        "bank.1: SELECT * FROM C\n",
+        "bank.1> ID | N\nbank.1> OK rows 0\n",
+    ),
+];
+
+/// Each database is in the file of its number, and where one of them isn't opened, nothing is served.
 #[test]
 fn several_databases(rt: HostRuntime) -> Result<(), Fail> {
     fresh(&rt, "files_several")?;
@@ -168,17 +194,11 @@ fn several_databases(rt: HostRuntime) -> Result<(), Fail> {
         b"--databases",
         b"3",
     ];
-    let script = b"bank.1: COMMIT\nbank3.1: COMMIT\n";
-    let replies = "bank.1> OK committed 0\nbank3.1> OK committed 0\n";
-    assert_run(&rt, &rt, &words, script, 0, replies, "")?;
-    for path in [
-        "files_several/many.db",
-        "files_several/many.db.2",
-        "files_several/many.db.3",
-    ] {
-        assert!(rt; fs::metadata(&rt, path)?.is_file(), "{path}");
+    let (script, replies) = SEVERAL;
+    assert_run(&rt, &rt, &words, script.as_bytes(), 0, replies, "")?;
+    for (path, script, replies) in ALONE {
+        assert_stored(&rt, &rt, path, script, 0, replies, "")?;
     }
-    assert!(rt; fs::metadata(&rt, "files_several/many.db.1").is_err());
 
     // The second file is a folder: the first one is opened, and nothing is served.
     assert_eq!(rt;
@@ -300,138 +320,6 @@ fn modes(rt: HostRuntime) -> Result<(), Fail> {
         }
     }
     fs::remove_dir_all(&rt, "files_modes")?;
-    Ok(())
-}
-
-/// What stands in the folder of two stores that sessions at the same time were stopped over, and once they were
-/// closed.
-const STOPPED: &str = " bank.db bank.db-wal bank.db.2 bank.db.2-wal";
-
-const CLOSED: &str = " bank.db bank.db.2";
-
-/// Commits before, and leaves a reservation open.
-const BEFORE: &str = "bank.1: CREATE TABLE T (ID INTEGER PRIMARY KEY, N INTEGER RESERVABLE)\n\
-                      bank.1: INSERT INTO T VALUES (1, 10)\n\
-                      bank.1: UPDATE T SET N = N + 1 WHERE ID = 1\n\
-                      @join\n\
-                      bank2.1: COMMIT\n";
-
-const BEFORE_REPLIES: &str = "bank.1> OK created T\nbank.1> OK inserted\nbank.1> OK reserved 1\n";
-
-/// Where sessions at the same time aren't served to the end, what they committed stands, in two files a store. The
-/// next run finds it, whatever its mode, and leaves one file.
-#[test]
-fn stopped(rt: HostRuntime) -> Result<(), Fail> {
-    let mut crowd = String::from_str(rt.alloc(), BEFORE)?;
-    for session in 1..=64u8 {
-        write!(crowd, "bank.{session}: COMMIT\n")?;
-    }
-    for mode in MODES {
-        fresh(&rt, "files_stopped")?;
-        let mut words = [
-            b"escrowd".as_slice(),
-            b"free",
-            b"--databases",
-            b"2",
-            b"--store",
-            b"files_stopped/bank.db",
-        ];
-        let errors = "escrowd: too many sessions in a phase\n";
-        assert_run(
-            &rt,
-            &rt,
-            &words,
-            crowd.as_bytes(),
-            1,
-            BEFORE_REPLIES,
-            errors,
-        )?;
-        assert_eq!(rt; names(&rt, "files_stopped")?.as_str(), STOPPED);
-        words[1] = mode;
-        let select = b"bank.2: SELECT * FROM T\n";
-        let rows = "bank.2> ID | N\nbank.2> 1 | 10\nbank.2> OK rows 1\n";
-        assert_run(&rt, &rt, &words, select, 0, rows, "")?;
-        assert_eq!(rt; names(&rt, "files_stopped")?.as_str(), CLOSED);
-
-        // The replies can't be written.
-        words[1] = b"free";
-        let line = CommandLine { words: &words };
-        let mut said = Vec::new(rt.alloc());
-        let mut input = b"bank.1: UPDATE T SET N = N + 5 WHERE ID = 1\nbank.1: COMMIT\n".as_slice();
-        let code = run_program(&rt, &rt, &line, &mut input, &mut Broken, &mut said);
-        assert!(rt; code == ExitCode::FAILURE);
-        assert_eq!(rt;
-            str::from_utf8(said.as_slice())?,
-            "escrowd: a reply can't be written\n"
-        );
-        assert_eq!(rt; names(&rt, "files_stopped")?.as_str(), STOPPED);
-        words[1] = mode;
-        let rows = "bank.2> ID | N\nbank.2> 1 | 15\nbank.2> OK rows 1\n";
-        assert_run(&rt, &rt, &words, select, 0, rows, "")?;
-        assert_eq!(rt; names(&rt, "files_stopped")?.as_str(), CLOSED);
-    }
-    fs::remove_dir_all(&rt, "files_stopped")?;
-    Ok(())
-}
-
-/// Gives a script, and cuts off the log of a store meanwhile, so that the store can't be closed.
-#[derive(Drop)]
-struct Cutting<'a> {
-    rt: &'a HostRuntime,
-    script: &'a [u8],
-    log: &'a str,
-}
-
-impl Read for Cutting<'_> {
-    fn read(&mut self, buf: &mut [u8]) -> io::Result<usize> {
-        fs::write(self.rt, self.log, b"")?;
-        self.script.read(buf)
-    }
-}
-
-/// What is said of the store that can't be closed.
-const UNCLOSED: &str =
-    "escrowd: the store of bank, `files_unclosed/bank.db`, can't be closed, and what was committed last stands in `files_unclosed/bank.db-wal`: it can't be read or written\n";
-
-/// A store that can't be closed is told of, and the status stays: 0 where all was served, and 1 behind a fault.
-#[test]
-fn unclosed(rt: HostRuntime) -> Result<(), Fail> {
-    let mut output = Vec::new(rt.alloc());
-    let mut said = Vec::new(rt.alloc());
-    let mut reader = Cutting {
-        rt: &rt,
-        script: b"",
-        log: "files_unclosed/bank.db-wal",
-    };
-    let mut words = [
-        b"escrowd".as_slice(),
-        b"run",
-        b"--store",
-        b"files_unclosed/bank.db",
-    ];
-    for mode in [b"free".as_slice(), b"run"] {
-        fresh(&rt, "files_unclosed")?;
-        output.clear();
-        said.clear();
-        reader.script = b"bank.1: COMMIT\n";
-        words[1] = mode;
-        let line = CommandLine { words: &words };
-        let code = run_program(&rt, &rt, &line, &mut reader, &mut output, &mut said);
-        assert!(rt; code == ExitCode::SUCCESS);
-        assert_eq!(rt; str::from_utf8(said.as_slice())?, UNCLOSED);
-        assert_eq!(rt; output.as_slice(), b"bank.1> OK committed 0\n".as_slice());
-    }
-
-    fresh(&rt, "files_unclosed")?;
-    said.clear();
-    reader.script = b"bank.1: COMMIT\n";
-    let line = CommandLine { words: &words };
-    let code = run_program(&rt, &rt, &line, &mut reader, &mut Broken, &mut said);
-    assert!(rt; code == ExitCode::FAILURE);
-    let told = str::from_utf8(said.as_slice())?;
-    let rest = told.strip_prefix("escrowd: a reply can't be written\n");
-    assert!(rt; rest == Some(UNCLOSED), "{told}");
-    fs::remove_dir_all(&rt, "files_unclosed")?;
     Ok(())
 }
 

@@ -8,6 +8,32 @@ const SCRIPT: &str = "bank.1: COMMIT\nbank.2: ROLLBACK\nshop.1: COMMIT\n";
 
 const REPLIES: &str = "bank.1> OK committed 0\nbank.2> OK rolled back 0\nscript> ERR 12 line\n";
 
+/// An account that two sessions change, and that is shown; and the replies.
+const ACCOUNT: &str =
+    "bank.1: CREATE TABLE ACCOUNT (ID INTEGER PRIMARY KEY, BALANCE INTEGER RESERVABLE CONSTRAINT MINIMUM_BALANCE CHECK (BALANCE >= 50))
+bank.1: INSERT INTO ACCOUNT VALUES (1, 100)
+bank.1: UPDATE ACCOUNT SET BALANCE = BALANCE - 30 WHERE ID = 1
+bank.2: UPDATE ACCOUNT SET BALANCE = BALANCE + 5 WHERE ID = 1
+bank.1: SELECT * FROM ACCOUNT WHERE ID = 1
+bank.1: SHOW BOUNDS ACCOUNT WHERE ID = 1
+bank.1: SHOW JOURNAL
+";
+
+const ACCOUNT_REPLIES: &str = "bank.1> OK created ACCOUNT
+bank.1> OK inserted
+bank.1> OK reserved 1
+bank.2> OK reserved 2
+bank.1> ID | BALANCE
+bank.1> 1 | 100
+bank.1> OK rows 1
+bank.1> BALANCE value 100 inf 70 sup 105
+bank.1> CHECK MINIMUM_BALANCE least 70 greatest 105 low 50 high none
+bank.1> OK bounds
+bank.1> 1 session 1 ACCOUNT 1 BALANCE -30
+bank.1> 2 session 2 ACCOUNT 1 BALANCE +5
+bank.1> OK reservations 2
+";
+
 /// Gives so many bytes at a time, and at their end fails, or says that they end.
 #[derive(Drop)]
 struct SlowReader<'a> {
@@ -166,8 +192,8 @@ fn failing_readers(rt: HostRuntime) -> std::result::Result<(), Fail> {
 #[test]
 fn failing_writers(rt: HostRuntime) -> std::result::Result<(), Fail> {
     let alloc = rt.alloc();
-    for room in 0..REPLIES.len() {
-        let prefix = REPLIES.get(..room).expect(&rt, "replies");
+    for room in 0..ACCOUNT_REPLIES.len() {
+        let prefix = ACCOUNT_REPLIES.get(..room).expect(&rt, "replies");
         let mut writer = Taker {
             taken: Vec::new(alloc),
             room,
@@ -175,7 +201,7 @@ fn failing_writers(rt: HostRuntime) -> std::result::Result<(), Fail> {
             is_silent: room % 2 == 0,
             calls: 0,
         };
-        let served = serve(alloc, &mut SCRIPT.as_bytes(), &mut writer);
+        let served = serve(alloc, &mut ACCOUNT.as_bytes(), &mut writer);
         assert!(rt; matches!(served, Err(ServeFault::Write)));
         assert_eq!(rt; str::from_utf8(writer.taken.as_slice())?, prefix);
     }
