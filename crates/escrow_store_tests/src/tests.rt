@@ -5,6 +5,7 @@ mod crashes;
 mod databases;
 mod images;
 mod lent;
+mod many_rows;
 mod opened;
 mod refusals;
 mod rows;

@@ -1,46 +1,218 @@
-//! Stores over files in memory that stop at each of their calls in turn: what is then found are the rows from
-//! before the statement that was stopped, or those that it makes.
+//! Stores over files in memory that stop at each of their calls in turn: what is then opened has the rows from
+//! before the statement that was stopped, or with what it makes.
 use super::databases::{ask, is_text, over};
 use super::lent::Lent;
-use super::stores::{listed, metas, tables};
 use escrow_core::Database;
-use escrow_num::Failure;
-use sqlite::{Alter, Connection, FileStore, Files, Options};
+use sqlite::{Connection, FileStore, Files, Options};
 use sqlite_disk::{Crash, Disk, Fuse, Memory};
-use std::alloc::Global;
+use std::alloc::{AllocError, Global};
 use std::io;
 use std::process::Abort;
 use std::test::Fail;
 
-/// How files are used: few pages are kept in memory, and the log is copied into the database file at each
-/// commit.
-const OPTIONS: Options = Options {
-    cache_pages: 8,
-    spill_pages: 8,
-    checkpoint_frames: 1,
-    seed: 1,
-};
+/// What is done over files, and what is found in them.
+#[derive(Clone, Copy)]
+pub(super) struct Plan<'a> {
+    /// The database file at first. There is no log.
+    pub(super) file: &'a [u8],
+    /// How long the log grows before it is copied into the database file.
+    pub(super) frames: usize,
+    /// The statements of session 1, and the reply to each.
+    pub(super) asked: &'a [(&'a str, &'a str)],
+    /// What shows the rows.
+    pub(super) queries: &'a [&'a str],
+    /// What these show: at first, before each statement, before the closing, and behind it.
+    pub(super) found: &'a [&'a str],
+}
 
-/// A connection over files.
-fn connect<D: Disk + Drop>(alloc: Global, files: Files<D>) -> Option<Connection<FileStore<D>>> {
+/// A connection over files. Few pages are kept in memory.
+fn connect<D: Disk + Drop>(
+    alloc: Global,
+    files: Files<D>,
+    frames: usize,
+) -> Option<Connection<FileStore<D>>> {
     if !files.log.may_be_used() || !files.db.may_be_used() {
         return None;
     }
-    match Connection::open_files(alloc, files, OPTIONS) {
+    let options = Options {
+        cache_pages: 32,
+        spill_pages: 8,
+        checkpoint_frames: frames,
+        seed: 1,
+    };
+    match Connection::open_files(alloc, files, options) {
         Ok(conn) => Some(conn),
         Err(_) => None,
     }
 }
 
-/// A database without tables over files.
-fn database<D: Disk + Drop>(alloc: Global, files: Files<D>) -> Option<Database<FileStore<D>>> {
-    over(alloc, connect(alloc, files)?).ok()
+/// The database over files.
+pub(super) fn database<D: Disk + Drop>(
+    alloc: Global,
+    files: Files<D>,
+    frames: usize,
+) -> Option<Database<FileStore<D>>> {
+    over(alloc, connect(alloc, files, frames)?).ok()
 }
 
-/// Statements of a session, and the reply to each.
-const SCRIPT: [(&str, &str); 5] = [
+/// Copies the log of a database into its database file, and tells whether that was done.
+pub(super) fn is_closed<D: Disk + Drop>(database: Database<FileStore<D>>) -> bool {
+    database.into_connection().close().is_ok()
+}
+
+/// Does a plan over files until the store refuses a statement, and answers at which place of what is found that
+/// is.
+fn serve<R: Abort + AllocGlobal, D: Disk + Drop>(
+    rt: &R,
+    plan: Plan<'_>,
+    files: Files<D>,
+) -> Result<usize, Fail> {
+    let Some(mut database) = database(rt.alloc(), files, plan.frames) else {
+        return Ok(0);
+    };
+    for (i, (statement, reply)) in plan.asked.iter().enumerate() {
+        let got = ask(rt, &mut database, 1, statement)?;
+        if is_text(got.as_str(), "bank.1> ERR 60 store\n") {
+            return Ok(i.saturating_add(1));
+        }
+        assert_eq!(rt; got.as_str(), *reply);
+    }
+    let closing = plan.asked.len().saturating_add(1);
+    if is_closed(database) {
+        Ok(closing.saturating_add(1))
+    } else {
+        Ok(closing)
+    }
+}
+
+/// Does a plan over files of which each stops after so many calls, and looks at what a crash leaves. Answers
+/// whether the plan was done to its end.
+fn serve_stopped<R: Abort + AllocGlobal>(
+    rt: &R,
+    plan: Plan<'_>,
+    log_calls: u64,
+    db_calls: u64,
+) -> Result<bool, Fail> {
+    let alloc = rt.alloc();
+    let log = file_of(alloc, &[])?;
+    let db = file_of(alloc, plan.file)?;
+    let mut log = Fuse::new(log, log_calls);
+    let mut db = Fuse::new(db, db_calls);
+    let lent = Files {
+        log: Lent::new(&mut log),
+        db: Lent::new(&mut db),
+    };
+    let place = serve(rt, plan, lent)?;
+    check_left(rt, plan, &mut log, &mut db, place)?;
+    Ok(place.saturating_add(1) == plan.found.len())
+}
+
+/// A file of bytes, which are synced.
+pub(super) fn file_of(alloc: Global, bytes: &[u8]) -> io::Result<Memory> {
+    let mut file = Memory::new(alloc);
+    file.write_at(0, bytes)?;
+    file.sync()?;
+    Ok(file)
+}
+
+/// What was written to a file.
+fn written(alloc: Global, file: &Fuse<Memory>) -> Result<Vec<u8>, AllocError> {
+    let mut bytes = Vec::new(alloc);
+    bytes.extend_from_slice(file.inner().bytes())?;
+    Ok(bytes)
+}
+
+/// Looks at what a crash leaves at a place: of each of the two files all that was written, or just what was
+/// synced. A store that was closed is whole in its database file.
+fn check_left<R: Abort + AllocGlobal>(
+    rt: &R,
+    plan: Plan<'_>,
+    log: &mut Fuse<Memory>,
+    db: &mut Fuse<Memory>,
+    place: usize,
+) -> Result<(), Fail> {
+    let written_log = written(rt.alloc(), log)?;
+    let written_db = written(rt.alloc(), db)?;
+    log.crash();
+    db.crash();
+    let logs = [written_log.as_slice(), log.inner().bytes()];
+    let dbs = [written_db.as_slice(), db.inner().bytes()];
+    for log in distinct(&logs) {
+        for db in distinct(&dbs) {
+            check(rt, plan, log, db, place)?;
+        }
+    }
+    if place.saturating_add(1) == plan.found.len() {
+        check(rt, plan, &[], dbs[1], place)?;
+    }
+    Ok(())
+}
+
+/// Both of two files, or one where they are the same.
+fn distinct<'a, 'b>(files: &'b [&'a [u8]; 2]) -> &'b [&'a [u8]] {
+    if files[0] == files[1] {
+        &files[..1]
+    } else {
+        files
+    }
+}
+
+/// Opens files, and looks whether what is found in them stands at a place of the plan, or at the next one.
+fn check<R: Abort + AllocGlobal>(
+    rt: &R,
+    plan: Plan<'_>,
+    log: &[u8],
+    db: &[u8],
+    place: usize,
+) -> Result<(), Fail> {
+    let alloc = rt.alloc();
+    let log = file_of(alloc, log)?;
+    let db = file_of(alloc, db)?;
+    let opened = database(alloc, Files { log, db }, plan.frames);
+    let mut database = opened.expect(rt, "a store");
+    let mut found = String::new(alloc);
+    for query in plan.queries {
+        let shown = ask(rt, &mut database, 1, query)?;
+        found.push_str(shown.as_str())?;
+    }
+    let is_before = is_found(plan, place, found.as_str());
+    let is_after = is_found(plan, place.saturating_add(1), found.as_str());
+    assert!(rt; is_before || is_after, "{found} at {place}");
+    Ok(())
+}
+
+/// Whether a text stands at a place of what is found.
+fn is_found(plan: Plan<'_>, place: usize, text: &str) -> bool {
+    match plan.found.get(place) {
+        Some(found) => is_text(text, found),
+        None => false,
+    }
+}
+
+/// Does a plan over files of which one stops after 0, 1, 2 calls and so on, until it is done to its end. Answers
+/// how many calls that takes.
+pub(super) fn stop_at_each<R: Abort + AllocGlobal>(
+    rt: &R,
+    plan: Plan<'_>,
+    stops_log: bool,
+) -> Result<u64, Fail> {
+    for calls in 0..10_000u64 {
+        let (log_calls, db_calls) = if stops_log {
+            (calls, u64::MAX)
+        } else {
+            (u64::MAX, calls)
+        };
+        if serve_stopped(rt, plan, log_calls, db_calls)? {
+            return Ok(calls);
+        }
+    }
+    panic!(rt; "never served")
+}
+
+/// An account, a reservation and its COMMIT.
+const ACCOUNT: [(&str, &str); 5] = [
     (
-        "CREATE TABLE ACCOUNT (ID INTEGER PRIMARY KEY, BALANCE INTEGER RESERVABLE CHECK (BALANCE >= 50))",
+        "CREATE TABLE ACCOUNT (ID INTEGER PRIMARY KEY, BALANCE INTEGER RESERVABLE CONSTRAINT MINIMUM_BALANCE CHECK (BALANCE >= 50))",
         "bank.1> OK created ACCOUNT\n",
     ),
     (
@@ -55,139 +227,41 @@ const SCRIPT: [(&str, &str); 5] = [
     ("DELETE FROM ACCOUNT WHERE ID = 1", "bank.1> OK deleted\n"),
 ];
 
-/// What files hold before there is a store in them, and then before each statement and after the last.
-const HELD: [&str; 7] = [
-    "",
-    "format,1;",
-    "format,1;1,ACCOUNT,CREATE TABLE ACCOUNT (ID NUMBER(15) PRIMARY KEY, BALANCE NUMBER(15) RESERVABLE, CONSTRAINT CHECK_1 CHECK (BALANCE >= 50));",
-    "format,1;1,ACCOUNT,CREATE TABLE ACCOUNT (ID NUMBER(15) PRIMARY KEY, BALANCE NUMBER(15) RESERVABLE, CONSTRAINT CHECK_1 CHECK (BALANCE >= 50));1,1,1;1,2,100;",
-    "format,1;1,ACCOUNT,CREATE TABLE ACCOUNT (ID NUMBER(15) PRIMARY KEY, BALANCE NUMBER(15) RESERVABLE, CONSTRAINT CHECK_1 CHECK (BALANCE >= 50));1,1,1;1,2,100;",
-    "format,1;1,ACCOUNT,CREATE TABLE ACCOUNT (ID NUMBER(15) PRIMARY KEY, BALANCE NUMBER(15) RESERVABLE, CONSTRAINT CHECK_1 CHECK (BALANCE >= 50));1,1,1;1,2,70;",
-    "format,1;1,ACCOUNT,CREATE TABLE ACCOUNT (ID NUMBER(15) PRIMARY KEY, BALANCE NUMBER(15) RESERVABLE, CONSTRAINT CHECK_1 CHECK (BALANCE >= 50));",
-];
+/// What shows the account.
+const SHOW_ACCOUNT: [&str; 1] = ["SELECT * FROM ACCOUNT"];
 
-/// What files hold.
-fn held<D: Disk + Drop>(alloc: Global, files: Files<D>) -> Result<String, Failure> {
-    let Some(mut conn) = connect(alloc, files) else {
-        return Err(Failure::Store);
-    };
-    contents(alloc, &mut conn)
-}
+/// No table.
+const NONE: &str = "bank.1> ERR 21 no such table\n";
 
-/// The tables of a store, and the cells of the table 1; nothing where there is no store.
-fn contents<S: Alter>(alloc: Global, conn: &mut Connection<S>) -> Result<String, Failure> {
-    let Ok(mut text) = metas(alloc, conn) else {
-        return Ok(String::new(alloc));
-    };
-    let tabs = tables(alloc, conn)?;
-    text.push_str(tabs.as_str())?;
-    let cells = listed(alloc, conn, 1)?;
-    text.push_str(cells.as_str())?;
-    Ok(text)
-}
+/// A table without rows.
+const EMPTY: &str = "bank.1> ID | BALANCE\nbank.1> OK rows 0\n";
 
-/// Serves the script over files until a statement is refused by the store, and answers at which place of
-/// `HELD` that is.
-fn serve<R: Abort + AllocGlobal, D: Disk + Drop>(rt: &R, files: Files<D>) -> Result<usize, Fail> {
-    let Some(mut database) = database(rt.alloc(), files) else {
-        return Ok(0);
-    };
-    for (i, (statement, reply)) in SCRIPT.iter().enumerate() {
-        let got = ask(rt, &mut database, 1, statement)?;
-        if is_text(got.as_str(), "bank.1> ERR 60 store\n") {
-            return Ok(i + 1);
-        }
-        assert_eq!(rt; got.as_str(), *reply);
-    }
-    Ok(SCRIPT.len() + 1)
-}
+/// The account as it was inserted.
+const FULL: &str = "bank.1> ID | BALANCE\nbank.1> 1 | 100\nbank.1> OK rows 1\n";
 
-/// Serves the script over files of which each stops after so many calls, and looks at what a crash leaves:
-/// what was synced alone, and also all that was written. Answers whether the script was served to its end.
-fn serve_stopped<R: Abort + AllocGlobal>(
-    rt: &R,
-    log_calls: u64,
-    db_calls: u64,
-) -> Result<bool, Fail> {
-    let alloc = rt.alloc();
-    let mut log = Fuse::new(Memory::new(alloc), log_calls);
-    let mut db = Fuse::new(Memory::new(alloc), db_calls);
-    let lent = Files {
-        log: Lent::new(&mut log),
-        db: Lent::new(&mut db),
-    };
-    let place = serve(rt, lent)?;
-    let written_log = copied(alloc, &log)?;
-    let written_db = copied(alloc, &db)?;
-    let written = Files {
-        log: written_log,
-        db: written_db,
-    };
-    check(rt, written, place)?;
-    log.crash();
-    db.crash();
-    check(rt, Files { log, db }, place)?;
-    Ok(place > SCRIPT.len())
-}
+/// The account behind the COMMIT.
+const LESS: &str = "bank.1> ID | BALANCE\nbank.1> 1 | 70\nbank.1> OK rows 1\n";
 
-/// A file of what was written to another.
-fn copied(alloc: Global, file: &Fuse<Memory>) -> io::Result<Memory> {
-    let mut copy = Memory::new(alloc);
-    copy.write_at(0, file.inner().bytes())?;
-    copy.sync()?;
-    Ok(copy)
-}
+/// What is found of the account.
+const FOUND: [&str; 8] = [NONE, NONE, EMPTY, FULL, FULL, LESS, EMPTY, EMPTY];
 
-/// Looks whether files hold what stands at a place of `HELD`, or at the next one.
-fn check<R: Abort + AllocGlobal, D: Disk + Drop>(
-    rt: &R,
-    files: Files<D>,
-    place: usize,
-) -> Result<(), Fail> {
-    let found = held(rt.alloc(), files)?;
-    let is_before = is_held(found.as_str(), place);
-    let is_after = is_held(found.as_str(), place.saturating_add(1));
-    assert!(rt; is_before || is_after, "{found} at {place}");
-    Ok(())
-}
-
-/// Whether a text stands at a place of `HELD`.
-fn is_held(found: &str, place: usize) -> bool {
-    match HELD.get(place) {
-        Some(text) => is_text(found, *text),
-        None => false,
-    }
-}
-
-/// Serves the script over files that stop after 0, 1, 2 calls and so on, until it is served to its end.
-/// Answers how many calls that takes.
-fn stop_at_each<R: Abort + AllocGlobal>(rt: &R, stops_log: bool) -> Result<u64, Fail> {
-    for calls in 0..10_000u64 {
-        let (log_calls, db_calls) = if stops_log {
-            (calls, u64::MAX)
-        } else {
-            (u64::MAX, calls)
+/// Whichever call of the log or of the database file is the last one, what is then opened has the rows from before
+/// the statement that was stopped, or with what it makes: so it is where the log is copied at each commit, and
+/// where it is copied when the store is closed, at each call of that too.
+#[test]
+fn stopped_at_each_call(rt: HostRuntime) -> Result<(), Fail> {
+    for frames in [1, 1000] {
+        let plan = Plan {
+            file: &[],
+            frames,
+            asked: &ACCOUNT,
+            queries: &SHOW_ACCOUNT,
+            found: &FOUND,
         };
-        if serve_stopped(rt, log_calls, db_calls)? {
-            return Ok(calls);
+        for stops_log in [true, false] {
+            let calls = stop_at_each(&rt, plan, stops_log)?;
+            assert!(rt; calls > 5, "{calls}");
         }
     }
-    panic!(rt; "never served")
-}
-
-/// Whichever call of the log is the last one, the files hold the rows from before the statement that was
-/// stopped, or those that it makes.
-#[test]
-fn stopped_at_each_call_of_the_log(rt: HostRuntime) -> Result<(), Fail> {
-    let calls = stop_at_each(&rt, true)?;
-    assert!(rt; calls > 20);
-    Ok(())
-}
-
-/// So they do whichever call of the database file is the last one.
-#[test]
-fn stopped_at_each_call_of_the_database_file(rt: HostRuntime) -> Result<(), Fail> {
-    let calls = stop_at_each(&rt, false)?;
-    assert!(rt; calls > 20);
     Ok(())
 }

@@ -31,31 +31,72 @@ const ACCOUNT: [Step<'static>; 3] = [
 ];
 
 /// Changes of that store, each with the number of the refusal to open it, or 0 where it is opened.
-const CHANGES: [(&str, u8); 12] = [
+const CHANGES: [(&str, u8); 35] = [
     // none
     ("UPDATE META SET V = 1", 0),
-    // a further table
+    // a further table, one that points at a row of a store, and a view
     (NOTES, 0),
+    ("CREATE TABLE NOTES (A INTEGER REFERENCES TAB (ID))", 61),
+    ("CREATE VIEW NOTES AS SELECT K FROM META", 0),
     // another version
     (THREE, 62),
-    // a second row of META
+    ("UPDATE META SET V = 0", 62),
+    // a second row of META, also beside another version; none; one of another name
     ("INSERT INTO META VALUES ('other', 1)", 61),
+    (
+        "UPDATE META SET V = 3; INSERT INTO META VALUES ('other', 1)",
+        61,
+    ),
+    ("DELETE FROM META", 61),
+    ("UPDATE META SET K = 'FORMAT'", 61),
     // a text that defines the same table, but isn't the canonical one
     (
         "UPDATE TAB SET DDL = 'CREATE TABLE account (ID NUMBER(15) PRIMARY KEY, BALANCE NUMBER(15) RESERVABLE, CONSTRAINT MINIMUM_BALANCE CHECK (BALANCE >= 50))'",
         61,
     ),
+    ("UPDATE TAB SET DDL = DDL || ' '", 61),
     // another name than that of the text
     ("UPDATE TAB SET NAME = 'OTHER'", 61),
-    // no balance, or one that breaks a check, has too many digits or is a text
+    // a second table without rows, and one of the number 0
+    (
+        "INSERT INTO TAB VALUES (9, 'B', 'CREATE TABLE B (ID NUMBER(3) PRIMARY KEY, N NUMBER(3) RESERVABLE)')",
+        0,
+    ),
+    (
+        "INSERT INTO TAB VALUES (0, 'B', 'CREATE TABLE B (ID NUMBER(3) PRIMARY KEY, N NUMBER(3) RESERVABLE)')",
+        61,
+    ),
+    // another number of the table, in both places or in one
+    ("UPDATE TAB SET ID = 7; UPDATE CELL SET TAB = 7", 0),
+    ("UPDATE TAB SET ID = 7", 61),
+    // no balance
     ("DELETE FROM CELL WHERE C = 2", 61),
+    // one that breaks a check, and just doesn't; that has too many digits, and just not
     ("UPDATE CELL SET V = 40 WHERE C = 2", 61),
+    ("UPDATE CELL SET V = 49 WHERE C = 2", 61),
+    ("UPDATE CELL SET V = 50 WHERE C = 2", 0),
     ("UPDATE CELL SET V = 1000000000000000 WHERE C = 2", 61),
+    ("UPDATE CELL SET V = 999999999999999 WHERE C = 2", 0),
+    // one that is a text, a floating number, a blob
     ("UPDATE CELL SET V = 'much' WHERE C = 2", 61),
-    // a key other than the one under which the row stands
+    ("UPDATE CELL SET V = 100.5 WHERE C = 2", 61),
+    ("UPDATE CELL SET V = x'3130' WHERE C = 2", 61),
+    // a key other than the one under which the row stands, in one place or in both
     ("UPDATE CELL SET V = 2 WHERE C = 1", 61),
-    // a cell of no table
+    (
+        "UPDATE CELL SET K = 2; UPDATE CELL SET V = 2 WHERE C = 1",
+        0,
+    ),
+    ("UPDATE CELL SET K = '1'", 61),
+    // a cell of no table, of no column, and one alone of its row
     ("INSERT INTO CELL VALUES (2, 1, 1, 1)", 61),
+    ("INSERT INTO CELL VALUES (1, 1, 0, 1)", 61),
+    ("INSERT INTO CELL VALUES (1, 1, 3, 1)", 61),
+    ("INSERT INTO CELL VALUES (1, 2, 1, 2)", 61),
+    // a text with a control character
+    (LINES, 0),
+    // META alone of the three tables
+    ("DROP TABLE CELL; DROP TABLE TAB", 61),
 ];
 
 /// A table that is none of a store's.
@@ -64,19 +105,16 @@ const NOTES: &str = "CREATE TABLE NOTES (ID INTEGER PRIMARY KEY, NOTE TEXT)";
 /// A version that is unknown.
 const THREE: &str = "UPDATE META SET V = 3";
 
-/// One of the three tables of a store, alone.
-const META: [&str; 2] = [
-    "CREATE TABLE META(K TEXT NOT NULL PRIMARY KEY, V INTEGER NOT NULL) STRICT",
-    "INSERT INTO META VALUES ('format', 1)",
-];
+/// A table with a text of two lines, which no statement can write.
+const LINES: &str =
+    "INSERT INTO TAB VALUES (2, 'T', 'CREATE TABLE T (ID NUMBER(15) PRIMARY KEY, NOTE VARCHAR2(5), N NUMBER(15) RESERVABLE)'); INSERT INTO CELL VALUES (2, 1, 1, 1); INSERT INTO CELL VALUES (2, 1, 2, 'a\nb'); INSERT INTO CELL VALUES (2, 1, 3, 7)";
 
-/// Executes a statement of SQL.
+/// Executes statements of SQL.
 fn execute(conn: &mut Connection<BlockStore>, text: &str) -> Result<(), Error> {
-    conn.execute(text, &[])?;
-    Ok(())
+    conn.execute_batch(text)
 }
 
-/// The store with the account, changed by a statement of SQL.
+/// The store with the account, changed by statements of SQL.
 fn changed(alloc: Global, change: &str) -> Result<Connection<BlockStore>, Failure> {
     let mut conn = empty(alloc)?;
     done(&mut conn, &ACCOUNT)?;
@@ -109,11 +147,6 @@ fn what_is_no_store_is_refused(rt: HostRuntime) -> Result<(), Fail> {
         let conn = changed(alloc, change)?;
         assert_eq!(rt; refusal(alloc, conn), want, "{change}");
     }
-    let mut conn = escrow_memory::open(alloc)?;
-    for text in META {
-        execute(&mut conn, text)?;
-    }
-    assert_eq!(rt; refusal(alloc, conn), 61);
     Ok(())
 }
 
@@ -123,13 +156,22 @@ const STANDS: [(&str, &str); 1] = [(
     "bank.1> ID | BALANCE\nbank.1> 1 | 100\nbank.1> OK rows 1\n",
 )];
 
-/// Rows are found beside a further table, and a store that is refused is handed back as it was.
+/// What is shown of a text of two lines: the lines that a client reads are broken.
+const BROKEN: [(&str, &str); 1] = [(
+    "SELECT * FROM T",
+    "bank.1> ID | NOTE | N\nbank.1> 1 | 'a\nb' | 7\nbank.1> OK rows 1\n",
+)];
+
+/// Rows are found beside a further table, texts as they stand, and a store that is refused is handed back as it
+/// was.
 #[test]
 fn what_stands_is_left(rt: HostRuntime) -> Result<(), Fail> {
     let alloc = rt.alloc();
-    let conn = changed(alloc, NOTES)?;
-    let mut database = over(alloc, conn).ok().expect(&rt, "a database");
-    ask_all(&rt, &mut database, 1, &STANDS)?;
+    for (change, asked) in [(NOTES, &STANDS), (LINES, &BROKEN)] {
+        let conn = changed(alloc, change)?;
+        let mut database = over(alloc, conn).ok().expect(&rt, "a database");
+        ask_all(&rt, &mut database, 1, asked)?;
+    }
     let conn = changed(alloc, THREE)?;
     let mut conn = handed_back(alloc, conn).expect(&rt, "a refusal");
     execute(&mut conn, "UPDATE META SET V = 1")?;
