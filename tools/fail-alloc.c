@@ -1,5 +1,5 @@
-/* Preloaded into a program, it finds no memory for allocation number FAIL_ALLOC, counted from 1, and says so on standard
-   error. It counts malloc and realloc, which are all that the programs here call. */
+/* Preloaded into a program, it finds no memory for allocation number FAIL_ALLOC, counted from 1 over all threads, and says
+   so on standard error. It counts malloc and realloc, which are all that the programs here call. */
 #define _GNU_SOURCE
 #include <dlfcn.h>
 #include <errno.h>
@@ -8,12 +8,9 @@
 
 static int fails(void)
 {
-    static long left;
-    if (left == 0)
-        left = atol(getenv("FAIL_ALLOC"));
-    if (left < 0 || --left > 0)
+    static long asked;
+    if (__atomic_add_fetch(&asked, 1, __ATOMIC_SEQ_CST) != atol(getenv("FAIL_ALLOC")))
         return 0;
-    left = -1;
     (void)!write(2, "fail-alloc\n", 11);
     errno = ENOMEM;
     return 1;

@@ -4,4 +4,5 @@ mod feeding;
 mod hall;
 mod meeting;
 mod results;
+mod wants;
 mod workers;

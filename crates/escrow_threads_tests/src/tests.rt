@@ -4,6 +4,7 @@ mod causes;
 mod databases;
 mod gates;
 mod histories;
+mod kinds;
 mod making;
 mod results;
 mod run;

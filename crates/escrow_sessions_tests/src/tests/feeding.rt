@@ -6,7 +6,7 @@ ghost use Rattle.escrow_sessions.specs.Serving.{HasItsSeat};
 
 use super::results::{made, push};
 use escrow_memory::BlockStore;
-use escrow_sessions::{Done, Feed, NotFed, run_fed, run_sessions};
+use escrow_sessions::{Cause, Done, Feed, NotFed, run_fed, run_sessions};
 use escrow_shards::{Gate, Pass, Shared};
 use escrow_sql::{Request, parse};
 use std::alloc::Global;
@@ -33,7 +33,8 @@ pub struct Work<'a> {
     pub times: usize,
 }
 
-/// Serves the same work in the session of each pass, at the same time.
+/// Serves the same work in the session of each pass, at the same time. Where memory is refused before a worker is started
+/// the feeds come back, and are served once it is asked again.
 pub fn serve_all<R: Threads + Wait + Sync + Abort + AllocGlobal, G: Gate + Sync>(
     rt: &R,
     by: By,
@@ -45,18 +46,56 @@ pub fn serve_all<R: Threads + Wait + Sync + Abort + AllocGlobal, G: Gate + Sync>
     match by {
         By::Lists => {
             let feeds = feeds_of(rt, shared, passes, work);
-            made(
-                rt,
-                run_sessions(rt, rt.alloc(), shared, feeds, gate),
-                "workers",
-            )
+            let count = feeds.len();
+            match run_sessions(rt, rt.alloc(), shared, feeds, gate) {
+                Ok(done) => done,
+                Err(refusal) => {
+                    assert_eq!(rt; refusal.cause, Cause::Memory);
+                    assert_eq!(rt; refusal.feeds.len(), count);
+                    check_feeds(rt, &refusal.feeds, work);
+                    let done = run_sessions(rt, rt.alloc(), shared, refusal.feeds, gate);
+                    made(rt, done, "workers")
+                }
+            }
         }
         By::Channels => made(rt, feed_all(rt, shared, passes, work, gate), "workers"),
     }
 }
 
-/// Feeds the same work to the session of each pass.
+/// Feeds have their requests, and nothing was served.
+fn check_feeds<R: Abort>(rt: &R, feeds: &[Feed], work: Work) {
+    let requests = work.texts.len().wrapping_mul(work.times);
+    for feed in feeds {
+        assert_eq!(rt; feed.requests.len(), requests);
+        assert_eq!(rt; feed.pass.receipts().len(), 0);
+    }
+}
+
+/// Feeds the same work to the session of each pass. Where memory is refused before a worker is started the passes come
+/// back, and the items, of which none was asked for; and the passes are fed once it is asked again.
 pub fn feed_all<'a, R: Threads + Wait + Sync + Abort + AllocGlobal, G: Gate + Sync>(
+    rt: &R,
+    shared: &Shared<BlockStore>,
+    passes: Vec<Pass>,
+    work: Work<'a>,
+    gate: &G,
+) -> Result<Vec<Done>, NotFed<Deal<'a>>> {
+    let count = passes.len();
+    let refusal = match try_feed(rt, shared, passes, work, gate) {
+        Ok(done) => return Ok(done),
+        Err(refusal) => refusal,
+    };
+    if refusal.cause != Cause::Memory {
+        return Err(refusal);
+    }
+    let NotFed { passes, items, .. } = refusal;
+    assert_eq!(rt; passes.len(), count);
+    assert_eq!(rt; (items.places, items.dealt), (count, 0));
+    try_feed(rt, shared, passes, work, gate)
+}
+
+/// The same, where memory isn't asked for again.
+fn try_feed<'a, R: Threads + Wait + Sync + Abort + AllocGlobal, G: Gate + Sync>(
     rt: &R,
     shared: &Shared<BlockStore>,
     passes: Vec<Pass>,
@@ -111,11 +150,10 @@ fn requests_of<R: Abort + AllocGlobal>(rt: &R, work: Work) -> Vec<Request> {
     let mut requests = Vec::new(rt.alloc());
     for _ in 0..work.times {
         for text in work.texts {
-            push(
-                rt,
-                &mut requests,
-                made(rt, parse(rt.alloc(), text), "a request"),
-            );
+            match parse(rt.alloc(), text) {
+                Ok(request) => push(rt, &mut requests, request),
+                Err(fault) => panic!(rt; "{text}: {fault:?}"),
+            }
         }
     }
     requests

@@ -26,8 +26,10 @@ pub fn hall<R: Abort + AllocGlobal>(rt: &R, databases: usize, sessions: u8) -> H
         push(rt, &mut opened, counter(rt));
     }
     assert!(rt; !opened.is_empty() && opened.len() <= MAX_DATABASES);
-    let shared = Shared::make(rt.alloc(), opened, sessions.get());
-    made(rt, shared, "shared")
+    match Shared::make(rt.alloc(), opened, sessions.get()) {
+        Ok(made) => made,
+        Err(fault) => panic!(rt; "shared: {:?}", fault.cause),
+    }
 }
 
 /// A new database in memory, with a counter.
@@ -43,16 +45,20 @@ fn counter<R: Abort + AllocGlobal>(rt: &R) -> Database<BlockStore> {
 fn open<R: Abort + AllocGlobal>(rt: &R) -> Database<BlockStore> {
     let connection = made(rt, escrow_memory::open(rt.alloc()), "memory");
     match open_store(rt.alloc(), connection) {
-        Ok(tables) => made(rt, Database::open(rt.alloc(), tables), "a database"),
-        Err(_) => rt.panic("a store"),
+        Ok(tables) => made(rt, Database::open(rt.alloc(), tables), "memory"),
+        Err(fault) => panic!(rt; "a store: {:?}", fault.cause),
     }
 }
 
 /// The first session asks a statement, which isn't refused.
 fn prepare<R: Abort + AllocGlobal>(rt: &R, database: &mut Database<BlockStore>, text: &str) {
-    if let Ok(Request::Statement(asked)) = parse(rt.alloc(), text) {
-        let reply = database.step(rt.alloc(), Session::FIRST, &asked);
-        assert!(rt; !matches!(reply, Reply::Refused(_)), "{text}");
+    match parse(rt.alloc(), text) {
+        Ok(Request::Statement(asked)) => {
+            let reply = database.step(rt.alloc(), Session::FIRST, &asked);
+            assert!(rt; !matches!(&reply, Reply::Refused(_)), "{text}: {reply:?}");
+        }
+        Ok(Request::Statistics) => rt.panic("a statement"),
+        Err(fault) => panic!(rt; "{text}: {fault:?}"),
     }
 }
 

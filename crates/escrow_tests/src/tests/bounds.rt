@@ -8,24 +8,29 @@ use crate::tests::checks::{amounts, check, columns, name, parts};
 use escrow_bounds::Bounds;
 use escrow_checks::{Check, Coefficients};
 use escrow_num::{Amount, End, RowName, Side, Value};
+use std::alloc::Global;
 use std::process::Abort;
 
 /// A row of a table.
-fn row(rt: &impl Abort) -> RowName {
+fn row(rt: &impl Abort, key: i64) -> RowName {
     RowName {
         table: name(rt, "MIX"),
-        key: Value::Number(Amount::ZERO),
+        key: Value::Number(Amount::new(key).expect(rt, "a key")),
     }
 }
 
-/// Makes a place for a row that has none, of one check.
+/// Makes a place for a row that has none, of one check. Where memory is refused it has none, and has one once it is
+/// asked again.
 fn reserve(rt: &impl Abort, bounds: &mut Bounds, row: &RowName, values: &[Amount], check: &Check)
     requires { place_at bounds.old row.now ≡ None }
     ensures { IsPlaced bounds.new row.now [] }
 {
     assert!(rt; values.len() <= Coefficients::MAX_LEN);
     assert!(rt; check.coeffs.as_slice().len() <= values.len());
-    bounds.reserve(row, values, &[*check]).expect(rt, "memory");
+    if bounds.reserve(row, values, &[*check]).is_err() {
+        assert!(rt; !bounds.has_place(row));
+        bounds.reserve(row, values, &[*check]).expect(rt, "memory");
+    }
 }
 
 /// Counts a reservation.
@@ -63,7 +68,7 @@ fn sums_are_kept_between_calls(rt: HostRuntime) {
     let values = amounts(&rt, alloc, &[10, 20]);
     let (a, b) = (amounts(&rt, alloc, &[5, 0]), amounts(&rt, alloc, &[0, 3]));
     let more = amounts(&rt, alloc, &[0, 4]);
-    let row = row(&rt);
+    let row = row(&rt, 0);
     let mut bounds = Bounds::new(alloc);
     reserve(&rt, &mut bounds, &row, values.as_slice(), &check);
     add(&mut bounds, &row, a.as_slice());
@@ -74,4 +79,40 @@ fn sums_are_kept_between_calls(rt: HostRuntime) {
     assert_eq!(rt; worst(&bounds, &row), (80, 99));
     commit_first(&mut bounds, &row, a.as_slice(), b.as_slice());
     assert_eq!(rt; worst(&bounds, &row), (90, 99));
+}
+
+/// Just the rows with the first keys have places, each with its own amounts, at which the check is at its limit.
+fn are_placed(rt: &impl Abort, bounds: &Bounds, check: &Check, alloc: Global, places: i64) {
+    for key in 0..ROWS {
+        let row = row(rt, key);
+        assert_eq!(rt; bounds.has_place(&row), key < places, "{places}: {key}");
+        if bounds.has_place(&row) {
+            let change = amounts(rt, alloc, &[51i64.wrapping_sub(key), 0]);
+            let breach = bounds.verdict(&row, change.as_slice());
+            assert_eq!(rt;
+                parts(check, breach),
+                Some((Side::High, 102, 100)),
+                "{places}: {key}"
+            );
+        }
+    }
+}
+
+/// How many rows get a place.
+const ROWS: i64 = 12;
+
+/// A new place leaves those that stand, also where memory is refused.
+#[test]
+fn places_of_rows(rt: HostRuntime) {
+    let alloc = rt.alloc();
+    let check = check(&rt, alloc, &columns(&rt)[..2], MIX);
+    let mut bounds = Bounds::new(alloc);
+    for key in 0..ROWS {
+        let values = amounts(&rt, alloc, &[key, 0]);
+        let row = row(&rt, key);
+        are_placed(&rt, &bounds, &check, alloc, key);
+        assert!(rt; !bounds.has_place(&row));
+        reserve(&rt, &mut bounds, &row, values.as_slice(), &check);
+    }
+    are_placed(&rt, &bounds, &check, alloc, ROWS);
 }

@@ -22,14 +22,17 @@ pub(super) fn columns(rt: &impl Abort) -> [Name; 10] {
 /// The one check that a table's text declares over RESERVABLE columns.
 pub(super) fn check(rt: &impl Abort, alloc: Global, columns: &[Name], text: &str) -> Check {
     assert!(rt; columns.len() <= Coefficients::MAX_LEN);
-    let Ok(Request::Statement(Statement::Create(create))) = parse(alloc, text) else {
-        panic!(rt; "no table: {text}");
+    let create = match parse(alloc, text) {
+        Ok(Request::Statement(Statement::Create(create))) => create,
+        Ok(_) => panic!(rt; "no table: {text}"),
+        Err(fault) => panic!(rt; "{text}: {fault:?}"),
     };
     let Some(Item::Check(condition)) = create.items.as_slice().first() else {
         panic!(rt; "no check: {text}");
     };
-    let Ok(checks) = normalise(alloc, &[condition], columns) else {
-        panic!(rt; "no good check: {text}");
+    let checks = match normalise(alloc, &[condition], columns) {
+        Ok(checks) => checks,
+        Err(refusal) => panic!(rt; "{text}: {refusal:?}"),
     };
     *checks.as_slice().first().expect(rt, "a check")
 }

@@ -50,18 +50,54 @@ fn number_of(refusal: Option<Refusal>) -> u8 {
     refusal.map_or(0, |refusal| refusal.number())
 }
 
-/// Grants a session a reservation with an id.
+/// How many reservations and savepoints a session holds, and the next id.
+fn counts(table: &TxnTable, session: Session) -> (usize, usize, Option<u64>) {
+    let journal = table.journal(session);
+    (
+        journal.all().len(),
+        journal.savepoints().len(),
+        table.next_id(),
+    )
+}
+
+/// The one change of a reservation.
+fn change(rt: &impl Abort, alloc: Global) -> Changes {
+    let mut changes = Changes::new(alloc);
+    changes.push(Amount::new(-1)).expect(rt, "memory");
+    changes
+}
+
+/// Grants a session a reservation with an id. Where memory is refused nothing changes, the row comes back, and the
+/// same is granted once it is asked again.
 fn grant(rt: &impl Abort, table: &mut TxnTable, number: u8, id: u64, alloc: Global) {
     let row = RowName {
         table: name(rt, "ACCOUNT"),
         key: key_of(rt, number),
     };
-    let mut changes = Changes::new(alloc);
-    changes.push(Amount::new(-1)).expect(rt, "memory");
     let session = session(rt, number);
     assert!(rt; table.grant_refusal(session).is_none());
-    let granted = table.grant(session, row, changes);
-    assert_eq!(rt; granted.ok(), Some(id));
+    let before = counts(table, session);
+    let granted = match table.grant(session, row, change(rt, alloc)) {
+        Ok(granted) => Some(granted),
+        Err(failed) => {
+            assert_eq!(rt; counts(table, session), before, "at {id}");
+            assert!(rt; failed.value.key.is_same(&key_of(rt, number)), "at {id}");
+            table.grant(session, failed.value, change(rt, alloc)).ok()
+        }
+    };
+    assert_eq!(rt; granted, Some(id));
+}
+
+/// Makes a savepoint of a session: the number of the refusal, or 0. Where memory is refused nothing changes, and it is
+/// asked again.
+fn mark(rt: &impl Abort, table: &mut TxnTable, session: Session, text: &str) -> u8 {
+    let before = counts(table, session);
+    let number = number_of(table.mark(session, name(rt, text)).err());
+    if number != 51 {
+        return number;
+    }
+    assert_eq!(rt; counts(table, session), before, "at {text}");
+    number_of(table.mark(session, name(rt, text)).err())
 }
 
 /// The reservations have these ids.
@@ -109,8 +145,8 @@ fn take(rt: &impl Abort, table: &mut TxnTable, step: Step<'_>, alloc: Global) {
     match step {
         Step::Grant(number, id) => grant(rt, table, number, id, alloc),
         Step::Mark(number, text) => {
-            let refusal = table.mark(session(rt, number), name(rt, text)).err();
-            assert_eq!(rt; number_of(refusal), 0, "at {text}");
+            let refusal = mark(rt, table, session(rt, number), text);
+            assert_eq!(rt; refusal, 0, "at {text}");
         }
         Step::Cut(number, text, want) => {
             let dropped = table.cut(session(rt, number), name(rt, text));
@@ -150,7 +186,7 @@ fn take_each(rt: &impl Abort, lists: &[&[Step<'_>]], alloc: Global) {
 }
 
 /// Steps of one session.
-const JOURNALS: [&[Step<'static>]; 3] = [
+const JOURNALS: [&[Step<'static>]; 4] = [
     // what came after each of three savepoints, and going back to them
     &[
         Step::Holds(1, &[], &[]),
@@ -209,6 +245,26 @@ const JOURNALS: [&[Step<'static>]; 3] = [
         Step::Cut(1, "C", Some(1)),
         Step::Holds(1, &[], &["B", "C"]),
         Step::Lacks(1, "A"),
+    ],
+    // more of both than stand in place
+    &[
+        Step::Mark(1, "A"),
+        Step::Grant(1, 1),
+        Step::Mark(1, "B"),
+        Step::Grant(1, 2),
+        Step::Mark(1, "C"),
+        Step::Grant(1, 3),
+        Step::Mark(1, "D"),
+        Step::Grant(1, 4),
+        Step::Mark(1, "E"),
+        Step::Grant(1, 5),
+        Step::Mark(1, "B"),
+        Step::Holds(1, &[1, 2, 3, 4, 5], &["A", "C", "D", "E", "B"]),
+        Step::After(1, "D", &[4, 5]),
+        Step::Next(6),
+        Step::Cut(1, "A", Some(5)),
+        Step::Holds(1, &[], &["A"]),
+        Step::Grant(1, 6),
     ],
 ];
 

@@ -36,8 +36,8 @@ pub fn database<R: Abort + AllocGlobal>(rt: &R, asked: &[&str]) -> Database<Bloc
 fn open<R: Abort + AllocGlobal>(rt: &R) -> Database<BlockStore> {
     let connection = made(rt, escrow_memory::open(rt.alloc()), "memory");
     match open_store(rt.alloc(), connection) {
-        Ok(tables) => made(rt, Database::open(rt.alloc(), tables), "a database"),
-        Err(_) => rt.panic("a store"),
+        Ok(tables) => made(rt, Database::open(rt.alloc(), tables), "memory"),
+        Err(fault) => panic!(rt; "a store: {:?}", fault.cause),
     }
 }
 
@@ -74,7 +74,8 @@ pub fn check_reply<R: Abort + AllocGlobal>(
 pub fn statement<R: Abort + AllocGlobal>(rt: &R, text: &str) -> Statement {
     match parse(rt.alloc(), text) {
         Ok(Request::Statement(statement)) => statement,
-        _ => rt.panic("a statement"),
+        Ok(Request::Statistics) => rt.panic("a statement"),
+        Err(fault) => panic!(rt; "{text}: {fault:?}"),
     }
 }
 

@@ -4,7 +4,7 @@ use super::results::{made, refused};
 use escrow_core::Database;
 use escrow_history::{Audited, Served, Unserved};
 use escrow_memory::BlockStore;
-use escrow_num::{Refusal, Session};
+use escrow_num::{Failure, Refusal, Session};
 use escrow_sql::Statement;
 use escrow_transcript::{Base, Entry, Transcript};
 use std::process::Abort;
@@ -12,35 +12,81 @@ use std::process::Abort;
 /// How many entries a transcript has at most.
 const MOST: u64 = 65_536;
 
-/// A database with its transcript, which begins now.
-fn audited<R: Abort + AllocGlobal>(rt: &R, database: Database<BlockStore>) -> Audited<BlockStore> {
-    made(rt, Audited::make(rt.alloc(), database), "a history")
+/// A database with its transcript, which begins now. Where memory is refused the database comes back, and its
+/// transcript begins once it is asked again.
+pub fn audited<R: Abort + AllocGlobal>(
+    rt: &R,
+    database: Database<BlockStore>,
+) -> Audited<BlockStore> {
+    match Audited::make(rt.alloc(), database) {
+        Ok(audited) => audited,
+        Err((database, refusal)) => {
+            assert_eq!(rt; refusal.number(), 51);
+            made(rt, Audited::make(rt.alloc(), database), "a history")
+        }
+    }
 }
 
-/// Serves a statement of session 1. Its entry has the number, and its reply is what is wanted, as it is printed.
-fn serve<R: Abort + AllocGlobal>(
+/// Serves a statement of a session. Its entry has the number, and its reply is what is wanted, as it is printed.
+pub fn serve<R: Abort + AllocGlobal>(
     rt: &R,
     audited: &mut Audited<BlockStore>,
+    session: Session,
     statement: &Statement,
     number: u64,
     wanted: &str,
 ) {
-    match audited.serve(rt.alloc(), Session::FIRST, statement) {
-        Ok(served) => check_served(rt, &served, number, wanted),
+    match serve_again(rt, audited, session, statement) {
+        Ok(served) => check_served(rt, &served, session, number, wanted),
         Err(_) => rt.panic("served"),
     }
 }
 
-/// The number of an entry, and the reply, as it is printed. The copy is the same.
-fn check_served<R: Abort + AllocGlobal>(rt: &R, served: &Served, number: u64, wanted: &str) {
-    assert_eq!(rt; served.number, number);
-    assert!(rt; served.reply.is_same(&served.kept));
-    check_shown(rt, 0, Session::FIRST, &served.reply, wanted);
+/// What a statement is answered. Where memory is refused the transcript is as long as before, and the statement is asked
+/// again.
+fn serve_again<R: Abort + AllocGlobal>(
+    rt: &R,
+    audited: &mut Audited<BlockStore>,
+    session: Session,
+    statement: &Statement,
+) -> Result<Served, Unserved> {
+    let count = audited.entries().len();
+    let outcome = audited.serve(rt.alloc(), session, statement);
+    if !matches!(&outcome, Err(Unserved::Failed(Failure::Memory))) {
+        return outcome;
+    }
+    assert_eq!(rt; audited.entries().len(), count);
+    audited.serve(rt.alloc(), session, statement)
 }
 
-/// The transcript that is handed out, and the base where it ends.
-fn drain<R: Abort + AllocGlobal>(rt: &R, audited: &mut Audited<BlockStore>) -> (Transcript, Base) {
-    made(rt, audited.drain(rt.alloc()), "a transcript")
+/// The number of an entry, and the reply to a session, as it is printed. The copy is the same.
+fn check_served<R: Abort + AllocGlobal>(
+    rt: &R,
+    served: &Served,
+    session: Session,
+    number: u64,
+    wanted: &str,
+) {
+    assert_eq!(rt; served.number, number);
+    assert!(rt; served.reply.is_same(&served.kept));
+    check_shown(rt, 0, session, &served.reply, wanted);
+}
+
+/// The transcript that is handed out, and the base where it ends. Where memory is refused it is as it was, and is handed
+/// out once it is asked for again.
+pub fn drain<R: Abort + AllocGlobal>(
+    rt: &R,
+    audited: &mut Audited<BlockStore>,
+) -> (Transcript, Base) {
+    let standing = (audited.entries().len(), audited.base().before);
+    match audited.drain(rt.alloc()) {
+        Ok(drained) => drained,
+        Err(refusal) => {
+            assert_eq!(rt; refusal.number(), 51);
+            assert_eq!(rt; (audited.entries().len(), audited.base().before), standing);
+            made(rt, audited.drain(rt.alloc()), "a transcript")
+        }
+    }
 }
 
 /// The transcript has so many entries.
@@ -55,7 +101,7 @@ const NOTHING: &str = "bank.1> OK committed 0\n";
 fn fill<R: Abort + AllocGlobal>(rt: &R, audited: &mut Audited<BlockStore>) {
     let commit = statement(rt, "COMMIT");
     for number in 1..MOST + 1 {
-        serve(rt, audited, &commit, number, NOTHING);
+        serve(rt, audited, Session::FIRST, &commit, number, NOTHING);
     }
 }
 
@@ -92,7 +138,14 @@ fn drain_full<R: Abort + AllocGlobal>(rt: &R, audited: &mut Audited<BlockStore>)
 
 /// The next transcript begins at a base, and goes on with the next number.
 fn check_next<R: Abort + AllocGlobal>(rt: &R, audited: &mut Audited<BlockStore>, end: &Base) {
-    serve(rt, audited, &statement(rt, "COMMIT"), 65_537, NOTHING);
+    serve(
+        rt,
+        audited,
+        Session::FIRST,
+        &statement(rt, "COMMIT"),
+        65_537,
+        NOTHING,
+    );
     check_count(rt, audited, 1);
     assert!(rt; audited.base().is_same(end));
 }
@@ -108,6 +161,44 @@ fn full_transcript(rt: HostRuntime) {
     check_count(&rt, &audited, MOST);
     let end = drain_full(&rt, &mut audited);
     check_next(&rt, &mut audited, &end);
+}
+
+/// Takes room for so many entries. Where memory is refused all is as it was, and it is taken once it is asked for again.
+pub fn take_room<R: Abort>(rt: &R, audited: &mut Audited<BlockStore>, count: u32) {
+    let before = (audited.room(), audited.entries().len());
+    if let Err(refusal) = audited.make_room(count) {
+        assert_eq!(rt; refusal.number(), 51);
+        assert!(rt; before == (audited.room(), audited.entries().len()));
+        made(rt, audited.make_room(count), "room");
+    }
+    assert!(rt; audited.room() >= count);
+}
+
+/// There is no room for so many entries, and all is as it was.
+fn refuse_room<R: Abort>(rt: &R, audited: &mut Audited<BlockStore>, count: u32) {
+    let before = (audited.room(), audited.entries().len());
+    let refusal = refused(rt, audited.make_room(count), "room");
+    assert!(rt; refusal.is_same(&Refusal::TranscriptFull));
+    assert!(rt; before == (audited.room(), audited.entries().len()));
+}
+
+/// Room for entries is taken ahead, for as many as the transcript may still have, and an entry uses up one of them.
+#[test]
+fn room_ahead(rt: HostRuntime) {
+    let mut audited = audited(&rt, database(&rt, &[]));
+    let commit = statement(&rt, "COMMIT");
+    for number in 1..6 {
+        serve(&rt, &mut audited, Session::FIRST, &commit, number, NOTHING);
+    }
+    take_room(&rt, &mut audited, 3);
+    refuse_room(&rt, &mut audited, 65_532);
+    for (number, left) in [(6, 2), (7, 1), (8, 0)] {
+        serve(&rt, &mut audited, Session::FIRST, &commit, number, NOTHING);
+        assert!(rt; audited.room() >= left);
+    }
+    take_room(&rt, &mut audited, 65_528);
+    assert_eq!(rt; audited.room(), 65_528);
+    refuse_room(&rt, &mut audited, 65_529);
 }
 
 /// Takes 30 out of an account.
@@ -148,6 +239,7 @@ fn open_transaction(rt: HostRuntime) {
     serve(
         &rt,
         &mut audited,
+        Session::FIRST,
         &statement(&rt, "SAVEPOINT A"),
         1,
         "bank.1> OK savepoint A\n",
@@ -156,6 +248,7 @@ fn open_transaction(rt: HostRuntime) {
     serve(
         &rt,
         &mut audited,
+        Session::FIRST,
         &statement(&rt, "ROLLBACK"),
         2,
         "bank.1> OK rolled back 0\n",

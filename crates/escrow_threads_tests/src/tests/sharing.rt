@@ -21,17 +21,43 @@ pub fn try_share<R: Abort + AllocGlobal>(
     Shared::make(rt.alloc(), databases, sessions.get())
 }
 
-/// The same, where nothing is open.
+/// The same, where nothing is open. Where memory is refused the databases come back, and are shared once it is asked
+/// again.
 pub fn share<R: Abort + AllocGlobal>(
     rt: &R,
     databases: Vec<Database<BlockStore>>,
     sessions: Session,
 ) -> Sharing {
-    made(rt, try_share(rt, databases, sessions), "shared")
+    let count = databases.len();
+    match try_share(rt, databases, sessions) {
+        Ok(sharing) => sharing,
+        Err(fault) => {
+            assert_eq!(rt; fault.cause.number(), 51);
+            assert_eq!(rt; fault.databases.len(), count);
+            made(rt, try_share(rt, fault.databases, sessions), "shared")
+        }
+    }
 }
 
-/// What a statement of the session of a pass is answered.
+/// What a statement of the session of a pass is answered. Where memory is refused the pass has as many receipts as
+/// before, and the statement is asked again.
 pub fn call<R: Wait + Abort + AllocGlobal>(
+    rt: &R,
+    shared: &Shared<BlockStore>,
+    pass: &mut Pass,
+    statement: &Statement,
+) -> Answer {
+    let receipts = pass.receipts().len();
+    let answer = try_call(rt, shared, pass, statement);
+    if !matches!(&answer, Answer::Unserved(Refusal::Memory)) {
+        return answer;
+    }
+    assert_eq!(rt; pass.receipts().len(), receipts);
+    try_call(rt, shared, pass, statement)
+}
+
+/// What it is answered, also where memory is refused.
+fn try_call<R: Wait + Abort + AllocGlobal>(
     rt: &R,
     shared: &Shared<BlockStore>,
     pass: &mut Pass,
@@ -63,13 +89,19 @@ pub fn try_drain<R: Wait + Abort + AllocGlobal>(
     shared.drain(rt, rt.alloc(), database)
 }
 
-/// The next part of the history of a database.
+/// The next part of the history of a database. Where memory is refused it is asked for again.
 pub fn drain<R: Wait + Abort + AllocGlobal>(
     rt: &R,
     shared: &Shared<BlockStore>,
     database: usize,
 ) -> Part<BlockStore> {
-    made(rt, try_drain(rt, shared, database), "a part")
+    match try_drain(rt, shared, database) {
+        Ok(part) => part,
+        Err(refusal) => {
+            assert_eq!(rt; refusal.number(), 51);
+            made(rt, try_drain(rt, shared, database), "a part")
+        }
+    }
 }
 
 /// What comes out of a close: the databases, and the parts.

@@ -1,6 +1,6 @@
 use Rattle.std.proofs.Common.{length, ◌∙◌}
 use Rattle.escrow_sessions_tests.proofs.Deals.{all_dealt}
-use Rattle.escrow_sessions_tests.proofs.tests.feeding.feed_all.Goals as goal
+use Rattle.escrow_sessions_tests.proofs.tests.feeding.try_feed.Goals as goal
 
 pub run_fed-requires-clause-places : goal.run_fed-requires-clause-places
 run_fed-requires-clause-places g c κs within =

@@ -1,0 +1,243 @@
+//! Statements of each kind, and refusals of each number that a statement of a small script meets, where two sessions have
+//! reserved: by a history, and by shared databases. Each answer is that with ample memory, or want of memory leaves what
+//! was there, so that the same statement is then answered the same.
+use super::databases::{CREATE, INSERT, database, session, statement};
+use super::histories::{audited, drain, serve, take_room};
+use super::results::push;
+use super::run::{Plan, Run};
+use super::sharing;
+use std::process::Abort;
+use std::sync::Wait;
+
+/// A session, what it asks, and what it is replied, as it is printed.
+type Asked = (u8, &'static str, &'static str);
+
+/// A table with a plain column.
+const SHOP: &str =
+    "CREATE TABLE SHOP (CODE VARCHAR2(8) PRIMARY KEY, TITLE VARCHAR2(20), STOCK NUMBER(4) RESERVABLE CONSTRAINT IN_STOCK CHECK (STOCK >= 0))";
+
+/// What is asked, in order. Nothing is open behind it.
+const ASKED: [Asked; 45] = [
+    (1, CREATE, "bank.1> OK created ACCOUNT\n"),
+    (1, INSERT, "bank.1> OK inserted\n"),
+    (
+        1,
+        "UPDATE ACCOUNT SET BALANCE = BALANCE - 30 WHERE ID = 1",
+        "bank.1> OK reserved 1\n",
+    ),
+    (
+        2,
+        "UPDATE ACCOUNT SET BALANCE = BALANCE + 5 WHERE ID = 1",
+        "bank.2> OK reserved 2\n",
+    ),
+    (4, SHOP, "bank.4> OK created SHOP\n"),
+    (4, SHOP, "bank.4> ERR 20 table exists\n"),
+    (
+        4,
+        "CREATE TABLE T (ID INTEGER PRIMARY KEY, N INTEGER RESERVABLE CHECK (N - N <= 5))",
+        "bank.4> ERR 22 bad definition\n",
+    ),
+    (
+        4,
+        "INSERT INTO SHOP VALUES ('TEA', 'Green tea', 40)",
+        "bank.4> OK inserted\n",
+    ),
+    (
+        4,
+        "INSERT INTO SHOP VALUES ('TEA', 'Green tea', 40)",
+        "bank.4> ERR 30 row exists\n",
+    ),
+    (
+        4,
+        "INSERT INTO SHOP VALUES ('TEA', 'Green tea')",
+        "bank.4> ERR 23 bad value\n",
+    ),
+    (
+        4,
+        "INSERT INTO ACCOUNT VALUES (2, 49)",
+        "bank.4> ERR 41 MINIMUM_BALANCE low 49 limit 50\n",
+    ),
+    (
+        4,
+        "INSERT INTO ACCOUNT VALUES (2, 100)",
+        "bank.4> OK inserted\n",
+    ),
+    (
+        4,
+        "UPDATE SHOP SET TITLE = 'Sencha' WHERE CODE = 'TEA'",
+        "bank.4> OK updated\n",
+    ),
+    (
+        4,
+        "UPDATE SHOP SET TITLE = 'Sencha' WHERE CODE = 'CUP'",
+        "bank.4> ERR 31 no such row\n",
+    ),
+    (
+        1,
+        "UPDATE SHOP SET TITLE = 'Matcha' WHERE CODE = 'TEA'",
+        "bank.1> ERR 26 transaction open\n",
+    ),
+    (
+        1,
+        "UPDATE ACCOUNT SET BALANCE = BALANCE - 10 WHERE ID = 1",
+        "bank.1> OK reserved 3\n",
+    ),
+    (
+        4,
+        "UPDATE ACCOUNT SET BALANCE = BALANCE - 11 WHERE ID = 1",
+        "bank.4> ERR 41 MINIMUM_BALANCE low 49 limit 50\n",
+    ),
+    (
+        4,
+        "UPDATE ACCOUNT SET BALANCE = BALANCE - 10 WHERE ID = 2",
+        "bank.4> OK reserved 4\n",
+    ),
+    (
+        4,
+        "UPDATE ACCOUNT SET BALANCE = BALANCE - 10 WHERE ID = 3",
+        "bank.4> ERR 31 no such row\n",
+    ),
+    (
+        4,
+        "UPDATE ACCOUNT SET ID = 4 WHERE ID = 2",
+        "bank.4> ERR 24 bad assignment\n",
+    ),
+    (
+        5,
+        "DELETE FROM ACCOUNT WHERE ID = 1",
+        "bank.5> ERR 32 row reserved\n",
+    ),
+    (
+        5,
+        "DELETE FROM ACCOUNT WHERE BALANCE = 1",
+        "bank.5> ERR 25 not the key\n",
+    ),
+    (
+        5,
+        "DELETE FROM ACCOUNT WHERE ID = 3",
+        "bank.5> ERR 31 no such row\n",
+    ),
+    (
+        5,
+        "SELECT * FROM SHOP",
+        "bank.5> CODE | TITLE | STOCK\nbank.5> 'TEA' | 'Sencha' | 40\nbank.5> OK rows 1\n",
+    ),
+    (
+        5,
+        "DELETE FROM SHOP WHERE CODE = 'TEA'",
+        "bank.5> OK deleted\n",
+    ),
+    (5, "DROP TABLE ACCOUNT", "bank.5> ERR 33 table reserved\n"),
+    (5, "DROP TABLE SHOP", "bank.5> OK dropped SHOP\n"),
+    (5, "DROP TABLE SHOP", "bank.5> ERR 21 no such table\n"),
+    (1, "SAVEPOINT A", "bank.1> OK savepoint A\n"),
+    (
+        1,
+        "UPDATE ACCOUNT SET BALANCE = BALANCE + 1 WHERE ID = 2",
+        "bank.1> OK reserved 5\n",
+    ),
+    (1, "ROLLBACK TO A", "bank.1> OK rolled back to A 1\n"),
+    (1, "ROLLBACK TO B", "bank.1> ERR 43 no such savepoint\n"),
+    (
+        5,
+        "SELECT * FROM ACCOUNT",
+        "bank.5> ID | BALANCE\nbank.5> 1 | 100\nbank.5> 2 | 100\nbank.5> OK rows 2\n",
+    ),
+    (
+        5,
+        "SHOW TABLE ACCOUNT",
+        "bank.5> CREATE TABLE ACCOUNT (ID NUMBER(15) PRIMARY KEY, BALANCE NUMBER(15) RESERVABLE, CONSTRAINT MINIMUM_BALANCE CHECK (BALANCE >= 50))\nbank.5> OK table\n",
+    ),
+    (
+        5,
+        "SHOW JOURNAL",
+        "bank.5> 1 session 1 ACCOUNT 1 BALANCE -30\nbank.5> 2 session 2 ACCOUNT 1 BALANCE +5\nbank.5> 3 session 1 ACCOUNT 1 BALANCE -10\nbank.5> 4 session 4 ACCOUNT 2 BALANCE -10\nbank.5> OK reservations 4\n",
+    ),
+    (
+        5,
+        "SHOW BOUNDS ACCOUNT WHERE ID = 1",
+        "bank.5> BALANCE value 100 inf 60 sup 105\nbank.5> CHECK MINIMUM_BALANCE least 60 greatest 105 low 50 high none\nbank.5> OK bounds\n",
+    ),
+    (4, "ROLLBACK", "bank.4> OK rolled back 1\n"),
+    (
+        5,
+        "SHOW BOUNDS ACCOUNT WHERE ID = 2",
+        "bank.5> BALANCE value 100 inf 100 sup 100\nbank.5> CHECK MINIMUM_BALANCE least 100 greatest 100 low 50 high none\nbank.5> OK bounds\n",
+    ),
+    (2, "COMMIT", "bank.2> OK committed 1\n"),
+    (1, "COMMIT", "bank.1> OK committed 2\n"),
+    (3, "COMMIT", "bank.3> OK committed 0\n"),
+    (
+        5,
+        "SELECT * FROM ACCOUNT WHERE ID = 1",
+        "bank.5> ID | BALANCE\nbank.5> 1 | 65\nbank.5> OK rows 1\n",
+    ),
+    (
+        3,
+        "UPDATE ACCOUNT SET BALANCE = BALANCE + 0 WHERE ID = 1",
+        "bank.3> OK reserved 6\n",
+    ),
+    (
+        5,
+        "SHOW JOURNAL ACCOUNT",
+        "bank.5> 6 session 3 ACCOUNT 1 BALANCE +0\nbank.5> OK reservations 1\n",
+    ),
+    (3, "ROLLBACK", "bank.3> OK rolled back 1\n"),
+];
+
+/// How many sessions there are.
+const SESSIONS: usize = 5;
+
+/// A database that is shared, without a table.
+const EMPTY: Plan = Plan {
+    databases: 1,
+    sessions: 5,
+    before: &[],
+    moves: &[],
+};
+
+/// Ends a run of which one part is handed out, with all its entries.
+fn end<R: Wait + Abort + AllocGlobal>(rt: &R, mut run: Run) {
+    let part = sharing::drain(rt, &run.shared, 0);
+    assert_eq!(rt; (part.number(), part.entries().len()), (1, ASKED.len()));
+    let mut parts = Vec::new(rt.alloc());
+    push(rt, &mut parts, part);
+    let mut passes = Vec::new(rt.alloc());
+    for place in 0..SESSIONS {
+        push(rt, &mut passes, run.take_pass(rt, place));
+    }
+    let (closed, _) = sharing::close(rt, run.into_shared(), passes, parts);
+    assert_eq!(rt; closed.len(), 1);
+}
+
+/// A history serves statements of each kind, and each is one entry.
+#[test]
+fn kinds_by_a_history(rt: HostRuntime) {
+    let mut audited = audited(&rt, database(&rt, &[]));
+    take_room(&rt, &mut audited, 20);
+    for (place, (asks, text, wanted)) in ASKED.iter().enumerate() {
+        let number = (place as u64).wrapping_add(1);
+        let statement = statement(&rt, text);
+        serve(
+            &rt,
+            &mut audited,
+            session(&rt, *asks),
+            &statement,
+            number,
+            wanted,
+        );
+    }
+    let (transcript, end) = drain(&rt, &mut audited);
+    assert_eq!(rt; transcript.entries.len(), ASKED.len());
+    assert_eq!(rt; end.before, ASKED.len() as u64);
+}
+
+/// Calls serve statements of each kind, and each has one receipt.
+#[test]
+fn kinds_by_calls(rt: HostRuntime) {
+    let mut run = Run::of(&rt, &EMPTY);
+    for (asks, text, wanted) in &ASKED {
+        run.check(&rt, usize::from(*asks).wrapping_sub(1), text, wanted);
+    }
+    end(&rt, run);
+}
