@@ -1,5 +1,6 @@
 //! What scripts write.
 use super::{check, serve};
+use escrow_transcript::Entry;
 use std::process::Abort;
 use std::test::Fail;
 
@@ -104,4 +105,83 @@ fn long(rt: HostRuntime) -> Result<(), Fail> {
     }
     assert!(rt; written.as_slice() == wanted.as_bytes());
     Ok(())
+}
+
+/// Lines of a phase that are asked again and again: a line, how often, and the reply.
+type Asked = (&'static str, u32, &'static str);
+
+const COMMIT: &str = "bank.1: COMMIT\n";
+
+const COMMIT_2: &str = "bank2.1: COMMIT\n";
+
+const COMMITTED: &str = "bank.1> OK committed 0\n";
+
+const COMMITTED_2: &str = "bank2.1> OK committed 0\n";
+
+/// Phases of two databases. A transaction of `bank` is open over the end of the second one, which leaves `bank2` an entry
+/// short of a part.
+const PHASES: [&[Asked]; 4] = [
+    &[(COMMIT, 33_000, COMMITTED), (COMMIT_2, 32_768, COMMITTED_2)],
+    &[
+        ("bank.2: SAVEPOINT A\n", 1, "bank.2> OK savepoint A\n"),
+        (COMMIT, 33_000, COMMITTED),
+        (COMMIT_2, 32_767, COMMITTED_2),
+    ],
+    &[
+        ("bank.2: ROLLBACK\n", 1, "bank.2> OK rolled back 0\n"),
+        (COMMIT_2, 1, COMMITTED_2),
+    ],
+    &[(COMMIT, 1, COMMITTED), (COMMIT_2, 2, COMMITTED_2)],
+];
+
+/// The parts that are handed out: the database of each, its number, how many entries it has, and the number of the first.
+const PARTS: [(usize, u64, usize, u64); 4] = [
+    (0, 1, 33_000, 1),
+    (1, 1, 32_768, 1),
+    (0, 2, 33_002, 33_001),
+    (1, 2, 32_768, 32_769),
+];
+
+/// How many entries each last transcript has, and the number of the first.
+const LAST: [(usize, u64); 2] = [(1, 66_003), (2, 65_537)];
+
+/// A database hands out what it served after each phase that leaves 32,768 entries or more, unless a transaction is open.
+/// So it serves more than 65,536 statements.
+#[test]
+fn drains(rt: HostRuntime) -> Result<(), Fail> {
+    let alloc = rt.alloc();
+    let mut script = String::new(alloc);
+    let mut wanted = String::new(alloc);
+    for phase in PHASES {
+        for (line, times, reply) in phase {
+            for _ in 0..*times {
+                script.push_str(*line)?;
+                wanted.push_str(*reply)?;
+            }
+        }
+        script.push_str("@join\n")?;
+    }
+    let (written, served) = serve(&rt, 2, script.as_str());
+    let Ok(audit) = served else {
+        rt.panic("served")
+    };
+    assert!(rt; written.as_slice() == wanted.as_bytes());
+    assert_eq!(rt; audit.parts.len(), PARTS.len());
+    for (part, (database, number, entries, first)) in audit.parts.iter().zip(PARTS) {
+        assert_eq!(rt; part.database(), database);
+        assert_eq!(rt; part.number(), number);
+        check_entries(&rt, part.entries(), entries, first);
+    }
+    assert_eq!(rt; audit.closed.len(), LAST.len());
+    for (closed, (entries, first)) in audit.closed.iter().zip(LAST) {
+        check_entries(&rt, closed.entries(), entries, first);
+    }
+    Ok(())
+}
+
+/// There are so many entries, numbered from a first one on.
+fn check_entries<R: Abort>(rt: &R, entries: &[Entry], count: usize, first: u64) {
+    assert_eq!(rt; entries.len(), count);
+    let numbers = entries.iter().map(|entry| entry.number);
+    assert!(rt; numbers.eq(first..first.saturating_add(count as u64)));
 }

@@ -15,6 +15,34 @@ const SCRIPT: &str =
 const REPLIES: &str =
     "bank.1> OK committed 0\nbank.2> OK rolled back 0\nscript> ERR 12 line\nbank.1> OK committed 0\n";
 
+/// An account that two sessions change, one in each of two phases, and that is shown in a third one; and the replies.
+const ACCOUNT: &str =
+    "bank.1: CREATE TABLE ACCOUNT (ID INTEGER PRIMARY KEY, BALANCE INTEGER RESERVABLE CONSTRAINT MINIMUM_BALANCE CHECK (BALANCE >= 50))
+bank.1: INSERT INTO ACCOUNT VALUES (1, 100)
+bank.1: UPDATE ACCOUNT SET BALANCE = BALANCE - 30 WHERE ID = 1
+@join
+bank.2: UPDATE ACCOUNT SET BALANCE = BALANCE + 5 WHERE ID = 1
+@join
+bank.1: SELECT * FROM ACCOUNT WHERE ID = 1
+bank.1: SHOW BOUNDS ACCOUNT WHERE ID = 1
+bank.1: SHOW JOURNAL
+";
+
+const ACCOUNT_REPLIES: &str = "bank.1> OK created ACCOUNT
+bank.1> OK inserted
+bank.1> OK reserved 1
+bank.2> OK reserved 2
+bank.1> ID | BALANCE
+bank.1> 1 | 100
+bank.1> OK rows 1
+bank.1> BALANCE value 100 inf 70 sup 105
+bank.1> CHECK MINIMUM_BALANCE least 70 greatest 105 low 50 high none
+bank.1> OK bounds
+bank.1> 1 session 1 ACCOUNT 1 BALANCE -30
+bank.1> 2 session 2 ACCOUNT 1 BALANCE +5
+bank.1> OK reservations 2
+";
+
 /// How many bytes the replies have to the phases that came whole in so many bytes of the script.
 fn written_after(bytes: usize) -> usize {
     match bytes {
@@ -81,9 +109,9 @@ fn failing_readers(rt: HostRuntime) -> Result<(), Fail> {
 /// What was written before the fault is a front of the replies, wherever the writer fails.
 #[test]
 fn failing_writers(rt: HostRuntime) -> Result<(), Fail> {
-    for room in 0..=REPLIES.len() {
-        let wanted = REPLIES.get(..room).expect(&rt, "replies");
-        let mut reader = SCRIPT.as_bytes();
+    for room in 0..=ACCOUNT_REPLIES.len() {
+        let wanted = ACCOUNT_REPLIES.get(..room).expect(&rt, "replies");
+        let mut reader = ACCOUNT.as_bytes();
         let mut writer = Taker {
             taken: Vec::new(rt.alloc()),
             room,
@@ -91,8 +119,8 @@ fn failing_writers(rt: HostRuntime) -> Result<(), Fail> {
         };
         let served = serve_in(&rt, databases(&rt, 1), &mut reader, &mut writer, &NoGate);
         match served {
-            Ok(_) => assert_eq!(rt; room, REPLIES.len()),
-            Err(FreeFault::Write) => assert!(rt; room < REPLIES.len()),
+            Ok(_) => assert_eq!(rt; room, ACCOUNT_REPLIES.len()),
+            Err(FreeFault::Write) => assert!(rt; room < ACCOUNT_REPLIES.len()),
             Err(_) => rt.panic("another fault"),
         }
         assert_eq!(rt; str::from_utf8(writer.taken.as_slice())?, wanted);
