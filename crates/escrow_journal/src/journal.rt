@@ -7,11 +7,22 @@ use std::mem;
 
 /// The journal of a session: its open reservations in order of grant, and its savepoints in order
 /// of making. The first four of each stand in place; only more take memory.
-#[derive(Debug, Drop)]
+#[derive(Debug)]
 pub struct Journal {
     session: Session,
     reservations: SmallVec<Reservation, 4>,
     savepoints: SmallVec<Savepoint, 4>,
+}
+
+// It is written out, so that no crate above proves again how each part is dropped.
+impl Drop for Journal {
+    fn drop(self) {
+        let Journal {
+            session: _,
+            reservations: _,
+            savepoints: _,
+        } = self;
+    }
 }
 
 impl Model for Journal {

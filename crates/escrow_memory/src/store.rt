@@ -22,7 +22,6 @@ use std::sync::Arc;
 /// [`Store`] and [`Alter`] ask. Its one error of its own is `OutOfMemory`, wherever memory is refused: a write that meets it leaves
 /// a transaction that can only be rolled back, whole or to a savepoint, and the last commit as it was. Commit, rollback and release take no memory. It keeps
 /// nothing on a disk: a crash leaves the last commit, for as long as the program runs.
-#[derive(Drop)]
 pub struct BlockStore {
     alloc: Global,
     /// As the last commit left them.
@@ -36,6 +35,22 @@ pub struct BlockStore {
     /// Scratch space for the record of a row that is written.
     types: Vec<u8>,
     bytes: Vec<u8>,
+}
+
+// It is written out, so that no crate above proves again how each part is dropped.
+impl Drop for BlockStore {
+    fn drop(self) {
+        let BlockStore {
+            alloc: _,
+            base: _,
+            changed: _,
+            marks: _,
+            cursors: _,
+            is_broken: _,
+            types: _,
+            bytes: _,
+        } = self;
+    }
 }
 
 impl BlockStore {

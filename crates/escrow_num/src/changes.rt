@@ -8,9 +8,16 @@ use std::marker::Model;
 /// The change of each RESERVABLE column of a table, in column order: `None` where the UPDATE
 /// doesn't assign the column, so that one that adds zero is told apart. Few columns of a table are
 /// RESERVABLE, so the changes of one reservation stand in it and mostly take no memory.
-#[derive(Debug, Drop)]
+#[derive(Debug)]
 pub struct Changes {
     items: SmallVec<Option<Amount>, { Changes::IN_PLACE }>,
+}
+
+// It is written out, so that no crate above proves again how its part is dropped.
+impl Drop for Changes {
+    fn drop(self) {
+        let Changes { items: _ } = self;
+    }
 }
 
 impl Model for Changes {

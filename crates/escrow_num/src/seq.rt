@@ -5,9 +5,16 @@ use std::marker::Model;
 
 /// A list that contracts see as a list: two of the same items are equal, wherever they lie in
 /// memory. Statements, rows and replies hold their lists in it.
-#[derive(Debug, Drop)]
+#[derive(Debug)]
 pub struct Seq<T> {
     items: Vec<T>,
+}
+
+// It is written out, so that no crate above proves again how its part is dropped.
+impl<T: Drop> Drop for Seq<T> {
+    fn drop(self) {
+        let Seq { items: _ } = self;
+    }
 }
 
 impl<T> Model for Seq<T> {
@@ -39,7 +46,8 @@ impl<T> Seq<T> {
     pub fn into_vec(self) -> Vec<T>
         ensures { result.items ≡ self }
     {
-        self.items
+        let Seq { items } = self;
+        items
     }
 
     /// The items, in order.

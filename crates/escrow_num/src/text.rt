@@ -11,9 +11,16 @@ use std::hash::{Hash, Hasher};
 use std::marker::Model;
 
 /// A text in UTF-8, which contracts see as the list of its bytes.
-#[derive(Debug, Drop)]
+#[derive(Debug)]
 pub struct Text {
     text: String,
+}
+
+// It is written out, so that no crate above proves again how its part is dropped.
+impl Drop for Text {
+    fn drop(self) {
+        let Text { text: _ } = self;
+    }
 }
 
 impl Model for Text {
@@ -40,7 +47,8 @@ impl Text {
     pub fn into_string(self) -> String
         ensures { string_bytes result ≡ self }
     {
-        self.text
+        let Text { text } = self;
+        text
     }
 
     /// The text itself.

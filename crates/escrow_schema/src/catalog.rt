@@ -11,9 +11,16 @@ use std::marker::Model;
 
 /// The tables of a database, in order of name, which contracts see as their list: at most
 /// [`Catalog::MAX_TABLES`] of them, no two of one name, and each is one that some text defines.
-#[derive(Debug, Drop)]
+#[derive(Debug)]
 pub struct Catalog {
     tables: Vec<TableDef>,
+}
+
+// It is written out, so that no crate above proves again how its part is dropped.
+impl Drop for Catalog {
+    fn drop(self) {
+        let Catalog { tables: _ } = self;
+    }
 }
 
 impl Model for Catalog {

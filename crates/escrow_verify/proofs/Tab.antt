@@ -1,20 +1,14 @@
 -- A row of TAB that is read: what its parts say of the table that it may be of.
-use Rattle.std.proofs.Common.{◌≡◌, ℕ, ℤ, pos, negsuc, int_le, true, false, Result, Ok, Err, None, List, sym, ap, ◌∙◌, subst, arith, bytes_eq}
-use Rattle.std.specs.Prelude.{◌≢◌, IfErr, int_lt}
+use Rattle.std.proofs.Common.{◌≡◌, ℕ, ℤ, pos, negsuc, int_le, true, false, Result, Ok, Err, List, sym, ap, ◌∙◌, subst, arith, bytes_eq}
+use Rattle.std.specs.Prelude.{◌≢◌, int_lt}
 use Rattle.std.specs.Result.{IsErrAnd}
 use Rattle.std.specs.Str.{IsUtf8}
 use Rattle.std.proofs.lemmas.Bool.{both_ways, false≢true}
 use Rattle.std.proofs.lemmas.Bool.Decides.{nat_tests}
-use Rattle.std.proofs.lemmas.Option.{none-some}
 use Rattle.sqlite_value.specs.Order.{Row as SqlRow}
 use Rattle.escrow_num.proofs.Orders.{same_name}
-use Rattle.escrow_sql.specs.Parser.{Asks}
-use Rattle.escrow_sql.specs.declared.statement.CreateText.{CreateText}
-use Rattle.escrow_sql.specs.declared.statement.Request.TheVariants as requests
-use Rattle.escrow_sql.specs.declared.statement.Statement.TheVariants as statements
-use Rattle.escrow_sql.proofs.ParseLemmas.{asks_once}
 use Rattle.escrow_schema.specs.declared.table.TableDef.{TableDef}
-use Rattle.escrow_schema.specs.Definition.{IsTable, definition_of}
+use Rattle.escrow_schema.specs.Definition.{IsTable}
 use Rattle.escrow_schema.specs.Print.{canonical}
 use Rattle.escrow_schema.proofs.PrintBack.{sound_of}
 use Rattle.escrow_schema.proofs.PrintText.{canonical_text, name_text}
@@ -26,14 +20,6 @@ use Rattle.escrow_verify.proofs.Only.{defined_by, one_definition}
 pub passed_on : {X Y E : Type 0} (r : Result X E) (call : Result Y E) (why e : E) → IsErrAnd r (λ y. y ≡ why) → call ≡ Err why → r ≡ Err e → call ≡ Err e
 passed_on (Ok x) call why e is was told = absurd is
 passed_on (Err y) call why e is was told = was ∙ ap Err (sym is) ∙ (cc)
-
--- a text of whose CREATE TABLE nothing is defined defines no table
-pub undefined : (text : List ℕ) (create : CreateText) → Asks text (requests.Statement (statements.Create create)) → definition_of create ≡ None → (table : TableDef) → Defines text table → ⊥
-undefined text create asked none table (other, same, e) =
-    let one : requests.Statement (statements.Create create) ≡ requests.Statement (statements.Create other) =
-    asks_once text (requests.Statement (statements.Create create)) (requests.Statement (statements.Create other)) asked same in
-    let is : create ≡ other = cc in
-    none-some table (sym none ∙ ap definition_of is ∙ e)
 
 -- a row of TAB has a number, a name and a text in UTF-8
 pub tab_parts : (row : SqlRow) → ((id : ℤ) (name text : List ℕ) → IsUtf8 name → IsUtf8 text → row ≢ tab_with id name text) → IsTab row → ⊥
@@ -68,7 +54,3 @@ same_texts a b same apart = both_ways (bytes_eq a b) apart (subst (λ (t : List 
 pub not_below : (id : ℤ) → int_lt id (pos 1) ≡ true → int_le (pos 1) id ≡ true → ⊥
 not_below (pos n) below above = absurd (grind (arith, nat_tests))
 not_below (negsuc n) below above = absurd (false≢true above)
-
--- what is known of the error that a call gives
-pub told_of : {X E : Type 0} (P : E → Type 0) (r : Result X E) (e : E) → r ≡ Err e → IfErr r P → P e
-told_of P r e told h = subst (λ r. IfErr r P) told h

@@ -1,5 +1,5 @@
 //! A row of TAB: a table's number, its name, and the text that defines it.
-ghost use Rattle.std.specs.Prelude.{◌≡◌, ◌≢◌, ◌<◌, ℕ, ℤ, List, Err, None, IfErr, IfOk, IfSome, IsUtf8, length};
+ghost use Rattle.std.specs.Prelude.{◌≡◌, ◌≢◌, ◌<◌, ℕ, ℤ, List, Err, None, Some, IfOk, IfSome, IsUtf8, length};
 ghost use Rattle.sqlite_value.specs.declared.value.Value.TheVariants as sql;
 ghost use Rattle.sqlite_value.specs.Order.{column};
 ghost use Rattle.escrow_sql.specs.Parser.{Asks};
@@ -7,7 +7,7 @@ ghost use Rattle.escrow_sql.specs.declared.statement.CreateText.{CreateText as C
 ghost use Rattle.escrow_sql.specs.declared.statement.Request.TheVariants as requests;
 ghost use Rattle.escrow_sql.specs.declared.statement.Statement.TheVariants as statements;
 ghost use Rattle.escrow_schema.specs.declared.table.TableDef.{TableDef as Table};
-ghost use Rattle.escrow_schema.specs.Definition.{IsTable};
+ghost use Rattle.escrow_schema.specs.Definition.{IsTable, definition_of};
 ghost use Rattle.escrow_schema.specs.Print.{canonical};
 ghost use Rattle.escrow_rows.specs.Image.{tab_row};
 ghost use Rattle.escrow_verify.specs.Tabs.{CanStand, Defines, IsTab, tab_with};
@@ -17,7 +17,7 @@ use crate::unverified::PartFault;
 use escrow_num::{Failure, Refusal};
 use escrow_rows::StoredTable;
 use escrow_schema::{TableDef, define, print_table};
-use escrow_sql::{CreateText, ParseFault, Request, Statement, parse};
+use escrow_sql::{ParseFault, Request, Statement, parse};
 use sqlite::Row;
 use sqlite::types::ValueRef;
 use std::alloc::Global;
@@ -103,33 +103,24 @@ fn created_by(alloc: Global, text: &str) -> Result<TableDef, PartFault>
     ensures table { IfOk result (Defines text.now) }
     ensures foreign { result ≡ Err Foreign → (table : Table) → Defines text.now table → ⊥ }
 {
-    let create = create_in(alloc, text)?;
-    match define(alloc, &create) {
-        Ok(table) => Ok(table),
-        Err(Refusal::BadDefinition) => Err(PartFault::Foreign),
-        Err(_) => Err(PartFault::Failed(Failure::Memory)),
-    }
-}
-
-/// The CREATE TABLE that a text asks.
-fn create_in(alloc: Global, text: &str) -> Result<CreateText, PartFault>
-    ensures asked { IfOk result (λ create. Asks text.now (requests.Statement (statements.Create create))) }
-    ensures foreign { result ≡ Err Foreign → (create : Create) → Asks text.now (requests.Statement (statements.Create create)) → ⊥ }
-{
     match parse(alloc, text) {
-        Ok(request) => create_of(request),
+        Ok(request) => defined_in(alloc, &request),
         Err(ParseFault::Memory) => Err(PartFault::Failed(Failure::Memory)),
         Err(ParseFault::Syntax { .. }) => Err(PartFault::Foreign),
     }
 }
 
-/// The CREATE TABLE that a request is.
-fn create_of(request: Request) -> Result<CreateText, PartFault>
-    ensures created { IfOk result (λ create. request ≡ requests.Statement (statements.Create create)) }
-    ensures other { IfErr result (λ e. (e ≡ Foreign) × ((create : Create) → request ≢ requests.Statement (statements.Create create))) }
+/// The table that a request defines.
+fn defined_in(alloc: Global, request: &Request) -> Result<TableDef, PartFault>
+    ensures table { IfOk result (λ table. (create : Create) × (request.now ≡ requests.Statement (statements.Create create)) × (definition_of create ≡ Some table)) }
+    ensures foreign { result ≡ Err Foreign → (create : Create) → request.now ≡ requests.Statement (statements.Create create) → definition_of create ≡ None }
 {
-    match request {
-        Request::Statement(Statement::Create(create)) => Ok(create),
-        _ => Err(PartFault::Foreign),
+    let Request::Statement(Statement::Create(create)) = request else {
+        return Err(PartFault::Foreign);
+    };
+    match define(alloc, create) {
+        Ok(table) => Ok(table),
+        Err(Refusal::BadDefinition) => Err(PartFault::Foreign),
+        Err(_) => Err(PartFault::Failed(Failure::Memory)),
     }
 }

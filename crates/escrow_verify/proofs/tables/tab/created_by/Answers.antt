@@ -1,11 +1,13 @@
-use Rattle.std.proofs.Common.{◌∙◌, Err, ap}
-use Rattle.escrow_verify.proofs.Tab.{passed_on, undefined}
+use Rattle.std.proofs.Common.{◌∙◌, sym}
+use Rattle.std.proofs.lemmas.Option.{none-some}
 use Rattle.escrow_verify.proofs.tables.tab.created_by.Goals as goal
 
-pub returns-in_err-create-clause-foreign : goal.returns-in_err-create-clause-foreign
-returns-in_err-create-clause-foreign c = λ told table defines.
-    c.create_in.ensures.foreign (passed_on c.from_residual.result c.create_in.result _ _ c.from_residual.ensures.1 c.in_err-create.was told) defines.0 defines.1
+pub returns-in-Ok-clause-foreign : goal.returns-in-Ok-clause-foreign
+returns-in-Ok-clause-foreign c = λ told table defines.
+    none-some table (sym (c.defined_in.ensures.foreign told defines.0 (c.in-Ok.ensures.only _ defines.1)) ∙ defines.2)
 
-pub returns-in-Err-BadDefinition-clause-foreign : goal.returns-in-Err-BadDefinition-clause-foreign
-returns-in-Err-BadDefinition-clause-foreign c = λ told.
-    undefined c.args.text.now c.in_ok-create.create c.in_ok-create.ensures.asked (c.define.ensures.bad (c.in-Err-BadDefinition.is ∙ ap Err c.in-Err-BadDefinition.field-0-is))
+pub returns-in-Err-Syntax-clause-foreign : goal.returns-in-Err-Syntax-clause-foreign
+returns-in-Err-Syntax-clause-foreign c = λ told table defines.
+    let memory = c.in-Err-Syntax.ensures.only _ defines.1 in
+    let is = c.in-Err-Syntax.field-0-is in
+    absurd (cc)
