@@ -1,5 +1,5 @@
 -- Desks at the beginning, and while phases are served.
-use Rattle.std.proofs.Common.{◌≡◌, ℕ, zero, suc, ◌+◌, ◌-◌, ◌*◌, ◌/◌, ◌%◌, ◌<◌, ◌≤◌, Some, List, [], ◌∷◌, length, slice_get, refl, sym, ap, subst, ◌∙◌, arith}
+use Rattle.std.proofs.Common.{◌≡◌, ℕ, zero, suc, ◌+◌, ◌-◌, ◌*◌, ◌/◌, ◌%◌, ◌<◌, ◌≤◌, Some, List, [], ◌∷◌, length, replicate, slice_get, refl, sym, ap, subst, ◌∙◌, arith}
 use Rattle.std.specs.List.{AllByRecursion, AllZip}
 use Rattle.std.proofs.lemmas.List.{length-append}
 use Rattle.escrow_num.specs.Session.{IsSession}
@@ -11,10 +11,12 @@ use Rattle.escrow_shards.proofs.NewSeats.{passes_have_places}
 use Rattle.escrow_sessions.specs.Fed.{of}
 use Rattle.escrow_sessions.specs.Serving.{Serves}
 use Rattle.escrow_sessions.specs.declared.done.Given.{Given}
-use Rattle.escrow_free.specs.Desks.{desk_of, answers_of, IsNewDesk, HasDesk, HaveSeats, AreServed, seat_after, Fits}
+use Rattle.escrow_stats.specs.Tally.{tally_of}
+use Rattle.escrow_stats.specs.declared.tally.Tally.{Tally}
+use Rattle.escrow_free.specs.Desks.{desk_of, answers_of, IsNewDesk, HasDesk, HaveSeats, AreServed, AreTotals, seat_after, Fits}
 use Rattle.escrow_free.specs.FreeOutput.{Taken}
 use Rattle.escrow_free.specs.declared.desk.Desk.{Desk}
-use Rattle.escrow_sessions.proofs.Places.{some_same, at_below, below_at, beside, all_of_each, zip_long}
+use Rattle.escrow_sessions.proofs.Places.{some_same, none_some, at_below, below_at, beside, all_of_each, zip_long}
 
 -- what no request was given
 pub record Nothing (seat : Seat) (gs : List Given) (new : Seat) : Type 0 where
@@ -31,6 +33,14 @@ fits_served items taken old mid served fits = λ place session desk is at.
     let before = at_below old (desk_of place session) (subst (λ n. desk_of place session < n) served.count (below_at mid (desk_of place session) desk at)) in
     let was = nothing_served (seat_after place session taken) (answers_of before.0) (before.0).pass (fits place session before.0 is before.1) in
     subst (λ (seat : Seat). Serves seat (of (desk_of place session) items) (answers_of desk) desk.pass) was.same (served.each (desk_of place session) before.0 desk before.1 at was.none)
+
+-- no desk was asked: what is served is nothing
+pub none_served : (desks : List Desk) (items : List (ℕ × Request)) → items ≡ [] → AreServed desks items desks
+none_served desks items none = subst (λ (is : List (ℕ × Request)). AreServed desks is desks) (sym none) (record { count = refl; each = each }) where
+  each : (place : ℕ) (before after : Desk) → slice_get desks place ≡ Some before → slice_get desks place ≡ Some after → answers_of before ≡ [] → Serves before.pass [] (answers_of after) after.pass
+  each place before after at also empty =
+      let same : before ≡ after = some_same before after (sym at ∙ also) in
+      subst (λ (d : Desk). Serves before.pass [] (answers_of d) d.pass) same (subst (λ (gs : List Given). Serves before.pass [] gs before.pass) (sym empty) refl)
 
 -- between phases each pass is of a session of a database
 place_within : (k n : ℕ) → k < n * MAX → k / MAX < n
@@ -75,6 +85,16 @@ seat_again session is = let a = is.0 in omega arith
 
 before_most : (session : ℕ) → IsSession session → session - 1 < MAX
 before_most session is = let a = is.0 in let b = is.1 in omega arith
+
+-- before a line took anything all totals are those of no replies
+all_alike : {A : Type 0} (n k : ℕ) (x y : A) → slice_get (replicate n x) k ≡ Some y → y ≡ x
+all_alike zero k x y at = absurd (none_some y at)
+all_alike (suc n) zero x y at = some_same y x (sym at)
+all_alike (suc n) (suc k) x y at = all_alike n k x y at
+
+pub totals_new : (n : ℕ) (totals : List Tally) → totals ≡ replicate n (tally_of []) → AreTotals [] totals
+totals_new n totals are = λ place session tally is at.
+    all_alike n (desk_of place session) (tally_of []) tally (ap (λ (ts : List Tally). slice_get ts (desk_of place session)) (sym are) ∙ at)
 
 pub new_long : (n : ℕ) (seats : List Seat) (desks : List Desk) → seats ≡ new_seats n MAX → AllZip IsNewDesk seats desks → length desks ≡ n * MAX
 new_long n seats desks same all = sym (zip_long IsNewDesk seats desks all) ∙ ap (length {A = Seat}) same ∙ as_many n

@@ -10,7 +10,8 @@ use Rattle.escrow_script.specs.Script.{TakesLine, Spends, left}
 use Rattle.escrow_script.proofs.TakenLemmas.{kept_line, within_limit}
 use Rattle.escrow_script.proofs.WrittenLemmas.{appends_more, appends_none}
 use Rattle.escrow_free.specs.Adding.{Adds}
-use Rattle.escrow_free.specs.Desks.{Fits, AreServed}
+use Rattle.escrow_stats.specs.declared.tally.Tally.{Tally}
+use Rattle.escrow_free.specs.Desks.{Fits, AreServed, AreTotals}
 use Rattle.escrow_free.specs.FreeOutput.{Taken, DoLines}
 use Rattle.escrow_free.specs.Phases.{TakesLines, IsRead, IsOver, IsServed}
 use Rattle.escrow_free.specs.Planning.{PlansBytes, Plans}
@@ -75,8 +76,9 @@ read_one n bytes mid rest kept line found old new is_found same short taken adds
 
 -- PHASES
 
--- Some phases were served: their lines were read, what they do was written, and the desks fit what they took.
-pub record Stands (n : ℕ) (script rest old_bytes new_bytes : Option (List ℕ)) (desks : List Desk) : Type 0 where
+-- Some phases were served: their lines were read, what they do was written, and the desks fit what they took, of
+-- which the totals are.
+pub record Stands (n : ℕ) (script rest old_bytes new_bytes : Option (List ℕ)) (desks : List Desk) (totals : List Tally) : Type 0 where
   pub lines : List (List ℕ)
   pub out : List ℕ
   pub taken : List Taken
@@ -84,9 +86,11 @@ pub record Stands (n : ℕ) (script rest old_bytes new_bytes : Option (List ℕ)
   pub does : DoLines n [] lines out taken
   pub appends : Appends old_bytes new_bytes out
   pub fits : Fits [] taken desks
+  pub counts : AreTotals taken totals
 
-pub stands_new : (n : ℕ) (script bytes : Option (List ℕ)) (unread : List ℕ) (desks : List Desk) → unread ≡ [] → Fits [] [] desks → Stands n script (left unread script) bytes bytes desks
-stands_new n script bytes unread desks none fits = record {
+pub stands_new : (n : ℕ) (script bytes : Option (List ℕ)) (unread : List ℕ) (desks : List Desk) (totals : List Tally) → unread ≡ [] → Fits [] [] desks → AreTotals [] totals
+    → Stands n script (left unread script) bytes bytes desks totals
+stands_new n script bytes unread desks totals none fits counts = record {
   lines = [];
   out = [];
   taken = [];
@@ -94,20 +98,22 @@ stands_new n script bytes unread desks none fits = record {
   does = (refl, refl);
   appends = appends_none bytes;
   fits = fits;
+  counts = counts;
 } where
   first : (b : Option (List ℕ)) → TakesLines [] b (left [] b)
   first None = tt
   first (Some b) = refl
 
 -- a phase more
-pub stands_more : (n : ℕ) (script mid rest old_bytes now_bytes new_bytes : Option (List ℕ)) (plan : Plan) (before served after : List Desk) (out : List ℕ)
-    → IsRead n mid rest plan → AreServed before plan.items.items served → PrintsTo plan.lines.items served out [] after → Appends now_bytes new_bytes out
-    → Stands n script mid old_bytes now_bytes before → Stands n script rest old_bytes new_bytes after
-stands_more n script mid rest old_bytes now_bytes new_bytes plan before served after out phase serves prints wrote stood =
+pub stands_more : (n : ℕ) (script mid rest old_bytes now_bytes new_bytes : Option (List ℕ)) (plan : Plan) (before served after : List Desk) (counted totals : List Tally) (out : List ℕ)
+    → IsRead n mid rest plan → AreServed before plan.items.items served → PrintsTo plan.lines.items served counted out [] after totals → Appends now_bytes new_bytes out
+    → Stands n script mid old_bytes now_bytes before counted → Stands n script rest old_bytes new_bytes after totals
+stands_more n script mid rest old_bytes now_bytes new_bytes plan before served after counted totals out phase serves prints wrote stood =
     let lines = plan.lines.items in
     let items = plan.items.items in
     let plans : Plans n phase.lines lines items = phase.plans in
-    let all = all_printed lines items stood.taken served after out prints (plans_match n phase.lines lines items plans) (fits_served items stood.taken before served serves stood.fits) in
+    let fits = fits_served items stood.taken before served serves stood.fits in
+    let all = all_printed lines items stood.taken served after counted totals out prints (plans_match n phase.lines lines items plans) fits stood.counts in
     record {
       lines = stood.lines ++ phase.lines;
       out = stood.out ++ out;
@@ -116,6 +122,7 @@ stands_more n script mid rest old_bytes now_bytes new_bytes plan before served a
       does = do_more n stood.lines phase.lines [] stood.taken all.end stood.out out stood.does (lines_do n phase.lines lines items stood.taken all.end out plans all.prints);
       appends = appends_more old_bytes now_bytes new_bytes stood.out out stood.appends wrote;
       fits = all.fits;
+      counts = all.counts;
     }
 
 -- AT THE END
@@ -133,12 +140,12 @@ at_end (Some bytes) (Some rest) None was_unread unread limit now spends over = t
 at_end (Some bytes) (Some rest) (Some more) was_unread unread limit now spends over = nothing_behind unread more over
 
 -- and served
-pub finished : (n : ℕ) (script rest remaining old_bytes new_bytes : Option (List ℕ)) (desks : List Desk) (now : ℕ) → length desks ≡ n * MAX → Stands n script rest old_bytes new_bytes desks
+pub finished : (n : ℕ) (script rest remaining old_bytes new_bytes : Option (List ℕ)) (desks : List Desk) (totals : List Tally) (now : ℕ) → length desks ≡ n * MAX → Stands n script rest old_bytes new_bytes desks totals
     → IsOver script rest → Spends script remaining MAX_SCRIPT now → IfSome script (λ bytes. IsAtEnd remaining)
     → IfSome script (λ bytes. IsServed n bytes desks old_bytes new_bytes)
-finished n None rest remaining old_bytes new_bytes desks now count stood all spends ends = tt
-finished n (Some bytes) None remaining old_bytes new_bytes desks now count stood all spends ends = absurd all
-finished n (Some bytes) (Some rest) remaining old_bytes new_bytes desks now count stood all spends ends =
+finished n None rest remaining old_bytes new_bytes desks totals now count stood all spends ends = tt
+finished n (Some bytes) None remaining old_bytes new_bytes desks totals now count stood all spends ends = absurd all
+finished n (Some bytes) (Some rest) remaining old_bytes new_bytes desks totals now count stood all spends ends =
     let whole : stood.lines ≡ lines_of bytes = sym (stood.read ∙ ap (λ (r : List ℕ). stood.lines ++ lines_of r) all ∙ append-nil stood.lines) in
     record {
       limit = within_limit bytes remaining MAX_SCRIPT now spends ends;

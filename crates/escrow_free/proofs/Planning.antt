@@ -5,11 +5,14 @@ use Rattle.std.proofs.lemmas.List.{append-nil}
 use Rattle.escrow_num.specs.Session.{IsSession}
 use Rattle.escrow_num.specs.declared.session.TheConstants.Session.{MAX}
 use Rattle.escrow_sql.specs.declared.statement.Request.{Request}
+use Rattle.escrow_sql.specs.declared.statement.Request.TheVariants as request
+use Rattle.escrow_stats.specs.Tally.{tally_of}
+use Rattle.escrow_stats.specs.Text.{rendered_totals}
 use Rattle.escrow_script.specs.declared.limits.TheConstants.{MAX_DATABASES}
-use Rattle.escrow_script.specs.Line.{Reading, nothing, join, restart, statement, no_line, Reads}
+use Rattle.escrow_script.specs.Line.{Reading, nothing, join, restart, statement, no_line, database_name, Reads}
 use Rattle.escrow_script.specs.Written.{no_line_text, fault_refusal}
 use Rattle.escrow_free.specs.Desks.{desk_of}
-use Rattle.escrow_free.specs.FreeOutput.{Taken, refused, DoesLine, DoLines}
+use Rattle.escrow_free.specs.FreeOutput.{Taken, refused, replies_by, DoesLine, DoLines}
 use Rattle.escrow_free.specs.Planning.{PlansText, PlansReading, PlansBytes, Plans}
 use Rattle.escrow_free.specs.Printing.{HasItsDesk, Matches, Prints}
 use Rattle.escrow_free.specs.declared.plan.Planned.{Planned}
@@ -50,8 +53,11 @@ module _ (ps : List Planned) (is : List (ℕ × Request)) (m : Matches ps is) wh
 
   text_matches : (place session : ℕ) (text : List ℕ) (p : List Planned) (i : List (ℕ × Request)) → PlansText place session text p i → Matches (p ++ ps) (i ++ is)
   text_matches place session text p i (inl asked) =
-      backward (λ (x : List Planned) (y : List (ℕ × Request)). Matches (x ++ ps) (y ++ is)) p (planned.Asked place session ∷ []) i ((desk_of place session, asked.0) ∷ []) asked.2 asked.3 (refl, m)
-  text_matches place session text p i (inr bad) =
+      backward (λ (x : List Planned) (y : List (ℕ × Request)). Matches (x ++ ps) (y ++ is)) p (planned.Asked place session ∷ []) i ((desk_of place session, request.Statement asked.0) ∷ [])
+      asked.2 asked.3 (refl, (asked.0, refl), m)
+  text_matches place session text p i (inr (inl shown)) =
+      backward (λ (x : List Planned) (y : List (ℕ × Request)). Matches (x ++ ps) (y ++ is)) p (planned.Totals place session ∷ []) i [] shown.1 shown.2 m
+  text_matches place session text p i (inr (inr bad)) =
       backward (λ (x : List Planned) (y : List (ℕ × Request)). Matches (x ++ ps) (y ++ is)) p (planned.Refused place session bad.0 ∷ []) i [] bad.2 bad.3 m
 
   reading_matches : (reading : Reading) (p : List Planned) (i : List (ℕ × Request)) → PlansReading reading p i → Matches (p ++ ps) (i ++ is)
@@ -93,9 +99,11 @@ names_none n = record { lines = (tt, tt); items = tt }
 text_desks : (n place session : ℕ) (text : List ℕ) (p : List Planned) (i : List (ℕ × Request)) → n ≤ MAX_DATABASES → place < n → IsSession session → PlansText place session text p i → NamesDesks n p i
 text_desks n place session text p i few below is (inl asked) =
     let within = within_desks n place session below is in
-    backward (NamesDesks n) p (planned.Asked place session ∷ []) i ((desk_of place session, asked.0) ∷ []) asked.2 asked.3
+    backward (NamesDesks n) p (planned.Asked place session ∷ []) i ((desk_of place session, request.Statement asked.0) ∷ []) asked.2 asked.3
     (record { lines = ((omega (arith, few, below), within), tt); items = (within, tt) })
-text_desks n place session text p i few below is (inr bad) =
+text_desks n place session text p i few below is (inr (inl shown)) =
+    backward (NamesDesks n) p (planned.Totals place session ∷ []) i [] shown.1 shown.2 (record { lines = ((omega (arith, few, below), within_desks n place session below is), tt); items = tt })
+text_desks n place session text p i few below is (inr (inr bad)) =
     backward (NamesDesks n) p (planned.Refused place session bad.0 ∷ []) i [] bad.2 bad.3 (record { lines = (omega (arith, few, below), tt); items = tt })
 
 reading_desks : (n : ℕ) (bytes : List ℕ) (reading : Reading) (p : List Planned) (i : List (ℕ × Request)) → n ≤ MAX_DATABASES → Reads n bytes reading → PlansReading reading p i → NamesDesks n p i
@@ -139,9 +147,20 @@ module _ (ps : List Planned) (is : List (ℕ × Request)) (taken end : List Take
   text_does : (place session : ℕ) (text : List ℕ) (p : List Planned) (i : List (ℕ × Request)) → PlansText place session text p i → Prints taken (p ++ ps) (i ++ is) out end
       → Heads taken end out (statement place session text) ps is
   text_does place session text p i (inl asked) h =
-      let q = forward (λ (x : List Planned) (y : List (ℕ × Request)). Prints taken (x ++ ps) (y ++ is) out end) p (planned.Asked place session ∷ []) i ((desk_of place session, asked.0) ∷ []) asked.2 asked.3 h in
-      record { first = q.0; rest = q.1; mid = q.2; does = inl (asked.0, asked.1, q.3); prints = q.4; parts = q.5 }
-  text_does place session text p i (inr bad) h =
+      let q = forward (λ (x : List Planned) (y : List (ℕ × Request)). Prints taken (x ++ ps) (y ++ is) out end) p (planned.Asked place session ∷ []) i ((desk_of place session, request.Statement asked.0) ∷ [])
+      asked.2 asked.3 h in
+      record { first = q.0; rest = q.1; mid = q.2; does = inl (request.Statement asked.0, asked.1, q.3); prints = q.4; parts = q.5 }
+  text_does place session text p i (inr (inl shown)) h =
+      let q = forward (λ (x : List Planned) (y : List (ℕ × Request)). Prints taken (x ++ ps) (y ++ is) out end) p (planned.Totals place session ∷ []) i [] shown.1 shown.2 h in
+      record {
+        first = rendered_totals (database_name place) session (tally_of (replies_by place session taken));
+        rest = q.0;
+        mid = taken;
+        does = inl (request.Statistics, shown.0, (refl, refl));
+        prints = q.1;
+        parts = q.2;
+      }
+  text_does place session text p i (inr (inr bad)) h =
       let q = forward (λ (x : List Planned) (y : List (ℕ × Request)). Prints taken (x ++ ps) (y ++ is) out end) p (planned.Refused place session bad.0 ∷ []) i [] bad.2 bad.3 h in
       record { first = refused place session (fault_refusal bad.0); rest = q.0; mid = taken; does = inr (bad.0, bad.1, refl, refl); prints = q.1; parts = q.2 }
 

@@ -1,11 +1,13 @@
 -- A line's turn: its session's desk gives its next answer, and the line takes an entry or none.
-use Rattle.std.proofs.Common.{◌≡◌, ◌≢◌, ◌⊎◌, ℕ, Bool, true, false, ◌&&◌, eqb, if◌then◌else◌, Option, Some, None, List, [], ◌∷◌, ◌++◌, set, slice_get, refl, sym, ap, subst, ◌∙◌, inl, inr, arith}
+use Rattle.std.proofs.Common.{◌≡◌, ◌≢◌, ◌⊎◌, ℕ, Bool, true, false, ◌&&◌, ◌<◌, ◌≤◌, eqb, if◌then◌else◌, Option, Some, None, List, [], ◌∷◌, ◌++◌, length, map, set, slice_get, refl, sym, ap, subst, ◌∙◌, inl, inr, arith}
 use Rattle.std.proofs.lemmas.Bool.{eq-eqb, ne_eqb, cases_eq}
+use Rattle.std.proofs.lemmas.List.{length-append, length-map, map-append}
 use Rattle.escrow_num.specs.Session.{IsSession}
 use Rattle.escrow_num.specs.declared.refusal.Refusal.TheVariants as refusal
 use Rattle.escrow_sql.specs.declared.statement.Request.{Request}
 use Rattle.escrow_sql.specs.declared.statement.Request.TheVariants as request
-use Rattle.escrow_stats.specs.Text.{rendered_totals}
+use Rattle.escrow_sql.specs.declared.statement.Statement.{Statement}
+use Rattle.escrow_stats.specs.Tally.{tally_of}
 use Rattle.escrow_stats.specs.declared.tally.Tally.{Tally}
 use Rattle.escrow_shards.specs.declared.answer.Answer.TheVariants as answer
 use Rattle.escrow_shards.specs.declared.receipt.Receipt.{Receipt}
@@ -15,8 +17,8 @@ use Rattle.escrow_sessions.specs.Serving.{IsGiven, Serves}
 use Rattle.escrow_sessions.specs.declared.done.Given.{Given}
 use Rattle.escrow_sessions.specs.declared.done.Given.TheVariants as given
 use Rattle.escrow_script.specs.Line.{database_name}
-use Rattle.escrow_free.specs.Desks.{desk_of, answers_of, IsNext, seat_after, Fits}
-use Rattle.escrow_free.specs.FreeOutput.{Taken, taken_by, Does}
+use Rattle.escrow_free.specs.Desks.{desk_of, answers_of, IsNext, IsCounted, seat_after, Fits, AreTotals}
+use Rattle.escrow_free.specs.FreeOutput.{Taken, taken_by, replies_by, Does}
 use Rattle.escrow_free.specs.Printing.{given_text, Matches, GoesOn, PrintsTo}
 use Rattle.escrow_free.specs.declared.desk.Desk.{Desk}
 use Rattle.escrow_free.specs.declared.plan.Planned.{Planned}
@@ -69,59 +71,92 @@ taken_else p s place session [] r apart = if_none (eqb place p && eqb session s)
 taken_else p s place session (t ∷ taken) r apart =
     if_same (eqb t.place p && eqb t.session s) t.receipt (taken_by p s taken) (taken_by p s (taken ++ one_taken place session r ∷ [])) (taken_else p s place session taken r apart)
 
+-- THE RECEIPTS OF A PASS ONLY GROW
+
+given_grows : (r : Request) (g : Given) (old new : Seat) → IsGiven r g old new → length old.receipts ≤ length new.receipts
+given_grows (request.Statement asked) (given.Reply (answer.Served r)) old new h =
+    let one : Receipt = record { number = h.1.0; statement = asked; reply = r } in
+    let same : length new.receipts ≡ length (old.receipts ++ one ∷ []) = ap (λ (s : Seat). length s.receipts) h.1.1 in
+    omega (arith, same, length-append old.receipts (one ∷ []))
+given_grows (request.Statement asked) (given.Reply (answer.Unserved cause)) old new h =
+    let same : length new.receipts ≡ length old.receipts = ap (λ (s : Seat). length s.receipts) h.1 in omega (arith, same)
+given_grows (request.Statement asked) (given.Totals totals) old new h = absurd h
+given_grows request.Statistics (given.Reply a) old new h = absurd h
+given_grows request.Statistics (given.Totals totals) old new h =
+    let same : length new.receipts ≡ length old.receipts = ap (λ (s : Seat). length s.receipts) h.1 in omega (arith, same)
+
+serving_grows : (seat : Seat) (rs : List Request) (gs : List Given) (pass : Seat) → Serves seat rs gs pass → length seat.receipts ≤ length pass.receipts
+serving_grows seat rs [] pass same = let e : length pass.receipts ≡ length seat.receipts = ap (λ (s : Seat). length s.receipts) same in omega (arith, e)
+serving_grows seat [] (g ∷ gs) pass none = absurd none
+serving_grows seat (r ∷ rs) (g ∷ gs) pass h =
+    let first = given_grows r g seat h.0 h.1.0 in let more = serving_grows h.0 rs gs pass h.1.1 in omega (arith, first, more)
+
 -- A TURN
 
--- what a line does as its request is given an answer, which leads to a seat
-record Turned (place session : ℕ) (taken : List Taken) (r : Request) (out : List ℕ) (mid : Seat) : Type 0 where
+-- what a line does as its statement is given an answer, which leads to a seat, and to totals that count it
+record Turned (place session : ℕ) (taken : List Taken) (asked : Statement) (out : List ℕ) (mid : Seat) (counted totals : Tally) : Type 0 where
   took : List Taken
-  does : Does taken place session r out took
+  does : Does taken place session (request.Statement asked) out took
   here : seat_after place session took ≡ mid
+  counts : counted ≡ tally_of (replies_by place session taken) → totals ≡ tally_of (replies_by place session took)
   others : (p s : ℕ) → (p ≡ place → s ≡ session → ⊥) → taken_by p s took ≡ taken_by p s taken
 
-given_turns : (place session : ℕ) (taken : List Taken) (r : Request) (g : Given) (mid : Seat) → IsGiven r g (seat_after place session taken) mid
-    → Turned place session taken r (given_text (database_name place) session (Some g)) mid
-given_turns place session taken (request.Statement asked) (given.Reply (answer.Served r)) mid h = record {
-  took = taken ++ one_taken place session (record { number = h.1.0; statement = asked; reply = r }) ∷ [];
-  does = inl (h.1.0, r, refl, refl);
-  here = ap (λ (rs : List Receipt). record { database = place; session = session; receipts = rs }) (taken_here place session taken (record { number = h.1.0; statement = asked; reply = r })) ∙ sym h.1.1;
-  others = λ p s apart. taken_else p s place session taken (record { number = h.1.0; statement = asked; reply = r }) apart;
-}
-given_turns place session taken (request.Statement asked) (given.Reply (answer.Unserved cause)) mid h = record {
+-- the replies of what was taken, with one more
+replies_more : (place session : ℕ) (taken : List Taken) (r : Receipt) → replies_by place session (taken ++ one_taken place session r ∷ []) ≡ replies_by place session taken ++ r.reply ∷ []
+replies_more place session taken r =
+    ap (map (λ (x : Receipt). x.reply)) (taken_here place session taken r) ∙ map-append (λ (x : Receipt). x.reply) (taken_by place session taken) (r ∷ [])
+
+given_turns : (place session : ℕ) (taken : List Taken) (asked : Statement) (g : Given) (mid pass : Seat) (counted totals : Tally) → IsGiven (request.Statement asked) g (seat_after place session taken) mid
+    → length mid.receipts ≤ length pass.receipts → IsCounted (Some g) pass counted totals
+    → Turned place session taken asked (given_text (database_name place) session (Some g)) mid counted totals
+given_turns place session taken asked (given.Reply (answer.Served r)) mid pass counted totals h most counts =
+    let one : Receipt = record { number = h.1.0; statement = asked; reply = r } in
+    let long : length mid.receipts ≡ length (taken_by place session taken ++ one ∷ []) = ap (λ (s : Seat). length s.receipts) h.1.1 in
+    let few : length (replies_by place session taken) < length pass.receipts =
+    omega (arith, long, most, length-append (taken_by place session taken) (one ∷ []), length-map (taken_by place session taken) (λ (x : Receipt). x.reply)) in
+    record {
+      took = taken ++ one_taken place session one ∷ [];
+      does = inl (h.1.0, r, refl, refl);
+      here = ap (λ (rs : List Receipt). record { database = place; session = session; receipts = rs }) (taken_here place session taken one) ∙ sym h.1.1;
+      counts = λ so_far. counts (replies_by place session taken) few so_far ∙ ap tally_of (sym (replies_more place session taken one));
+      others = λ p s apart. taken_else p s place session taken one apart;
+    }
+given_turns place session taken asked (given.Reply (answer.Unserved cause)) mid pass counted totals h most counts = record {
   took = taken;
   does = inr (cause, h.0, refl, refl);
   here = sym h.1;
+  counts = λ so_far. counts ∙ so_far;
   others = λ p s apart. refl;
 }
-given_turns place session taken (request.Statement asked) (given.Totals totals) mid h = absurd h
-given_turns place session taken request.Statistics (given.Reply a) mid h = absurd h
-given_turns place session taken request.Statistics (given.Totals totals) mid h = record {
-  took = taken;
-  does = (inl (ap (λ (t : Tally). rendered_totals (database_name place) session t) h.0), refl);
-  here = sym h.1;
-  others = λ p s apart. refl;
-}
-
--- without an answer nothing was served
-none_does : (place session : ℕ) (taken : List Taken) (r : Request) → Does taken place session r (given_text (database_name place) session None) taken
-none_does place session taken (request.Statement asked) = inr (refusal.Memory, inr (inl refl), refl, refl)
-none_does place session taken request.Statistics = (inr refl, refl)
+given_turns place session taken asked (given.Totals shown) mid pass counted totals h most counts = absurd h
 
 -- the next answer of a desk, whichever it is
-record NextTurned (place session : ℕ) (taken : List Taken) (r : Request) (rs : List Request) (out : List ℕ) (news : List Given) (pass : Seat) : Type 0 where
+record NextTurned (place session : ℕ) (taken : List Taken) (asked : Statement) (rs : List Request) (out : List ℕ) (news : List Given) (pass : Seat) (counted totals : Tally) : Type 0 where
   mid : Seat
-  turned : Turned place session taken r out mid
+  turned : Turned place session taken asked out mid counted totals
   serves : Serves mid rs news pass
 
-next_turns : (place session : ℕ) (taken : List Taken) (r : Request) (rs : List Request) (next : Option Given) (olds news : List Given) (pass : Seat) → IsNext olds next news
-    → Serves (seat_after place session taken) (r ∷ rs) olds pass → NextTurned place session taken r rs (given_text (database_name place) session next) news pass
-next_turns place session taken r rs (Some g) olds news pass is serves =
-    let given = subst (λ (gs : List Given). Serves (seat_after place session taken) (r ∷ rs) gs pass) is serves in
-    record { mid = given.0; turned = given_turns place session taken r g given.0 given.1.0; serves = given.1.1 }
-next_turns place session taken r rs None olds news pass is serves = record {
+next_turns : (place session : ℕ) (taken : List Taken) (asked : Statement) (rs : List Request) (next : Option Given) (olds news : List Given) (pass : Seat) (counted totals : Tally) → IsNext olds next news
+    → IsCounted next pass counted totals → Serves (seat_after place session taken) (request.Statement asked ∷ rs) olds pass
+    → NextTurned place session taken asked rs (given_text (database_name place) session next) news pass counted totals
+next_turns place session taken asked rs (Some g) olds news pass counted totals is counts serves =
+    let given = subst (λ (gs : List Given). Serves (seat_after place session taken) (request.Statement asked ∷ rs) gs pass) is serves in
+    record {
+      mid = given.0;
+      turned = given_turns place session taken asked g given.0 pass counted totals given.1.0 (serving_grows given.0 rs news pass given.1.1) counts;
+      serves = given.1.1;
+    }
+next_turns place session taken asked rs None olds news pass counted totals is counts serves = record {
   mid = seat_after place session taken;
-  turned = record { took = taken; does = none_does place session taken r; here = refl; others = λ p s apart. refl };
+  turned = record {
+    took = taken;
+    does = inr (refusal.Memory, inr (inl refl), refl, refl);
+    here = refl;
+    counts = λ so_far. counts ∙ so_far;
+    others = λ p s apart. refl;
+  };
   serves = subst (λ (gs : List Given). Serves (seat_after place session taken) rs gs pass) (sym is.1)
-      (subst (λ (gs : List Given). Serves (seat_after place session taken) (r ∷ rs) gs pass) is.0 serves);
+      (subst (λ (gs : List Given). Serves (seat_after place session taken) (request.Statement asked ∷ rs) gs pass) is.0 serves);
 }
 
 -- DESKS
@@ -138,15 +173,13 @@ of_other : (k : ℕ) (item : ℕ × Request) (items : List (ℕ × Request)) →
 of_other k item items apart = rw (ne_eqb item.0 k apart) refl
 
 -- a line that asks prints its session's next answer
-module _ (place session : ℕ) (desks : List Desk) (old new : Desk) (next : Option Given) (plan : List Planned) (is_session : IsSession session)
-    (at : slice_get desks (desk_of place session) ≡ Some old) (pass : new.pass ≡ old.pass) (nexts : IsNext (answers_of old) next (answers_of new)) where
-  fits_after : (item : ℕ × Request) (items : List (ℕ × Request)) (taken : List Taken) → item.0 ≡ desk_of place session → Fits (item ∷ items) taken desks
-      → (turn : NextTurned place session taken item.1 (of (desk_of place session) items) (given_text (database_name place) session next) (answers_of new) old.pass)
+module _ (place session : ℕ) (desks : List Desk) (totals : List Tally) (old new : Desk) (counted tally : Tally) (next : Option Given) (plan : List Planned) (is_session : IsSession session)
+    (at : slice_get desks (desk_of place session) ≡ Some old) (beside : slice_get totals (desk_of place session) ≡ Some counted) (pass : new.pass ≡ old.pass)
+    (nexts : IsNext (answers_of old) next (answers_of new)) (counts : IsCounted next old.pass counted tally) where
+  fits_after : (item : ℕ × Request) (items : List (ℕ × Request)) (taken : List Taken) (asked : Statement) → item.0 ≡ desk_of place session → Fits (item ∷ items) taken desks
+      → (turn : NextTurned place session taken asked (of (desk_of place session) items) (given_text (database_name place) session next) (answers_of new) old.pass counted tally)
       → Fits items turn.turned.took (set desks (desk_of place session) new)
-  fits_after item items taken named fits turn p s desk is there = found (set_cases desks (desk_of place session) (desk_of p s) new desk there) where
-    took : List Taken
-    took = turn.turned.took
-
+  fits_after item items taken asked named fits turn p s desk is there = found (set_cases desks (desk_of place session) (desk_of p s) new desk there) where
     found : ((desk_of p s ≡ desk_of place session) × (new ≡ desk)) ⊎ ((desk_of p s ≢ desk_of place session) × (slice_get desks (desk_of p s) ≡ Some desk))
         → Serves (seat_after p s turn.turned.took) (of (desk_of p s) items) (answers_of desk) desk.pass
     found (inl same) =
@@ -168,20 +201,44 @@ module _ (place session : ℕ) (desks : List Desk) (old new : Desk) (next : Opti
         (of_other (desk_of p s) item items (λ e. apart (sym e ∙ named))) (fits p s desk is other.1) in
         subst (λ (rs : List Receipt). Serves (record { database = p; session = s; receipts = rs }) (of (desk_of p s) items) (answers_of desk) desk.pass) (sym stays) before
 
-  asked : (items : List (ℕ × Request)) (taken : List Taken) → Matches (planned.Asked place session ∷ plan) items → Fits items taken desks
-      → GoesOn taken (planned.Asked place session ∷ plan) items (given_text (database_name place) session next) plan (set desks (desk_of place session) new)
-  asked [] taken m fits = absurd m
-  asked (item ∷ items) taken m fits =
+  totals_after : (taken : List Taken) (asked : Statement) (rs : List Request) → AreTotals taken totals
+      → (turn : NextTurned place session taken asked rs (given_text (database_name place) session next) (answers_of new) old.pass counted tally)
+      → AreTotals turn.turned.took (set totals (desk_of place session) tally)
+  totals_after taken asked rs are turn p s shown is there = found (set_cases totals (desk_of place session) (desk_of p s) tally shown there) where
+    found : ((desk_of p s ≡ desk_of place session) × (tally ≡ shown)) ⊎ ((desk_of p s ≢ desk_of place session) × (slice_get totals (desk_of p s) ≡ Some shown))
+        → shown ≡ tally_of (replies_by p s turn.turned.took)
+    found (inl same) =
+        let one = one_desk p s place session is is_session same.0 in
+        let mine : shown ≡ tally_of (replies_by place session turn.turned.took) = sym same.1 ∙ turn.turned.counts (are place session counted is_session beside) in
+        subst (λ (q : ℕ). shown ≡ tally_of (replies_by q s turn.turned.took)) (sym one.0)
+        (subst (λ (t : ℕ). shown ≡ tally_of (replies_by place t turn.turned.took)) (sym one.1) mine)
+    found (inr other) =
+        let apart = other.0 in
+        let stays : taken_by p s turn.turned.took ≡ taken_by p s taken =
+        turn.turned.others p s (λ same also. apart (ap (λ (q : ℕ). desk_of q s) same ∙ ap (λ (t : ℕ). desk_of place t) also)) in
+        are p s shown is other.1 ∙ ap (λ (rs : List Receipt). tally_of (map (λ (r : Receipt). r.reply) rs)) (sym stays)
+
+  turns : (items : List (ℕ × Request)) (taken : List Taken) → Matches (planned.Asked place session ∷ plan) items → Fits items taken desks → AreTotals taken totals
+      → GoesOn taken (planned.Asked place session ∷ plan) items (given_text (database_name place) session next) plan (set desks (desk_of place session) new) (set totals (desk_of place session) tally)
+  turns [] taken m fits are = absurd m
+  turns (item ∷ items) taken m fits are =
+      let asked = m.1.0 in
       let serves : Serves (seat_after place session taken) (item.1 ∷ of (desk_of place session) items) (answers_of old) old.pass =
       subst (λ (rs : List Request). Serves (seat_after place session taken) rs (answers_of old) old.pass) (of_first (desk_of place session) item items m.0) (fits place session old is_session at) in
-      let turn = next_turns place session taken item.1 (of (desk_of place session) items) next (answers_of old) (answers_of new) old.pass nexts serves in
+      let its : Serves (seat_after place session taken) (request.Statement asked ∷ of (desk_of place session) items) (answers_of old) old.pass =
+      subst (λ (r : Request). Serves (seat_after place session taken) (r ∷ of (desk_of place session) items) (answers_of old) old.pass) m.1.1 serves in
+      let turn = next_turns place session taken asked (of (desk_of place session) items) next (answers_of old) (answers_of new) old.pass counted tally nexts counts its in
+      let text = given_text (database_name place) session next in
+      let does : Does taken place session item.1 text turn.turned.took = subst (λ (r : Request). Does taken place session r text turn.turned.took) (sym m.1.1) turn.turned.does in
       record {
         left = items;
         took = turn.turned.took;
-        matches = m.1;
-        fits = fits_after item items taken m.0 fits turn;
-        prints = λ back end p. (given_text (database_name place) session next, back, turn.turned.took, turn.turned.does, p, refl);
+        matches = m.2;
+        fits = fits_after item items taken asked m.0 fits turn;
+        counts = totals_after taken asked (of (desk_of place session) items) are turn;
+        prints = λ back end p. (text, back, turn.turned.took, does, p, refl);
       }
 
-  pub asked_prints : PrintsTo (planned.Asked place session ∷ plan) desks (given_text (database_name place) session next) plan (set desks (desk_of place session) new)
-  asked_prints = asked
+  pub asked_prints : PrintsTo (planned.Asked place session ∷ plan) desks totals (given_text (database_name place) session next) plan
+      (set desks (desk_of place session) new) (set totals (desk_of place session) tally)
+  asked_prints = turns

@@ -1,16 +1,21 @@
 -- Helps: the desks of sessions.
-use Rattle.std.specs.Prelude.{◌≡◌, ℕ, ◌+◌, ◌-◌, ◌*◌, Option, Some, None, List, [], ◌∷◌, length, slice_get}
+use Rattle.std.specs.Prelude.{◌≡◌, ℕ, ◌+◌, ◌-◌, ◌*◌, ◌<◌, Option, Some, None, List, [], ◌∷◌, ◌++◌, length, slice_get}
 use Rattle.std.specs.Vec.Iter.{into_iter_items}
 use Rattle.escrow_num.specs.Session.{IsSession}
 use Rattle.escrow_num.specs.declared.session.TheConstants.Session.{MAX}
 use Rattle.escrow_sql.specs.declared.statement.Request.{Request}
+use Rattle.escrow_machine.specs.declared.reply.Reply.{Reply}
+use Rattle.escrow_stats.specs.Tally.{tally_of}
+use Rattle.escrow_stats.specs.declared.tally.Tally.{Tally}
+use Rattle.escrow_shards.specs.declared.answer.Answer.TheVariants as answer
 use Rattle.escrow_shards.specs.Seat.{Seat}
 use Rattle.escrow_shards.specs.Sharing.{Sharing, HasSeat}
 use Rattle.escrow_sessions.specs.Fed.{of}
 use Rattle.escrow_sessions.specs.Serving.{Serves}
 use Rattle.escrow_sessions.specs.declared.done.Done.{Done}
 use Rattle.escrow_sessions.specs.declared.done.Given.{Given}
-use Rattle.escrow_free.specs.FreeOutput.{Taken, taken_by}
+use Rattle.escrow_sessions.specs.declared.done.Given.TheVariants as given
+use Rattle.escrow_free.specs.FreeOutput.{Taken, taken_by, replies_by}
 use Rattle.escrow_free.specs.declared.desk.Desk.{Desk}
 
 -- where the desk of a session of a database stands
@@ -58,6 +63,12 @@ pub record AreServed (old : List Desk) (items : List (ℕ × Request)) (new : Li
   pub each : (place : ℕ) (before after : Desk) → slice_get old place ≡ Some before → slice_get new place ≡ Some after
       → answers_of before ≡ [] → Serves before.pass (of place items) (answers_of after) after.pass
 
+-- the totals of a session count what it was given, where it has so many receipts
+abbrev pub IsCounted : Option Given → Seat → Tally → Tally → Type 0
+IsCounted (Some (given.Reply (answer.Served reply))) seat old new =
+    (replies : List Reply) → length replies < length seat.receipts → old ≡ tally_of replies → new ≡ tally_of (replies ++ reply ∷ [])
+IsCounted _ seat old new = new ≡ old
+
 -- the pass of a session whose lines took this
 abbrev pub seat_after : ℕ → ℕ → List Taken → Seat
 seat_after place session taken = record { database = place; session = session; receipts = taken_by place session taken }
@@ -68,3 +79,9 @@ abbrev pub Fits : List (ℕ × Request) → List Taken → List Desk → Type 0
 Fits items taken desks =
     (place session : ℕ) (desk : Desk) → IsSession session → slice_get desks (desk_of place session) ≡ Some desk
     → Serves (seat_after place session taken) (of (desk_of place session) items) (answers_of desk) desk.pass
+
+-- the totals of each session, by the place of its desk, are those of the replies that its lines took
+abbrev pub AreTotals : List Taken → List Tally → Type 0
+AreTotals taken totals =
+    (place session : ℕ) (tally : Tally) → IsSession session → slice_get totals (desk_of place session) ≡ Some tally
+    → tally ≡ tally_of (replies_by place session taken)

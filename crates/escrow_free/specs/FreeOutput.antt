@@ -2,7 +2,6 @@
 use Rattle.std.specs.Prelude.{◌≡◌, ◌⊎◌, ℕ, ◌==◌, ◌&&◌, ◌≤◌, Option, Some, if◌then◌else◌, List, [], ◌∷◌, ◌++◌, length, map, slice_get}
 use Rattle.std.specs.Io.KnownBytes.{Appends}
 use Rattle.escrow_num.specs.declared.refusal.Refusal.{Refusal}
-use Rattle.escrow_num.specs.declared.refusal.Refusal.TheVariants as refusal
 use Rattle.escrow_num.specs.Session.{IsSession}
 use Rattle.escrow_sql.specs.declared.fault.ParseFault.{ParseFault}
 use Rattle.escrow_sql.specs.declared.statement.Statement.{Statement}
@@ -56,11 +55,10 @@ TakesNext taken place session asked out new =
 abbrev pub TakesNone : List Taken → ℕ → ℕ → List ℕ → List Taken → Type 0
 TakesNone taken place session out new = (cause : Refusal) × IsUnserved cause × (out ≡ refused place session cause) × (new ≡ taken)
 
--- SHOW STATISTICS takes none, and prints the totals of what its session took so far, or 51
+-- SHOW STATISTICS takes none, and prints the totals of what its session took so far
 abbrev pub ShowsTotals : List Taken → ℕ → ℕ → List ℕ → List Taken → Type 0
 ShowsTotals taken place session out new =
-    ((out ≡ rendered_totals (database_name place) session (tally_of (replies_by place session taken))) ⊎ (out ≡ refused place session refusal.Memory))
-    × (new ≡ taken)
+    (out ≡ rendered_totals (database_name place) session (tally_of (replies_by place session taken))) × (new ≡ taken)
 
 -- what a request does
 abbrev pub Does : List Taken → ℕ → ℕ → Request → List ℕ → List Taken → Type 0

@@ -1,18 +1,21 @@
 -- Helps: what is planned for lines.
 use Rattle.std.specs.Prelude.{◌≡◌, ◌⊎◌, ℕ, List, [], ◌∷◌, ◌++◌}
 use Rattle.escrow_sql.specs.declared.fault.ParseFault.{ParseFault}
+use Rattle.escrow_sql.specs.declared.statement.Statement.{Statement}
 use Rattle.escrow_sql.specs.declared.statement.Request.{Request}
+use Rattle.escrow_sql.specs.declared.statement.Request.TheVariants as request
 use Rattle.escrow_sql.specs.Parser.{Asks, IsFaultIn}
 use Rattle.escrow_script.specs.Line.{Reading, nothing, join, restart, statement, no_line, Reads}
 use Rattle.escrow_free.specs.Desks.{desk_of}
 use Rattle.escrow_free.specs.declared.plan.Planned.{Planned}
 use Rattle.escrow_free.specs.declared.plan.Planned.TheVariants as planned
 
--- what a text adds to a plan: a request for the desk of its session, and a line that asks for its answer; or a
--- line that refuses it
+-- what a text adds to a plan: a statement for the desk of its session, and a line that asks for its answer; or a
+-- line that asks totals; or a line that refuses it
 abbrev pub PlansText : ℕ → ℕ → List ℕ → List Planned → List (ℕ × Request) → Type 0
 PlansText place session text lines items =
-    ((r : Request) × Asks text r × (lines ≡ planned.Asked place session ∷ []) × (items ≡ (desk_of place session, r) ∷ []))
+    ((asked : Statement) × Asks text (request.Statement asked) × (lines ≡ planned.Asked place session ∷ []) × (items ≡ (desk_of place session, request.Statement asked) ∷ []))
+    ⊎ (Asks text request.Statistics × (lines ≡ planned.Totals place session ∷ []) × (items ≡ []))
     ⊎ ((f : ParseFault) × IsFaultIn text f × (lines ≡ planned.Refused place session f ∷ []) × (items ≡ []))
 
 -- what a line adds

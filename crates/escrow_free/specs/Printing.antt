@@ -2,17 +2,22 @@
 use Rattle.std.specs.Prelude.{◌≡◌, ℕ, ◌<◌, Option, Some, None, List, [], ◌∷◌, ◌++◌}
 use Rattle.std.specs.Io.KnownBytes.{Appends}
 use Rattle.escrow_num.specs.declared.refusal.Refusal.TheVariants as refusal
+use Rattle.escrow_sql.specs.declared.statement.Statement.{Statement}
 use Rattle.escrow_sql.specs.declared.statement.Request.{Request}
+use Rattle.escrow_sql.specs.declared.statement.Request.TheVariants as request
 use Rattle.escrow_machine.specs.declared.reply.Reply.TheVariants as reply
 use Rattle.escrow_reply.specs.Text.{rendered}
+use Rattle.escrow_stats.specs.Tally.{tally_of}
 use Rattle.escrow_stats.specs.Text.{rendered_totals}
+use Rattle.escrow_stats.specs.declared.tally.Tally.{Tally}
 use Rattle.escrow_shards.specs.declared.answer.Answer.TheVariants as answer
 use Rattle.escrow_sessions.specs.declared.done.Given.{Given}
 use Rattle.escrow_sessions.specs.declared.done.Given.TheVariants as given
 use Rattle.escrow_script.specs.declared.limits.TheConstants.{MAX_DATABASES}
+use Rattle.escrow_script.specs.Line.{database_name}
 use Rattle.escrow_script.specs.Written.{fault_refusal, no_line_text}
-use Rattle.escrow_free.specs.Desks.{desk_of, Fits}
-use Rattle.escrow_free.specs.FreeOutput.{Taken, refused, Does}
+use Rattle.escrow_free.specs.Desks.{desk_of, Fits, AreTotals}
+use Rattle.escrow_free.specs.FreeOutput.{Taken, refused, replies_by, Does}
 use Rattle.escrow_free.specs.declared.desk.Desk.{Desk}
 use Rattle.escrow_free.specs.declared.plan.Planned.{Planned}
 use Rattle.escrow_free.specs.declared.plan.Planned.TheVariants as planned
@@ -29,14 +34,17 @@ abbrev pub HasItsDesk : ℕ → Planned → Type 0
 HasItsDesk desks planned.NoLine = Unit {0}
 HasItsDesk desks (planned.Refused place session f) = place < MAX_DATABASES
 HasItsDesk desks (planned.Asked place session) = (place < MAX_DATABASES) × (desk_of place session < desks)
+HasItsDesk desks (planned.Totals place session) = (place < MAX_DATABASES) × (desk_of place session < desks)
 
--- each line that asks has its request, for its session's desk, in order
+-- each line that asks has its statement, for its session's desk, in order
 abbrev pub Matches : List Planned → List (ℕ × Request) → Type 0
 Matches [] items = items ≡ []
 Matches (planned.NoLine ∷ plan) items = Matches plan items
 Matches (planned.Refused place session f ∷ plan) items = Matches plan items
+Matches (planned.Totals place session ∷ plan) items = Matches plan items
 Matches (planned.Asked place session ∷ plan) [] = ⊥
-Matches (planned.Asked place session ∷ plan) (item ∷ items) = (item.0 ≡ desk_of place session) × Matches plan items
+Matches (planned.Asked place session ∷ plan) (item ∷ items) =
+    (item.0 ≡ desk_of place session) × ((asked : Statement) × (item.1 ≡ request.Statement asked)) × Matches plan items
 
 -- what planned lines print for these requests, and what they take
 abbrev pub Prints : List Taken → List Planned → List (ℕ × Request) → List ℕ → List Taken → Type 0
@@ -44,22 +52,26 @@ Prints taken [] items out end = (out ≡ []) × (end ≡ taken)
 Prints taken (planned.NoLine ∷ plan) items out end = (rest : List ℕ) × Prints taken plan items rest end × (out ≡ no_line_text ++ rest)
 Prints taken (planned.Refused place session f ∷ plan) items out end =
     (rest : List ℕ) × Prints taken plan items rest end × (out ≡ refused place session (fault_refusal f) ++ rest)
+Prints taken (planned.Totals place session ∷ plan) items out end =
+    (rest : List ℕ) × Prints taken plan items rest end × (out ≡ rendered_totals (database_name place) session (tally_of (replies_by place session taken)) ++ rest)
 Prints taken (planned.Asked place session ∷ plan) [] out end = ⊥
 Prints taken (planned.Asked place session ∷ plan) (item ∷ items) out end =
     (first rest : List ℕ) × (mid : List Taken) × Does taken place session item.1 first mid × Prints mid plan items rest end × (out ≡ first ++ rest)
 
 -- Some planned lines were printed: some requests are left for the others, and some entries were taken; the desks fit
--- that; and whatever the others print, it follows what was printed.
-pub record GoesOn (taken : List Taken) (plan : List Planned) (items : List (ℕ × Request)) (out : List ℕ) (rest : List Planned) (desks : List Desk) : Type 0 where
+-- that, and the totals are of that; and whatever the others print, it follows what was printed.
+pub record GoesOn (taken : List Taken) (plan : List Planned) (items : List (ℕ × Request)) (out : List ℕ) (rest : List Planned) (desks : List Desk) (totals : List Tally) : Type 0 where
   pub left : List (ℕ × Request)
   pub took : List Taken
   pub matches : Matches rest left
   pub fits : Fits left took desks
+  pub counts : AreTotals took totals
   pub prints : (back : List ℕ) (end : List Taken) → Prints took rest left back end → Prints taken plan items (out ++ back) end
 
--- so it is whatever was asked and taken, as long as it fits the desks
-abbrev pub PrintsTo : List Planned → List Desk → List ℕ → List Planned → List Desk → Type 0
-PrintsTo plan old out rest new = (items : List (ℕ × Request)) (taken : List Taken) → Matches plan items → Fits items taken old → GoesOn taken plan items out rest new
+-- so it is whatever was asked and taken, as long as it fits the desks and the totals are of it
+abbrev pub PrintsTo : List Planned → List Desk → List Tally → List ℕ → List Planned → List Desk → List Tally → Type 0
+PrintsTo plan old counted out rest new totals =
+    (items : List (ℕ × Request)) (taken : List Taken) → Matches plan items → Fits items taken old → AreTotals taken counted → GoesOn taken plan items out rest new totals
 
 -- some of all that is to be written was written, and the rest of it is left
 abbrev pub PassesOn : Option (List ℕ) → Option (List ℕ) → List ℕ → List ℕ → Type 0

@@ -7,7 +7,8 @@ ghost use Rattle.escrow_free.specs.Desks.{IsNewDesk, IsDoneDesk, desk_of, pass_o
 use escrow_num::Session;
 use escrow_script::MAX_DATABASES;
 use escrow_sessions::{Done, Given};
-use escrow_shards::Pass;
+use escrow_shards::{Answer, Pass};
+use escrow_stats::Tally;
 use std::alloc::{AllocError, Global};
 use std::vec::IntoIter;
 
@@ -20,7 +21,7 @@ pub(crate) struct Desk {
 
 impl Desk {
     ghost use Rattle.std.specs.Prelude.{◌≡◌};
-    ghost use Rattle.escrow_free.specs.Desks.{answers_of, IsNewDesk, IsNext};
+    ghost use Rattle.escrow_free.specs.Desks.{answers_of, IsNewDesk, IsNext, IsCounted};
 
     /// A desk without answers, which takes no memory.
     pub(crate) fn new(alloc: Global, pass: Pass) -> Self
@@ -32,12 +33,19 @@ impl Desk {
         }
     }
 
-    /// Its next answer, if it has one.
-    pub(crate) fn next_answer(&mut self) -> Option<Given>
+    /// Its next answer, if it has one, which is counted in its session's totals.
+    pub(crate) fn next_answer(&mut self, totals: &mut Tally) -> Option<Given>
         ensures next { IsNext (answers_of self.old) result (answers_of self.new) }
         ensures pass { self.new.pass ≡ self.old.pass }
+        ensures counted { IsCounted result self.old.pass totals.old totals.new }
     {
-        self.answers.next()
+        // That there are no more receipts than a total can count is told where they are counted.
+        let _ = self.pass.receipts().len();
+        let given = self.answers.next();
+        if let Some(Given::Reply(Answer::Served(reply))) = &given {
+            *totals = totals.with(reply);
+        }
+        given
     }
 }
 

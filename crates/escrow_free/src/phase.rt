@@ -35,6 +35,9 @@ pub(crate) fn run_phase<S: Alter + Send, R: Threads + Wait + Sync, G: Gate + Syn
     requires places { All (λ x. x.0 < length desks.items) items.items }
     ensures { IfOk result (λ new. AreServed desks.items items.items new.items) }
 {
+    if items.is_empty() {
+        return Ok(desks);
+    }
     let marks = marks_of(alloc, desks.len(), items.as_slice())?;
     let ranks = ranks_of(alloc, marks.as_slice())?;
     rename(ranks.as_slice(), items.as_mut_slice());

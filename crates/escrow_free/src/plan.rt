@@ -28,9 +28,16 @@ pub(crate) enum Planned {
         /// The session that asks.
         session: Session,
     },
+    /// The totals of its session.
+    Totals {
+        /// The place of the database, from 0.
+        database: usize,
+        /// The session that asks.
+        session: Session,
+    },
 }
 
-/// What is to be done for lines: what is printed, for each that prints something, and the requests that are
+/// What is to be done for lines: what is printed, for each that prints something, and the statements that are
 /// served, each with the place of its session's desk. Both stand in the order of the lines.
 #[derive(Drop)]
 pub(crate) struct Plan {
@@ -94,10 +101,12 @@ impl Plan {
         ensures { OnOk result (AddsText database session text.now self.old self.new) }
     {
         match parse(alloc, text) {
-            Ok(request) => {
-                self.items.push((desk_of(database, session), request))?;
+            Ok(Request::Statement(statement)) => {
+                let place = desk_of(database, session);
+                self.items.push((place, Request::Statement(statement)))?;
                 self.lines.push(Planned::Asked { database, session })?;
             }
+            Ok(Request::Statistics) => self.lines.push(Planned::Totals { database, session })?,
             Err(fault) => self.lines.push(Planned::Refused {
                 database,
                 session,

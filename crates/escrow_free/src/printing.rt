@@ -15,24 +15,30 @@ use escrow_script::{
 };
 use escrow_sessions::Given;
 use escrow_shards::Answer;
+use escrow_stats::Tally;
 use std::alloc::{AllocError, Global};
 use std::io::Write;
 
-/// Prints what is planned for the lines of a phase, in order: where a line asks, its session's next answer. Where
-/// memory is refused, what is gathered is written first.
+/// Prints what is planned for the lines of a phase, in order: where a line asks, its session's next answer, which
+/// counts in the session's totals; where it asks these, so far. Where memory is refused, what is gathered is written
+/// first.
 pub(crate) fn print_phase<W: Write>(
     alloc: Global,
     desks: &mut Vec<Desk>,
+    totals: &mut Vec<Tally>,
     lines: Vec<Planned>,
     writer: &mut W,
 ) -> Result<(), ServeFault>
-    requires { AllByRecursion (HasItsDesk (vec_len desks.old)) lines.items }
-    ensures printed { OnOk result ((out : List ℕ) × Appends (W.contents writer.old) (W.contents writer.new) out × PrintsTo lines.items desks.old.items out [] desks.new.items) }
+    requires lines { AllByRecursion (HasItsDesk (vec_len desks.old)) lines.items }
+    requires beside { vec_len totals.old ≡ vec_len desks.old }
+    ensures printed { OnOk result ((out : List ℕ) × Appends (W.contents writer.old) (W.contents writer.new) out
+        × PrintsTo lines.items desks.old.items totals.old.items out [] desks.new.items totals.new.items) }
     ensures count { vec_len desks.new ≡ vec_len desks.old }
+    ensures beside { vec_len totals.new ≡ vec_len desks.new }
 {
     let mut replies = Vec::new(alloc);
     for line in lines {
-        let Ok(reply) = print_line(alloc, desks, line) else {
+        let Ok(reply) = print_line(alloc, desks, totals, line) else {
             return Err(out_of_memory(writer, &mut replies));
         };
         pass_on(writer, &mut replies, reply)?;
@@ -58,10 +64,17 @@ fn pass_on<W: Write>(
 }
 
 /// What is printed for a line. Want of memory is the only error.
-fn print_line(alloc: Global, desks: &mut Vec<Desk>, line: Planned) -> Result<Vec<u8>, AllocError>
-    requires { HasItsDesk (vec_len desks.old) line }
-    ensures printed { IfOk result (λ out. (plan : List Planned) → PrintsTo (line ∷ plan) desks.old.items out.items plan desks.new.items) }
+fn print_line(
+    alloc: Global,
+    desks: &mut Vec<Desk>,
+    totals: &mut Vec<Tally>,
+    line: Planned,
+) -> Result<Vec<u8>, AllocError>
+    requires desk { HasItsDesk (vec_len desks.old) line }
+    requires beside { vec_len totals.old ≡ vec_len desks.old }
+    ensures printed { IfOk result (λ out. (plan : List Planned) → PrintsTo (line ∷ plan) desks.old.items totals.old.items out.items plan desks.new.items totals.new.items) }
     ensures count { vec_len desks.new ≡ vec_len desks.old }
+    ensures beside { vec_len totals.new ≡ vec_len desks.new }
 {
     match line {
         Planned::NoLine => render_lines(alloc, "script> ", &Reply::Refused(Refusal::Line)),
@@ -74,8 +87,13 @@ fn print_line(alloc: Global, desks: &mut Vec<Desk>, line: Planned) -> Result<Vec
             render(alloc, database_name(database), session, &reply)
         }
         Planned::Asked { database, session } => {
-            let given = desks[desk_of(database, session)].next_answer();
+            let place = desk_of(database, session);
+            let given = desks[place].next_answer(&mut totals[place]);
             print_given(alloc, database_name(database), session, given)
+        }
+        Planned::Totals { database, session } => {
+            let tally = totals[desk_of(database, session)];
+            tally.render(alloc, database_name(database), session)
         }
     }
 }

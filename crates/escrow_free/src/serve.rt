@@ -1,6 +1,7 @@
-ghost use Rattle.std.specs.Prelude.{◌≡◌, ◌≤◌, [], length, map, vec_len, IfOk, IfSome, OnOk};
+ghost use Rattle.std.specs.Prelude.{◌≡◌, ◌≤◌, [], length, map, replicate, vec_len, IfOk, IfSome, OnOk};
 ghost use Rattle.std.specs.Io.KnownBytes.{IsAtEnd};
 ghost use Rattle.escrow_num.specs.declared.session.TheConstants.Session.{MAX};
+ghost use Rattle.escrow_stats.specs.Tally.{tally_of};
 ghost use Rattle.escrow_shards.specs.Opened.{AreRead, seen_at};
 ghost use Rattle.escrow_shards.specs.Seat.{new_seats};
 ghost use Rattle.escrow_shards.specs.Whole.{AreWhole};
@@ -20,8 +21,9 @@ use escrow_core::Database;
 use escrow_num::Session;
 use escrow_script::{MAX_DATABASES, Script};
 use escrow_shards::{Audit, Gate, Part, Pass, Shared};
+use escrow_stats::Tally;
 use sqlite::Alter;
-use std::alloc::Global;
+use std::alloc::{AllocError, Global};
 use std::io::{Read, Write};
 use std::sync::Wait;
 use std::thread::Threads;
@@ -32,15 +34,15 @@ use std::thread::Threads;
 /// handed back. There are 1 to 16 databases. `@restart` is refused, as what is no line. It may wait.
 ///
 /// A statement whose worker isn't had, or lacks room for its answer, is refused for want of memory. SHOW STATISTICS
-/// shows what its session had served in this call. Long histories are handed out in parts after a phase, which are
-/// handed back with the others.
+/// shows what its session had served in this call, and asks no worker. Long histories are handed out in parts after a
+/// phase, which are handed back with the others.
 ///
 /// # Errors
 ///
 /// [`FreeFault::Open`] where a transaction is open in a database, and [`FreeFault::Store`] where its store fails
-/// when it is read at the beginning; [`FreeFault::Sessions`] where a phase asks more than 64 sessions over all
-/// databases; [`FreeFault::Read`], [`FreeFault::Write`] and [`FreeFault::Memory`]; [`FreeFault::Mismatch`] where
-/// the histories don't fit what the sessions were answered. Nothing is handed back then.
+/// when it is read at the beginning; [`FreeFault::Sessions`] where a phase has statements of more than 64 sessions
+/// over all databases; [`FreeFault::Read`], [`FreeFault::Write`] and [`FreeFault::Memory`]; [`FreeFault::Mismatch`]
+/// where the histories don't fit what the sessions were answered. Nothing is handed back then.
 pub fn serve_free<
     S: Alter + Drop + Send,
     T: Threads + Wait + Sync,
@@ -138,17 +140,25 @@ fn serve_phases<
     ensures end { OnOk result (IfSome (R.remaining reader.old) (λ script. IsAtEnd (R.remaining reader.new))) }
 {
     let databases = shared.databases();
+    let mut totals = new_totals(alloc, desks.len())?;
     let mut script = Script::new(alloc)?;
     let mut drains = Drains::new(alloc, databases)?;
     'phases: loop {
         let Phase { plan, has_more } = read_phase(alloc, databases, &mut script, reader)?;
         let Plan { lines, items } = plan;
         desks = run_phase(rt, alloc, shared, desks, items, gate)?;
-        print_phase(alloc, &mut desks, lines, writer)?;
+        print_phase(alloc, &mut desks, &mut totals, lines, writer)?;
         drains.drain_long(rt, alloc, shared, desks.as_slice());
         if !has_more {
             let parts = drains.parts;
             return Ok(Served { desks, parts });
         }
     }
+}
+
+/// The totals of so many sessions, to which nothing was printed. Want of memory is the only error.
+fn new_totals(alloc: Global, sessions: usize) -> Result<Vec<Tally>, AllocError>
+    ensures { IfOk result (λ totals. totals.items ≡ replicate sessions (tally_of [])) }
+{
+    vec![in alloc; Tally::new(); sessions]
 }

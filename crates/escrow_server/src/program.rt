@@ -36,9 +36,9 @@ use std::{env, io};
 /// stay beside them. It may wait.
 ///
 /// Exit status: 0 when all was served and written, and for help; 1 when the script can't be read, a
-/// reply can't be written, memory is short, a phase asks more than 64 sessions or the histories don't fit; 2 for wrong
-/// arguments, one that isn't UTF-8 among them; 3 when the store of a database can't be opened, before anything is
-/// read.
+/// reply can't be written, memory is short, a phase has statements of more than 64 sessions or the histories don't fit;
+/// 2 for wrong arguments, one that isn't UTF-8 among them; 3 when the store of a database can't be opened, before
+/// anything is read.
 pub fn run_program<T: Threads + Wait + Sync, E: Env, R: Read, W: Write, F: Write>(
     rt: &HostRuntime,
     threads: &T,

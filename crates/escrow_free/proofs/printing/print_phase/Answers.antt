@@ -17,9 +17,11 @@ loop-line-preserved g c =
     record {
       long = one_less _ _ _ _ at.invariant.long c.in-Some.ensures.steps.1 (ap length steps ∙ sym (add-one _));
       count = c.print_line.ensures.count ∙ at.invariant.count;
+      beside = c.print_line.ensures.beside;
       lines = lines.1;
       printed =
           printed_more _ c.in-Some.line (into_iter_items c.next.new.self) c.args.desks.now.items at.desks.items c.print_line.new.desks.items
+          c.args.totals.now.items at.totals.items c.print_line.new.totals.items
           (g.W.Write.contents c.args.writer.now) (g.W.Write.contents at.writer) (g.W.Write.contents c.pass_on.new.writer) at.replies.items c.in-Ok.reply.items c.pass_on.new.replies.items
           (c.in-Ok.ensures.printed _) c.in_ok-pass_on.ensures (rw (← steps) at.invariant.printed);
     }
@@ -31,8 +33,9 @@ loop-line-init g c =
     record {
       long = c.into_iter-line-iterator.result.rest.ok.0;
       count = refl;
-      lines = subst (AllByRecursion (HasItsDesk (vec_len c.args.desks.now))) (sym gives.0) c.requires;
-      printed = printed_none left c.args.desks.now.items (g.W.Write.contents c.args.writer.now) c.new-replies.result.items c.new-replies.ensures.items;
+      beside = c.requires.beside;
+      lines = subst (AllByRecursion (HasItsDesk (vec_len c.args.desks.now))) (sym gives.0) c.requires.lines;
+      printed = printed_none left c.args.desks.now.items c.args.totals.now.items (g.W.Write.contents c.args.writer.now) c.new-replies.result.items c.new-replies.ensures.items;
     }
 
 pub returns-clause-printed : goal.returns-clause-printed
@@ -41,5 +44,5 @@ returns-clause-printed g c =
     let gives = c.into_iter-line-iterator.ensures.into_iter_gives in
     let none : into_iter_items at.line-iterator ≡ [] = nil_from_length (into_iter_items at.line-iterator) (omega (arith, at.invariant.long, c.in-None.ensures.steps.0)) in
     on_ok_weaker c.write_gathered.result (λ wrote.
-    printed_all c.args.lines.items c.args.desks.now.items at.desks.items (into_iter_items at.line-iterator) (g.W.Write.contents c.args.writer.now) (g.W.Write.contents at.writer)
+    printed_all c.args.lines.items c.args.desks.now.items at.desks.items c.args.totals.now.items at.totals.items (into_iter_items at.line-iterator) (g.W.Write.contents c.args.writer.now) (g.W.Write.contents at.writer)
     (g.W.Write.contents c.write_gathered.new.writer) at.replies.items none (rw (← gives.0) at.invariant.printed) wrote) c.write_gathered.ensures.ok

@@ -10,5 +10,7 @@ invariant-loop-line g l = record {
   long : into_iter_len l.line-iterator ≡ length (into_iter_items l.line-iterator);
   count : vec_len l.desks ≡ vec_len l.fn.desks;
   lines : AllByRecursion (HasItsDesk (vec_len l.fn.desks)) (into_iter_items l.line-iterator);
-  printed : Printed (into_iter_items l.initial.line-iterator) l.fn.desks.items (into_iter_items l.line-iterator) l.desks.items (g.W.Write.contents l.fn.writer) (g.W.Write.contents l.writer) l.replies.items;
+  beside : vec_len l.totals ≡ vec_len l.desks;
+  printed : Printed (into_iter_items l.initial.line-iterator) l.fn.desks.items l.fn.totals.items (into_iter_items l.line-iterator) l.desks.items l.totals.items
+      (g.W.Write.contents l.fn.writer) (g.W.Write.contents l.writer) l.replies.items;
 }

@@ -1,14 +1,17 @@
-use Rattle.std.proofs.Common.{◌≡◌, ◌<◌, ◌*◌, length, vec_len, sym, subst, ◌∙◌}
+use Rattle.std.proofs.Common.{◌≡◌, ◌<◌, ◌*◌, [], length, vec_len, sym, ap, subst, ◌∙◌}
+use Rattle.std.proofs.lemmas.Bool.{false≢true}
+use Rattle.std.proofs.lemmas.List.{length-replicate}
+use Rattle.escrow_stats.specs.Tally.{tally_of}
 use Rattle.std.specs.List.{AllByRecursion}
 use Rattle.escrow_num.specs.declared.session.TheConstants.Session.{MAX}
 use Rattle.escrow_script.specs.declared.limits.TheConstants.{MAX_SCRIPT}
-use Rattle.escrow_script.specs.Script.{left}
-use Rattle.escrow_script.proofs.ScriptLemmas.{spends_more}
+use Rattle.escrow_script.specs.Script.{left, Spends}
+use Rattle.escrow_script.proofs.ScriptLemmas.{spends_more, spends_none}
 use Rattle.escrow_free.specs.Phases.{IsRead}
 use Rattle.escrow_free.specs.Printing.{HasItsDesk}
-use Rattle.escrow_free.proofs.Desks.{all_have_desks}
+use Rattle.escrow_free.proofs.Desks.{all_have_desks, totals_new}
 use Rattle.escrow_sessions.proofs.Places.{all_places}
-use Rattle.escrow_free.proofs.Phases.{stands_more, finished, at_end, over_all}
+use Rattle.escrow_free.proofs.Phases.{stands_new, stands_more, finished, at_end, over_all}
 use Rattle.escrow_free.proofs.Planning.{plan_desks, item_desks}
 use Rattle.escrow_free.proofs.serve.serve_phases.Goals as goal
 
@@ -26,8 +29,13 @@ run_phase-requires-clause-places g c κs within =
     all_places (λ x. x.0 < length c.phases.desks.items) plan.items.items
     (subst (λ k. AllByRecursion (λ x. x.0 < k) plan.items.items) (sym c.phases.invariant.count) (item_desks n phase.lines plan.lines.items plan.items.items c.requires.few phase.plans))
 
-pub print_phase-requires : goal.print_phase-requires
-print_phase-requires g c =
+pub print_phase-requires-clause-beside : goal.print_phase-requires-clause-beside
+print_phase-requires-clause-beside g c =
+    let count : vec_len c.in_ok-desks.desks ≡ length c.args.shared.now.openings * MAX = c.in_ok-desks.desks.ok.0 ∙ c.in_ok-desks.ensures.count ∙ c.phases.invariant.count in
+    c.phases.invariant.beside ∙ sym count
+
+pub print_phase-requires-clause-lines : goal.print_phase-requires-clause-lines
+print_phase-requires-clause-lines g c =
     let n = length c.args.shared.now.openings in
     let plan = c.in_ok-plan.field-0.plan in
     let phase = subst (λ k. IsRead k (left c.phases.script.unread (g.R.Read.remaining c.phases.reader)) (left c.read_phase.new.script.unread (g.R.Read.remaining c.read_phase.new.reader)) plan)
@@ -49,7 +57,8 @@ phases-preserved g c =
       count = sym c.print_phase.new.desks.ok.0 ∙ c.in_ok-print_phase.ensures.count ∙ c.in_ok-desks.desks.ok.0 ∙ c.in_ok-desks.ensures.count ∙ at.invariant.count;
       stands =
           stands_more n (g.R.Read.remaining c.args.reader.now) mid rest (g.W.Write.contents c.args.writer.now) (g.W.Write.contents at.writer) (g.W.Write.contents c.print_phase.new.writer) plan
-          at.desks.items c.in_ok-desks.desks.items c.print_phase.new.desks.items printed.0 phase c.in_ok-desks.ensures printed.2 printed.1 at.invariant.stands;
+          at.desks.items c.in_ok-desks.desks.items c.print_phase.new.desks.items at.totals.items c.print_phase.new.totals.items printed.0 phase c.in_ok-desks.ensures printed.2 printed.1 at.invariant.stands;
+      beside = c.in_ok-print_phase.ensures.beside ∙ c.in_ok-print_phase.ensures.count ∙ c.in_ok-desks.desks.ok.0 ∙ c.in_ok-desks.ensures.count ∙ at.invariant.count;
       ended = c.in_ok-plan.ensures.ended;
       spent = spends_more _ _ _ MAX_SCRIPT at.script.bytes_left c.read_phase.new.script.bytes_left at.invariant.spent c.in_ok-plan.ensures.spent;
     }
@@ -75,7 +84,25 @@ returns-then-not-has_more-clause-served g c =
     let ends = at_end script (g.R.Read.remaining at.reader) (g.R.Read.remaining c.read_phase.new.reader) at.script.unread c.read_phase.new.script.unread MAX_SCRIPT at.script.bytes_left at.invariant.spent over in
     let count = sym c.print_phase.new.desks.ok.0 ∙ c.in_ok-print_phase.ensures.count ∙ c.in_ok-desks.desks.ok.0 ∙ c.in_ok-desks.ensures.count ∙ at.invariant.count in
     let stands = stands_more n script mid rest (g.W.Write.contents c.args.writer.now) (g.W.Write.contents at.writer) (g.W.Write.contents c.print_phase.new.writer) plan
-    at.desks.items c.in_ok-desks.desks.items c.print_phase.new.desks.items printed.0 phase c.in_ok-desks.ensures printed.2 printed.1 at.invariant.stands in
+    at.desks.items c.in_ok-desks.desks.items c.print_phase.new.desks.items at.totals.items c.print_phase.new.totals.items printed.0 phase c.in_ok-desks.ensures printed.2 printed.1 at.invariant.stands in
     let spent = spends_more script (g.R.Read.remaining at.reader) (g.R.Read.remaining c.read_phase.new.reader) MAX_SCRIPT at.script.bytes_left c.read_phase.new.script.bytes_left at.invariant.spent c.in_ok-plan.ensures.spent in
     finished n script rest (g.R.Read.remaining c.read_phase.new.reader) (g.W.Write.contents c.args.writer.now) (g.W.Write.contents c.print_phase.new.writer) c.print_phase.new.desks.items
-    c.read_phase.new.script.bytes_left count stands (over_all script mid rest at.invariant.stands.lines at.invariant.stands.read over) spent ends
+    c.print_phase.new.totals.items c.read_phase.new.script.bytes_left count stands (over_all script mid rest at.invariant.stands.lines at.invariant.stands.read over) spent ends
+
+pub phases-init : goal.phases-init
+phases-init g c =
+    let script = g.R.Read.remaining c.args.reader.now in
+    let written = g.W.Write.contents c.args.writer.now in
+    let totals = c.in_ok-totals.totals in
+    let made = c.in_ok-script.ensures in
+    let count = c.requires.seats.count in
+    record {
+      drained = c.in_ok-drains.ensures ∙ c.databases-databases.ensures;
+      count = count;
+      stands =
+          stands_new (length c.args.shared.now.openings) script written c.in_ok-script.script.unread c.args.desks.items totals.items made.0 c.requires.fits
+          (totals_new c.len.result totals.items c.in_ok-totals.ensures);
+      beside = totals.ok.0 ∙ ap length c.in_ok-totals.ensures ∙ length-replicate c.len.result (tally_of []) ∙ c.len.ensures ∙ c.args.desks.ok.0 ∙ count;
+      ended = λ has. absurd (false≢true (sym made.2 ∙ has));
+      spent = subst (λ left. Spends script script MAX_SCRIPT left) (sym made.1) (spends_none script MAX_SCRIPT);
+    }

@@ -10,7 +10,8 @@ invariant-phases g l = record {
   drained : vec_len l.drains.last_drained ≡ length l.shared.openings;
   count : length l.desks.items ≡ length l.shared.openings * MAX;
   stands : Stands (length l.shared.openings) (g.R.Read.remaining l.fn.reader) (left l.script.unread (g.R.Read.remaining l.reader))
-      (g.W.Write.contents l.fn.writer) (g.W.Write.contents l.writer) l.desks.items;
+      (g.W.Write.contents l.fn.writer) (g.W.Write.contents l.writer) l.desks.items l.totals.items;
+  beside : vec_len l.totals ≡ length l.shared.openings * MAX;
   ended : l.script.has_ended ≡ true → HasEnded l.script.unread (g.R.Read.remaining l.reader);
   spent : Spends (g.R.Read.remaining l.fn.reader) (g.R.Read.remaining l.reader) MAX_SCRIPT l.script.bytes_left;
 }
