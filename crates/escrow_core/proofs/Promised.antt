@@ -18,15 +18,11 @@ use Rattle.escrow_core.specs.Serves.{Serves}
 use Rattle.escrow_machine.specs.State.{State}
 use Rattle.escrow_machine.specs.Step.{step, fails_for, may_fail, IsStep}
 use Rattle.escrow_machine.specs.Turn.{turn_of}
+use Rattle.escrow_machine.proofs.LawsPromised.{plain_refused}
 use Rattle.escrow_machine.proofs.LawsSteps.{step_has}
 use Rattle.escrow_machine.proofs.Refusals.{first_among, first_in_front}
 use Rattle.escrow_machine.proofs.TurnWords.{NeedsMore}
 use Rattle.escrow_machine.proofs.Turns.{is_turn}
-
--- a reply that is a refusal without need is a refusal
-plain_refused : (asked : Statement) (answer : Reply) → is_plain_refusal asked answer ≡ true → (r : Refusal) × (answer ≡ reply.Refused r)
-plain_refused asked (reply.Refused r) e = (r, refl)
-plain_refused asked _ e = absurd (cc)
 
 -- where no early refusal applies, the first that applies is a late one
 late_first : (early late : List (Option Refusal)) (r : Refusal) → is_none (first_refusal early) ≡ true → first_refusal (early ++ late) ≡ Some r → first_refusal late ≡ Some r

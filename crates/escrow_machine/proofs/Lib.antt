@@ -14,6 +14,7 @@ pub mod LawsEnds
 pub mod LawsGrants
 pub mod LawsIds
 pub mod LawsMemory
+pub mod LawsPromised
 pub mod LawsRows
 pub mod LawsSavepoints
 pub mod LawsShown
