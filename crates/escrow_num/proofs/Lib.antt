@@ -1,8 +1,14 @@
 pub mod Ascending
+pub mod DecimalLemmas
+pub mod DigitLemmas
 pub mod Items
 pub mod NameLemmas
 pub mod Orders
 pub mod Places
 pub mod Put
+pub mod ReadBack
 pub mod ReadLemmas
+pub mod ScaleLemmas
+pub mod ScaledLemmas
 pub mod Spelling
+pub mod UnitLemmas

@@ -11,7 +11,7 @@ use Rattle.std.proofs.lemmas.Int.{ints}
 use Rattle.escrow_num.specs.Amount.{IsAmount, is_numeral, number_after, number_of, signed, spelled}
 
 -- the digits and the number of specs/Amount.antt are those that `parse` reads
-own : IsNumeralModel (λ ds. all_ascii_digits ds ≡ true) number_of
+pub own : IsNumeralModel (λ ds. all_ascii_digits ds ≡ true) number_of
 own = numerals_by_fold _ tells_all_ascii_digits number_after (search rules)
 
 -- a signed number is an amount exactly where the number is within the limit
@@ -54,11 +54,11 @@ read-digits false small negative n A B Q (Ok z) r to from tells fits p m =
 read-digits false small negative n A B Q (Err e) r to from tells fits p m = m
 
 -- a numeral is digits, one or more
-numeral-parts : (digits : List ℕ) → is_numeral digits ≡ true → (all_ascii_digits digits ≡ true) × (0 < length digits)
+pub numeral-parts : (digits : List ℕ) → is_numeral digits ≡ true → (all_ascii_digits digits ≡ true) × (0 < length digits)
 numeral-parts [] h = cc
 numeral-parts (c ∷ cs) h = (h, omega arith)
 
-parts-numeral : (digits : List ℕ) → all_ascii_digits digits ≡ true → 0 < length digits → is_numeral digits ≡ true
+pub parts-numeral : (digits : List ℕ) → all_ascii_digits digits ≡ true → 0 < length digits → is_numeral digits ≡ true
 parts-numeral [] h l = absurd (omega arith)
 parts-numeral (c ∷ cs) h l = h
 

@@ -1,5 +1,6 @@
 pub mod Amount
 pub mod Ascending
+pub mod Decimal
 pub mod Equal
 pub mod Laws
 pub mod Name
@@ -7,6 +8,8 @@ pub mod Order
 pub mod Padded
 pub mod Refusal
 pub mod Reservation
+pub mod Scale
+pub mod Scaled
 pub mod Session
 pub mod Span
 pub mod Value

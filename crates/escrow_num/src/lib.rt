@@ -1,5 +1,6 @@
-//! The words that every layer above shares: whole amounts, wide sums, spans, names, values, rows,
-//! reservations and refusals, and the two small types that keep a list or a text.
+//! The words that every layer above shares: whole amounts, wide sums, numbers with a scale, spans,
+//! names, values, rows, reservations and refusals, and the two small types that keep a list or a
+//! text.
 //!
 //! Its one contract: the answer of a span is the answer of its two limits, the low one first, and
 //! there is none exactly where each value between the two extremes is allowed
@@ -9,12 +10,16 @@
 mod amount;
 mod changes;
 mod copied;
+mod decimal;
+mod digits;
 mod failure;
 pub mod laws;
 mod name;
 mod refusal;
 mod reservation;
 mod row;
+mod scale;
+mod scaled;
 mod seq;
 mod session;
 mod span;
@@ -25,11 +30,14 @@ mod wide;
 pub use amount::Amount;
 pub use changes::Changes;
 pub use copied::{Copied, are_same, copy_all};
+pub use decimal::Decimal;
 pub use failure::Failure;
 pub use name::Name;
 pub use refusal::{Breach, Refusal};
 pub use reservation::{Reservation, Savepoint};
 pub use row::Row;
+pub use scale::Scale;
+pub use scaled::Scaled;
 pub use seq::Seq;
 pub use session::{End, Session};
 pub use span::{Side, Span};

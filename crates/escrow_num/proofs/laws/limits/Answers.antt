@@ -9,4 +9,7 @@ returns c = record {
   ids = refl;
   written_names = refl;
   names = refl;
+  scales = refl;
+  decimals = refl;
+  texts = refl;
 }

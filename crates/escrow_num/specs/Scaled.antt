@@ -1,0 +1,26 @@
+-- Believed: the text of a number of units of a scale.
+use Rattle.std.specs.Prelude.{ℕ, zero, suc, ℤ, pos, negsuc, ◌+◌, ◌/◌, ◌%◌, List, [], ◌∷◌, ◌++◌, decimal}
+
+-- a number without its last digits, as many as are given
+abbrev pub before_last : ℕ → ℕ → ℕ
+before_last zero n = n
+before_last (suc digits) n = before_last digits (n / 10)
+
+-- its last digits, just as many
+abbrev pub last_digits : ℕ → ℕ → List ℕ
+last_digits zero n = []
+last_digits (suc digits) n = last_digits digits (n / 10) ++ (48 + n % 10) ∷ []
+
+-- digits behind a point; no digits, no point
+abbrev pub pointed : List ℕ → List ℕ
+pointed [] = []
+pointed (d ∷ ds) = 46 ∷ d ∷ ds
+
+-- so many units of a scale: the whole part, and just as many digits behind the point as the scale has
+abbrev pub magnitude_text : ℕ → ℕ → List ℕ
+magnitude_text scale n = decimal (before_last scale n) ++ pointed (last_digits scale n)
+
+-- the same with a minus in front where the units are negative, also where the whole part is 0
+unfoldable pub scaled_text : ℕ → ℤ → List ℕ
+scaled_text scale (pos n) = magnitude_text scale n
+scaled_text scale (negsuc n) = 45 ∷ magnitude_text scale (suc n)
