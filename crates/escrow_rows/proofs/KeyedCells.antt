@@ -1,10 +1,9 @@
 -- The cells of rows, each by its key, its place and its value: they rise.
-use Rattle.std.proofs.Common.{◌≡◌, ℕ, ℤ, pos, ◌+◌, ◌<◌, ◌≤◌, List, [], ◌∷◌, ◌++◌, map, flat_map, length, Ordering, Less, int_cmp, refl, sym, ap, ◌∙◌, arith}
+use Rattle.std.proofs.Common.{◌≡◌, ℕ, ℤ, pos, ◌+◌, ◌<◌, ◌≤◌, List, [], ◌∷◌, ◌++◌, map, flat_map, length, Ordering, Less, refl, ap, ◌∙◌, arith}
 use Rattle.std.specs.List.{AllByRecursion}
 use Rattle.std.specs.Ordering.{on, then_cmp, ordering_then}
-use Rattle.std.specs.Cmp.{IsTotalOrder, int_cmp_is}
+use Rattle.std.specs.Cmp.{IsTotalOrder}
 use Rattle.std.proofs.lemmas.Cmp.{on_total, then_total, tied_itself}
-use Rattle.std.proofs.lemmas.Int.{ints}
 use Rattle.std.proofs.lemmas.List.{map-append}
 use Rattle.sqlite_value.specs.declared.value.Value.TheVariants as sql
 use Rattle.sqlite_value.specs.Order.{Row as SqlRow, column, value_cmp}
@@ -19,7 +18,7 @@ use Rattle.escrow_schema.specs.declared.table.TableDef.{TableDef}
 use Rattle.escrow_schema.specs.Fit.{values_of}
 use Rattle.escrow_rows.specs.Image.{stored, cells_from}
 use Rattle.escrow_rows.specs.Placed.{placed, keyed, keyed_cells}
-use Rattle.escrow_rows.proofs.PlacedCells.{placed-push}
+use Rattle.escrow_rows.proofs.PlacedCells.{later_place, placed-push}
 
 -- a cell by its key, its place and its value
 abbrev pub with_key : SqlRow → SqlRow
@@ -57,9 +56,6 @@ keyed_all : (P : SqlRow → Type 0) (key : Value) (from place : ℕ) → ((n : �
     → AllByRecursion P (keyed key place vs)
 keyed_all P key from place each [] h = tt
 keyed_all P key from place each (v ∷ vs) h = (each place v h, keyed_all P key from (place + 1) each vs (omega arith))
-
-later_place : (m n : ℕ) → m < n → int_cmp (pos m) (pos n) ≡ Less
-later_place m n h = sym (int_cmp_is (pos m) (pos n) Less (omega (arith, ints)))
 
 -- of one key, a cell stands before those at later places
 place_below : (key : Value) (m n : ℕ) (v w : Value) → m < n → Below (stored key ∷ sql.Int (pos m) ∷ stored v ∷ []) (stored key ∷ sql.Int (pos n) ∷ stored w ∷ [])

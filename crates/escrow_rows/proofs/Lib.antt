@@ -1,6 +1,7 @@
+pub mod AllValues
 pub mod Cells
 pub mod Found
-pub mod Grouping
+pub mod Gathering
 pub mod ImageDelete
 pub mod ImageInsert
 pub mod ImageSet
@@ -19,6 +20,7 @@ pub mod Puts
 pub mod ReadCells
 pub mod RowCounts
 pub mod RowRead
+pub mod RowsRead
 pub mod Runs
 pub mod Same
 pub mod TableRead

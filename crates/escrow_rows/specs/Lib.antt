@@ -1,10 +1,11 @@
 pub mod Answers
 pub mod Changes
-pub mod Grouped
+pub mod Gathered
 pub mod Image
 pub mod Inside
 pub mod Laws
 pub mod Listing
 pub mod Placed
+pub mod Reading
 pub mod Steps
 pub mod View

@@ -21,7 +21,7 @@ pub(crate) fn datum(value: &Value) -> Datum<'_>
 
 /// The value that a cell holds, or `None` where it holds none that a column can hold: a number past the
 /// limit of amounts, a text that isn't UTF-8, or neither.
-pub fn read_value(alloc: Global, value: ValueRef<'_>) -> Result<Option<Value>, AllocError>
+pub(crate) fn read_value(alloc: Global, value: ValueRef<'_>) -> Result<Option<Value>, AllocError>
     ensures some { IfOk result (λ found. IfSome found (λ v. stored v ≡ owned value.entry)) }
     ensures held { IfOk result (λ found. IfSome found CanBeHeld) }
     ensures none { result ≡ Ok None → (v : HeldValue) → CanBeHeld v → stored v ≢ owned value.entry }

@@ -1,6 +1,5 @@
 //! What is read of a store before it is known to be an image.
 use crate::store::RowStore;
-use crate::stored::StoredTable;
 use escrow_cells::{Sink, is_store_schema};
 use escrow_num::Failure;
 use sqlite::{Alter, Row};
@@ -10,9 +9,8 @@ impl<S: Alter> RowStore<S> {
     ghost use Rattle.sqlite.specs.Effect.{IsDatabase};
     ghost use Rattle.sqlite.specs.Held.{state};
     ghost use Rattle.sqlite.specs.State.{HasCleanDisk};
-    ghost use Rattle.sqlite_value.specs.declared.value.Value.TheVariants.{Int};
     ghost use Rattle.escrow_cells.specs.Store.{HasTables, IsStore, IsStoreSchema, AreAllNumbered, cells, metas, tabs};
-    ghost use Rattle.escrow_cells.specs.Read.{AreOfTable, AreTablesOfCells, AreTabs, Takes};
+    ghost use Rattle.escrow_cells.specs.Read.{AreTablesOfCells, AreTabs, Takes};
     ghost use Rattle.escrow_rows.specs.Answers.{Looks};
 
     /// Whether the schema is that of a store. Makes no store call.
@@ -54,14 +52,5 @@ impl<S: Alter> RowStore<S> {
         ensures looks { Looks (state S.Store self.old) (state S.Store self.new) }
     {
         escrow_cells::cell_tables(&mut self.conn, sink)
-    }
-
-    /// Gives a sink the cells of a table, in order of key and place: each has its key, its place and its
-    /// value.
-    pub fn cells<K: Sink>(&mut self, table: &StoredTable, sink: &mut K) -> Result<(), Failure>
-        ensures rows { HasCleanDisk (state S.Store self.new) → OnOk result (IsTrue (state S.Store self.new).is_open × (IsStore (state S.Store self.old).now → Takes K.has_taken (AreOfTable (Int table.now.id) (cells (state S.Store self.old).now)) sink.old sink.new)) }
-        ensures looks { Looks (state S.Store self.old) (state S.Store self.new) }
-    {
-        escrow_cells::table_cells(&mut self.conn, table.id, sink)
     }
 }

@@ -1,7 +1,5 @@
 pub mod Back
 pub mod Counting
-pub mod Ends
-pub mod Fronts
 pub mod Metas
 pub mod Only
 pub mod Owners

@@ -1,16 +1,14 @@
 -- Sorted cells of sound rows: their rows are in order of key, and they are the only ones in any order.
-use Rattle.std.proofs.Common.{◌≡◌, pos, ◌<◌, false, List, [], ◌∷◌, ◌++◌, flat_map, length, refl, sym, ap, ◌∙◌, arith, Ordering, Less, Equal, Greater, is_lt, is_gt, IsTrue, IsSorted}
+use Rattle.std.proofs.Common.{◌≡◌, ℕ, pos, ◌<◌, false, List, [], ◌∷◌, ◌++◌, flat_map, length, refl, sym, ap, ◌∙◌, arith, Ordering, Less, Equal, Greater, is_lt, is_gt, IsTrue, IsSorted}
 use Rattle.std.specs.List.{AllByRecursion}
 use Rattle.std.specs.Ordering.{nat_cmp, ordering_then}
 use Rattle.std.specs.Cmp.Lexicographic.{slice_cmp}
 use Rattle.std.proofs.lemmas.Cmp.{nat_list_cmp_total, tied_itself}
-use Rattle.std.proofs.lemmas.List.Sorted.{IsPermutation-trans}
 use Rattle.sqlite_value.specs.declared.value.Value.TheVariants as sql
 use Rattle.sqlite_value.specs.Order.{Row as SqlRow, value_cmp}
 use Rattle.sqlite_value.proofs.OrderLemmas.{value_cmp-Int}
 use Rattle.sqlite_trees.specs.Tree.{IsAscending as Rises}
 use Rattle.sqlite_trees.proofs.ListLemmas.{all_weaker, all_both}
-use Rattle.sqlite_keyed.proofs.SortLemmas.{sorted_unique}
 use Rattle.sqlite.specs.Effect.{Database}
 use Rattle.escrow_num.specs.declared.row.Row.{Row}
 use Rattle.escrow_num.specs.declared.value.Value.{Value}
@@ -25,22 +23,21 @@ use Rattle.escrow_cells.specs.Read.{AreOfTable}
 use Rattle.escrow_cells.specs.Store.{cells}
 use Rattle.escrow_rows.specs.declared.stored.StoredTable.{StoredTable}
 use Rattle.escrow_rows.specs.Placed.{keyed, keyed_cells}
+use Rattle.escrow_rows.specs.Image.{stored}
 use Rattle.escrow_schema.specs.Rows.{row_before}
-use Rattle.escrow_rows.proofs.KeyedCells.{cell_cmp, cell_cmp_total, rows_rise, stored_cmp}
+use Rattle.escrow_rows.proofs.AllValues.{cells_in_order}
+use Rattle.escrow_rows.proofs.Gathering.{all_behind}
+use Rattle.escrow_rows.proofs.KeyedCells.{cell_cmp, cell_cmp_total, stored_cmp}
 use Rattle.escrow_cells.proofs.Rising.{AtMost, ascending_from_sorted}
-use Rattle.escrow_rows.proofs.TableRead.{keys_rise}
-use Rattle.escrow_verify.specs.Counting.{cell_row}
 use Rattle.escrow_verify.specs.Inside.{AreRowsIn, IsSoundRow}
 
-module _ {A : Type 0} (P : A → Type 0) (R : A → A → Type 0) where
-  -- what holds of all items holds of those behind others
-  all_behind : (xs ys : List A) → AllByRecursion P (xs ++ ys) → AllByRecursion P ys
-  all_behind [] ys h = h
-  all_behind (x ∷ xs) ys h = all_behind xs ys h.1
+-- a cell by its key, its place and its value
+abbrev cell_row : Value → ℕ → Value → SqlRow
+cell_row key place v = stored key ∷ sql.Int (pos place) ∷ stored v ∷ []
 
-  rises_behind : (xs ys : List A) → Rises R (xs ++ ys) → Rises R ys
-  rises_behind [] ys h = h
-  rises_behind (x ∷ xs) ys h = rises_behind xs ys h.1
+rises_behind : {A : Type 0} (R : A → A → Type 0) (xs ys : List A) → Rises R (xs ++ ys) → Rises R ys
+rises_behind R [] ys h = h
+rises_behind R (x ∷ xs) ys h = rises_behind R xs ys h.1
 
 -- one cell is not above another
 abbrev Upto : SqlRow → SqlRow → Type 0
@@ -51,7 +48,7 @@ second_cell : (key : Value) (values : List Value) (behind : List SqlRow) → 1 <
     → (v : Value) × AllByRecursion (Upto (cell_row key 2 v)) behind
 second_cell key [] behind long h = absurd (omega (arith, long))
 second_cell key (v ∷ []) behind long h = absurd (omega (arith, long))
-second_cell key (v ∷ w ∷ more) behind long h = (w, all_behind (Upto (cell_row key 2 w)) Upto (keyed key 3 more) behind h.1.0)
+second_cell key (v ∷ w ∷ more) behind long h = (w, all_behind (Upto (cell_row key 2 w)) (keyed key 3 more) behind h.1.0)
 
 -- what holds of a row's cells holds of its first
 first_cell : (P : SqlRow → Type 0) (key : Value) (values : List Value) (behind : List SqlRow) → 1 < length values → AllByRecursion P (keyed key 1 values ++ behind)
@@ -82,7 +79,7 @@ module _ (table : TableDef) (is_table : IsTable table) where
   keys_above key v [] sound h = tt
   keys_above key v (row ∷ rows) sound h =
       let first = first_cell (Upto (cell_row key 2 v)) row.name.key (values_of table row) (flat_map (keyed_cells table) rows) (long_row row sound.0) h in
-      (lower_key key row.name.key v first.0 first.1, keys_above key v rows sound.1 (all_behind (Upto (cell_row key 2 v)) Upto (keyed_cells table row) (flat_map (keyed_cells table) rows) h))
+      (lower_key key row.name.key v first.0 first.1, keys_above key v rows sound.1 (all_behind (Upto (cell_row key 2 v)) (keyed_cells table row) (flat_map (keyed_cells table) rows) h))
 
   -- of one table, a row of a lower key is before the other
   before : (row other : Row) → IsSoundRow table row → IsSoundRow table other → key_cmp row.name.key other.name.key ≡ Less → IsTrue (row_before row other)
@@ -97,7 +94,7 @@ module _ (table : TableDef) (is_table : IsTable table) where
       let second = second_cell row.name.key (values_of table row) (flat_map (keyed_cells table) rows) (long_row row sound.0) up in (
         all_both (IsSoundRow table) (λ other. key_cmp row.name.key other.name.key ≡ Less) (λ other. IsTrue (row_before row other)) (λ other k less. before row other sound.0 k less) rows sound.1
             (keys_above row.name.key second.0 rows sound.1 second.1),
-        rows_ascend rows sound.1 (rises_behind (λ _. Unit {0}) Upto (keyed_cells table row) (flat_map (keyed_cells table) rows) up),
+        rows_ascend rows sound.1 (rises_behind Upto (keyed_cells table row) (flat_map (keyed_cells table) rows) up),
       )
 
   -- sound rows whose cells are sorted are in order of key
@@ -108,6 +105,4 @@ module _ (table : TableDef) (is_table : IsTable table) where
 pub answer_is : (s : StoredTable) (db : Database) (rows : List Row) (answer : List SqlRow) → AreRowsIn s rows db → AreOfTable (sql.Int s.id) (cells db) answer
     → answer ≡ flat_map (keyed_cells s.table) rows
 answer_is s db rows answer are of =
-    let named = all_weaker (IsSoundRow s.table) (λ row. row.name.table ≡ s.table.name) (λ row sound. sound.is_row.table_name) rows are.sound in
-    let rise = rows_rise s.table rows (keys_rise s.table rows named are.row_order) in
-    sorted_unique cell_cmp cell_cmp_total (flat_map (keyed_cells s.table) rows) answer rise (IsPermutation-trans (flat_map (keyed_cells s.table) rows) _ answer are.cells_are of.same_cells) of.in_order
+    cells_in_order s.table (sql.Int s.id) rows (cells db) answer (all_weaker (IsSoundRow s.table) (λ row. row.name.table ≡ s.table.name) (λ row sound. sound.is_row.table_name) rows are.sound) are.row_order are.cells_are of

@@ -1,5 +1,5 @@
 -- Tables whose rows are counted, one table after another.
-use Rattle.std.proofs.Common.{◌≡◌, List, [], ◌∷◌, ◌++◌, length, refl, sym, subst, arith, IsTrue}
+use Rattle.std.proofs.Common.{◌≡◌, List, [], ◌∷◌, ◌++◌, sym, subst, IsTrue}
 use Rattle.std.specs.List.{AllByRecursion}
 use Rattle.sqlite_trees.proofs.ListLemmas.{all-append}
 use Rattle.sqlite.specs.Effect.{Database}
@@ -18,10 +18,6 @@ all_middle {A} P xs ys zs x e h = at xs (subst (AllByRecursion P) (sym e) h)
     at : (ws : List A) → AllByRecursion P (ws ++ x ∷ ys) → P x
     at [] k = k.0
     at (w ∷ ws) k = at ws k.1
-
-pub nothing_left : {A : Type 0} (xs : List A) → length xs ≡ 0 → xs ≡ []
-nothing_left [] h = refl
-nothing_left (x ∷ xs) h = absurd (omega arith)
 
 -- where the store can be used, the tables that are counted have their rows
 abbrev pub HaveTheirRows : State → State → List CountedTable → Type 0

@@ -9,7 +9,6 @@ ghost use Rattle.escrow_rows.specs.Answers.{IsUsable, Looks};
 ghost use Rattle.escrow_verify.specs.Inside.{AreRowsIn};
 ghost use Rattle.escrow_verify.specs.declared.unverified.PartFault.TheVariants.{Foreign};
 
-mod cell;
 mod counter;
 mod defined;
 
@@ -33,7 +32,14 @@ pub(crate) fn count_rows<S: Alter>(
     ensures foreign { IsUsable (state S.Store store.new) → result ≡ Err Foreign → IsStore (state S.Store store.old).now → (rows : List Row) → AreRowsIn table.now rows (state S.Store store.old).now → ⊥ }
     ensures looks { Looks (state S.Store store.old) (state S.Store store.new) }
 {
-    let mut counter = RowCounter::new(alloc, DefinedTable::new(&table.table));
-    store.cells(table, &mut counter)?;
-    counter.count().ok_or(PartFault::Foreign)
+    let counter = RowCounter {
+        alloc,
+        table: DefinedTable::new(&table.table),
+        rows: 0,
+        sound: true,
+    };
+    match store.read_rows(alloc, table, counter)? {
+        Some(counter) if counter.sound => Ok(counter.rows),
+        _ => Err(PartFault::Foreign),
+    }
 }

@@ -1,12 +1,8 @@
-use Rattle.std.proofs.Common.{rules, w64}
-use Rattle.std.proofs.lemmas.Int.{to_z-of_z}
-use Rattle.escrow_rows.proofs.Grouping.{all_told_of}
+use Rattle.sqlite.specs.Held.{state}
+use Rattle.escrow_rows.proofs.AllValues.{all_told}
 use Rattle.escrow_rows.proofs.store.RowStore.all_values.Goals as goal
 
-pub returns-clause-told : goal.returns-clause-told
-returns-clause-told g c =
-    λ clean.
-    let table = c.args.table.now in
-    let number = to_z-of_z w64 table.id (search rules) in
-    all_told_of g.S.Store c.self.inside.conn c.args.self.now c.table_cells.new.conn c.self.view_is table _ c.new-grouped.result c.table_cells.new.sink c.from_vec.result
-    c.requires number c.new-grouped.ensures c.from_vec.ensures (c.in_ok-table_cells.ensures.is_open clean) (c.in_ok-table_cells.ensures.rows clean)
+pub returns-in-Some-clause-told : goal.returns-in-Some-clause-told
+returns-in-Some-clause-told g c = λ clean.
+    let read = rw c.in-Some.is at c.in_ok-rows.ensures.read clean in
+    (read.0, all_told c.args.table.now (state g.S.Store c.args.self.now).now c.new.result c.in-Some.rows c.new.ensures read.1)

@@ -1,0 +1,99 @@
+//! A row, made of its cells as they are read.
+ghost use Rattle.std.specs.Prelude.{◌≡◌, ◌≢◌, ◌↔◌, ◌+◌, pos, [], false, IsTrue, None, Ok, IfSome, IfOk};
+ghost use Rattle.sqlite_value.specs.declared.value.Value.TheVariants.{Int};
+ghost use Rattle.sqlite_value.specs.Order.{column};
+ghost use Rattle.sqlite_value.specs.Value.{owned};
+ghost use Rattle.escrow_num.specs.declared.value.Value.{Value as HeldValue};
+ghost use Rattle.escrow_rows.specs.Image.{stored, CanBeHeld};
+ghost use Rattle.escrow_rows.specs.Gathered.{Extends, cell_at};
+ghost use Rattle.escrow_rows.specs.declared.keyed_row.KeyedRow.{KeyedRow as Keyed};
+
+use crate::datum::read_value;
+use escrow_num::{Amount, Seq, Value};
+use sqlite::Row;
+use sqlite_value::value::ValueRef;
+use std::alloc::{AllocError, Global};
+
+/// A row as its cells tell it.
+#[derive(Debug, Drop)]
+pub struct KeyedRow {
+    /// Its key, which each cell has.
+    pub key: Value,
+    /// Its values, in column order.
+    pub values: Seq<Value>,
+}
+
+impl KeyedRow {
+    /// No cells as yet, so that the key isn't known.
+    pub(crate) fn new(alloc: Global) -> Self
+        ensures none { result.values ≡ [] }
+        ensures held { CanBeHeld result.key }
+    {
+        KeyedRow {
+            key: Value::Number(Amount::ZERO),
+            values: Seq::new(alloc),
+        }
+    }
+
+    /// Takes the next cell, of which the first tells the key. Whether the cell is one of this row, at the
+    /// next place.
+    pub(crate) fn take_cell(&mut self, alloc: Global, cell: &Row) -> Result<bool, AllocError>
+        ensures next { IfOk result (λ next. IsTrue next → Extends self.old cell.now self.new) }
+        ensures other { result ≡ Ok false → CanBeHeld self.old.key → (new : Keyed) → Extends self.old cell.now new → ⊥ }
+    {
+        if self.values.is_empty() {
+            let Some(key) = value_at(alloc, cell, 0)? else {
+                return Ok(false);
+            };
+            self.key = key;
+        }
+        if !is_cell(cell, &self.key, self.values.len()) {
+            return Ok(false);
+        }
+        let Some(value) = value_at(alloc, cell, 2)? else {
+            return Ok(false);
+        };
+        self.values.push(value)?;
+        Ok(true)
+    }
+}
+
+/// Whether a cell is one of the row of a key, behind so many. Where it is the first it has the key.
+fn is_cell(cell: &Row, key: &Value, before: usize) -> bool
+    requires { before ≡ 0 → column cell.now 0 ≡ stored key.now }
+    ensures { IsTrue result ↔ (cell.now ≡ cell_at key.now (before + 1) (column cell.now 2)) }
+{
+    cell.column_count() == 3 && (before == 0 || has_key(cell, key)) && is_behind(cell, before)
+}
+
+/// Whether a cell has a key. Nothing is copied.
+fn has_key(cell: &Row, key: &Value) -> bool
+    ensures { IsTrue result ↔ (column cell.now 0 ≡ stored key.now) }
+{
+    match (cell.get_ref(0), key) {
+        (Ok(ValueRef::Int(number)), Value::Number(amount)) => number == amount.get(),
+        (Ok(ValueRef::Text(bytes)), Value::Text(text)) => bytes == text.as_str().as_bytes(),
+        _ => false,
+    }
+}
+
+/// Whether a cell stands behind so many others of its row.
+fn is_behind(cell: &Row, before: usize) -> bool
+    ensures { IsTrue result ↔ (column cell.now 1 ≡ Int (pos (before + 1))) }
+{
+    match cell.get_ref(1) {
+        Ok(ValueRef::Int(place)) => place > 0 && (place - 1) as u64 == before as u64,
+        _ => false,
+    }
+}
+
+/// The value in a column of an answer, or `None` where it is none that a column of a table can hold.
+fn value_at(alloc: Global, row: &Row, at: usize) -> Result<Option<Value>, AllocError>
+    ensures some { IfOk result (λ found. IfSome found (λ v. (stored v ≡ column row.now at) × CanBeHeld v)) }
+    ensures none { result ≡ Ok None → (v : HeldValue) → CanBeHeld v → stored v ≢ column row.now at }
+{
+    match row.get_ref(at) {
+        Ok(value) => read_value(alloc, value),
+        Err(_) => Ok(None),
+    }
+}

@@ -1,0 +1,107 @@
+//! Reads the rows of a table from its cells, and keeps one row at most.
+ghost use Rattle.std.specs.Prelude.{◌≡◌, List, [], ◌∷◌, ◌++◌, false, Ok, None, IsTrue, IfOk, IfSome, OnOk};
+ghost use Rattle.sqlite_value.specs.Order.{Row as SqlRow};
+ghost use Rattle.escrow_rows.specs.Gathered.{HasGathered, Extends};
+ghost use Rattle.escrow_rows.specs.Image.{CanBeHeld};
+ghost use Rattle.escrow_rows.specs.declared.keyed_row.KeyedRow.{KeyedRow as Keyed};
+
+use crate::keyed_row::KeyedRow;
+use crate::store::RowStore;
+use crate::stored::StoredTable;
+use crate::taker::RowTaker;
+use escrow_cells::{Sink, table_cells};
+use escrow_num::Failure;
+use sqlite::{Alter, Row};
+use std::alloc::Global;
+use std::mem;
+
+impl<S: Alter> RowStore<S> {
+    ghost use Rattle.std.specs.Prelude.{IsTrue, IfOk};
+    ghost use Rattle.sqlite.specs.Held.{state};
+    ghost use Rattle.sqlite.specs.State.{HasCleanDisk};
+    ghost use Rattle.escrow_schema.specs.Definition.{IsTable};
+    ghost use Rattle.escrow_cells.specs.Store.{IsStore};
+    ghost use Rattle.escrow_rows.specs.Answers.{Looks};
+    ghost use Rattle.escrow_rows.specs.Reading.{ReadsRows};
+
+    /// Gives a taker the rows of a table, in order of key, and hands it back. The store need not be known to
+    /// be an image: the answer is `None` where the cells are not those of rows, each with a value for each
+    /// column, and each value one that a column can hold.
+    pub fn read_rows<T: RowTaker>(
+        &mut self,
+        alloc: Global,
+        table: &StoredTable,
+        taker: T,
+    ) -> Result<Option<T>, Failure>
+        requires { IsTable table.now.table }
+        ensures read { HasCleanDisk (state S.Store self.new) → IfOk result (λ found. IsTrue (state S.Store self.new).is_open × (IsStore (state S.Store self.old).now → ReadsRows T.has_taken table.now (state S.Store self.old).now taker found)) }
+        ensures looks { Looks (state S.Store self.old) (state S.Store self.new) }
+    {
+        let mut reader = RowReader {
+            alloc,
+            columns: table.table.columns.len(),
+            taker,
+            row: KeyedRow::new(alloc),
+            fits: true,
+        };
+        table_cells(&mut self.conn, table.id, &mut reader)?;
+        Ok(reader.finish())
+    }
+}
+
+/// Makes rows of the cells of a table, in order of key and place, and gives each to a taker.
+#[derive(Drop)]
+struct RowReader<T> {
+    alloc: Global,
+    /// How many values a row has.
+    columns: usize,
+    /// What takes each row.
+    taker: T,
+    /// The row that is under way: it lacks some values.
+    row: KeyedRow,
+    /// Whether all cells so far are of rows.
+    fits: bool,
+}
+
+impl<T: RowTaker> RowReader<T> {
+    ghost use Rattle.escrow_rows.specs.Gathered.{IsGathered};
+
+    /// Takes the next cell. Whether that is the next one of a row.
+    fn take_cell(&mut self, cell: &Row) -> Result<bool, Failure>
+        ensures same { OnOk result (self.new.columns ≡ self.old.columns) }
+        ensures more { IfOk result (λ next. IsTrue next → (first : T) (cells : List SqlRow) → IsGathered T.has_taken self.old.columns first self.old.taker self.old.row cells → IsGathered T.has_taken self.old.columns first self.new.taker self.new.row (cells ++ cell.now ∷ [])) }
+        ensures other { result ≡ Ok false → CanBeHeld self.old.row.key → (new : Keyed) → Extends self.old.row cell.now new → ⊥ }
+    {
+        if !self.row.take_cell(self.alloc, cell)? {
+            return Ok(false);
+        }
+        if self.row.values.len() == self.columns {
+            let row = mem::replace(&mut self.row, KeyedRow::new(self.alloc));
+            self.taker.take(row)?;
+        }
+        Ok(true)
+    }
+
+    /// The taker, or `None` where a cell was of no row, or the last row lacks some.
+    fn finish(self) -> Option<T>
+        ensures some { IfSome result (λ taker. IsTrue self.fits × (self.row.values ≡ []) × (taker ≡ self.taker)) }
+        ensures none { result ≡ None → IsTrue self.fits → self.row.values ≡ [] → ⊥ }
+    {
+        if self.fits && self.row.values.is_empty() {
+            Some(self.taker)
+        } else {
+            None
+        }
+    }
+}
+
+impl<T: RowTaker> Sink for RowReader<T> {
+    ghost has_taken = { HasGathered T.has_taken };
+
+    fn take(&mut self, row: &Row) -> Result<(), Failure> {
+        if self.fits {
+            self.fits = self.take_cell(row)?;
+        }
+        Ok(())
+    }
+}
