@@ -17,10 +17,11 @@ use std::test::Fail;
 fn stored(alloc: Global, id: i64, text: &str) -> Result<StoredTable, Refusal>
     ensures { IfOk result (λ s. IsTable s.table) }
 {
-    let Ok(Request::Statement(Statement::Create(text))) = parse(alloc, text) else {
+    let asked = parse(alloc, text);
+    let Ok(Request::Statement(Statement::Create(text))) = &asked else {
         return Err(Refusal::BadDefinition);
     };
-    let table = define(alloc, &text)?;
+    let table = define(alloc, text)?;
     Ok(StoredTable { id, table })
 }
 
@@ -28,10 +29,11 @@ fn stored(alloc: Global, id: i64, text: &str) -> Result<StoredTable, Refusal>
 fn row(alloc: Global, table: &StoredTable, text: &str) -> Result<Row, Refusal>
     requires { IsTable table.now.table }
 {
-    let Ok(Request::Statement(Statement::Insert(text))) = parse(alloc, text) else {
+    let asked = parse(alloc, text);
+    let Ok(Request::Statement(Statement::Insert(text))) = &asked else {
         return Err(Refusal::BadValue);
     };
-    fit_row(alloc, &table.table, &text)
+    fit_row(alloc, &table.table, text)
 }
 
 /// Puts the row that an INSERT makes.

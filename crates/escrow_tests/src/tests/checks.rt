@@ -22,10 +22,12 @@ pub(super) fn columns(rt: &impl Abort) -> [Name; 10] {
 /// The one check that a table's text declares over RESERVABLE columns.
 pub(super) fn check(rt: &impl Abort, alloc: Global, columns: &[Name], text: &str) -> Check {
     assert!(rt; columns.len() <= Coefficients::MAX_LEN);
-    let create = match parse(alloc, text) {
-        Ok(Request::Statement(Statement::Create(create))) => create,
-        Ok(_) => panic!(rt; "no table: {text}"),
+    let request = match parse(alloc, text) {
+        Ok(request) => request,
         Err(fault) => panic!(rt; "{text}: {fault:?}"),
+    };
+    let Request::Statement(Statement::Create(create)) = &request else {
+        panic!(rt; "no table: {text}");
     };
     let Some(Item::Check(condition)) = create.items.as_slice().first() else {
         panic!(rt; "no check: {text}");

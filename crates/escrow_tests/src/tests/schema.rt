@@ -2,7 +2,7 @@
 ghost use Rattle.std.specs.Prelude.{IfOk};
 ghost use Rattle.escrow_schema.specs.Definition.{IsTable};
 
-use escrow_num::{Name, Refusal, Row, Seq, Value, are_same};
+use escrow_num::{Copied, Name, Refusal, Row, Seq, Value, are_same};
 use escrow_schema::{
     Catalog, TableDef, define, is_value, print_table, row_of, value_of, values_of,
 };
@@ -24,16 +24,18 @@ fn number_of<T: Drop>(answer: Result<T, Refusal>) -> u8 {
 
 /// What a CREATE TABLE asks.
 fn create_text(rt: &impl Abort, alloc: Global, text: &str) -> Result<CreateText, Fail> {
-    match parse(alloc, text)? {
-        Request::Statement(Statement::Create(create)) => Ok(create),
+    let request = parse(alloc, text)?;
+    match &request {
+        Request::Statement(Statement::Create(create)) => Ok(create.copy(alloc)?),
         _ => panic!(rt; "no CREATE TABLE: {text}"),
     }
 }
 
 /// What an INSERT asks.
 fn insert_text(rt: &impl Abort, alloc: Global, text: &str) -> Result<InsertText, Fail> {
-    match parse(alloc, text)? {
-        Request::Statement(Statement::Insert(insert)) => Ok(insert),
+    let request = parse(alloc, text)?;
+    match &request {
+        Request::Statement(Statement::Insert(insert)) => Ok(insert.copy(alloc)?),
         _ => panic!(rt; "no INSERT: {text}"),
     }
 }
