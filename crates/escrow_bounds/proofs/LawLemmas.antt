@@ -70,7 +70,7 @@ same_grant_rule (check ∷ checks) amounts changes row held covered =
     let fits : IsCovered check.coeffs with_new = omega (arith, length-changed amounts changes, covered.0) in
     let ends = same_extremes check.coeffs with_new row held fits in
     let breach : ℤ → ℤ → Option Breach =
-    λ low high. option_map (λ (limit : Side × ℤ × ℤ). record { check = check.name; side = limit.0; worst = limit.1; limit = limit.2 }) (first_broken_of check.span low high) in
+    λ low high. option_map (λ (limit : Side × ℤ × ℤ). record { check = check.name; side = limit.0; worst = limit.1; limit = limit.2; scale = check.scale }) (first_broken_of check.span low high) in
     ap₂ first_of_two (ap₂ breach ends.0 ends.1) (same_grant_rule checks amounts changes row held covered.1)
 
 -- ---- one row and the others

@@ -15,7 +15,7 @@ ghost use Rattle.escrow_bounds.specs.declared.tracked.Tracked.{Tracked};
 use crate::changes::deltas;
 use crate::tracked::{Tracked, first_breach, give_back, push_check, take_in};
 use escrow_checks::{Check, Coefficients};
-use escrow_num::{Amount, Breach, End, Name, Reservation, RowName, Span, Wide};
+use escrow_num::{Amount, Breach, End, Name, Reservation, RowName, Scale, Span, Wide};
 use std::alloc::{AllocError, Global};
 use std::marker::Model;
 
@@ -174,6 +174,7 @@ fn column_check(columns: usize, place: usize) -> Check
     Check {
         name: Name::new(b"COLUMN").unwrap(),
         coeffs: Coefficients::unit(columns, place),
+        scale: Scale::ZERO,
         span: Span { lo: None, hi: None },
     }
 }

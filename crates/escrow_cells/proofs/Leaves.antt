@@ -1,4 +1,4 @@
--- What an edit of CELL or of TAB leaves of a store.
+-- What an edit of one of the tables leaves of a store.
 use Rattle.std.proofs.Common.{◌≡◌, ◌≢◌, List, [], ◌∷◌, map, IsPermutation, sym, ap, ◌∙◌, subst, arith}
 use Rattle.std.specs.List.{AllByRecursion}
 use Rattle.sqlite_value.specs.Order.{Row, column}
@@ -8,8 +8,9 @@ use Rattle.sqlite_schema.specs.declared.schema.Table.{Table}
 use Rattle.sqlite_schema.specs.declared.schema.Schema.{Schema}
 use Rattle.sqlite_rules.specs.Edit.{Edit}
 use Rattle.sqlite.specs.Effect.{Database}
+use Rattle.escrow_cells.specs.declared.formats.TheConstants.{FORMAT}
 use Rattle.escrow_cells.specs.Tables.{meta_tree, tab_tree, cell_tree}
-use Rattle.escrow_cells.specs.Store.{IsStore, HasTables, NumbersDiffer, metas, tabs, cells}
+use Rattle.escrow_cells.specs.Store.{IsStore, HasTables, NumbersDiffer, HasMigrated, format, metas, tabs, cells}
 use Rattle.escrow_cells.specs.Step.{HoldsContents}
 use Rattle.escrow_cells.proofs.Inside.{Edits}
 use Rattle.escrow_cells.proofs.Makes.{numbered_edited}
@@ -72,4 +73,17 @@ module _ (old new : Database) (edit : Edit) (store : IsStore old) (made : Edits 
         cells_are = IsPermutation-same _ _ (ap (map cell_of) (sym cell_is));
         tabs_are = same;
         metas_are = same_metas meta_is;
+      }
+
+  -- an edit of META
+  pub has_migrated : edit.table.tree ≡ meta_tree → metas new ≡ format FORMAT → HasMigrated old new
+  has_migrated on are =
+      let others = spared store.tables in
+      let tab_is = others.1 (λ e. omega (arith, on, e)) in
+      let cell_is = others.2 (λ e. omega (arith, on, e)) in
+      record {
+        store = store_with (subst (λ t. NumbersDiffer (new.trees t)) on (numbered (rw on store.metas_numbered))) (rw tab_is store.tabs_numbered) (rw cell_is store.cells_numbered);
+        metas_are = are;
+        tabs_are = ap (map tab_of) tab_is;
+        cells_are = ap (map cell_of) cell_is;
       }

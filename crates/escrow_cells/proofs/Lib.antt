@@ -2,13 +2,14 @@ mod AllOrNone
 pub mod Bare
 mod Columns
 mod Delete
-mod Format
+mod FormatRow
 mod Insert
 pub mod Inside
 mod Leaves
 pub mod Makes
 mod Making
 mod Matches
+mod Migrating
 mod Numbering
 pub mod Reading
 pub mod ReadTexts

@@ -1,5 +1,6 @@
 pub mod Calls
 pub mod Failure
+pub mod Formats
 pub mod Inside
 pub mod Making
 pub mod Numbered

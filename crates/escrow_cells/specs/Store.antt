@@ -1,5 +1,5 @@
 -- Believed: what a store holds.
-use Rattle.std.specs.Prelude.{◌≡◌, false, pos, List, [], ◌∷◌, map, codes, IsTrue}
+use Rattle.std.specs.Prelude.{◌≡◌, false, ℤ, List, [], ◌∷◌, map, codes, IsTrue}
 use Rattle.std.specs.List.{AllByRecursion}
 use Rattle.std.specs.Ordering.{is_eq}
 use Rattle.sqlite_value.specs.declared.value.Value.TheVariants.{Int, Text}
@@ -11,6 +11,7 @@ use Rattle.sqlite_schema.specs.declared.schema.Index.{Index}
 use Rattle.sqlite_schema.specs.declared.schema.View.{View}
 use Rattle.sqlite_schema.specs.declared.schema.Schema.{Schema}
 use Rattle.sqlite.specs.Effect.{Database, IsDatabase}
+use Rattle.escrow_cells.specs.declared.formats.TheConstants.{FORMAT}
 use Rattle.escrow_cells.specs.Tables.{no_schema, beside, meta_tree, tab_tree, cell_tree}
 
 -- the rows of META: K and V
@@ -59,17 +60,28 @@ pub record IsStore (db : Database) : Type 0 where
   pub tabs_numbered : NumbersDiffer (db.trees tab_tree)
   pub cells_numbered : NumbersDiffer (db.trees cell_tree)
 
--- the rows of META in each store: it has the format 1
-abbrev pub format : List Row
-format = (Text (codes "format") ∷ Int (pos 1) ∷ []) ∷ []
+-- the rows of META in a store of the format of a number
+abbrev pub format : ℤ → List Row
+format number = (Text (codes "format") ∷ Int number ∷ []) ∷ []
 
--- a store without tables of its own
+-- a store of the known format, without tables of its own
 pub record IsEmpty (db : Database) : Type 0 where
   pub store : IsStore db
-  pub metas_are : metas db ≡ format
+  pub metas_are : metas db ≡ format FORMAT
   pub tabs_are : tabs db ≡ []
   pub cells_are : cells db ≡ []
 
 -- a store is made of a database without objects
 abbrev pub MakesStore : Database → Database → Type 0
 MakesStore old new = old.schema ≡ no_schema → IsEmpty new
+
+-- a store of the known format, with the tables and the cells of another
+pub record HasMigrated (old new : Database) : Type 0 where
+  pub store : IsStore new
+  pub metas_are : metas new ≡ format FORMAT
+  pub tabs_are : tabs new ≡ tabs old
+  pub cells_are : cells new ≡ cells old
+
+-- a store of whatever format is brought to the known one
+abbrev pub Migrates : Database → Database → Type 0
+Migrates old new = (number : ℤ) → IsStore old → metas old ≡ format number → HasMigrated old new

@@ -44,12 +44,12 @@ fn create_cell<S: Alter>(tx: &mut Transaction<'_, S>) -> Result<usize, Error>
     )
 }
 
-/// Puts into META that the store has the format 1.
+/// Puts into META that the store has the known format.
 fn insert_format<S: Alter>(tx: &mut Transaction<'_, S>) -> Result<usize, Error>
     ensures same_reference { tx.new.conn.ghost_name ≡ tx.old.conn.ghost_name }
     ensures acts { Acts (state S.Store tx.old.conn.now) (state S.Store tx.new.conn.now) (is_ok result) (Fills with_cell) }
 {
-    tx.execute("INSERT INTO META VALUES ('format', 1)", &[])
+    tx.execute("INSERT INTO META VALUES ('format', 2)", &[])
 }
 
 /// Makes what an empty store has.

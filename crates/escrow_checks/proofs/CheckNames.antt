@@ -27,45 +27,45 @@ abbrev names : List Check → List (List ℕ)
 names checks = map (λ (check : Check). check.name) checks
 
 -- those of a CHECK's conditions, of which the first is its k-th and the n-th of the table's
-conditions_named : (columns : List (List ℕ)) (name : Option (List ℕ)) (k n : ℕ) (conditions : List Condition) (checks : List Check)
-    → checks_of_conditions columns name k n conditions ≡ Some checks
+conditions_named : (columns : List (List ℕ)) (scales : List ℕ) (name : Option (List ℕ)) (k n : ℕ) (conditions : List Condition) (checks : List Check)
+    → checks_of_conditions columns scales name k n conditions ≡ Some checks
     → (j : ℕ) → j < length conditions → slice_get (names checks) j ≡ Some (check_name name (k + j) (n + j))
-conditions_named columns name k n [] checks e j within = absurd (omega arith)
-conditions_named columns name k n (condition ∷ conditions) checks e zero within =
-    let parts = unpack (check_of columns (check_name name k n) condition) (checks_of_conditions columns name (k + 1) (n + 1) conditions) checks e in
-    let called : check_name name k n ≡ parts.0.name = ap (λ (c : Check). c.name) (gives columns (check_name name k n) condition parts.0 parts.2).is in
+conditions_named columns scales name k n [] checks e j within = absurd (omega arith)
+conditions_named columns scales name k n (condition ∷ conditions) checks e zero within =
+    let parts = unpack (check_of columns scales (check_name name k n) condition) (checks_of_conditions columns scales name (k + 1) (n + 1) conditions) checks e in
+    let called : check_name name k n ≡ parts.0.name = ap (λ (c : Check). c.name) (gives columns scales (check_name name k n) condition parts.0 parts.2).is in
     let in_check : k ≡ k + 0 = omega arith in
     let in_table : n ≡ n + 0 = omega arith in
     subst (λ (cs : List Check). slice_get (names cs) 0 ≡ Some (check_name name (k + 0) (n + 0))) parts.4
     (ap (λ (x : List ℕ). Some x) (sym called) ∙ ap₂ (λ (a : ℕ) (b : ℕ). Some (check_name name a b)) in_check in_table)
-conditions_named columns name k n (condition ∷ conditions) checks e (suc j) within =
-    let parts = unpack (check_of columns (check_name name k n) condition) (checks_of_conditions columns name (k + 1) (n + 1) conditions) checks e in
+conditions_named columns scales name k n (condition ∷ conditions) checks e (suc j) within =
+    let parts = unpack (check_of columns scales (check_name name k n) condition) (checks_of_conditions columns scales name (k + 1) (n + 1) conditions) checks e in
     let rest : slice_get (names parts.1) j ≡ Some (check_name name (k + 1 + j) (n + 1 + j)) =
-    conditions_named columns name (k + 1) (n + 1) conditions parts.1 parts.3 j (omega arith) in
+    conditions_named columns scales name (k + 1) (n + 1) conditions parts.1 parts.3 j (omega arith) in
     let in_check : k + 1 + j ≡ k + suc j = omega arith in
     let in_table : n + 1 + j ≡ n + suc j = omega arith in
     subst (λ (cs : List Check). slice_get (names cs) (suc j) ≡ Some (check_name name (k + suc j) (n + suc j))) parts.4
     (rest ∙ ap₂ (λ (a : ℕ) (b : ℕ). Some (check_name name a b)) in_check in_table)
 
 -- as many as there are conditions
-as_many : (columns : List (List ℕ)) (name : Option (List ℕ)) (k n : ℕ) (conditions : List Condition) (checks : List Check)
-    → checks_of_conditions columns name k n conditions ≡ Some checks → length (names checks) ≡ length conditions
-as_many columns name k n conditions checks e =
+as_many : (columns : List (List ℕ)) (scales : List ℕ) (name : Option (List ℕ)) (k n : ℕ) (conditions : List Condition) (checks : List Check)
+    → checks_of_conditions columns scales name k n conditions ≡ Some checks → length (names checks) ≡ length conditions
+as_many columns scales name k n conditions checks e =
     length-map checks (λ (check : Check). check.name)
-    ∙ (each_in_text columns (λ (check : Check). Unit {0}) (λ _ _ _ _. tt) name k n conditions checks e).0
+    ∙ (each_in_text columns scales (λ (check : Check). Unit {0}) (λ _ _ _ _. tt) name k n conditions checks e).0
 
 -- those of all CHECKs, of which the first condition is the n-th of the table's
-texts_named : (columns : List (List ℕ)) (texts : List CheckText) (n : ℕ) (checks : List Check) → checks_from columns texts n ≡ Some checks
+texts_named : (columns : List (List ℕ)) (scales : List ℕ) (texts : List CheckText) (n : ℕ) (checks : List Check) → checks_from columns scales texts n ≡ Some checks
     → (i j : ℕ) (text : CheckText) → slice_get texts i ≡ Some text → j < length text.conditions
     → slice_get (names checks) (conditions_before texts i + j) ≡ Some (check_name text.name (1 + j) (n + (conditions_before texts i + j)))
-texts_named columns [] n checks e i j text at within = absurd (none-some text at)
-texts_named columns (first ∷ texts) n checks e zero j text at within =
-    let parts = unpack_all (checks_of_conditions columns first.name 1 n first.conditions) (checks_from columns texts (n + length first.conditions)) checks e in
+texts_named columns scales [] n checks e i j text at within = absurd (none-some text at)
+texts_named columns scales (first ∷ texts) n checks e zero j text at within =
+    let parts = unpack_all (checks_of_conditions columns scales first.name 1 n first.conditions) (checks_from columns scales texts (n + length first.conditions)) checks e in
     let is : first ≡ text = same_Some first text at in
     let inside : j < length first.conditions = subst (λ (t : CheckText). j < length t.conditions) (sym is) within in
-    let long : length (names parts.0) ≡ length first.conditions = as_many columns first.name 1 n first.conditions parts.0 parts.2 in
+    let long : length (names parts.0) ≡ length first.conditions = as_many columns scales first.name 1 n first.conditions parts.0 parts.2 in
     let here : slice_get (names parts.0) j ≡ Some (check_name first.name (1 + j) (n + j)) =
-    conditions_named columns first.name 1 n first.conditions parts.0 parts.2 j inside in
+    conditions_named columns scales first.name 1 n first.conditions parts.0 parts.2 j inside in
     let place : 0 + j ≡ j = omega arith in
     subst (λ (t : CheckText). slice_get (names checks) (0 + j) ≡ Some (check_name t.name (1 + j) (n + (0 + j)))) is
     (subst (λ (cs : List Check). slice_get (names cs) (0 + j) ≡ Some (check_name first.name (1 + j) (n + (0 + j)))) parts.4
@@ -74,11 +74,11 @@ texts_named columns (first ∷ texts) n checks e zero j text at within =
     ∙ at_left (names parts.0) (names parts.1) j (omega arith)
     ∙ here
     ∙ ap (λ (m : ℕ). Some (check_name first.name (1 + j) (n + m))) (sym place)))
-texts_named columns (first ∷ texts) n checks e (suc i) j text at within =
-    let parts = unpack_all (checks_of_conditions columns first.name 1 n first.conditions) (checks_from columns texts (n + length first.conditions)) checks e in
-    let long : length (names parts.0) ≡ length first.conditions = as_many columns first.name 1 n first.conditions parts.0 parts.2 in
+texts_named columns scales (first ∷ texts) n checks e (suc i) j text at within =
+    let parts = unpack_all (checks_of_conditions columns scales first.name 1 n first.conditions) (checks_from columns scales texts (n + length first.conditions)) checks e in
+    let long : length (names parts.0) ≡ length first.conditions = as_many columns scales first.name 1 n first.conditions parts.0 parts.2 in
     let rest : slice_get (names parts.1) (conditions_before texts i + j) ≡ Some (check_name text.name (1 + j) (n + length first.conditions + (conditions_before texts i + j))) =
-    texts_named columns texts (n + length first.conditions) parts.1 parts.3 i j text at within in
+    texts_named columns scales texts (n + length first.conditions) parts.1 parts.3 i j text at within in
     let front : conditions_before (first ∷ texts) (suc i) ≡ length first.conditions + conditions_before texts i =
     length-append first.conditions (flat_map (λ (t : CheckText). t.conditions) (take i texts)) in
     let place : conditions_before (first ∷ texts) (suc i) + j ≡ length (names parts.0) + (conditions_before texts i + j) =
@@ -106,10 +106,10 @@ later_name name j n =
     ∙ ap (λ (k : ℕ). name ++ codes "_" ++ decimal k) same
 
 pub checks_are_named : ChecksAreNamed
-checks_are_named columns texts checks e =
-    let named = texts_named columns texts 1 checks (within_most columns texts checks e).1 in
+checks_are_named columns scales texts checks e =
+    let named = texts_named columns scales texts 1 checks (within_most columns scales texts checks e).1 in
     record {
-      each = length-map checks (λ (check : Check). check.name) ∙ (checks_whole columns texts checks e).0;
+      each = length-map checks (λ (check : Check). check.name) ∙ (checks_whole columns scales texts checks e).0;
       first = λ i text name at is some.
           let start : conditions_before texts i ≡ conditions_before texts i + 0 = omega arith in
           ap (λ (m : ℕ). slice_get (names checks) m) start

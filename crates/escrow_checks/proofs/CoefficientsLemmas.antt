@@ -6,7 +6,7 @@ use Rattle.std.proofs.lemmas.Int.{ints}
 use Rattle.std.proofs.lemmas.Bool.{and_parts}
 use Rattle.std.proofs.lemmas.List.Folds.{list_all-map, list_all_at, list_all_more}
 use Rattle.std.proofs.lemmas.List.{length-map, length-replicate, length-set, length-take-le, map-append, replicate-append-replicate, set-append_left, take_more, take_all}
-use Rattle.std.proofs.lemmas.List.Elements.{All-set, All-replicate, All-nil, All-cons}
+use Rattle.std.proofs.lemmas.List.Elements.{All-append, All-set, All-replicate, All-nil, All-cons}
 use Rattle.std.proofs.Math.Seq.{set-append_seam, take-append_seam}
 use Rattle.escrow_checks.specs.Checks.{unit_of, is_coefficient}
 use Rattle.escrow_checks.specs.Coefficients.{IsCoefficient, AreCoefficients}
@@ -75,6 +75,26 @@ mapped-more f columns column i c below few is same =
     let more : map f (take (i + 1) columns) ≡ front ++ c ∷ [] =
     ap (map f) (take_more columns i column below ∙ ap (λ x. take i columns ++ x ∷ []) (sym is)) ∙ map-append f (take i columns) (column ∷ []) ∙ ap (λ z. front ++ z ∷ []) (sym same) in
     ap (λ n. set (padded front) n c) (sym at) ∙ padded-more front c (omega (arith, at)) ∙ ap padded (sym more)
+
+-- ---- coefficients of a list, written one by one
+
+pub taken-more : (xs : List ℤ) (i : ℕ) (c : ℤ) → i < length xs → length xs ≤ MAX_LEN → c ≡ get_or xs i c → set (padded (take i xs)) i c ≡ padded (take (i + 1) xs)
+taken-more xs i c below few is =
+    let at : length (take i xs) ≡ i = length-take-le i xs (omega arith) in
+    let more : take (i + 1) xs ≡ take i xs ++ c ∷ [] = take_more xs i c below ∙ ap (λ x. take i xs ++ x ∷ []) (sym is) in
+    ap (λ n. set (padded (take i xs)) n c) (sym at) ∙ padded-more (take i xs) c (omega (arith, at)) ∙ ap padded (sym more)
+
+pub All-taken : (xs : List ℤ) (i : ℕ) (c : ℤ) → i < length xs → c ≡ get_or xs i c → IsCoefficient c → All IsCoefficient (take i xs) → All IsCoefficient (take (i + 1) xs)
+All-taken xs i c below is one all =
+    let more : take (i + 1) xs ≡ take i xs ++ c ∷ [] = take_more xs i c below ∙ ap (λ x. take i xs ++ x ∷ []) (sym is) in
+    subst (λ ys. All IsCoefficient ys) (sym more) (All-append IsCoefficient (take i xs) (c ∷ []) all (All-cons IsCoefficient c [] one (All-nil IsCoefficient)))
+
+pub taken_kept : (xs values : List ℤ) (i len : ℕ) → length xs ≤ i → len ≡ length xs → length xs ≤ MAX_LEN → All IsCoefficient (take i xs) → values ≡ padded (take i xs) → Keeps xs values len
+taken_kept xs values i len past is few all whole =
+    let every : take i xs ≡ xs = take_all i xs past in
+    kept xs values len is (few, subst (λ ys. All IsCoefficient ys) every all) (whole ∙ ap padded every)
+
+-- ---- coefficients that are given by their columns
 
 mapped_kept : (f : List ℕ → ℤ) (columns : List (List ℕ)) (values : List ℤ) (i : ℕ) → i ≡ length columns → length columns ≤ MAX_LEN → All IsCoefficient (map f columns) → values ≡ padded (map f (take i columns))
     → Keeps (map f columns) values (length columns)

@@ -92,7 +92,7 @@ greatest_by_spread coeffs amounts reservations spread f z covered known is sum =
 pub broken_by_spread : (check : Check) (amounts changes : List ℤ) (reservations : List (List ℤ)) (spread : Spread) (f low high : ℤ) → IsCovered check.coeffs amounts → IsSpread check.coeffs reservations spread
     → f ≡ form check.coeffs amounts +ℤ form check.coeffs changes → low ≡ f +ℤ spread.falls → high ≡ f +ℤ spread.rises
     → (found : Option (Side × ℤ × ℤ)) → found ≡ first_broken_of check.span low high
-    → broken_by check amounts changes reservations ≡ option_map (λ limit. record { check = check.name; side = limit.0; worst = limit.1; limit = limit.2 }) found
+    → broken_by check amounts changes reservations ≡ option_map (λ limit. record { check = check.name; side = limit.0; worst = limit.1; limit = limit.2; scale = check.scale }) found
 broken_by_spread check amounts changes reservations spread f low high covered known is is_low is_high found at =
     let with_new = changed amounts changes in
     let covered_new : IsCovered check.coeffs with_new = omega (arith, length-changed amounts changes, covered) in

@@ -25,20 +25,20 @@ found_step checks check (Some more) None = refl
 found_step checks check (Some more) (Some last) = ap (λ (zs : List Check). Some zs) (sym (append_assoc checks (check ∷ []) (more ++ last)))
 
 -- the same, where a condition gives it
-found_more : (columns : List (List ℕ)) (name : Option (List ℕ)) (k n : ℕ) (condition : Condition) (conditions : List Condition) (checks : List Check) (check : Check) (others : Option (List Check))
-    → check_of columns (check_name name k n) condition ≡ Some check
-    → found checks (checks_of_conditions columns name k n (condition ∷ conditions)) others ≡ found (checks ++ check ∷ []) (checks_of_conditions columns name (k + 1) (n + 1) conditions) others
-found_more columns name k n condition conditions checks check others e =
-    let rest = checks_of_conditions columns name (k + 1) (n + 1) conditions in
+found_more : (columns : List (List ℕ)) (scales : List ℕ) (name : Option (List ℕ)) (k n : ℕ) (condition : Condition) (conditions : List Condition) (checks : List Check) (check : Check) (others : Option (List Check))
+    → check_of columns scales (check_name name k n) condition ≡ Some check
+    → found checks (checks_of_conditions columns scales name k n (condition ∷ conditions)) others ≡ found (checks ++ check ∷ []) (checks_of_conditions columns scales name (k + 1) (n + 1) conditions) others
+found_more columns scales name k n condition conditions checks check others e =
+    let rest = checks_of_conditions columns scales name (k + 1) (n + 1) conditions in
     ap (λ (o : Option Check). found checks (option_and_then (λ c. option_map (λ more. c ∷ more) rest) o) others) e
     ∙ found_step checks check rest others
 
 -- a condition gives none
-found_none : (columns : List (List ℕ)) (name : Option (List ℕ)) (k n : ℕ) (condition : Condition) (conditions : List Condition) (checks : List Check) (others : Option (List Check))
-    → check_of columns (check_name name k n) condition ≡ None
-    → few (found checks (checks_of_conditions columns name k n (condition ∷ conditions)) others) ≡ None
-found_none columns name k n condition conditions checks others e =
-    let rest = checks_of_conditions columns name (k + 1) (n + 1) conditions in
+found_none : (columns : List (List ℕ)) (scales : List ℕ) (name : Option (List ℕ)) (k n : ℕ) (condition : Condition) (conditions : List Condition) (checks : List Check) (others : Option (List Check))
+    → check_of columns scales (check_name name k n) condition ≡ None
+    → few (found checks (checks_of_conditions columns scales name k n (condition ∷ conditions)) others) ≡ None
+found_none columns scales name k n condition conditions checks others e =
+    let rest = checks_of_conditions columns scales name (k + 1) (n + 1) conditions in
     ap (λ (o : Option Check). few (found checks (option_and_then (λ c. option_map (λ more. c ∷ more) rest) o) others)) e
 
 -- too many are none
@@ -54,95 +54,95 @@ few_step checks check (Some more) (Some last) full =
     few_many ((checks ++ check ∷ []) ++ (more ++ last)) (omega (arith, length-append (checks ++ check ∷ []) (more ++ last), length-append checks (check ∷ [])))
 
 -- a condition is left where there are 32 checks
-found_many : (columns : List (List ℕ)) (name : Option (List ℕ)) (k n : ℕ) (condition : Condition) (conditions : List Condition) (checks : List Check) (others : Option (List Check))
-    → MAX_CHECKS ≤ length checks → few (found checks (checks_of_conditions columns name k n (condition ∷ conditions)) others) ≡ None
-found_many columns name k n condition conditions checks others full = go (check_of columns (check_name name k n) condition) refl
+found_many : (columns : List (List ℕ)) (scales : List ℕ) (name : Option (List ℕ)) (k n : ℕ) (condition : Condition) (conditions : List Condition) (checks : List Check) (others : Option (List Check))
+    → MAX_CHECKS ≤ length checks → few (found checks (checks_of_conditions columns scales name k n (condition ∷ conditions)) others) ≡ None
+found_many columns scales name k n condition conditions checks others full = go (check_of columns scales (check_name name k n) condition) refl
   where
-    go : (o : Option Check) → check_of columns (check_name name k n) condition ≡ o → few (found checks (checks_of_conditions columns name k n (condition ∷ conditions)) others) ≡ None
-    go None e = found_none columns name k n condition conditions checks others e
+    go : (o : Option Check) → check_of columns scales (check_name name k n) condition ≡ o → few (found checks (checks_of_conditions columns scales name k n (condition ∷ conditions)) others) ≡ None
+    go None e = found_none columns scales name k n condition conditions checks others e
     go (Some check) e =
-        ap few (found_more columns name k n condition conditions checks check others e)
-        ∙ few_step checks check (checks_of_conditions columns name (k + 1) (n + 1) conditions) others full
+        ap few (found_more columns scales name k n condition conditions checks check others e)
+        ∙ few_step checks check (checks_of_conditions columns scales name (k + 1) (n + 1) conditions) others full
 
 -- ---- the same at a place of a CHECK's conditions
 
 -- the checks of the conditions from a place on
-abbrev pub from_place : List (List ℕ) → Option (List ℕ) → List Condition → ℕ → List Check → Option (List Check)
-from_place columns name conditions k checks = checks_of_conditions columns name (k + 1) (length checks + 1) (drop k conditions)
+abbrev pub from_place : List (List ℕ) → List ℕ → Option (List ℕ) → List Condition → ℕ → List Check → Option (List Check)
+from_place columns scales name conditions k checks = checks_of_conditions columns scales name (k + 1) (length checks + 1) (drop k conditions)
 
-pub place_all : (columns : List (List ℕ)) (name : Option (List ℕ)) (conditions : List Condition) (k : ℕ) (checks : List Check) (others : Option (List Check)) → length conditions ≤ k
-    → found checks (from_place columns name conditions k checks) others ≡ followed_by checks others
-place_all columns name conditions k checks others past =
-    at_drop_all (λ cs. found checks (checks_of_conditions columns name (k + 1) (length checks + 1) cs) others) conditions k past
+pub place_all : (columns : List (List ℕ)) (scales : List ℕ) (name : Option (List ℕ)) (conditions : List Condition) (k : ℕ) (checks : List Check) (others : Option (List Check)) → length conditions ≤ k
+    → found checks (from_place columns scales name conditions k checks) others ≡ followed_by checks others
+place_all columns scales name conditions k checks others past =
+    at_drop_all (λ cs. found checks (checks_of_conditions columns scales name (k + 1) (length checks + 1) cs) others) conditions k past
     ∙ found_all checks others
 
-pub place_more : (columns : List (List ℕ)) (name : Option (List ℕ)) (conditions : List Condition) (k : ℕ) (condition : Condition) (checks : List Check) (check : Check) (others : Option (List Check))
-    → k < length conditions → condition ≡ get_or conditions k condition → check_of columns (check_name name (k + 1) (length checks + 1)) condition ≡ Some check
-    → found checks (from_place columns name conditions k checks) others ≡ found (checks ++ check ∷ []) (from_place columns name conditions (k + 1) (checks ++ check ∷ [])) others
-place_more columns name conditions k condition checks check others within is e =
-    let F : List Condition → Option (List Check) = λ cs. found checks (checks_of_conditions columns name (k + 1) (length checks + 1) cs) others in
+pub place_more : (columns : List (List ℕ)) (scales : List ℕ) (name : Option (List ℕ)) (conditions : List Condition) (k : ℕ) (condition : Condition) (checks : List Check) (check : Check) (others : Option (List Check))
+    → k < length conditions → condition ≡ get_or conditions k condition → check_of columns scales (check_name name (k + 1) (length checks + 1)) condition ≡ Some check
+    → found checks (from_place columns scales name conditions k checks) others ≡ found (checks ++ check ∷ []) (from_place columns scales name conditions (k + 1) (checks ++ check ∷ [])) others
+place_more columns scales name conditions k condition checks check others within is e =
+    let F : List Condition → Option (List Check) = λ cs. found checks (checks_of_conditions columns scales name (k + 1) (length checks + 1) cs) others in
     let counted : length checks + 1 + 1 ≡ length (checks ++ check ∷ []) + 1 = omega (arith, length-append checks (check ∷ [])) in
     at_drop_more F conditions k condition within
     ∙ ap (λ c. F (c ∷ drop (k + 1) conditions)) (sym is)
-    ∙ found_more columns name (k + 1) (length checks + 1) condition (drop (k + 1) conditions) checks check others e
-    ∙ ap (λ n. found (checks ++ check ∷ []) (checks_of_conditions columns name (k + 1 + 1) n (drop (k + 1) conditions)) others) counted
+    ∙ found_more columns scales name (k + 1) (length checks + 1) condition (drop (k + 1) conditions) checks check others e
+    ∙ ap (λ n. found (checks ++ check ∷ []) (checks_of_conditions columns scales name (k + 1 + 1) n (drop (k + 1) conditions)) others) counted
 
-pub place_none : (columns : List (List ℕ)) (name : Option (List ℕ)) (conditions : List Condition) (k : ℕ) (condition : Condition) (checks : List Check) (others : Option (List Check))
-    → k < length conditions → condition ≡ get_or conditions k condition → check_of columns (check_name name (k + 1) (length checks + 1)) condition ≡ None
-    → few (found checks (from_place columns name conditions k checks) others) ≡ None
-place_none columns name conditions k condition checks others within is e =
-    let F : List Condition → Option (List Check) = λ cs. few (found checks (checks_of_conditions columns name (k + 1) (length checks + 1) cs) others) in
+pub place_none : (columns : List (List ℕ)) (scales : List ℕ) (name : Option (List ℕ)) (conditions : List Condition) (k : ℕ) (condition : Condition) (checks : List Check) (others : Option (List Check))
+    → k < length conditions → condition ≡ get_or conditions k condition → check_of columns scales (check_name name (k + 1) (length checks + 1)) condition ≡ None
+    → few (found checks (from_place columns scales name conditions k checks) others) ≡ None
+place_none columns scales name conditions k condition checks others within is e =
+    let F : List Condition → Option (List Check) = λ cs. few (found checks (checks_of_conditions columns scales name (k + 1) (length checks + 1) cs) others) in
     at_drop_more F conditions k condition within
     ∙ ap (λ c. F (c ∷ drop (k + 1) conditions)) (sym is)
-    ∙ found_none columns name (k + 1) (length checks + 1) condition (drop (k + 1) conditions) checks others e
+    ∙ found_none columns scales name (k + 1) (length checks + 1) condition (drop (k + 1) conditions) checks others e
 
-pub place_many : (columns : List (List ℕ)) (name : Option (List ℕ)) (conditions : List Condition) (k : ℕ) (condition : Condition) (checks : List Check) (others : Option (List Check))
+pub place_many : (columns : List (List ℕ)) (scales : List ℕ) (name : Option (List ℕ)) (conditions : List Condition) (k : ℕ) (condition : Condition) (checks : List Check) (others : Option (List Check))
     → k < length conditions → MAX_CHECKS ≤ length checks
-    → few (found checks (from_place columns name conditions k checks) others) ≡ None
-place_many columns name conditions k condition checks others within full =
-    let F : List Condition → Option (List Check) = λ cs. few (found checks (checks_of_conditions columns name (k + 1) (length checks + 1) cs) others) in
+    → few (found checks (from_place columns scales name conditions k checks) others) ≡ None
+place_many columns scales name conditions k condition checks others within full =
+    let F : List Condition → Option (List Check) = λ cs. few (found checks (checks_of_conditions columns scales name (k + 1) (length checks + 1) cs) others) in
     at_drop_more F conditions k condition within
-    ∙ found_many columns name (k + 1) (length checks + 1) (get_or conditions k condition) (drop (k + 1) conditions) checks others full
+    ∙ found_many columns scales name (k + 1) (length checks + 1) (get_or conditions k condition) (drop (k + 1) conditions) checks others full
 
 -- ---- CHECK by CHECK
 
 -- the checks of the CHECKs from a place on
-abbrev pub from_text : List (List ℕ) → List CheckText → ℕ → List Check → Option (List Check)
-from_text columns texts i checks = checks_from columns (drop i texts) (length checks + 1)
+abbrev pub from_text : List (List ℕ) → List ℕ → List CheckText → ℕ → List Check → Option (List Check)
+from_text columns scales texts i checks = checks_from columns scales (drop i texts) (length checks + 1)
 
 -- the CHECK of a place comes first
-pub text_first : (columns : List (List ℕ)) (texts : List CheckText) (i : ℕ) (text : CheckText) (checks : List Check) → i < length texts → text ≡ get_or texts i text
-    → followed_by checks (from_text columns texts i checks)
-    ≡ found checks (checks_of_conditions columns text.name 1 (length checks + 1) text.conditions) (checks_from columns (drop (i + 1) texts) (length checks + 1 + length text.conditions))
-text_first columns texts i text checks within is =
-    let F : List CheckText → Option (List Check) = λ ts. followed_by checks (checks_from columns ts (length checks + 1)) in
+pub text_first : (columns : List (List ℕ)) (scales : List ℕ) (texts : List CheckText) (i : ℕ) (text : CheckText) (checks : List Check) → i < length texts → text ≡ get_or texts i text
+    → followed_by checks (from_text columns scales texts i checks)
+    ≡ found checks (checks_of_conditions columns scales text.name 1 (length checks + 1) text.conditions) (checks_from columns scales (drop (i + 1) texts) (length checks + 1 + length text.conditions))
+text_first columns scales texts i text checks within is =
+    let F : List CheckText → Option (List Check) = λ ts. followed_by checks (checks_from columns scales ts (length checks + 1)) in
     at_drop_more F texts i text within
     ∙ ap (λ t. F (t ∷ drop (i + 1) texts)) (sym is)
 
-pub text_more : (columns : List (List ℕ)) (texts : List CheckText) (i : ℕ) (text : CheckText) (checks after : List Check) → i < length texts → text ≡ get_or texts i text
-    → ((others : Option (List Check)) → found checks (checks_of_conditions columns text.name 1 (length checks + 1) text.conditions) others ≡ followed_by after others)
+pub text_more : (columns : List (List ℕ)) (scales : List ℕ) (texts : List CheckText) (i : ℕ) (text : CheckText) (checks after : List Check) → i < length texts → text ≡ get_or texts i text
+    → ((others : Option (List Check)) → found checks (checks_of_conditions columns scales text.name 1 (length checks + 1) text.conditions) others ≡ followed_by after others)
     → length after ≡ length checks + length text.conditions
-    → followed_by checks (from_text columns texts i checks) ≡ followed_by after (from_text columns texts (i + 1) after)
-text_more columns texts i text checks after within is step counted =
+    → followed_by checks (from_text columns scales texts i checks) ≡ followed_by after (from_text columns scales texts (i + 1) after)
+text_more columns scales texts i text checks after within is step counted =
     let place : length checks + 1 + length text.conditions ≡ length after + 1 = omega (arith, counted) in
-    text_first columns texts i text checks within is
-    ∙ step (checks_from columns (drop (i + 1) texts) (length checks + 1 + length text.conditions))
-    ∙ ap (λ n. followed_by after (checks_from columns (drop (i + 1) texts) n)) place
+    text_first columns scales texts i text checks within is
+    ∙ step (checks_from columns scales (drop (i + 1) texts) (length checks + 1 + length text.conditions))
+    ∙ ap (λ n. followed_by after (checks_from columns scales (drop (i + 1) texts) n)) place
 
-pub text_none : (columns : List (List ℕ)) (texts : List CheckText) (i : ℕ) (text : CheckText) (checks : List Check) → i < length texts → text ≡ get_or texts i text
-    → checks_from columns texts 1 ≡ followed_by checks (from_text columns texts i checks)
-    → ((others : Option (List Check)) → few (found checks (checks_of_conditions columns text.name 1 (length checks + 1) text.conditions) others) ≡ None)
-    → checks_of columns texts ≡ None
-text_none columns texts i text checks within is before none =
-    ap few (before ∙ text_first columns texts i text checks within is)
-    ∙ none (checks_from columns (drop (i + 1) texts) (length checks + 1 + length text.conditions))
+pub text_none : (columns : List (List ℕ)) (scales : List ℕ) (texts : List CheckText) (i : ℕ) (text : CheckText) (checks : List Check) → i < length texts → text ≡ get_or texts i text
+    → checks_from columns scales texts 1 ≡ followed_by checks (from_text columns scales texts i checks)
+    → ((others : Option (List Check)) → few (found checks (checks_of_conditions columns scales text.name 1 (length checks + 1) text.conditions) others) ≡ None)
+    → checks_of columns scales texts ≡ None
+text_none columns scales texts i text checks within is before none =
+    ap few (before ∙ text_first columns scales texts i text checks within is)
+    ∙ none (checks_from columns scales (drop (i + 1) texts) (length checks + 1 + length text.conditions))
 
 -- no CHECK is left
-pub text_all : (columns : List (List ℕ)) (texts : List CheckText) (i : ℕ) (checks : List Check) → length texts ≤ i → length checks ≤ MAX_CHECKS
-    → checks_from columns texts 1 ≡ followed_by checks (from_text columns texts i checks)
-    → checks_of columns texts ≡ Some checks
-text_all columns texts i checks past within before =
-    let F : List CheckText → Option (List Check) = λ ts. followed_by checks (checks_from columns ts (length checks + 1)) in
-    let all : checks_from columns texts 1 ≡ Some checks = before ∙ at_drop_all F texts i past ∙ ap (λ (zs : List Check). Some zs) (append-nil checks) in
+pub text_all : (columns : List (List ℕ)) (scales : List ℕ) (texts : List CheckText) (i : ℕ) (checks : List Check) → length texts ≤ i → length checks ≤ MAX_CHECKS
+    → checks_from columns scales texts 1 ≡ followed_by checks (from_text columns scales texts i checks)
+    → checks_of columns scales texts ≡ Some checks
+text_all columns scales texts i checks past within before =
+    let F : List CheckText → Option (List Check) = λ ts. followed_by checks (checks_from columns scales ts (length checks + 1)) in
+    let all : checks_from columns scales texts 1 ≡ Some checks = before ∙ at_drop_all F texts i past ∙ ap (λ (zs : List Check). Some zs) (append-nil checks) in
     let enough : nat_le (length checks) MAX_CHECKS ≡ true = grind (arith, nat_tests) in
     ap few all ∙ ap (λ b. cond b (Some checks) None) enough

@@ -181,8 +181,9 @@ found_is_reached span coeffs with_new reservations found e =
 pub refused_names_a_choice : (check : Check) (amounts changes : List ℤ) (reservations : List (List ℤ)) (breach : Breach)
     → broken_by check amounts changes reservations ≡ Some breach
     → (breach.check ≡ check.name) × IsBeyond check.span breach.side breach.worst breach.limit × IsReached check.coeffs (changed amounts changes) reservations breach.worst
+    × (breach.scale ≡ check.scale)
 refused_names_a_choice check amounts changes reservations breach refused =
     let with_new = changed amounts changes in
     let found = map_some _ (first_broken_of check.span (least check.coeffs with_new reservations) (greatest check.coeffs with_new reservations)) breach refused in
     let known = found_is_reached check.span check.coeffs with_new reservations found.0 found.1 in
-    rw found.2 (refl, known.0, known.1)
+    rw found.2 (refl, known.0, known.1, refl)

@@ -15,10 +15,10 @@ use Rattle.escrow_checks.proofs.Products.{*ℤ-up, *ℤ-sum}
 
 -- ---- products with a sum and with a difference in front
 
-sum-*ℤ : (a b c : ℤ) → (a +ℤ b) *ℤ c ≡ (a *ℤ c) +ℤ (b *ℤ c)
+pub sum-*ℤ : (a b c : ℤ) → (a +ℤ b) *ℤ c ≡ (a *ℤ c) +ℤ (b *ℤ c)
 sum-*ℤ a b c = *ℤ_comm (a +ℤ b) c ∙ *ℤ-sum c a b ∙ ap₂ (λ (x y : ℤ). x +ℤ y) (*ℤ_comm c a) (*ℤ_comm c b)
 
-less-*ℤ : (a b c : ℤ) → (a -ℤ b) *ℤ c ≡ (a *ℤ c) -ℤ (b *ℤ c)
+pub less-*ℤ : (a b c : ℤ) → (a -ℤ b) *ℤ c ≡ (a *ℤ c) -ℤ (b *ℤ c)
 less-*ℤ a b c =
     let back : (a -ℤ b) +ℤ b ≡ a = omega (arith, ints) in
     omega (arith, ints, sym (sum-*ℤ (a -ℤ b) b c) ∙ ap (λ z. z *ℤ c) back)

@@ -13,7 +13,7 @@ use Rattle.std.proofs.Math.IntN.{ℤ_ind, +ℤ_one, -ℤ_one, suc_ℤ-*ℤ, pred
 pub *ℤ-up : (m k : ℤ) → (m +ℤ pos 1) *ℤ k ≡ (m *ℤ k) +ℤ k
 *ℤ-up m k = ap (λ x. x *ℤ k) (+ℤ_one m) ∙ suc_ℤ-*ℤ m k
 
-*ℤ-down : (m k : ℤ) → (m +ℤ negsuc 0) *ℤ k ≡ (m *ℤ k) -ℤ k
+pub *ℤ-down : (m k : ℤ) → (m +ℤ negsuc 0) *ℤ k ≡ (m *ℤ k) -ℤ k
 *ℤ-down m k = ap (λ x. x *ℤ k) (-ℤ_one m) ∙ pred_ℤ-*ℤ m k
 
 pub *ℤ-sum : (a b c : ℤ) → a *ℤ (b +ℤ c) ≡ (a *ℤ b) +ℤ (a *ℤ c)
@@ -24,14 +24,14 @@ pub *ℤ-sum : (a b c : ℤ) → a *ℤ (b +ℤ c) ≡ (a *ℤ b) +ℤ (a *ℤ c
     a
 
 -- a magnitude bounds a number on both sides
-abs_within : (z : ℤ) (n : ℕ) → unsigned_abs z ≤ n → (neg_ℤ (pos n) ≤ℤ z) × (z ≤ℤ pos n)
+pub abs_within : (z : ℤ) (n : ℕ) → unsigned_abs z ≤ n → (neg_ℤ (pos n) ≤ℤ z) × (z ≤ℤ pos n)
 abs_within z n h = (grind (arith, ints), grind (arith, ints))
 
-within_abs : (z : ℤ) (n : ℕ) → neg_ℤ (pos n) ≤ℤ z → z ≤ℤ pos n → unsigned_abs z ≤ n
+pub within_abs : (z : ℤ) (n : ℕ) → neg_ℤ (pos n) ≤ℤ z → z ≤ℤ pos n → unsigned_abs z ≤ n
 within_abs z n h k = grind (arith, ints)
 
 -- a product of two numbers within bounds
-product_within : (a b : ℤ) (m n : ℕ) → unsigned_abs a ≤ m → unsigned_abs b ≤ n → unsigned_abs (a *ℤ b) ≤ m * n
+pub product_within : (a b : ℤ) (m n : ℕ) → unsigned_abs a ≤ m → unsigned_abs b ≤ n → unsigned_abs (a *ℤ b) ≤ m * n
 product_within a b m n h k = omega (arith, unsigned_abs-mul a b, mul-le _ _ _ _ h k)
 
 -- a coefficient times an amount

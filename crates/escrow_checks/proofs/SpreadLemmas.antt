@@ -37,13 +37,13 @@ rises-push coeffs reservations changes = rw append-nil at (rises-put coeffs rese
 
 -- ---- bounds of the sums
 
-falls_within : (coeffs : List ℤ) (reservations : List (List ℤ)) → AreContributions coeffs reservations → IsFall (length reservations) (falls coeffs reservations)
+pub falls_within : (coeffs : List ℤ) (reservations : List (List ℤ)) → AreContributions coeffs reservations → IsFall (length reservations) (falls coeffs reservations)
 falls_within coeffs [] known = (omega (arith, ints), omega (arith, ints))
 falls_within coeffs (changes ∷ reservations) known =
     let rest = falls_within coeffs reservations known.1 in
     (omega (arith, ints, clamps, rest, known.0), omega (arith, ints, clamps, rest))
 
-rises_within : (coeffs : List ℤ) (reservations : List (List ℤ)) → AreContributions coeffs reservations → IsRise (length reservations) (rises coeffs reservations)
+pub rises_within : (coeffs : List ℤ) (reservations : List (List ℤ)) → AreContributions coeffs reservations → IsRise (length reservations) (rises coeffs reservations)
 rises_within coeffs [] known = (omega (arith, ints), omega (arith, ints))
 rises_within coeffs (changes ∷ reservations) known =
     let rest = rises_within coeffs reservations known.1 in

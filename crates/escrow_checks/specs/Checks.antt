@@ -1,9 +1,10 @@
--- Believed: which checks the CHECKs of a table declare, by name, coefficients and limits.
-use Rattle.std.specs.Prelude.{ℕ, ℤ, pos, neg_ℤ, ◌+◌, ◌==◌, ◌+ℤ◌, ◌-ℤ◌, Bool, true, not, ◌&&◌, nat_le, int_le, if◌then◌else◌, Option, Some, None, option_and_then, option_map, List, [], ◌∷◌, ◌++◌, length, map, codes, bytes_eq}
+-- Believed: which checks the CHECKs of a table declare, by name, coefficients, scale and limits. Beside the columns' names stand their scales.
+use Rattle.std.specs.Prelude.{ℕ, ℤ, pos, neg_ℤ, ◌+◌, ◌==◌, ◌+ℤ◌, ◌-ℤ◌, Bool, true, not, ◌&&◌, nat_le, int_le, int_div, int_rem, if◌then◌else◌, Option, Some, None, option_and_then, option_map, List, [], ◌∷◌, ◌++◌, length, map, codes, bytes_eq}
 use Rattle.std.specs.List.{list_any, list_all, flat_map}
 use Rattle.std.specs.Ordering.{int_eq}
 use Rattle.std.specs.Fmt.{decimal}
 use Rattle.escrow_num.specs.Amount.{is_amount}
+use Rattle.escrow_num.specs.Scale.{unit_at}
 use Rattle.escrow_num.specs.declared.span.Span.{Span}
 use Rattle.escrow_sql.specs.declared.statement.Comparison.{Comparison}
 use Rattle.escrow_sql.specs.declared.statement.Comparison.TheVariants.{Below, AtMost, Above, AtLeast, Equal}
@@ -16,6 +17,7 @@ use Rattle.escrow_sql.specs.declared.statement.Test.TheVariants.{Compare, Betwee
 use Rattle.escrow_checks.specs.declared.check.Check.{Check}
 use Rattle.escrow_checks.specs.declared.condition.TheConstants.{MAX_CHECKS, MAX_COEFFICIENT}
 use Rattle.escrow_checks.specs.Condition.{total}
+use Rattle.escrow_checks.specs.Scales.{form_scale, scaled_coeffs}
 use Rattle.escrow_checks.specs.WrittenName.{is_written_name}
 
 -- COEFFICIENTS
@@ -40,12 +42,20 @@ unit_of columns name = map (λ column. if bytes_eq column name then pos 1 else p
 
 -- LIMITS
 
--- what a term adds to the numbers of a sum
+-- what a term adds to the numbers of a sum, in millionths
 abbrev pub number_in : Term → ℤ
 number_in (term.Number n) = n
 number_in (term.Column coefficient column) = pos 0
 
--- the limits that a comparison with n sets; `<` and `>` move n by one
+-- a number of millionths is a whole number of units of a scale
+abbrev pub is_whole : ℕ → ℤ → Bool
+is_whole scale z = int_eq (int_rem z (pos (unit_at scale))) (pos 0)
+
+-- how many units of a scale a number of millionths is
+abbrev pub units_in : ℕ → ℤ → ℤ
+units_in scale z = int_div z (pos (unit_at scale))
+
+-- the limits that a comparison with n units sets; `<` and `>` move n by one unit
 abbrev pub span_of : Comparison → ℤ → Span
 span_of Below n = record { lo = None; hi = Some (n -ℤ pos 1) }
 span_of AtMost n = record { lo = None; hi = Some n }
@@ -53,14 +63,20 @@ span_of Above n = record { lo = Some (n +ℤ pos 1); hi = None }
 span_of AtLeast n = record { lo = Some n; hi = None }
 span_of Equal n = record { lo = Some n; hi = Some n }
 
--- the limits that a test sets where the numbers on its left add up to so much: each less that much
-abbrev pub limits_of : Test → ℤ → Span
-limits_of (Compare comparison sum) left = span_of comparison (total number_in sum -ℤ left)
-limits_of (Between low high) left = record { lo = Some (low -ℤ left); hi = Some (high -ℤ left) }
+-- the limits that a test sets, in units of a scale, where the numbers on its left add up to so many millionths:
+-- each less that much
+abbrev pub limits_of : ℕ → Test → ℤ → Span
+limits_of scale (Compare comparison sum) left = span_of comparison (units_in scale (total number_in sum -ℤ left))
+limits_of scale (Between low high) left = record { lo = Some (units_in scale (low -ℤ left)); hi = Some (units_in scale (high -ℤ left)) }
 
--- the limits of a condition
-abbrev pub condition_limits : Condition → Span
-condition_limits condition = limits_of condition.test (total number_in condition.sum)
+-- these are whole numbers of units: none is rounded
+abbrev pub has_whole_limits : ℕ → Test → ℤ → Bool
+has_whole_limits scale (Compare comparison sum) left = is_whole scale (total number_in sum -ℤ left)
+has_whole_limits scale (Between low high) left = is_whole scale (low -ℤ left) && is_whole scale (high -ℤ left)
+
+-- the limits of a condition, in units of a scale
+abbrev pub condition_limits : ℕ → Condition → Span
+condition_limits scale condition = limits_of scale condition.test (total number_in condition.sum)
 
 -- RULES
 
@@ -82,7 +98,7 @@ is_coefficient c = int_le (neg_ℤ MAX_COEFFICIENT) c && int_le c MAX_COEFFICIEN
 abbrev pub are_good_coefficients : List ℤ → Bool
 are_good_coefficients coeffs = list_all is_coefficient coeffs && list_any (λ c. not (int_eq c (pos 0))) coeffs
 
--- a limit is an amount, also after it was moved; one that isn't there is good
+-- a limit, in units, is an amount, also after it was moved; one that isn't there is good
 abbrev pub is_limit : Option ℤ → Bool
 is_limit None = true
 is_limit (Some z) = is_amount z
@@ -93,8 +109,14 @@ in_order (Some lo) (Some hi) = int_le lo hi
 in_order (Some lo) None = true
 in_order None hi = true
 
+-- limits are good
 abbrev pub is_good_span : Span → Bool
 is_good_span span = is_limit span.lo && is_limit span.hi && in_order span.lo span.hi
+
+-- a condition's limits are whole numbers of units of a scale, and good
+abbrev pub has_good_limits : ℕ → Condition → Bool
+has_good_limits scale condition =
+    has_whole_limits scale condition.test (total number_in condition.sum) && is_good_span (condition_limits scale condition)
 
 -- NAMES
 
@@ -107,31 +129,32 @@ check_name (Some name) k n = if k == 1 then name else name ++ codes "_" ++ decim
 -- CHECKS
 
 -- the check of a condition under a name, where the condition names RESERVABLE columns alone, its
--- coefficients and its limits are good, and a statement can write the name
-abbrev pub check_of : List (List ℕ) → List ℕ → Condition → Option Check
-check_of columns name condition =
-    let coeffs = map (coefficient_of condition) columns in
-    let span = condition_limits condition in
-    if names_columns columns condition && are_good_coefficients coeffs && is_good_span span && is_written_name name
-    then Some (record { name = name; coeffs = coeffs; span = span })
+-- coefficients and its limits are good, and a statement can write the name. It is in units of the scale of
+-- its coefficients, which are scaled
+abbrev pub check_of : List (List ℕ) → List ℕ → List ℕ → Condition → Option Check
+check_of columns scales name condition =
+    let written = map (coefficient_of condition) columns in
+    let scale = form_scale written scales in
+    if names_columns columns condition && are_good_coefficients written && has_good_limits scale condition && is_written_name name
+    then Some (record { name = name; coeffs = scaled_coeffs scale written scales; scale = scale; span = condition_limits scale condition })
     else None
 
 -- the checks of a CHECK's conditions, of which the first is its k-th and the n-th of the table's, or
 -- nothing where one of them breaks a rule
-abbrev pub checks_of_conditions : List (List ℕ) → Option (List ℕ) → ℕ → ℕ → List Condition → Option (List Check)
-checks_of_conditions columns name k n [] = Some []
-checks_of_conditions columns name k n (condition ∷ conditions) =
-    option_and_then (λ check. option_map (λ checks. check ∷ checks) (checks_of_conditions columns name (k + 1) (n + 1) conditions))
-    (check_of columns (check_name name k n) condition)
+abbrev pub checks_of_conditions : List (List ℕ) → List ℕ → Option (List ℕ) → ℕ → ℕ → List Condition → Option (List Check)
+checks_of_conditions columns scales name k n [] = Some []
+checks_of_conditions columns scales name k n (condition ∷ conditions) =
+    option_and_then (λ check. option_map (λ checks. check ∷ checks) (checks_of_conditions columns scales name (k + 1) (n + 1) conditions))
+    (check_of columns scales (check_name name k n) condition)
 
 -- the checks of CHECKs, of which the first condition is the n-th of the table's
-abbrev pub checks_from : List (List ℕ) → List CheckText → ℕ → Option (List Check)
-checks_from columns [] n = Some []
-checks_from columns (text ∷ texts) n =
-    option_and_then (λ first. option_map (λ others. first ++ others) (checks_from columns texts (n + length text.conditions)))
-    (checks_of_conditions columns text.name 1 n text.conditions)
+abbrev pub checks_from : List (List ℕ) → List ℕ → List CheckText → ℕ → Option (List Check)
+checks_from columns scales [] n = Some []
+checks_from columns scales (text ∷ texts) n =
+    option_and_then (λ first. option_map (λ others. first ++ others) (checks_from columns scales texts (n + length text.conditions)))
+    (checks_of_conditions columns scales text.name 1 n text.conditions)
 
 -- the checks that the CHECKs of a table declare, in order: at most 32
-abbrev pub checks_of : List (List ℕ) → List CheckText → Option (List Check)
-checks_of columns texts =
-    option_and_then (λ checks. if nat_le (length checks) MAX_CHECKS then Some checks else None) (checks_from columns texts 1)
+abbrev pub checks_of : List (List ℕ) → List ℕ → List CheckText → Option (List Check)
+checks_of columns scales texts =
+    option_and_then (λ checks. if nat_le (length checks) MAX_CHECKS then Some checks else None) (checks_from columns scales texts 1)

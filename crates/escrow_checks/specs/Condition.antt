@@ -1,4 +1,5 @@
--- Believed: what a CHECK says of a row, as its text is written: both sides are summed and compared.
+-- Believed: what a CHECK says of a row, as its text is written: both sides are summed and compared. Amounts and
+-- numbers are in millionths.
 use Rattle.std.specs.Prelude.{◌≡◌, ℕ, ℤ, pos, ◌+ℤ◌, ◌*ℤ◌, ◌≤ℤ◌, ◌<ℤ◌, if◌then◌else◌, List, [], ◌∷◌, All, bytes_eq}
 use Rattle.escrow_sql.specs.declared.statement.Comparison.{Comparison}
 use Rattle.escrow_sql.specs.declared.statement.Comparison.TheVariants.{Below, AtMost, Above, AtLeast, Equal}

@@ -2,11 +2,12 @@
 -- doesn't rest on them.
 use Rattle.std.specs.Prelude.{ℕ, ℤ, pos, neg_ℤ, ◌*◌, ◌^◌, ◌≤ℤ◌}
 
--- a sum of the numbers of one list of terms: each has at most 15 digits, and a list lies in memory
+-- a sum, over one list of terms, of coefficients, of the wholes of numbers or of the millionths beside these: each has
+-- at most 15 digits, and a list lies in memory
 abbrev pub IsTermSum : ℤ → Type 0
 IsTermSum z = (neg_ℤ (pos (10 ^ 15 * 2 ^ 64)) ≤ℤ z) × (z ≤ℤ pos (10 ^ 15 * 2 ^ 64))
 
--- two such sums, one less the other, and one more or less
+-- two such sums, one less the other
 abbrev pub IsDifference : ℤ → Type 0
 IsDifference z = (neg_ℤ (pos (10 ^ 15 * 2 ^ 66)) ≤ℤ z) × (z ≤ℤ pos (10 ^ 15 * 2 ^ 66))
 

@@ -1,17 +1,26 @@
 -- Believed: what is known of each check that the CHECKs of a table declare.
-use Rattle.std.specs.Prelude.{◌≡◌, ℕ, true, ◌||◌, List, length}
+use Rattle.std.specs.Prelude.{◌≡◌, ℕ, ℤ, true, ◌||◌, List, length}
 use Rattle.std.specs.Option.{is_some}
 use Rattle.escrow_checks.specs.declared.check.Check.{Check}
 use Rattle.escrow_checks.specs.Checks.{are_good_coefficients, is_good_span}
+use Rattle.escrow_checks.specs.Scales.{form_scale, scaled_coeffs, written_coeffs}
 use Rattle.escrow_checks.specs.WrittenName.{is_written_name}
 
--- a check over these columns, as CHECKs declare it
-pub record IsDeclared (columns : List (List ℕ)) (check : Check) : Type 0 where
+-- the coefficients of a check as they are written, in units of the columns' own scales
+abbrev pub written_of : Check → List ℕ → List ℤ
+written_of check scales = written_coeffs check.scale check.coeffs scales
+
+-- a check over columns of these names and scales, as CHECKs declare it
+pub record IsDeclared (columns : List (List ℕ)) (scales : List ℕ) (check : Check) : Type 0 where
   -- a coefficient for each column
   pub covers : length check.coeffs ≡ length columns
-  -- of magnitude at most 1,000,000, and not all zero
-  pub coefficients : are_good_coefficients check.coeffs ≡ true
-  -- limits of at most 15 digits, the low one not greater than the high one
+  -- as they are written, of magnitude at most 1,000,000, and not all zero
+  pub coefficients : are_good_coefficients (written_of check scales) ≡ true
+  -- the check has these, scaled
+  pub scaled : scaled_coeffs check.scale (written_of check scales) scales ≡ check.coeffs
+  -- its scale is the largest of the columns in it
+  pub scale : form_scale (written_of check scales) scales ≡ check.scale
+  -- limits of at most 15 digits, in units of its scale, the low one not greater than the high one
   pub limits : is_good_span check.span ≡ true
   -- one of them at least
   pub limited : (is_some check.span.lo || is_some check.span.hi) ≡ true

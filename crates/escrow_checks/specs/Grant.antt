@@ -20,7 +20,7 @@ AlwaysMeets check amounts reservations = All (λ chosen. Meets check (all_change
 abbrev pub broken_by : Check → List ℤ → List ℤ → List (List ℤ) → Option Breach
 broken_by check amounts changes reservations =
     let with_new = changed amounts changes in
-    option_map (λ limit. record { check = check.name; side = limit.0; worst = limit.1; limit = limit.2 })
+    option_map (λ limit. record { check = check.name; side = limit.0; worst = limit.1; limit = limit.2; scale = check.scale })
     (first_broken_of check.span (least check.coeffs with_new reservations) (greatest check.coeffs with_new reservations))
 
 -- the grant rule: the first check, in the table's order, that a new reservation breaks; it is

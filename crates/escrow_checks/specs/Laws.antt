@@ -1,21 +1,27 @@
 -- Believed: the statements of the laws in src/laws.rt.
-use Rattle.std.specs.Prelude.{◌≡◌, ℕ, ℤ, pos, ◌+◌, ◌<◌, ◌≤◌, ◌+ℤ◌, ◌≤ℤ◌, ◌<ℤ◌, ◌↔◌, Bool, not, List, [], ◌∷◌, ◌++◌, length, map, filter, take, slice_get, All, Contains, Some, None, codes, bytes_eq}
+use Rattle.std.specs.Prelude.{◌≡◌, ℕ, ℤ, pos, ◌+◌, ◌^◌, ◌<◌, ◌≤◌, ◌+ℤ◌, ◌*ℤ◌, ◌≤ℤ◌, ◌<ℤ◌, ◌↔◌, Bool, true, not, List, [], ◌∷◌, ◌++◌, length, map, filter, take, slice_get, All, Contains, Some, None, codes, bytes_eq}
 use Rattle.std.specs.Fmt.{decimal}
 use Rattle.std.specs.List.{IsDistinct, flat_map}
+use Rattle.escrow_num.specs.Amount.{IsAmount}
+use Rattle.escrow_num.specs.Scale.{unit_at}
 use Rattle.escrow_num.specs.Span.{Holds}
+use Rattle.escrow_num.specs.Wide.{IsWide}
 use Rattle.escrow_num.specs.declared.span.Span.{Span}
 use Rattle.escrow_num.specs.declared.span.Side.{Side}
 use Rattle.escrow_num.specs.declared.span.Side.TheVariants.{Low, High}
 use Rattle.escrow_num.specs.declared.refusal.Breach.{Breach}
+use Rattle.escrow_num.specs.declared.wide.TheConstants.Wide.{MAX as MAX_WIDE}
 use Rattle.escrow_sql.specs.declared.statement.CheckText.{CheckText}
 use Rattle.escrow_checks.specs.declared.check.Check.{Check}
 use Rattle.escrow_checks.specs.declared.coefficients.TheConstants.Coefficients.{MAX, MAX_LEN}
 use Rattle.escrow_checks.specs.declared.condition.TheConstants.{MAX_CHECKS, MAX_COEFFICIENT}
 use Rattle.escrow_checks.specs.declared.spread.TheConstants.Spread.{MAX_OPEN}
-use Rattle.escrow_checks.specs.Checks.{checks_of, unit_of}
+use Rattle.escrow_checks.specs.Checks.{checks_of, is_whole, unit_of, units_in}
+use Rattle.escrow_checks.specs.Coefficients.{AreCoefficients}
 use Rattle.escrow_checks.specs.Condition.{amount_of}
 use Rattle.escrow_checks.specs.DeclaredCheck.{IsDeclared}
 use Rattle.escrow_checks.specs.Meaning.{MeanTheSame}
+use Rattle.escrow_checks.specs.Scales.{scaled_coeffs, written_coeffs}
 use Rattle.escrow_checks.specs.Form.{form, IsCovered, changed, all_changed}
 use Rattle.escrow_checks.specs.Sublists.{sublists}
 use Rattle.escrow_checks.specs.Extremes.{least, greatest}
@@ -25,17 +31,26 @@ use Rattle.escrow_checks.specs.Grant.{AlwaysMeets, broken_by, broken}
 
 -- checks mean what the CHECKs say that declare them
 abbrev pub ChecksMeanTheirTexts : Type 0
-ChecksMeanTheirTexts = (columns : List (List ℕ)) (texts : List CheckText) (checks : List Check) → checks_of columns texts ≡ Some checks → MeanTheSame columns texts checks
+ChecksMeanTheirTexts = (columns : List (List ℕ)) (scales : List ℕ) (texts : List CheckText) (checks : List Check) → checks_of columns scales texts ≡ Some checks
+    → MeanTheSame columns scales texts checks
 
 -- there is one check for each condition of the CHECKs, at most 32, each with a coefficient for each column
 abbrev pub ChecksAreWhole : Type 0
-ChecksAreWhole = (columns : List (List ℕ)) (texts : List CheckText) (checks : List Check) → checks_of columns texts ≡ Some checks
+ChecksAreWhole = (columns : List (List ℕ)) (scales : List ℕ) (texts : List CheckText) (checks : List Check) → checks_of columns scales texts ≡ Some checks
     → (length checks ≡ length (flat_map (λ text. text.conditions) texts)) × (length checks ≤ MAX_CHECKS) × All (λ check. length check.coeffs ≡ length columns) checks
 
--- the coefficients, the limits and the name of each are as the rules of CHECKs ask
+-- the coefficients, the scale, the limits and the name of each are as the rules of CHECKs ask
 abbrev pub ChecksAreDeclared : Type 0
-ChecksAreDeclared = (columns : List (List ℕ)) (texts : List CheckText) (checks : List Check) → checks_of columns texts ≡ Some checks
-    → All (λ check. IsDeclared columns check) checks
+ChecksAreDeclared = (columns : List (List ℕ)) (scales : List ℕ) (texts : List CheckText) (checks : List Check) → checks_of columns scales texts ≡ Some checks
+    → All (λ check. IsDeclared columns scales check) checks
+
+-- the written coefficients of scaled ones are those that were scaled, whatever the scales
+abbrev pub WrittenAreGivenBack : Type 0
+WrittenAreGivenBack = (scale : ℕ) (coeffs : List ℤ) (scales : List ℕ) → written_coeffs scale (scaled_coeffs scale coeffs scales) scales ≡ coeffs
+
+-- a limit of so many units of a scale is written as so many millionths: it is a whole number of units, and these
+abbrev pub UnitsAreWhole : Type 0
+UnitsAreWhole = (scale : ℕ) (units : ℤ) → (is_whole scale (units *ℤ pos (unit_at scale)) ≡ true) × (units_in scale (units *ℤ pos (unit_at scale)) ≡ units)
 
 -- how many conditions stand in the CHECKs in front of the i-th, counted from 0
 abbrev pub conditions_before : List CheckText → ℕ → ℕ
@@ -58,7 +73,7 @@ pub record AreNamed (texts : List CheckText) (names : List (List ℕ)) : Type 0 
 
 -- the checks that CHECKs declare are named so
 abbrev pub ChecksAreNamed : Type 0
-ChecksAreNamed = (columns : List (List ℕ)) (texts : List CheckText) (checks : List Check) → checks_of columns texts ≡ Some checks
+ChecksAreNamed = (columns : List (List ℕ)) (scales : List ℕ) (texts : List CheckText) (checks : List Check) → checks_of columns scales texts ≡ Some checks
     → AreNamed texts (map (λ (check : Check). check.name) checks)
 
 -- of columns with names of their own, the form of one column's coefficients is its amount
@@ -112,12 +127,13 @@ abbrev pub IsBeyond : Span → Side → ℤ → ℤ → Type 0
 IsBeyond span Low worst limit = (span.lo ≡ Some limit) × (worst <ℤ limit)
 IsBeyond span High worst limit = (span.hi ≡ Some limit) × (limit <ℤ worst)
 
--- what is refused names the check, the side and its limit, and a value beyond that limit to which
--- some choice with the new reservation brings the form
+-- what is refused names the check, the side and its limit, a value beyond that limit to which some choice with
+-- the new reservation brings the form, and the check's scale, of which both numbers are units
 abbrev pub RefusedNamesAChoice : Type 0
 RefusedNamesAChoice = (check : Check) (amounts changes : List ℤ) (reservations : List (List ℤ)) (breach : Breach)
     → broken_by check amounts changes reservations ≡ Some breach
     → (breach.check ≡ check.name) × IsBeyond check.span breach.side breach.worst breach.limit × IsReached check.coeffs (changed amounts changes) reservations breach.worst
+    × (breach.scale ≡ check.scale)
 
 -- ---- of the ends of reservations
 
@@ -156,10 +172,21 @@ NewRowIsSafe = (check : Check) (amounts : List ℤ) (reservations : List (List �
     → All (λ changes. changes ≡ []) reservations
     → AlwaysMeets check amounts reservations
 
+-- ---- of the sums
+
+-- no sum leaves 128 bits, at whatever scales: with at most 16,384 open reservations, the form of a row, what a new
+-- reservation adds to it, and its extremes with that are wide
+abbrev pub SumsAreWide : Type 0
+SumsAreWide = (coeffs amounts changes : List ℤ) (reservations : List (List ℤ)) → AreCoefficients coeffs → IsCovered coeffs amounts
+    → All IsAmount amounts → All IsAmount changes → All (λ listed. All IsAmount listed) reservations → length reservations ≤ MAX_OPEN
+    → IsWide (form coeffs amounts) × IsWide (form coeffs changes)
+    × IsWide (least coeffs (changed amounts changes) reservations) × IsWide (greatest coeffs (changed amounts changes) reservations)
+
 -- the limits of this layer, as numbers
 pub record Limits : Type 0 where
   pub conditions : MAX_CHECKS ≡ 32
   pub written_coefficients : MAX_COEFFICIENT ≡ pos 1000000
   pub coefficients : MAX ≡ pos 1000000000000
+  pub wide_sums : MAX_WIDE <ℤ pos (2 ^ 127)
   pub terms : MAX_LEN ≡ 10
   pub open_ones : MAX_OPEN ≡ 16384

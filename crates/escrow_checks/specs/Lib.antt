@@ -10,6 +10,8 @@ pub mod Grant
 pub mod Laws
 pub mod Meaning
 pub mod Padded
+pub mod Parts
+pub mod Scales
 pub mod Spread
 pub mod Sublists
 pub mod WrittenName

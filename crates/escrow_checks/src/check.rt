@@ -4,18 +4,23 @@ ghost use Rattle.escrow_checks.specs.Contribution.{IsProduct, IsContribution};
 
 use crate::coefficients::Coefficients;
 use crate::spread::Spread;
-use escrow_num::{Amount, Breach, Copied, Name, Seq, Span, Wide, are_same};
+use escrow_num::{Amount, Breach, Copied, Name, Scale, Seq, Span, Wide, are_same};
 use std::alloc::{AllocError, Global};
 
 /// A check of a table: the sum of coefficient times amount, over the RESERVABLE columns of a row,
-/// has to be within the span.
+/// has to be within the span. An amount is a number of units of its column's scale, and the sum and
+/// the limits are numbers of units of the check's.
 #[derive(Clone, Copy, Debug)]
 pub struct Check {
     /// The check's name.
     pub name: Name,
-    /// One coefficient for each RESERVABLE column of the table, in column order.
+    /// One coefficient for each RESERVABLE column of the table, in column order: the written one times
+    /// the number of units of the check's scale that a unit of the column's is, of magnitude at most
+    /// 10^12.
     pub coeffs: Coefficients,
-    /// The limits of the form.
+    /// The check's scale: the form and the limits are in units of 10^-scale.
+    pub scale: Scale,
+    /// The limits of the form, of at most 15 digits each.
     pub span: Span,
 }
 
@@ -24,6 +29,7 @@ impl Check {
     ghost use Rattle.escrow_checks.specs.Extremes.{least, greatest};
     ghost use Rattle.escrow_checks.specs.Spread.{IsSpread};
     ghost use Rattle.escrow_checks.specs.Grant.{broken_by};
+    ghost use Rattle.escrow_checks.specs.DeclaredCheck.{written_of};
 
     /// Adds the check at the end of a list.
     pub(crate) fn add_to(self, checks: &mut Seq<Check>) -> Result<(), AllocError>
@@ -89,7 +95,16 @@ impl Check {
             side,
             worst,
             limit,
+            scale: self.scale,
         })
+    }
+
+    /// The coefficients as they are written, of columns of these scales: each that is kept, over the
+    /// number of units of the check's scale that a unit of its column's is.
+    pub fn written(&self, scales: &[Scale]) -> Coefficients
+        ensures { result ≡ written_of self.now scales.now }
+    {
+        self.coeffs.written(self.scale, scales)
     }
 }
 
@@ -101,6 +116,7 @@ impl Copied for Check {
     fn is_same(&self, other: &Check) -> bool {
         self.name == other.name
             && are_same(self.coeffs.as_slice(), other.coeffs.as_slice())
+            && self.scale == other.scale
             && self.span == other.span
     }
 }

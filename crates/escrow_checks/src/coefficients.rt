@@ -1,16 +1,18 @@
-ghost use Rattle.std.specs.Prelude.{◌≡◌, pos, ◌<◌, ◌≤◌, length, map, replicate, slice_set, bytes_eq, if◌then◌else◌, not, Some, None};
+ghost use Rattle.std.specs.Prelude.{◌≡◌, pos, ◌*ℤ◌, ◌≤ℤ◌, ◌<◌, ◌≤◌, max, true, length, map, replicate, slice_set, bytes_eq, if◌then◌else◌, not, Some, None};
 ghost use Rattle.std.specs.List.{list_all, list_any};
 ghost use Rattle.std.specs.Ordering.{int_eq};
-ghost use Rattle.escrow_checks.specs.Coefficients.{AreCoefficients};
+ghost use Rattle.escrow_checks.specs.Checks.{is_coefficient};
+ghost use Rattle.escrow_checks.specs.Coefficients.{AreCoefficients, IsCoefficient};
+ghost use Rattle.escrow_checks.specs.Scales.{factor, written_coefficient};
 
 use crate::condition::sums::coefficient_of;
-use escrow_num::{Amount, Name};
+use escrow_num::{Amount, Name, Scale};
 use escrow_sql::Condition;
 use std::fmt::{Debug, Error, Formatter, Write};
 use std::marker::Model;
 
-/// The coefficients of a check: one for each RESERVABLE column of its table, in column order. They
-/// are held in place, so that a copy takes no memory.
+/// Coefficients of a check: one for each RESERVABLE column of its table, in column order. They are
+/// held in place, so that a copy takes no memory.
 #[derive(Clone, Copy)]
 pub struct Coefficients {
     values: [Amount; Coefficients::MAX_LEN],
@@ -38,12 +40,14 @@ impl Model for Coefficients {
 
 impl Coefficients {
     ghost use Rattle.escrow_checks.specs.Checks.{unit_of, coefficient_of, is_coefficient, are_good_coefficients};
+    ghost use Rattle.escrow_checks.specs.Scales.{form_scale, scaled_coeffs, written_coeffs};
 
     /// The most coefficients that a check has: a table has at most 10 RESERVABLE columns.
     pub const MAX_LEN: usize = 10;
 
-    /// The greatest magnitude that a coefficient can have, which bounds the sums. What a CHECK may
-    /// declare is narrower, [`MAX_COEFFICIENT`](crate::MAX_COEFFICIENT).
+    /// The greatest magnitude that a coefficient can have, which bounds the sums: the greatest that a
+    /// CHECK may declare, [`MAX_COEFFICIENT`](crate::MAX_COEFFICIENT), times the most units of a scale
+    /// that a unit of another is, 10^6.
     pub const MAX: i64 = 1_000_000_000_000;
 
     /// The coefficients of one column among `len`: 1 at its place, 0 elsewhere.
@@ -74,8 +78,8 @@ impl Coefficients {
         }
     }
 
-    /// The coefficients of a condition, or `None` where one is past [`MAX_COEFFICIENT`], or all
-    /// are zero.
+    /// The coefficients of a condition, as they are written, or `None` where one is past
+    /// [`MAX_COEFFICIENT`], or all are zero.
     ///
     /// [`MAX_COEFFICIENT`]: crate::MAX_COEFFICIENT
     pub(crate) fn of_condition(columns: &[Name], condition: &Condition) -> Option<Self>
@@ -107,12 +111,108 @@ impl Coefficients {
         })
     }
 
+    /// The scale of a form of these coefficients: the largest of the columns whose coefficient isn't
+    /// zero.
+    pub(crate) fn scale(&self, scales: &[Scale]) -> Scale
+        requires { length scales.now ≡ length self.now }
+        ensures { result ≡ form_scale self.now scales.now }
+    {
+        let mut most = Scale::ZERO;
+        for (i, coefficient) in self.as_slice().iter().enumerate() {
+            most = greater(most, *coefficient, scales[i]);
+        }
+        most
+    }
+
+    /// The coefficients of a check at a scale, where these are the written ones: each times the number
+    /// of units of that scale that a unit of its column's is.
+    pub(crate) fn scaled(&self, scale: Scale, scales: &[Scale]) -> Self
+        requires scales { length scales.now ≡ length self.now }
+        requires written { are_good_coefficients self.now ≡ true }
+        ensures { result ≡ scaled_coeffs scale self.now scales.now }
+    {
+        let coeffs = self.as_slice();
+        let mut values = [Amount::ZERO; Self::MAX_LEN];
+        for (i, coefficient) in coeffs.iter().enumerate() {
+            values[i] = scaled(*coefficient, scale, scales[i]);
+        }
+        Coefficients {
+            values,
+            len: coeffs.len(),
+        }
+    }
+
+    /// The written coefficients, where these are those of a check at a scale; one for which no scale is
+    /// given stays.
+    pub(crate) fn written(&self, scale: Scale, scales: &[Scale]) -> Self
+        ensures { result ≡ written_coeffs scale self.now scales.now }
+    {
+        let coeffs = self.as_slice();
+        let mut values = [Amount::ZERO; Self::MAX_LEN];
+        for (i, coefficient) in coeffs.iter().enumerate() {
+            values[i] = match scales.get(i) {
+                Some(own) => written(*coefficient, scale, *own),
+                None => *coefficient,
+            };
+        }
+        Coefficients {
+            values,
+            len: coeffs.len(),
+        }
+    }
+
     /// The coefficients, in column order.
     pub fn as_slice(&self) -> &[Amount]
         ensures value { result.now ≡ self.now }
         ensures within { AreCoefficients result.now }
     {
         &self.values[..self.len]
+    }
+}
+
+/// A scale, or that of a column where this is larger and its coefficient isn't zero.
+fn greater(most: Scale, coefficient: Amount, scale: Scale) -> Scale
+    ensures { result ≡ (if int_eq coefficient (pos 0) then most else max most scale) }
+{
+    if coefficient.get() == 0 {
+        most
+    } else {
+        most.greater(scale)
+    }
+}
+
+/// The coefficient that a check at a scale has of a column of its own scale, from the written one.
+fn scaled(coefficient: Amount, scale: Scale, own: Scale) -> Amount
+    requires { is_coefficient coefficient ≡ true }
+    ensures value { result ≡ coefficient *ℤ pos (factor scale own) }
+    ensures within { IsCoefficient result }
+{
+    Amount::new(coefficient.get() * factor(scale, own)).unwrap()
+}
+
+/// The written coefficient, from that which a check at a scale has of a column of its own scale.
+fn written(coefficient: Amount, scale: Scale, own: Scale) -> Amount
+    requires { IsCoefficient coefficient }
+    ensures value { result ≡ written_coefficient scale own coefficient }
+    ensures within { IsCoefficient result }
+{
+    Amount::new(coefficient.get() / factor(scale, own)).unwrap()
+}
+
+/// How many units of a check's scale a unit of a column's own is, where that isn't larger; else 1.
+#[tactic(auto, unfolding(crate::specs::Scales::factor))]
+fn factor(scale: Scale, own: Scale) -> i64
+    ensures value { result ≡ pos (factor scale own) }
+    ensures within { result ≤ℤ pos 1000000 }
+{
+    match scale.get().saturating_sub(own.get()) {
+        0 => 1,
+        1 => 10,
+        2 => 100,
+        3 => 1_000,
+        4 => 10_000,
+        5 => 100_000,
+        _ => 1_000_000,
     }
 }
 

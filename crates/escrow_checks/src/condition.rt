@@ -7,12 +7,13 @@ ghost use Rattle.escrow_checks.specs.Meaning.{MeanTheSame};
 
 mod limits;
 mod names;
+mod parts;
 pub(crate) mod sums;
 
 use crate::check::Check;
 use crate::coefficients::Coefficients;
 use crate::fault::CheckFault;
-use escrow_num::{Name, Seq};
+use escrow_num::{Name, Scale, Seq};
 use escrow_sql::{CheckText, Condition, Term};
 use limits::limits_of;
 pub use names::is_written_name;
@@ -23,44 +24,55 @@ use sums::right_of;
 /// The most checks that a table declares.
 pub const MAX_CHECKS: usize = 32;
 
-/// The greatest magnitude of a coefficient of a declared check.
+/// The greatest magnitude of a coefficient of a declared check, as it is written.
 pub const MAX_COEFFICIENT: i64 = 1_000_000;
 
-/// The checks of a table's CHECKs over its RESERVABLE columns: one for each condition, in order.
-/// The first of a CHECK is named as that is written, its k-th has `_k` behind the name; those of a
-/// CHECK without a name are `CHECK_` and their place in the table. [`CheckFault::Definition`] where
-/// there are more than [`MAX_CHECKS`], or a condition names another column, has a coefficient past
-/// [`MAX_COEFFICIENT`] or none but zeros, has a limit of more than 15 digits (after `<` or `>` moved
-/// it by one), has a low limit greater than the high one, or a name that no statement can write.
+/// The checks of a table's CHECKs over its RESERVABLE columns, of these names and beside them of
+/// these scales: one check for each condition, in order. It is in units of its scale, the largest
+/// among the columns that have a coefficient other than zero in it, and `<` and `>` move its limit by
+/// one such unit. The first of a CHECK is named as that is written, its k-th has `_k` behind the name;
+/// those of a CHECK without a name are `CHECK_` and their place in the table.
+/// [`CheckFault::Definition`] where there are more than [`MAX_CHECKS`], or a condition names another
+/// column, has a coefficient past [`MAX_COEFFICIENT`] or none but zeros, has a limit that isn't a whole
+/// number of units (none is rounded) or that has more than 15 digits (after it was moved), has a low
+/// limit greater than the high one, or a name that no statement can write.
 pub fn normalise(
     alloc: Global,
     texts: &[&CheckText],
     columns: &[Name],
+    scales: &[Scale],
 ) -> Result<Seq<Check>, CheckFault>
-    requires { length columns.now ≤ Coefficients.MAX_LEN }
-    ensures ok { IfOk result (λ checks. checks_of columns.now (map (λ text. text.now) texts.now) ≡ Some checks) }
-    ensures meaning { IfOk result (MeanTheSame columns.now (map (λ text. text.now) texts.now)) }
-    ensures definition { IsErrOf result CheckFault.Definition → checks_of columns.now (map (λ text. text.now) texts.now) ≡ None }
-    ensures broken { checks_of columns.now (map (λ text. text.now) texts.now) ≡ None → IsErr result }
+    requires few { length columns.now ≤ Coefficients.MAX_LEN }
+    requires scales { length scales.now ≡ length columns.now }
+    ensures ok { IfOk result (λ checks. checks_of columns.now scales.now (map (λ text. text.now) texts.now) ≡ Some checks) }
+    ensures meaning { IfOk result (MeanTheSame columns.now scales.now (map (λ text. text.now) texts.now)) }
+    ensures definition { IsErrOf result CheckFault.Definition → checks_of columns.now scales.now (map (λ text. text.now) texts.now) ≡ None }
+    ensures broken { checks_of columns.now scales.now (map (λ text. text.now) texts.now) ≡ None → IsErr result }
 {
     let mut checks = Seq::new(alloc);
     for text in texts {
-        add_checks(&mut checks, text, columns)?;
+        add_checks(&mut checks, text, columns, scales)?;
     }
     Ok(checks)
 }
 
 /// Adds the checks of a CHECK's conditions to those of the CHECKs before it.
-fn add_checks(checks: &mut Seq<Check>, text: &CheckText, columns: &[Name]) -> Result<(), CheckFault>
+fn add_checks(
+    checks: &mut Seq<Check>,
+    text: &CheckText,
+    columns: &[Name],
+    scales: &[Scale],
+) -> Result<(), CheckFault>
     requires columns { length columns.now ≤ Coefficients.MAX_LEN }
+    requires scales { length scales.now ≡ length columns.now }
     requires before { length checks.old ≤ MAX_CHECKS }
     ensures ok { OnOk result ((others : Option (List Check))
-        → found checks.old (checks_of_conditions columns.now text.now.name 1 (length checks.old + 1) text.now.conditions) others
+        → found checks.old (checks_of_conditions columns.now scales.now text.now.name 1 (length checks.old + 1) text.now.conditions) others
         ≡ followed_by checks.new others) }
     ensures counted { OnOk result (length checks.new ≡ length checks.old + length text.now.conditions) }
     ensures within { OnOk result (length checks.new ≤ MAX_CHECKS) }
     ensures definition { IsErrOf result CheckFault.Definition → (others : Option (List Check))
-        → few (found checks.old (checks_of_conditions columns.now text.now.name 1 (length checks.old + 1) text.now.conditions) others)
+        → few (found checks.old (checks_of_conditions columns.now scales.now text.now.name 1 (length checks.old + 1) text.now.conditions) others)
         ≡ None }
 {
     for (k, condition) in text.conditions.as_slice().iter().enumerate() {
@@ -68,7 +80,7 @@ fn add_checks(checks: &mut Seq<Check>, text: &CheckText, columns: &[Name]) -> Re
         if before == MAX_CHECKS {
             return Err(CheckFault::Definition);
         }
-        let Some(check) = check_of(columns, text.name, k + 1, before + 1, condition) else {
+        let Some(check) = check_of(columns, scales, text.name, k + 1, before + 1, condition) else {
             return Err(CheckFault::Definition);
         };
         check.add_to(checks)?;
@@ -79,23 +91,31 @@ fn add_checks(checks: &mut Seq<Check>, text: &CheckText, columns: &[Name]) -> Re
 /// The check of a condition, the `k`-th of a CHECK of this name and the `n`-th of the table.
 fn check_of(
     columns: &[Name],
+    scales: &[Scale],
     name: Option<Name>,
     k: usize,
     n: usize,
     condition: &Condition,
 ) -> Option<Check>
     requires columns { length columns.now ≤ Coefficients.MAX_LEN }
+    requires scales { length scales.now ≡ length columns.now }
     requires in_check { k ≤ MAX_CHECKS }
     requires in_table { n ≤ MAX_CHECKS }
-    ensures { result ≡ check_of columns.now (check_name name k n) condition.now }
+    ensures { result ≡ check_of columns.now scales.now (check_name name k n) condition.now }
 {
     if !names_columns(columns, condition) {
         return None;
     }
     let name = name_of(name, k, n)?;
-    let coeffs = Coefficients::of_condition(columns, condition)?;
-    let span = limits_of(condition)?;
-    Some(Check { name, coeffs, span })
+    let written = Coefficients::of_condition(columns, condition)?;
+    let scale = written.scale(scales);
+    let span = limits_of(condition, scale)?;
+    Some(Check {
+        name,
+        coeffs: written.scaled(scale, scales),
+        scale,
+        span,
+    })
 }
 
 /// Whether each column that a condition names, whatever its coefficient, is one of these.

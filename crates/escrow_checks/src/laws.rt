@@ -1,11 +1,11 @@
 //! Laws of checks and of the grant rule: facts about their definitions, each the contract of a
 //! function that does nothing. What keeps a database's state valid stands on them.
 
-ghost use Rattle.escrow_checks.specs.Laws.{ChecksMeanTheirTexts, ChecksAreWhole, ChecksAreDeclared, ChecksAreNamed, UnitGivesTheAmount, ExtremesAreReached, GrantedWhereAlwaysMet, GrantedWhereAllAlwaysMet, BoundsDecide, GrantedStaysSafe, RefusedNamesAChoice, AnyChoiceCanCommit, AnyChoiceCanRollBack, ChangesKeepTheNumber, OtherRowsStaySafe, NewRowIsSafe, Limits};
+ghost use Rattle.escrow_checks.specs.Laws.{ChecksMeanTheirTexts, ChecksAreWhole, ChecksAreDeclared, ChecksAreNamed, UnitGivesTheAmount, ExtremesAreReached, GrantedWhereAlwaysMet, GrantedWhereAllAlwaysMet, BoundsDecide, GrantedStaysSafe, RefusedNamesAChoice, AnyChoiceCanCommit, AnyChoiceCanRollBack, ChangesKeepTheNumber, OtherRowsStaySafe, NewRowIsSafe, WrittenAreGivenBack, UnitsAreWhole, SumsAreWide, Limits};
 ghost use Rattle.escrow_checks.specs.Spread.{OtherRowsAddNothing};
 
-/// A row meets all the checks that CHECKs declare exactly where it meets all the CHECKs as they are
-/// written.
+/// A row meets all the checks that CHECKs declare exactly where its amounts, in millionths, meet all
+/// the CHECKs as they are written.
 pub fn checks_mean_their_texts()
     ensures { ChecksMeanTheirTexts }
 {}
@@ -16,9 +16,19 @@ pub fn checks_are_whole()
     ensures { ChecksAreWhole }
 {}
 
-/// The coefficients, the limits and the name of each declared check are as the rules ask.
+/// The coefficients, the scale, the limits and the name of each declared check are as the rules ask.
 pub fn checks_are_declared()
     ensures { ChecksAreDeclared }
+{}
+
+/// Coefficients that are scaled can be written again as they were.
+pub fn written_are_given_back()
+    ensures { WrittenAreGivenBack }
+{}
+
+/// Units of a scale, as millionths, are a whole number of units, and are those again.
+pub fn units_are_whole()
+    ensures { UnitsAreWhole }
 {}
 
 /// The first condition of a CHECK with a name has that name, the second has `_2` behind it, and so
@@ -62,8 +72,8 @@ pub fn granted_stays_safe()
     ensures { GrantedStaysSafe }
 {}
 
-/// A refusal names a check, a side, its limit and a value beyond it, and some choice of the open
-/// reservations with the new one brings the check's form to that value.
+/// A refusal names a check, its scale, a side, its limit and a value beyond it, and some choice of the
+/// open reservations with the new one brings the check's form to that value.
 pub fn refused_names_a_choice()
     ensures { RefusedNamesAChoice }
 {}
@@ -101,8 +111,13 @@ pub fn other_rows_add_nothing()
     ensures { OtherRowsAddNothing }
 {}
 
+/// No sum of a check leaves 128 bits, at whatever scales: each is of magnitude at most 10^33.
+pub fn sums_are_wide()
+    ensures { SumsAreWide }
+{}
+
 /// A table declares 32 conditions at most; a coefficient as it is written is at most 1,000,000, as it is kept
-/// at most 10^12, and a form has 10 at most; and at most 16,384 reservations are open.
+/// at most 10^12, and a form has 10 at most; what is wide fits 128 bits; and at most 16,384 reservations are open.
 pub fn limits()
     ensures { Limits }
 {}

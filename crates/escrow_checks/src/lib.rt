@@ -1,7 +1,8 @@
 //! Linear checks: what a condition asks of a row's amounts, the least and the greatest that a
 //! check's form can come to whichever open reservations are applied, and the grant rule.
 //!
-//! Its one contract: a row meets the checks of [`normalise`] exactly where it meets the conditions.
+//! Its one contract: a row meets the checks of [`normalise`] exactly where its amounts, in millionths,
+//! meet the conditions as they are written.
 #![tactic(auto)]
 
 mod check;

@@ -4,9 +4,7 @@ use denote.Param.Send.{IsSend, sendable}
 use Rattle.std.proofs.Crossing.{crosses}
 use Rattle.sqlite_trees.specs.declared.store.Store.{Ghosts}
 use Rattle.escrow_num.proofs.seq.Seq.TheSendSync as Seq
-use Rattle.escrow_num.proofs.value.RowName.TheSendSync as RowName
 use Rattle.escrow_bounds.proofs.bounds.Bounds.TheSendSync as Bounds
-use Rattle.escrow_schema.proofs.table.TableDef.TheSendSync as TableDef
 use Rattle.escrow_txn.proofs.table.TxnTable.TheSendSync as TxnTable
 use Rattle.escrow_rows.proofs.store.RowStore.TheSendSync as RowStore
 use Rattle.escrow_tables.specs.contracts.tables.Tables as Tables
@@ -14,7 +12,7 @@ use Rattle.escrow_core.specs.contracts.database.Database as Database
 
 module _ (S : RattleType) (g : Ghosts S.Denot) (store : IsSend S) where
   tables : IsSend (Tables.the_row S g)
-  tables = search (RowStore.the_send, TableDef.the_send, sendable, crosses) depth 40 fits 20000
+  tables = search (RowStore.the_send, sendable, crosses) depth 60 fits 40000
 
   pub database_send : IsSend (Database.the_row S g)
-  database_send = search (tables, TxnTable.the_send, Bounds.the_send, RowName.the_send, Seq.the_send, sendable, crosses) depth 40 fits 20000
+  database_send = search (tables, TxnTable.the_send, Bounds.the_send, Seq.the_send, sendable, crosses) depth 60 fits 40000

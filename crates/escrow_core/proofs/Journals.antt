@@ -4,6 +4,7 @@ use Rattle.std.specs.Prelude.{map}
 use Rattle.std.proofs.lemmas.List.{map-append, take_more}
 use Rattle.std.proofs.lemmas.List.Elements.{filter-append}
 use Rattle.escrow_num.specs.declared.reservation.Reservation.{Reservation}
+use Rattle.escrow_schema.specs.declared.column.Column.{Column}
 use Rattle.escrow_schema.specs.declared.table.TableDef.{TableDef}
 use Rattle.escrow_machine.specs.Journal.{entry_of, of_table, named_changes}
 
@@ -19,8 +20,8 @@ entries_more catalog table reservations i r below at =
     (map-append (entry_of catalog) (of_table table (take i reservations)) (of_table table (r ∷ [])))
 
 -- no changes are left once one of the two lists is at its end
-pub named_end : (names : List (List ℕ)) (changes : List (Option ℤ)) → (length names ≡ 0) ⊎ (length changes ≡ 0) → named_changes names changes ≡ []
+pub named_end : (columns : List Column) (changes : List (Option ℤ)) → (length columns ≡ 0) ⊎ (length changes ≡ 0) → named_changes columns changes ≡ []
 named_end [] changes end = refl
-named_end (name ∷ names) [] end = refl
-named_end (name ∷ names) (change ∷ changes) (inl none) = absurd (omega arith)
-named_end (name ∷ names) (change ∷ changes) (inr none) = absurd (omega arith)
+named_end (column ∷ columns) [] end = refl
+named_end (column ∷ columns) (change ∷ changes) (inl none) = absurd (omega arith)
+named_end (column ∷ columns) (change ∷ changes) (inr none) = absurd (omega arith)

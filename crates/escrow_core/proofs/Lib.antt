@@ -8,6 +8,7 @@ pub mod Dropping
 pub mod Ending
 pub mod Inserting
 pub mod Journals
+pub mod Keyed
 pub mod Places
 pub mod Planned
 pub mod Promised

@@ -45,20 +45,25 @@ selects_one rows name found order is = ap option_to_list is ∙ sym (rows_named 
 
 -- SHOW BOUNDS that isn't refused early: only a row that isn't there is refused late
 pub bounds_lack : (s : State) (session : ℕ) (text : RowText) → PassesEarly s session (statement.ShowBounds text)
-    → None ≡ amounts_named s.rows (named_by text.table text.row) → IsRefusal s session (statement.ShowBounds text) refusal.NoSuchRow
+    → None ≡ amounts_named s.rows (named_by s.catalog text.table text.row) → IsRefusal s session (statement.ShowBounds text) refusal.NoSuchRow
 unfolding turn_of
 bounds_lack s session text early none =
-    let name = named_by text.table text.row in
+    let name = named_by s.catalog text.table text.row in
     late_applies s session (statement.ShowBounds text) refusal.NoSuchRow early (lacking (row_named s.rows name) refusal.NoSuchRow [] (no_row s.rows name none))
 
+-- what is shown of the row that is found
+bounds_found : (s : State) (text : RowText) (table : TableDef) (row : Row) → table_named s.catalog text.table ≡ Some table
+    → row_named s.rows (named_by s.catalog text.table text.row) ≡ Some row → bounds_reply s text ≡ bounds_in s.reservations table row.name row.amounts
+bounds_found s text table row named found = rw (found, named) refl
+
 pub bounds_answers : (s : State) (session : ℕ) (text : RowText) (table : TableDef) (amounts : List ℤ) → PassesEarly s session (statement.ShowBounds text)
-    → table_named s.catalog text.table ≡ Some table → amounts_named s.rows (named_by text.table text.row) ≡ Some amounts
-    → StepOrRefusal s session (statement.ShowBounds text) (bounds_in s.reservations table (named_by text.table text.row) amounts) s
+    → table_named s.catalog text.table ≡ Some table → amounts_named s.rows (named_by s.catalog text.table text.row) ≡ Some amounts
+    → StepOrRefusal s session (statement.ShowBounds text) (bounds_in s.reservations table (named_by s.catalog text.table text.row) amounts) s
 unfolding turn_of
 bounds_answers s session text table amounts early named has =
-    let row = standing s.rows (named_by text.table text.row) amounts has in
+    let row = standing s.rows (named_by s.catalog text.table text.row) amounts has in
     let accepted = none_applies s session (statement.ShowBounds text) early (rw row.found refl) in
-    let is : bounds_reply s text ≡ bounds_in s.reservations table row.row.name row.row.amounts = rw (named, row.found) refl in
+    let is : bounds_reply s text ≡ bounds_in s.reservations table row.row.name row.row.amounts = bounds_found s text table row.row named row.found in
     subst (λ (r : Reply). StepOrRefusal s session (statement.ShowBounds text) r s) (is ∙ ap₂ (bounds_in s.reservations table) row.named row.has)
     (accepted_serves s session (statement.ShowBounds text) accepted)
 

@@ -21,17 +21,19 @@ use Rattle.escrow_num.specs.declared.value.Value.{Value}
 use Rattle.escrow_num.specs.Ascending.{IsAscending}
 use Rattle.escrow_num.specs.Order.{same_row}
 use Rattle.escrow_sql.specs.declared.statement.SelectText.{SelectText}
+use Rattle.escrow_schema.specs.declared.column.Column.{Column}
 use Rattle.escrow_schema.specs.declared.table.TableDef.{TableDef}
 use Rattle.escrow_schema.specs.Catalog.{table_named}
-use Rattle.escrow_schema.specs.Column.{names_of, reservables}
+use Rattle.escrow_schema.specs.Column.{names_of, reservables, scale_of}
 use Rattle.escrow_schema.specs.Definition.{IsTable}
 use Rattle.escrow_schema.specs.Print.{declared_checks}
 use Rattle.escrow_schema.specs.Fit.{values_of}
 use Rattle.escrow_machine.specs.declared.reply.Reply.TheVariants as reply
-use Rattle.escrow_machine.specs.Asked.{is_shown, select_reply}
+use Rattle.escrow_machine.specs.Asked.{heading_of, is_shown, select_reply}
 use Rattle.escrow_machine.specs.Bounds.{bounds_in, bounds_over, check_bounds, column_bounds}
 use Rattle.escrow_machine.specs.declared.reply.CheckBounds.{CheckBounds}
 use Rattle.escrow_machine.specs.declared.reply.ColumnBounds.{ColumnBounds}
+use Rattle.escrow_machine.specs.declared.reply.Heading.{Heading}
 use Rattle.escrow_machine.proofs.BoundsLemmas.{names_shown, split}
 use Rattle.escrow_machine.proofs.Shapes.{covered}
 use Rattle.escrow_machine.specs.State.{State}
@@ -39,14 +41,14 @@ use Rattle.escrow_schema.specs.Rows.{row_named, row_before}
 use Rattle.escrow_core.proofs.Queries.{selects_one}
 
 -- columns and rows of the table are what a SELECT shows
-pub shows : (s : State) (text : SelectText) (columns : List (List ℕ)) (rows : List (List Value)) → IsSomeAnd (table_named s.catalog text.table) (λ table. columns ≡ names_of table.columns)
-    → IsSomeAnd (table_named s.catalog text.table) (λ table. rows ≡ map (values_of table) (filter (is_shown text.table text.row) s.rows)) → reply.Rows columns rows ≡ select_reply s text
+pub shows : (s : State) (text : SelectText) (columns : List Heading) (rows : List (List Value)) → IsSomeAnd (table_named s.catalog text.table) (λ table. columns ≡ map heading_of table.columns)
+    → IsSomeAnd (table_named s.catalog text.table) (λ table. rows ≡ map (values_of table) (filter (is_shown s.catalog text.table text.row) s.rows)) → reply.Rows columns rows ≡ select_reply s text
 shows s text columns rows named told = at (table_named s.catalog text.table) refl named told
   where
-    at : (o : Option TableDef) → table_named s.catalog text.table ≡ o → IsSomeAnd o (λ table. columns ≡ names_of table.columns)
-        → IsSomeAnd o (λ table. rows ≡ map (values_of table) (filter (is_shown text.table text.row) s.rows)) → reply.Rows columns rows ≡ select_reply s text
+    at : (o : Option TableDef) → table_named s.catalog text.table ≡ o → IsSomeAnd o (λ table. columns ≡ map heading_of table.columns)
+        → IsSomeAnd o (λ table. rows ≡ map (values_of table) (filter (is_shown s.catalog text.table text.row) s.rows)) → reply.Rows columns rows ≡ select_reply s text
     at None e names h = absurd h
-    at (Some table) e names h = rw e (ap₂ (λ (cs : List (List ℕ)) (shown : List (List Value)). reply.Rows cs shown) names h)
+    at (Some table) e names h = rw e (ap₂ (λ (cs : List Heading) (shown : List (List Value)). reply.Rows cs shown) names h)
 
 -- the values of the row of a name are those of the rows of that name
 pub one_shown : (o : Option TableDef) (rows : List Row) (name : RowName) (found : Option (List Value)) → IsAscending row_before rows
@@ -96,17 +98,17 @@ check_same amounts row held [] covered = refl
 check_same amounts row held (check ∷ checks) covered =
     let ends = same_extremes check.coeffs amounts row held covered.0 in
     ap₂ (λ (b : CheckBounds) (bs : List CheckBounds). b ∷ bs)
-    (ap₂ (λ (low high : ℤ). record { check = check.name; least = low; greatest = high; limits = check.span }) ends.0 ends.1) (check_same amounts row held checks covered.1)
+    (ap₂ (λ (low high : ℤ). record { check = check.name; scale = check.scale; least = low; greatest = high; limits = check.span }) ends.0 ends.1) (check_same amounts row held checks covered.1)
 
-column_same : (names : List (List ℕ)) (amounts : List ℤ) (row : RowName) (held : List Reservation) (shown : List (List ℕ)) → length names ≤ length amounts
+column_same : (names : List (List ℕ)) (amounts : List ℤ) (row : RowName) (held : List Reservation) (shown : List Column) → length names ≤ length amounts
     → map (column_bounds names amounts (map (changes_at row) held)) shown ≡ map (column_bounds names amounts (of_row row held)) shown
 column_same names amounts row held [] few = refl
-column_same names amounts row held (name ∷ shown) few =
-    let unit = unit_of names name in
-    let covered : IsCovered unit amounts = omega (arith, length-unit_of names name, few) in
+column_same names amounts row held (column ∷ shown) few =
+    let unit = unit_of names column.name in
+    let covered : IsCovered unit amounts = omega (arith, length-unit_of names column.name, few) in
     let ends = same_extremes unit amounts row held covered in
     ap₂ (λ (b : ColumnBounds) (bs : List ColumnBounds). b ∷ bs)
-    (ap₂ (λ (low high : ℤ). record { column = name; value = amount_of names amounts name; inf = low; sup = high }) ends.0 ends.1) (column_same names amounts row held shown few)
+    (ap₂ (λ (low high : ℤ). record { column = column.name; scale = scale_of column.kind; value = amount_of names amounts column.name; inf = low; sup = high }) ends.0 ends.1) (column_same names amounts row held shown few)
 
 pub bounds_same : (table : TableDef) (amounts : List ℤ) (row : RowName) (held : List Reservation) → IsTable table → length amounts ≡ length (reservables table.columns)
     → bounds_over (of_row row held) table amounts ≡ bounds_in held table row amounts
@@ -117,7 +119,7 @@ bounds_same table amounts row held is_table many =
     let all = covered table amounts is_table many in
     let declared : AllByRecursion (λ (check : Check). IsCovered check.coeffs amounts) (declared_checks table) =
     subst (AllByRecursion (λ (check : Check). IsCovered check.coeffs amounts)) s.declared (all_take (λ (check : Check). IsCovered check.coeffs amounts) (length table.checks - length amounts) table.checks all) in
-    sym (ap₂ (λ (columns : List ColumnBounds) (checks : List CheckBounds). reply.Bounds columns checks) (column_same names amounts row held names few) (check_same amounts row held (declared_checks table) declared))
+    sym (ap₂ (λ (columns : List ColumnBounds) (checks : List CheckBounds). reply.Bounds columns checks) (column_same names amounts row held (reservables table.columns) few) (check_same amounts row held (declared_checks table) declared))
 
 -- and those of a row that isn't reserved are those over none
 free_list : (row : RowName) (held : List Reservation) → list_any (λ r. same_row r.row row) held ≡ false → of_row row held ≡ []

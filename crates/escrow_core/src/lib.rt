@@ -14,6 +14,6 @@ mod shown_journal;
 
 pub use database::Database;
 pub use escrow_machine::{
-    CheckBounds, ColumnBounds, ColumnChange, Event, JournalEntry, Reply, Settled, Stop,
+    CheckBounds, ColumnBounds, ColumnChange, Event, Heading, JournalEntry, Reply, Settled, Stop,
 };
 pub use escrow_num::Failure;

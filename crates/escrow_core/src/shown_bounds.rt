@@ -85,13 +85,15 @@ fn check_bounds(check: &Check, extremes: (Wide, Wide)) -> CheckBounds
 {
     CheckBounds {
         check: check.name,
+        scale: check.scale,
         least: extremes.0,
         greatest: extremes.1,
         limits: check.span,
     }
 }
 
-/// The bounds of each column, of which each has an amount and the bounds of its range.
+/// The bounds of each column, of which each has an amount and the bounds of its range, in units of the range's
+/// scale.
 fn all_column_bounds(
     alloc: Global,
     names: &[Name],
@@ -106,6 +108,7 @@ fn all_column_bounds(
     for (i, name) in names.iter().enumerate() {
         bounds.push(ColumnBounds {
             column: *name,
+            scale: ranges[i].scale,
             value: amounts[i],
             inf: ranges[i].least,
             sup: ranges[i].greatest,

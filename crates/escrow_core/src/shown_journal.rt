@@ -2,12 +2,12 @@
 ghost use Rattle.std.specs.Prelude.{◌≡◌, ◌++◌, ◌∷◌, [], IfOk, OnOk, map, unwrap_or, option_map};
 ghost use Rattle.std.specs.Option.{option_copied};
 ghost use Rattle.escrow_schema.specs.Catalog.{table_named};
-ghost use Rattle.escrow_schema.specs.Column.{names_of, reservables};
+ghost use Rattle.escrow_machine.specs.Asked.{key_scale_of};
 ghost use Rattle.escrow_machine.specs.Journal.{columns_of, entry_of, of_table, named_changes};
 
 use escrow_machine::{ColumnChange, JournalEntry};
-use escrow_num::{Amount, Copied, Name, Reservation, Seq};
-use escrow_schema::reservable_names;
+use escrow_num::{Amount, Copied, Name, Reservation, Scale, Seq};
+use escrow_schema::{Column, reservables};
 use escrow_tables::Tables;
 use escrow_txn::TxnTable;
 use sqlite::Alter;
@@ -54,43 +54,54 @@ fn entry_of<S: Alter>(
 ) -> Result<JournalEntry, AllocError>
     ensures { IfOk result (λ entry. entry ≡ entry_of tables.now.catalog r.now) }
 {
-    let names = columns_of(alloc, tables, r.row.table)?;
+    let columns = columns_of(alloc, tables, r.row.table)?;
     Ok(JournalEntry {
         id: r.id,
         session: r.session,
         row: r.row.copy(alloc)?,
-        changes: named_changes(alloc, names.as_slice(), r.changes.as_slice())?,
+        key_scale: key_scale_of(tables, r.row.table),
+        changes: named_changes(alloc, columns.as_slice(), r.changes.as_slice())?,
     })
 }
 
-/// The names of the RESERVABLE columns of a table, in column order; none where there is no such
-/// table.
+/// The scale of the keys of the rows of a table; that of whole numbers where there is no such table.
+fn key_scale_of<S: Alter>(tables: &Tables<S>, table: Name) -> Scale
+    ensures { result ≡ key_scale_of tables.now.catalog table }
+{
+    match tables.find(table) {
+        Some(table) => table.key_scale(),
+        None => Scale::ZERO,
+    }
+}
+
+/// The RESERVABLE columns of a table, in column order; none where there is no such table.
 fn columns_of<S: Alter>(
     alloc: Global,
     tables: &Tables<S>,
     table: Name,
-) -> Result<Vec<Name>, AllocError>
-    ensures { IfOk result (λ names. names.items ≡ columns_of tables.now.catalog table) }
+) -> Result<Vec<Column>, AllocError>
+    ensures { IfOk result (λ columns. columns.items ≡ columns_of tables.now.catalog table) }
 {
     match tables.find(table) {
-        Some(table) => reservable_names(alloc, table.columns.as_slice()),
+        Some(table) => reservables(alloc, table.columns.as_slice()),
         None => Ok(Vec::new(alloc)),
     }
 }
 
-/// The changes that there are, each with the name of its column.
+/// The changes that there are, each with the name and the scale of its column.
 fn named_changes(
     alloc: Global,
-    names: &[Name],
+    columns: &[Column],
     changes: &[Option<Amount>],
 ) -> Result<Seq<ColumnChange>, AllocError>
-    ensures { IfOk result (λ named. named ≡ named_changes names.now changes.now) }
+    ensures { IfOk result (λ named. named ≡ named_changes columns.now changes.now) }
 {
     let mut named = Seq::new(alloc);
-    for (name, change) in names.iter().zip(changes) {
+    for (column, change) in columns.iter().zip(changes) {
         if let Some(change) = change {
             named.push(ColumnChange {
-                column: *name,
+                column: column.name,
+                scale: column.scale(),
                 change: *change,
             })?;
         }

@@ -136,13 +136,13 @@ drop_stands s session name accepted =
 -- a row that is deleted
 pub record DeleteStands (s : State) (text : RowText) : Type 0 where
   pub row : Row
-  pub found : row_named s.rows (named_by text.table text.row) ≡ Some row
-  pub free : is_reserved s (named_by text.table text.row) ≡ false
+  pub found : row_named s.rows (named_by s.catalog text.table text.row) ≡ Some row
+  pub free : is_reserved s (named_by s.catalog text.table text.row) ≡ false
 
 pub delete_stands : (s : State) (session : ℕ) (text : RowText) → IsAccepted s session (statement.Delete text) → DeleteStands s text
 unfolding turn_of
 delete_stands s session text accepted =
-    let name = named_by text.table text.row in
+    let name = named_by s.catalog text.table text.row in
     let is_open = refuse_if (is_open session s) refusal.TransactionOpen in
     let unknown = refuse_if (is_none (table_named s.catalog text.table)) refusal.NoSuchTable in
     let bad_key = key_refusal_of s text.table text.row in

@@ -43,11 +43,11 @@ have_amounts (column ∷ columns) (a ∷ amounts) distinct same =
     let apart = first_apart column.name (names_of columns) distinct in
     (rw (same_name column.name) refl, amounts_behind column.name (names_of columns) a amounts amounts columns apart.0 (have_amounts columns amounts apart.1 (omega arith)))
 
--- a column's bounds are its amount and the bounds of its range
+-- a column's bounds are its amount, and the scale and the bounds of its range
 columns_shown : (names : List (List ℕ)) (amounts rest : List ℤ) (reservations : List (List ℤ)) (columns : List Column)
     → AllZip (HasAmount names amounts) columns rest
     → columns_from (names_of columns) rest (map (check_bounds amounts reservations) (map (range_check names) columns))
-    ≡ map (column_bounds names amounts reservations) (names_of columns)
+    ≡ map (column_bounds names amounts reservations) columns
 columns_shown names amounts [] reservations [] have = refl
 columns_shown names amounts (a ∷ rest) reservations [] have = refl
 columns_shown names amounts [] reservations (column ∷ columns) have = absurd have
@@ -86,7 +86,7 @@ shown_checks table amounts reservations n s at =
 
 pub shown_columns : (table : TableDef) (amounts : List ℤ) (reservations : List (List ℤ)) (n : ℕ) → length amounts ≡ length (reservables table.columns) → Split table amounts → n ≡ length table.checks - length amounts
     → columns_from (names_of (reservables table.columns)) amounts (drop n (map (check_bounds amounts reservations) table.checks))
-    ≡ map (column_bounds (names_of (reservables table.columns)) amounts reservations) (names_of (reservables table.columns))
+    ≡ map (column_bounds (names_of (reservables table.columns)) amounts reservations) (reservables table.columns)
 shown_columns table amounts reservations n many s at =
     let names = names_of (reservables table.columns) in
     ap (columns_from names amounts)

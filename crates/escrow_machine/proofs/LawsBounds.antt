@@ -24,6 +24,7 @@ use Rattle.escrow_checks.specs.Grant.{Meets}
 use Rattle.escrow_checks.specs.Laws.{IsReached}
 use Rattle.escrow_checks.specs.Sublists.{sublists}
 use Rattle.escrow_checks.proofs.LawsLemmas.{extremes_are_reached, form-column}
+use Rattle.escrow_schema.specs.declared.column.Column.{Column}
 use Rattle.escrow_schema.specs.declared.table.TableDef.{TableDef}
 use Rattle.escrow_schema.specs.Catalog.{table_named}
 use Rattle.escrow_schema.specs.Column.{names_of, reservables}
@@ -43,7 +44,7 @@ use Rattle.escrow_machine.specs.Step.{step}
 use Rattle.escrow_machine.specs.Turn.{turn_of}
 use Rattle.escrow_machine.specs.Valid.{IsValid}
 use Rattle.escrow_machine.proofs.BoundsLemmas.{split}
-use Rattle.escrow_machine.proofs.Choices.{IsChoice, all_choices, choices_all, choice_map, map_all}
+use Rattle.escrow_machine.proofs.Choices.{IsChoice, all_choices, choices_all, choice_map}
 use Rattle.escrow_machine.proofs.LawsGrants.{choice_contained, choice_of_image, contained_has}
 use Rattle.escrow_machine.proofs.LawsSteps.{step_has}
 use Rattle.escrow_machine.proofs.Refusals.{passed, failed, some_there}
@@ -81,13 +82,16 @@ form_bounds row reservations coeffs =
 
 -- ---- the line of a column
 
-column_line : (row : Row) (reservations : List Reservation) (names : List (List ℕ)) → IsDistinct bytes_eq names → (name : List ℕ)
-    → IsColumnLine reservations row names (column_bounds names row.amounts (map (changes_to row) reservations) name)
-column_line row reservations names distinct name =
+column_line : (row : Row) (reservations : List Reservation) (names : List (List ℕ)) → IsDistinct bytes_eq names → (column : Column)
+    → IsColumnLine reservations row names column (column_bounds names row.amounts (map (changes_to row) reservations) column)
+column_line row reservations names distinct column =
+    let name = column.name in
     let by_form : List ℤ → ℤ = form (unit_of names name) in
     let by_name : List ℤ → ℤ = λ amounts. amount_of names amounts name in
     let same : by_form ≡ by_name = λ i. λ amounts. (sym (form-column names amounts name distinct)) i in
     let images = map (changes_to row) reservations in (
+      refl,
+      refl,
       refl,
       subst (λ (value : List ℤ → ℤ). AreBounds reservations row value (least (unit_of names name) row.amounts images) (greatest (unit_of names name) row.amounts images)) same
           (form_bounds row reservations (unit_of names name)),
@@ -116,6 +120,7 @@ check_line s valid name table row named found check has =
     let high = bounds.reaches_high in (
       refl,
       refl,
+      refl,
       bounds,
       subst (Holds check.span) low.2 (check_met s valid name table row named found check has low.0 low.1),
       subst (Holds check.span) high.2 (check_met s valid name table row named found check has high.0 high.1),
@@ -133,30 +138,22 @@ zip_map : {A B : Type 0} (P : A → B → Type 0) (f : A → B) (xs : List A) �
 zip_map P f [] each = tt
 zip_map P f (x ∷ xs) each = (each x (inl refl), zip_map P f xs (λ y h. each y (inr h)))
 
-all_of : {A : Type 0} (P : A → Type 0) → ((x : A) → P x) → (xs : List A) → AllByRecursion P xs
-all_of P each [] = tt
-all_of P each (x ∷ xs) = (each x, all_of P each xs)
-
-map_back : {A B : Type 0} (f : A → B) (g : B → A) → ((x : A) → g (f x) ≡ x) → (xs : List A) → map g (map f xs) ≡ xs
-map_back f g back [] = refl
-map_back f g back (x ∷ xs) = rw (back x, map_back f g back xs) refl
-
 -- ---- the reply
 
 columns_of : State → TableDef → Row → List ColumnBounds
 columns_of s table row =
-    let names = names_of (reservables table.columns) in
-    map (column_bounds names row.amounts (map (changes_to row) s.reservations)) names
+    let columns = reservables table.columns in
+    map (column_bounds (names_of columns) row.amounts (map (changes_to row) s.reservations)) columns
 
 checks_of : State → TableDef → Row → List CheckBounds
 checks_of s table row = map (check_bounds row.amounts (map (changes_to row) s.reservations)) (declared_checks table)
 
 shown_in : (s : State) → IsValid s → (text : RowText) (table : TableDef) (row : Row) → table_named s.catalog text.table ≡ Some table
-    → row_named s.rows (named_by text.table text.row) ≡ Some row
+    → row_named s.rows (named_by s.catalog text.table text.row) ≡ Some row
     → IsShownBounds s text (columns_of s table row) (checks_of s table row)
 unfolding columns_of checks_of
 shown_in s valid text table row named found =
-    let name = named_by text.table text.row in
+    let name = named_by s.catalog text.table text.row in
     let is_table = is_table_found s valid.orderly text.table table named in
     let parts = split table row.amounts is_table (row_found s valid name table row named found).amounts in
     let names = names_of (reservables table.columns) in
@@ -166,10 +163,8 @@ shown_in s valid text table row named found =
       named = named;
       row = row;
       found = found;
-      names = map_back (column_bounds names row.amounts reservations) (λ (b : ColumnBounds). b.column) (λ x. refl) names;
-      column_lines = map_all (IsColumnLine s.reservations row names) (column_bounds names row.amounts reservations) names
-          (all_of (λ (n : List ℕ). IsColumnLine s.reservations row names (column_bounds names row.amounts reservations n))
-          (column_line row s.reservations names (distinct_from names parts.distinct)) names);
+      column_lines = zip_map (IsColumnLine s.reservations row names) (column_bounds names row.amounts reservations) (reservables table.columns)
+          (λ column _. column_line row s.reservations names (distinct_from names parts.distinct) column);
       check_lines = zip_map (IsCheckLine s.reservations row) (check_bounds row.amounts reservations) (declared_checks table)
           (λ check has. check_line s valid name table row named found check (has_take (length table.checks - length (reservables table.columns)) table.checks check has));
     }
@@ -179,12 +174,12 @@ record Stands (s : State) (text : RowText) : Type 0 where
   table : TableDef
   named : table_named s.catalog text.table ≡ Some table
   row : Row
-  found : row_named s.rows (named_by text.table text.row) ≡ Some row
+  found : row_named s.rows (named_by s.catalog text.table text.row) ≡ Some row
 
 bounds_stand : (s : State) (session : ℕ) (text : RowText) → IsAccepted s session (statement.ShowBounds text) → Stands s text
 unfolding turn_of
 bounds_stand s session text accepted =
-    let name = named_by text.table text.row in
+    let name = named_by s.catalog text.table text.row in
     let unknown = refuse_if (is_none (table_named s.catalog text.table)) refusal.NoSuchTable in
     let bad_key = key_refusal_of s text.table text.row in
     let no_row = refuse_if (is_none (row_named s.rows name)) refusal.NoSuchRow in
@@ -200,9 +195,9 @@ reply_in : (s : State) (session : ℕ) (text : RowText) (stands : Stands s text)
 unfolding turn_of columns_of checks_of
 reply_in s session text stands =
     let shown : TableDef → Row → Reply = λ table row. bounds_in s.reservations table row.name row.amounts in
-    let at_row : (table : TableDef) → option_map (shown table) (row_named s.rows (named_by text.table text.row)) ≡ Some (shown table stands.row) =
+    let at_row : (table : TableDef) → option_map (shown table) (row_named s.rows (named_by s.catalog text.table text.row)) ≡ Some (shown table stands.row) =
     λ table. ap (option_map (shown table)) stands.found in
-    ap (λ (o : Option TableDef). unwrap_or (option_and_then (λ (table : TableDef). option_map (shown table) (row_named s.rows (named_by text.table text.row))) o) (reply.Bounds [] [])) stands.named
+    ap (λ (o : Option TableDef). unwrap_or (option_and_then (λ (table : TableDef). option_map (shown table) (row_named s.rows (named_by s.catalog text.table text.row))) o) (reply.Bounds [] [])) stands.named
     ∙ ap (λ (o : Option Reply). unwrap_or o (reply.Bounds [] [])) (at_row stands.table)
 
 pub bounds_are_reached : BoundsAreReached

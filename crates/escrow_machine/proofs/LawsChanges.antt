@@ -31,6 +31,7 @@ use Rattle.escrow_machine.specs.Valid.{IsReservationIn, HasRow}
 use Rattle.escrow_machine.proofs.Accepted.{delete_stands, update_plan}
 use Rattle.escrow_machine.proofs.Filters.{filter_within, filter_none, none_found}
 use Rattle.escrow_machine.proofs.Kept.{find_filter}
+use Rattle.escrow_machine.proofs.Keys.{named_in}
 use Rattle.escrow_machine.proofs.LawsSteps.{step_has, step_keeps_valid}
 use Rattle.escrow_machine.proofs.Lengths.{find_map}
 use Rattle.escrow_machine.proofs.ValidDrop.{other_table}
@@ -97,7 +98,7 @@ deleted s name stands = (
 pub deletes_one_row : DeletesOneRow
 unfolding turn_of
 deletes_one_row s session text =
-    let name = named_by text.table text.row in
+    let name = named_by s.catalog text.table text.row in
     step_has (λ (p : Reply × State). p.0 ≡ reply.Deleted → Deleted s name p.1) s session (statement.Delete text)
     (λ _ _ e. absurd (cc))
     (λ accepted _. deleted s name (subst (λ (o : Option Row). IsSome o) (sym (delete_stands s session text accepted).found) refl))
@@ -138,25 +139,27 @@ replaced_one : (s : State) (name : RowName) (values : List (Option Value)) → R
 replaced_one s name values = (refl, same_names name values s.rows, λ other differ. other_row name other values s.rows differ)
 
 -- the plan of an UPDATE that is answered so
-by_plan : (s : State) (session : ℕ) (text : UpdateText) (table : TableDef) (asked : Plan) → planned table text ≡ Ok asked → update_reply s asked ≡ reply.Updated
-    → Replaced s (named_by text.table text.row) (after_update s session text.table asked)
-by_plan s session text table (plan.Reserve key changes) at e = absurd (cc)
-by_plan s session text table (plan.Plain key values) at e =
-    let name : row_name text.table key ≡ named_by text.table text.row = ap (row_name text.table) (keys_of_plans table text (plan.Plain key values) at) in
+by_plan : (s : State) (session : ℕ) (text : UpdateText) (table : TableDef) (asked : Plan) → table_named s.catalog text.table ≡ Some table → planned table text ≡ Ok asked
+    → update_reply s asked ≡ reply.Updated
+    → Replaced s (named_by s.catalog text.table text.row) (after_update s session text.table asked)
+by_plan s session text table (plan.Reserve key changes) named at e = absurd (cc)
+by_plan s session text table (plan.Plain key values) named at e =
+    let name : row_name text.table key ≡ named_by s.catalog text.table text.row =
+    ap (row_name text.table) (keys_of_plans table text (plan.Plain key values) at).1 ∙ sym (named_in s.catalog text.table table text.row named) in
     subst (λ (n : RowName). Replaced s n (record s { rows = with_plain (row_name text.table key) values s.rows })) name (replaced_one s (row_name text.table key) values)
 
 updated : (s : State) (session : ℕ) (text : UpdateText) → IsAccepted s session (statement.Update text)
-    → (turn_of s session (statement.Update text)).reply ≡ reply.Updated → Replaced s (named_by text.table text.row) (turn_of s session (statement.Update text)).next
+    → (turn_of s session (statement.Update text)).reply ≡ reply.Updated → Replaced s (named_by s.catalog text.table text.row) (turn_of s session (statement.Update text)).next
 unfolding turn_of
 updated s session text accepted e =
     let p = update_plan s session text accepted in
     let answered : update_reply s p.plan ≡ reply.Updated = subst (λ (o : Option Plan). unwrap_or (option_map (update_reply s) o) reply.Updated ≡ reply.Updated) p.is e in
-    subst (λ (o : Option Plan). Replaced s (named_by text.table text.row) (unwrap_or (option_map (after_update s session text.table) o) s))
-    (sym p.is) (by_plan s session text p.table p.plan p.planned answered)
+    subst (λ (o : Option Plan). Replaced s (named_by s.catalog text.table text.row) (unwrap_or (option_map (after_update s session text.table) o) s))
+    (sym p.is) (by_plan s session text p.table p.plan p.named p.planned answered)
 
 pub plain_updates_keep_amounts : PlainUpdatesKeepAmounts
 plain_updates_keep_amounts s session text =
-    step_has (λ (p : Reply × State). p.0 ≡ reply.Updated → Replaced s (named_by text.table text.row) p.1) s session (statement.Update text)
+    step_has (λ (p : Reply × State). p.0 ≡ reply.Updated → Replaced s (named_by s.catalog text.table text.row) p.1) s session (statement.Update text)
     (λ _ _ e. absurd (cc)) (λ accepted e. updated s session text accepted e)
 
 -- OPEN RESERVATIONS

@@ -242,6 +242,7 @@ breach_reached s table row r breach found e =
       check.0,
       has_contains table.checks check.0 check.1,
       known.0,
+      known.3,
       known.1,
       reached_with row r s.reservations check.0.coeffs breach.worst (row_is_named s r row found) known.2,
     )

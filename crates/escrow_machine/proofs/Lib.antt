@@ -6,6 +6,7 @@ pub mod Choices
 pub mod Filters
 pub mod Granted
 pub mod Kept
+pub mod Keys
 pub mod LawsBack
 pub mod LawsBounds
 pub mod LawsChanges

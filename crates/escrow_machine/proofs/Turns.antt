@@ -134,10 +134,10 @@ delete_turn s session text = record {
     ),
   );
   late = (if_among (NeedsMore (statement.Delete text)) _ _ refl, (if_among (NeedsMore (statement.Delete text)) _ _ refl, tt));
-  seen = λ _. shows_just (after_delete s text) s.catalog (without_row (named_by text.table text.row) s.rows) refl refl;
+  seen = λ _. shows_just (after_delete s text) s.catalog (without_row (named_by s.catalog text.table text.row) s.rows) refl refl;
   ids = λ _. le_refl _;
   next = λ _ id e. absurd (cc);
-  valid = λ accepted valid _. delete_valid s (named_by text.table text.row) valid (delete_stands s session text accepted).free;
+  valid = λ accepted valid _. delete_valid s (named_by s.catalog text.table text.row) valid (delete_stands s session text accepted).free;
 }
 
 -- what is shown is the reply to a query, whatever table there is
@@ -169,7 +169,7 @@ shown_of_row P f (Some table) (Some r) none at_none each = each table r
 
 bounds_show : (s : State) (text : RowText) → IsShow (bounds_reply s text)
 bounds_show s text =
-    shown_of_row IsShow (λ table row. bounds_in s.reservations table row.name row.amounts) (table_named s.catalog text.table) (row_named s.rows (named_by text.table text.row)) (reply.Bounds [] [])
+    shown_of_row IsShow (λ table row. bounds_in s.reservations table row.name row.amounts) (table_named s.catalog text.table) (row_named s.rows (named_by s.catalog text.table text.row)) (reply.Bounds [] [])
     (λ r e. absurd (cc), refl, λ id e. absurd (cc)) (λ table row. (λ r e. absurd (cc), refl, λ id e. absurd (cc)))
 
 select_turn : (s : State) (session : ℕ) (text : SelectText) → IsTurn s session (statement.Select text) (turn_of s session (statement.Select text))

@@ -16,11 +16,15 @@ use Rattle.escrow_sql.specs.declared.statement.WhereText.{WhereText}
 use Rattle.escrow_checks.specs.Grant.{broken}
 use Rattle.escrow_schema.specs.declared.plan.Plan.{Plan}
 use Rattle.escrow_schema.specs.declared.plan.Plan.TheVariants as plan
+use Rattle.escrow_schema.specs.declared.column.Column.{Column}
+use Rattle.escrow_schema.specs.declared.table.TableDef.{TableDef}
 use Rattle.escrow_schema.specs.Catalog.{table_named}
-use Rattle.escrow_schema.specs.Column.{names_of, value_of}
+use Rattle.escrow_schema.specs.Column.{scale_of, truncated_value}
+use Rattle.escrow_schema.specs.Definition.{key_scale}
 use Rattle.escrow_schema.specs.Fit.{inserted_row, values_of}
 use Rattle.escrow_schema.specs.Plan.{key_named, planned}
 use Rattle.escrow_schema.specs.Print.{canonical}
+use Rattle.escrow_machine.specs.declared.reply.Heading.{Heading}
 use Rattle.escrow_machine.specs.declared.reply.Reply.{Reply}
 use Rattle.escrow_machine.specs.declared.reply.Reply.TheVariants as reply
 use Rattle.escrow_machine.specs.State.{State, is_reserved}
@@ -81,9 +85,14 @@ breach_of s r =
 
 -- WHERE
 
--- the name of the row that a WHERE names, in a table
-abbrev pub named_by : List ℕ → WhereText → RowName
-named_by table row = row_name table (value_of row.literal)
+-- the digits behind the point of the keys of the table of a name, where they are numbers
+abbrev pub key_scale_of : List TableDef → List ℕ → ℕ
+key_scale_of catalog table = unwrap_or (option_map key_scale (table_named catalog table)) 0
+
+-- the name of the row that a WHERE names, in a table: its key is the literal, of a number the units of the
+-- table's keys. A literal that isn't whole units, or doesn't fit the key's type, is refused before (key_refusal_of)
+abbrev pub named_by : List TableDef → List ℕ → WhereText → RowName
+named_by catalog table row = row_name table (truncated_value (key_scale_of catalog table) row.literal)
 
 -- why a WHERE names no row: another column than the key, or a literal that the key's type doesn't hold
 abbrev pub key_refusal_of : State → List ℕ → WhereText → Option Refusal
@@ -96,15 +105,19 @@ abbrev pub select_refusal_of : State → SelectText → Option Refusal
 select_refusal_of s text = option_and_then (key_refusal_of s text.table) text.row
 
 -- a SELECT of a table shows a row: one of the table, and that of the key alone where it has a WHERE
-abbrev pub is_shown : List ℕ → Option WhereText → Row → Bool
-is_shown table None row = bytes_eq row.name.table table
-is_shown table (Some where_text) row = same_row row.name (named_by table where_text)
+abbrev pub is_shown : List TableDef → List ℕ → Option WhereText → Row → Bool
+is_shown catalog table None row = bytes_eq row.name.table table
+is_shown catalog table (Some where_text) row = same_row row.name (named_by catalog table where_text)
 
--- what a SELECT shows: the columns' names, and the values of each committed row that it shows, in column
+-- what stands over the values of a column: its name, and the digits behind the point of its numbers
+abbrev pub heading_of : Column → Heading
+heading_of column = record { name = column.name; scale = scale_of column.kind }
+
+-- what a SELECT shows: the columns' headings, and the values of each committed row that it shows, in column
 -- order; the rows are in order of key
 abbrev pub select_reply : State → SelectText → Reply
 select_reply s text =
-    unwrap_or (option_map (λ table. reply.Rows (names_of table.columns) (map (values_of table) (filter (is_shown text.table text.row) s.rows))) (table_named s.catalog text.table))
+    unwrap_or (option_map (λ table. reply.Rows (map heading_of table.columns) (map (values_of table) (filter (is_shown s.catalog text.table text.row) s.rows))) (table_named s.catalog text.table))
     (reply.Rows [] [])
 
 -- what a SHOW TABLE shows: the text that defines the table

@@ -8,7 +8,8 @@ use Rattle.escrow_checks.specs.Checks.{unit_of}
 use Rattle.escrow_checks.specs.Condition.{amount_of}
 use Rattle.escrow_checks.specs.Extremes.{least, greatest}
 use Rattle.escrow_schema.specs.Catalog.{table_named}
-use Rattle.escrow_schema.specs.Column.{names_of, reservables}
+use Rattle.escrow_schema.specs.Column.{names_of, reservables, scale_of}
+use Rattle.escrow_schema.specs.declared.column.Column.{Column}
 use Rattle.escrow_schema.specs.declared.table.TableDef.{TableDef}
 use Rattle.escrow_schema.specs.Print.{declared_checks}
 use Rattle.escrow_machine.specs.declared.reply.CheckBounds.{CheckBounds}
@@ -21,19 +22,21 @@ use Rattle.escrow_num.specs.Reservation.{changes_at}
 use Rattle.escrow_schema.specs.Rows.{row_named}
 
 -- what SHOW BOUNDS shows of a RESERVABLE column: its committed amount, and the least and the greatest
--- that it can come to, whichever of the open reservations are applied
-abbrev pub column_bounds : List (List ℕ) → List ℤ → List (List ℤ) → List ℕ → ColumnBounds
-column_bounds names amounts reservations name = record {
-  column = name;
-  value = amount_of names amounts name;
-  inf = least (unit_of names name) amounts reservations;
-  sup = greatest (unit_of names name) amounts reservations;
+-- that it can come to, whichever of the open reservations are applied; all in units of its scale
+abbrev pub column_bounds : List (List ℕ) → List ℤ → List (List ℤ) → Column → ColumnBounds
+column_bounds names amounts reservations column = record {
+  column = column.name;
+  scale = scale_of column.kind;
+  value = amount_of names amounts column.name;
+  inf = least (unit_of names column.name) amounts reservations;
+  sup = greatest (unit_of names column.name) amounts reservations;
 }
 
--- and of a check: the least and the greatest value of its form, and its limits
+-- and of a check: the least and the greatest value of its form, and its limits; all in units of its scale
 abbrev pub check_bounds : List ℤ → List (List ℤ) → Check → CheckBounds
 check_bounds amounts reservations check = record {
   check = check.name;
+  scale = check.scale;
   least = least check.coeffs amounts reservations;
   greatest = greatest check.coeffs amounts reservations;
   limits = check.span;
@@ -43,8 +46,8 @@ check_bounds amounts reservations check = record {
 -- every choice of these reservations
 abbrev pub bounds_over : List (List ℤ) → TableDef → List ℤ → Reply
 bounds_over reservations table amounts =
-    let names = names_of (reservables table.columns) in
-    reply.Bounds (map (column_bounds names amounts reservations) names) (map (check_bounds amounts reservations) (declared_checks table))
+    let columns = reservables table.columns in
+    reply.Bounds (map (column_bounds (names_of columns) amounts reservations) columns) (map (check_bounds amounts reservations) (declared_checks table))
 
 -- and of the row of a name, over those of all sessions
 abbrev pub bounds_in : List Reservation → TableDef → RowName → List ℤ → Reply
@@ -53,5 +56,5 @@ bounds_in open_ones table name amounts = bounds_over (map (changes_at name) open
 -- what a SHOW BOUNDS shows
 abbrev pub bounds_reply : State → RowText → Reply
 bounds_reply s text =
-    unwrap_or (option_and_then (λ table. option_map (λ row. bounds_in s.reservations table row.name row.amounts) (row_named s.rows (named_by text.table text.row))) (table_named s.catalog text.table))
+    unwrap_or (option_and_then (λ table. option_map (λ row. bounds_in s.reservations table row.name row.amounts) (row_named s.rows (named_by s.catalog text.table text.row))) (table_named s.catalog text.table))
     (reply.Bounds [] [])

@@ -1,25 +1,28 @@
 -- Believed: what SHOW JOURNAL shows.
 use Rattle.std.specs.Prelude.{ℕ, ℤ, Option, Some, None, option_map, unwrap_or, List, [], ◌∷◌, map, filter, bytes_eq}
 use Rattle.escrow_num.specs.declared.reservation.Reservation.{Reservation}
+use Rattle.escrow_schema.specs.declared.column.Column.{Column}
 use Rattle.escrow_schema.specs.declared.table.TableDef.{TableDef}
 use Rattle.escrow_schema.specs.Catalog.{table_named}
-use Rattle.escrow_schema.specs.Column.{names_of, reservables}
+use Rattle.escrow_schema.specs.Column.{reservables, scale_of}
 use Rattle.escrow_machine.specs.declared.reply.ColumnChange.{ColumnChange}
 use Rattle.escrow_machine.specs.declared.reply.JournalEntry.{JournalEntry}
 use Rattle.escrow_machine.specs.declared.reply.Reply.{Reply}
 use Rattle.escrow_machine.specs.declared.reply.Reply.TheVariants as reply
+use Rattle.escrow_machine.specs.Asked.{key_scale_of}
 use Rattle.escrow_machine.specs.State.{State}
 
--- the changes that there are, each with the name of its column
-abbrev pub named_changes : List (List ℕ) → List (Option ℤ) → List ColumnChange
+-- the changes that there are, each with the name and the scale of its column
+abbrev pub named_changes : List Column → List (Option ℤ) → List ColumnChange
 named_changes [] changes = []
-named_changes (name ∷ names) [] = []
-named_changes (name ∷ names) (None ∷ changes) = named_changes names changes
-named_changes (name ∷ names) (Some change ∷ changes) = record { column = name; change = change } ∷ named_changes names changes
+named_changes (column ∷ columns) [] = []
+named_changes (column ∷ columns) (None ∷ changes) = named_changes columns changes
+named_changes (column ∷ columns) (Some change ∷ changes) =
+    record { column = column.name; scale = scale_of column.kind; change = change } ∷ named_changes columns changes
 
--- the names of the RESERVABLE columns of a table, in column order
-abbrev pub columns_of : List TableDef → List ℕ → List (List ℕ)
-columns_of catalog table = unwrap_or (option_map (λ t. names_of (reservables t.columns)) (table_named catalog table)) []
+-- the RESERVABLE columns of a table, in column order
+abbrev pub columns_of : List TableDef → List ℕ → List Column
+columns_of catalog table = unwrap_or (option_map (λ t. reservables t.columns) (table_named catalog table)) []
 
 -- a reservation as it is shown
 abbrev pub entry_of : List TableDef → Reservation → JournalEntry
@@ -27,6 +30,7 @@ entry_of catalog r = record {
   id = r.id;
   session = r.session;
   row = r.row;
+  key_scale = key_scale_of catalog r.row.table;
   changes = named_changes (columns_of catalog r.row.table) r.changes;
 }
 

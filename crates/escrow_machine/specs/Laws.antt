@@ -28,19 +28,22 @@ use Rattle.escrow_checks.specs.Form.{form}
 use Rattle.escrow_checks.specs.Grant.{Meets}
 use Rattle.escrow_checks.specs.Laws.{IsBeyond}
 use Rattle.escrow_checks.specs.Sublists.{sublists}
+use Rattle.escrow_schema.specs.declared.column.Column.{Column}
 use Rattle.escrow_schema.specs.declared.table.TableDef.{TableDef}
 use Rattle.escrow_schema.specs.declared.plan.Plan.{Plan}
 use Rattle.escrow_schema.specs.declared.plan.Plan.TheVariants as plan
 use Rattle.escrow_schema.specs.Catalog.{table_named, with_table, without_table}
-use Rattle.escrow_schema.specs.Column.{names_of, reservables, value_of}
+use Rattle.escrow_schema.specs.Column.{names_of, reservables, scale_of}
 use Rattle.escrow_schema.specs.Definition.{definition_of}
 use Rattle.escrow_schema.specs.Fit.{FitColumns, values_of}
+use Rattle.escrow_schema.specs.Plan.{key_in}
 use Rattle.escrow_schema.specs.Print.{canonical, declared_checks}
 use Rattle.escrow_machine.specs.declared.event.Event.{Event}
 use Rattle.escrow_machine.specs.declared.event.Event.TheVariants as event
 use Rattle.escrow_machine.specs.declared.reply.JournalEntry.{JournalEntry}
 use Rattle.escrow_machine.specs.declared.reply.CheckBounds.{CheckBounds}
 use Rattle.escrow_machine.specs.declared.reply.ColumnBounds.{ColumnBounds}
+use Rattle.escrow_machine.specs.declared.reply.Heading.{Heading}
 use Rattle.escrow_machine.specs.declared.reply.Reply.{Reply}
 use Rattle.escrow_machine.specs.declared.reply.Reply.TheVariants as reply
 use Rattle.escrow_machine.specs.Event.{HasSession}
@@ -48,7 +51,7 @@ use Rattle.escrow_machine.specs.Reply.{failure_of, holds_memory, is_refused}
 use Rattle.escrow_journal.specs.Reservations.{own, others, own_savepoints}
 use Rattle.escrow_journal.specs.Savepoints.{savepoint_of, without_savepoint}
 use Rattle.escrow_machine.specs.Journal.{entry_of}
-use Rattle.escrow_machine.specs.Asked.{new_row, plan_of, row_name, named_by, reservation_of}
+use Rattle.escrow_machine.specs.Asked.{new_row, plan_of, row_name, named_by, reservation_of, heading_of}
 use Rattle.escrow_machine.specs.Settle.{end_of, settled, after_end, after_ends}
 use Rattle.escrow_machine.specs.State.{State, empty, opened}
 use Rattle.escrow_schema.specs.Rows.{row_named, rows_of, changes_to, row_after, applied, with_row, without_row, without_rows_of, with_plain, MeetsChecks, row_before}
@@ -139,7 +142,7 @@ ShowsAfter s session (statement.Create text) new = (table : TableDef) × (defini
 ShowsAfter s session (statement.Drop name) new = ShowsJust new (without_table name s.catalog) (without_rows_of name s.rows)
 ShowsAfter s session (statement.Insert text) new = (row : Row) × (new_row s text ≡ Some row) × ShowsJust new s.catalog (with_row row s.rows)
 ShowsAfter s session (statement.Update text) new = (asked : Plan) × (plan_of s text ≡ Some asked) × ShowsPlanned s text.table asked new
-ShowsAfter s session (statement.Delete text) new = ShowsJust new s.catalog (without_row (named_by text.table text.row) s.rows)
+ShowsAfter s session (statement.Delete text) new = ShowsJust new s.catalog (without_row (named_by s.catalog text.table text.row) s.rows)
 ShowsAfter s session statement.Commit new = ShowsJust new s.catalog (applied s.rows (own session s.reservations))
 ShowsAfter s session statement.Rollback new = ShowsJust new s.catalog s.rows × (new.reservations ≡ others session s.reservations)
 ShowsAfter s session asked new = ShowsJust new s.catalog s.rows
@@ -200,8 +203,8 @@ DropsOneTable = (s : State) (session : ℕ) (name : List ℕ) → let after = st
 abbrev pub DeletesOneRow : Type 0
 DeletesOneRow = (s : State) (session : ℕ) (text : RowText) → let after = step s session (statement.Delete text) in after.0 ≡ reply.Deleted
     → (after.1 ≡ record s { rows = after.1.rows })
-    × IsSome (row_named s.rows (named_by text.table text.row)) × (row_named after.1.rows (named_by text.table text.row) ≡ None)
-    × ((other : RowName) → ¬ (other ≡ named_by text.table text.row) → row_named after.1.rows other ≡ row_named s.rows other)
+    × IsSome (row_named s.rows (named_by s.catalog text.table text.row)) × (row_named after.1.rows (named_by s.catalog text.table text.row) ≡ None)
+    × ((other : RowName) → ¬ (other ≡ named_by s.catalog text.table text.row) → row_named after.1.rows other ≡ row_named s.rows other)
 
 -- the names and the amounts of rows, in order
 abbrev pub names_and_amounts : List Row → List (RowName × List ℤ)
@@ -213,7 +216,7 @@ abbrev pub PlainUpdatesKeepAmounts : Type 0
 PlainUpdatesKeepAmounts = (s : State) (session : ℕ) (text : UpdateText) → let after = step s session (statement.Update text) in after.0 ≡ reply.Updated
     → (after.1 ≡ record s { rows = after.1.rows })
     × (names_and_amounts after.1.rows ≡ names_and_amounts s.rows)
-    × ((other : RowName) → ¬ (other ≡ named_by text.table text.row) → row_named after.1.rows other ≡ row_named s.rows other)
+    × ((other : RowName) → ¬ (other ≡ named_by s.catalog text.table text.row) → row_named after.1.rows other ≡ row_named s.rows other)
 
 -- after a step from a valid state the row of each open reservation stands, and so does its table
 abbrev pub ReservationsKeepRows : Type 0
@@ -222,26 +225,27 @@ ReservationsKeepRows = (s : State) (session : ℕ) (asked : Statement) → IsVal
 
 -- WHAT A QUERY SHOWS
 
--- a row is one that a WHERE, if there is one, names by its key
-abbrev pub IsKeyed : Option WhereText → Row → Type 0
-IsKeyed None row = Unit {0}
-IsKeyed (Some where_text) row = row.name.key ≡ value_of where_text.literal
+-- a row of a table is one that a WHERE, if there is one, names by its key: the value that the literal
+-- is in the key's column
+abbrev pub IsKeyed : TableDef → Option WhereText → Row → Type 0
+IsKeyed table None row = Unit {0}
+IsKeyed table (Some where_text) row = key_in table where_text.literal ≡ Some row.name.key
 
--- a SELECT shows the column names of its table and, in order of key, the values of just these
--- committed rows: those of its table, and with a WHERE that of its key
-pub record IsSelected (s : State) (text : SelectText) (names : List (List ℕ)) (values : List (List Value)) : Type 0 where
+-- a SELECT shows the headings of its table's columns, each one's name and scale, and, in order of key, the
+-- values of just these committed rows: those of its table, and with a WHERE that of its key
+pub record IsSelected (s : State) (text : SelectText) (headings : List Heading) (values : List (List Value)) : Type 0 where
   pub table : TableDef
   pub named : table_named s.catalog text.table ≡ Some table
-  pub columns : names ≡ names_of table.columns
+  pub columns : headings ≡ map heading_of table.columns
   pub rows : List Row
   pub shown : values ≡ map (values_of table) rows
-  pub each : (row : Row) → Contains rows row ↔ (Contains s.rows row × (row.name.table ≡ text.table) × IsKeyed text.row row)
+  pub each : (row : Row) → Contains rows row ↔ (Contains s.rows row × (row.name.table ≡ text.table) × IsKeyed table text.row row)
   pub order : IsAscending row_before s.rows → IsAscending row_before rows
 
 -- what a SELECT shows, from which nothing changes
 abbrev pub SelectsShowRows : Type 0
-SelectsShowRows = (s : State) (session : ℕ) (text : SelectText) (names : List (List ℕ)) (values : List (List Value))
-    → let after = step s session (statement.Select text) in after.0 ≡ reply.Rows names values → IsSelected s text names values × (after.1 ≡ s)
+SelectsShowRows = (s : State) (session : ℕ) (text : SelectText) (headings : List Heading) (values : List (List Value))
+    → let after = step s session (statement.Select text) in after.0 ≡ reply.Rows headings values → IsSelected s text headings values × (after.1 ≡ s)
 
 -- what a SHOW TABLE shows is its table's text, and nothing changes
 abbrev pub ShowsTheTable : Type 0
@@ -366,15 +370,17 @@ pub record AreBounds (reservations : List Reservation) (row : Row) (value : List
   pub reaches_low : (chosen : List Reservation) × Contains (sublists reservations) chosen × (value (row_after chosen row).amounts ≡ low)
   pub reaches_high : (chosen : List Reservation) × Contains (sublists reservations) chosen × (value (row_after chosen row).amounts ≡ high)
 
--- a column's line: its committed amount, and the bounds of its amount
-abbrev pub IsColumnLine : List Reservation → Row → List (List ℕ) → ColumnBounds → Type 0
-IsColumnLine reservations row names shown =
-    (shown.value ≡ amount_of names row.amounts shown.column) × AreBounds reservations row (λ amounts. amount_of names amounts shown.column) shown.inf shown.sup
+-- a column's line, among the RESERVABLE columns of these names: its scale, its committed amount, and the
+-- bounds of its amount
+abbrev pub IsColumnLine : List Reservation → Row → List (List ℕ) → Column → ColumnBounds → Type 0
+IsColumnLine reservations row names column shown =
+    (shown.column ≡ column.name) × (shown.scale ≡ scale_of column.kind) × (shown.value ≡ amount_of names row.amounts column.name)
+    × AreBounds reservations row (λ amounts. amount_of names amounts column.name) shown.inf shown.sup
 
--- a check's line: the bounds of its form, which are within its limits
+-- a check's line: its scale, its limits, and the bounds of its form, which are within them
 abbrev pub IsCheckLine : List Reservation → Row → Check → CheckBounds → Type 0
 IsCheckLine reservations row check shown =
-    (shown.check ≡ check.name) × (shown.limits ≡ check.span) × AreBounds reservations row (form check.coeffs) shown.least shown.greatest
+    (shown.check ≡ check.name) × (shown.scale ≡ check.scale) × (shown.limits ≡ check.span) × AreBounds reservations row (form check.coeffs) shown.least shown.greatest
     × Holds check.span shown.least × Holds check.span shown.greatest
 
 -- SHOW BOUNDS shows the row that it names: a line for each RESERVABLE column and for each declared check
@@ -382,9 +388,8 @@ pub record IsShownBounds (s : State) (text : RowText) (columns : List ColumnBoun
   pub table : TableDef
   pub named : table_named s.catalog text.table ≡ Some table
   pub row : Row
-  pub found : row_named s.rows (named_by text.table text.row) ≡ Some row
-  pub names : map (λ shown. shown.column) columns ≡ names_of (reservables table.columns)
-  pub column_lines : AllByRecursion (IsColumnLine s.reservations row (names_of (reservables table.columns))) columns
+  pub found : row_named s.rows (named_by s.catalog text.table text.row) ≡ Some row
+  pub column_lines : AllZip (IsColumnLine s.reservations row (names_of (reservables table.columns))) (reservables table.columns) columns
   pub check_lines : AllZip (IsCheckLine s.reservations row) (declared_checks table) checks
 
 -- so it does in a valid state
@@ -441,9 +446,9 @@ OwnIncrementNotSpent = (s : State) (session : ℕ) (text : UpdateText) (id : ℕ
     × AllByRecursion (MeetsWith table row new) (sublists (others session s.reservations))
 
 -- a breach that happens: with the new reservation some choice of the open ones brings the form of the
--- named check to the named worst value, which lies beyond the named limit
+-- named check to the named worst value, which lies beyond the named limit; both in units of its scale
 abbrev pub IsReachedBreach : TableDef → Row → List Reservation → Reservation → Breach → Type 0
-IsReachedBreach table row reservations new breach = (check : Check) × Contains table.checks check × (breach.check ≡ check.name)
+IsReachedBreach table row reservations new breach = (check : Check) × Contains table.checks check × (breach.check ≡ check.name) × (breach.scale ≡ check.scale)
     × IsBeyond check.span breach.side breach.worst breach.limit
     × ((chosen : List Reservation) × Contains (sublists reservations) chosen × (form check.coeffs (row_after (chosen ++ new ∷ []) row).amounts ≡ breach.worst))
 

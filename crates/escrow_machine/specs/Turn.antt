@@ -47,7 +47,7 @@ after_insert s text = record s { rows = unwrap_or (option_map (λ row. with_row 
 
 -- the state without the row that a DELETE names
 abbrev pub after_delete : State → RowText → State
-after_delete s text = record s { rows = without_row (named_by text.table text.row) s.rows }
+after_delete s text = record s { rows = without_row (named_by s.catalog text.table text.row) s.rows }
 
 -- the late refusals of an UPDATE, by its plan: to reserve changes, or to replace plain values
 abbrev pub update_refusals : State → ℕ → List ℕ → Plan → List (Option Refusal)
@@ -134,8 +134,8 @@ turn_of s session (statement.Delete text) = record {
       ∷ refuse_if (is_none (table_named s.catalog text.table)) refusal.NoSuchTable
       ∷ key_refusal_of s text.table text.row
       ∷ [];
-  late = refuse_if (is_none (row_named s.rows (named_by text.table text.row))) refusal.NoSuchRow
-      ∷ refuse_if (is_reserved s (named_by text.table text.row)) refusal.RowReserved
+  late = refuse_if (is_none (row_named s.rows (named_by s.catalog text.table text.row))) refusal.NoSuchRow
+      ∷ refuse_if (is_reserved s (named_by s.catalog text.table text.row)) refusal.RowReserved
       ∷ [];
   reply = reply.Deleted;
   next = after_delete s text;
@@ -159,7 +159,7 @@ turn_of s session (statement.ShowBounds text) = record {
   early = refuse_if (is_none (table_named s.catalog text.table)) refusal.NoSuchTable
       ∷ key_refusal_of s text.table text.row
       ∷ [];
-  late = refuse_if (is_none (row_named s.rows (named_by text.table text.row))) refusal.NoSuchRow
+  late = refuse_if (is_none (row_named s.rows (named_by s.catalog text.table text.row))) refusal.NoSuchRow
       ∷ [];
   reply = bounds_reply s text;
   next = s;

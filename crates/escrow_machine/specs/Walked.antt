@@ -12,13 +12,13 @@ use Rattle.escrow_machine.specs.declared.settled.Settled.{Settled}
 abbrev pub IsShort : Reservation → Type 0
 IsShort r = length r.changes ≤ MAX_LEN
 
--- the bounds of columns, each with its amount and the bounds of its range
+-- the bounds of columns, each with its amount, and with the scale and the bounds of its range
 abbrev pub columns_from : List (List ℕ) → List ℤ → List CheckBounds → List ColumnBounds
 columns_from [] amounts ranges = []
 columns_from (name ∷ names) [] ranges = []
 columns_from (name ∷ names) (a ∷ amounts) [] = []
 columns_from (name ∷ names) (a ∷ amounts) (range ∷ ranges) =
-    record { column = name; value = a; inf = range.least; sup = range.greatest } ∷ columns_from names amounts ranges
+    record { column = name; scale = range.scale; value = a; inf = range.least; sup = range.greatest } ∷ columns_from names amounts ranges
 
 -- counts with the reservations of one more transaction, which ended so
 abbrev pub counted_end : End → ℕ → Settled → Settled

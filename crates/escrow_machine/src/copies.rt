@@ -1,8 +1,18 @@
 ghost use Rattle.std.specs.Prelude.{◌≡◌, ◌↔◌, IsTrue};
 
-use crate::reply::{CheckBounds, ColumnBounds, ColumnChange, JournalEntry};
+use crate::reply::{CheckBounds, ColumnBounds, ColumnChange, Heading, JournalEntry};
 use escrow_num::{Copied, Span, are_same, copy_all};
 use std::alloc::{AllocError, Global};
+
+impl Copied for Heading {
+    fn copy(&self, _: Global) -> Result<Heading, AllocError> {
+        Ok(*self)
+    }
+
+    fn is_same(&self, other: &Heading) -> bool {
+        self.name == other.name && self.scale == other.scale
+    }
+}
 
 impl Copied for ColumnBounds {
     fn copy(&self, _: Global) -> Result<ColumnBounds, AllocError> {
@@ -11,6 +21,7 @@ impl Copied for ColumnBounds {
 
     fn is_same(&self, other: &ColumnBounds) -> bool {
         self.column == other.column
+            && self.scale == other.scale
             && self.value == other.value
             && self.inf == other.inf
             && self.sup == other.sup
@@ -24,6 +35,7 @@ impl Copied for CheckBounds {
 
     fn is_same(&self, other: &CheckBounds) -> bool {
         self.check == other.check
+            && self.scale == other.scale
             && self.least == other.least
             && self.greatest == other.greatest
             && same_limits(&self.limits, &other.limits)
@@ -36,7 +48,7 @@ impl Copied for ColumnChange {
     }
 
     fn is_same(&self, other: &ColumnChange) -> bool {
-        self.column == other.column && self.change == other.change
+        self.column == other.column && self.scale == other.scale && self.change == other.change
     }
 }
 
@@ -46,6 +58,7 @@ impl Copied for JournalEntry {
             id: self.id,
             session: self.session,
             row: self.row.copy(alloc)?,
+            key_scale: self.key_scale,
             changes: copy_all(alloc, self.changes.as_slice())?,
         })
     }
@@ -54,6 +67,7 @@ impl Copied for JournalEntry {
         self.id == other.id
             && self.session == other.session
             && self.row.is_same(&other.row)
+            && self.key_scale == other.key_scale
             && are_same(self.changes.as_slice(), other.changes.as_slice())
     }
 }

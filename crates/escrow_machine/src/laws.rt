@@ -95,7 +95,8 @@ pub fn reservations_keep_rows()
 {}
 
 /// What a SELECT shows are the committed rows of its table, and with a WHERE that of its key, each of
-/// them and no other, in order of key; nothing changes by it.
+/// them and no other, in order of key, under the name and the scale of each column; nothing changes
+/// by it.
 pub fn selects_show_rows()
     ensures { SelectsShowRows }
 {}
@@ -125,7 +126,8 @@ pub fn shown_stays()
 
 /// What SHOW BOUNDS shows: whichever of the open reservations are applied, each column and each
 /// declared check of the row comes to a value between the two bounds that are shown of it, and some
-/// choice brings it to each of the two; the bounds of a check are within its limits.
+/// choice brings it to each of the two; the bounds of a check are within its limits. Each is in units
+/// of the scale that is shown with it.
 pub fn bounds_are_reached()
     ensures { BoundsAreReached }
 {}
@@ -224,7 +226,7 @@ pub fn own_increment_not_spent()
 {}
 
 /// What a check refuses would be unsafe: with the new reservation some choice of the open ones brings
-/// the named check to the named worst value, beyond its limit.
+/// the named check to the named worst value, beyond its limit, both in units of the check's scale.
 pub fn refused_by_a_choice()
     ensures { RefusedByAChoice }
 {}

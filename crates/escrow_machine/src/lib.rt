@@ -12,5 +12,5 @@ mod reply;
 mod settled;
 
 pub use event::Event;
-pub use reply::{CheckBounds, ColumnBounds, ColumnChange, JournalEntry, Reply};
+pub use reply::{CheckBounds, ColumnBounds, ColumnChange, Heading, JournalEntry, Reply};
 pub use settled::{Settled, Stop};

@@ -1,8 +1,8 @@
 ghost use Rattle.std.specs.Prelude.{◌≡◌, ◌↔◌, IfOk, IsOk, IsTrue, false};
 
 use escrow_num::{
-    Amount, Failure, Name, Refusal, RowName, Seq, Session, Span, Text, Value, Wide, are_same,
-    copy_all,
+    Amount, Failure, Name, Refusal, RowName, Scale, Seq, Session, Span, Text, Value, Wide,
+    are_same, copy_all,
 };
 use std::alloc::{AllocError, Global};
 
@@ -27,9 +27,10 @@ pub enum Reply {
     },
     /// Rows of a table are shown.
     Rows {
-        /// The names of the table's columns, in order.
-        columns: Seq<Name>,
-        /// Each row's values, in column order. The rows are in order of key.
+        /// The headings of the table's columns, in order.
+        columns: Seq<Heading>,
+        /// Each row's values, in column order: a number in units of its column's scale. The rows are in
+        /// order of key.
         rows: Seq<Seq<Value>>,
     },
     /// A table is shown: the text that defines it.
@@ -64,6 +65,16 @@ pub enum Reply {
     Restarted,
 }
 
+/// What stands over the values of a column that is shown.
+#[derive(Clone, Copy, Debug)]
+pub struct Heading {
+    /// The column's name.
+    pub name: Name,
+    /// The digits behind the point with which the column's numbers are shown: its type's, and 0
+    /// where it is one of texts.
+    pub scale: Scale,
+}
+
 /// An open reservation, as SHOW JOURNAL shows it.
 #[derive(Debug, Drop)]
 pub struct JournalEntry {
@@ -73,6 +84,9 @@ pub struct JournalEntry {
     pub session: Session,
     /// The row that it changes.
     pub row: RowName,
+    /// The digits behind the point with which the row's key is shown, where it is a number: those
+    /// of the key column's type. 0 where it is a text.
+    pub key_scale: Scale,
     /// The changes of the columns that its UPDATE assigned, in column order.
     pub changes: Seq<ColumnChange>,
 }
@@ -82,15 +96,20 @@ pub struct JournalEntry {
 pub struct ColumnChange {
     /// The column's name.
     pub column: Name,
-    /// What is added to its amount.
+    /// The digits behind the point with which the change is shown: those of the column's type.
+    pub scale: Scale,
+    /// What is added to its amount, in units of that scale.
     pub change: Amount,
 }
 
-/// The bounds of a RESERVABLE column of a row: O'Neil's `inf` and `sup` (1986).
+/// The bounds of a RESERVABLE column of a row: O'Neil's `inf` and `sup` (1986). The amounts are in
+/// units of its scale.
 #[derive(Clone, Copy, Debug)]
 pub struct ColumnBounds {
     /// The column's name.
     pub column: Name,
+    /// The digits behind the point with which its amounts are shown: those of the column's type.
+    pub scale: Scale,
     /// Its committed amount.
     pub value: Amount,
     /// The least that it can come to, whichever of the open reservations are applied.
@@ -99,11 +118,13 @@ pub struct ColumnBounds {
     pub sup: Wide,
 }
 
-/// The bounds of a check of a row.
+/// The bounds of a check of a row. The values of its form and its limits are in units of its scale.
 #[derive(Clone, Copy, Debug)]
 pub struct CheckBounds {
     /// The check's name.
     pub check: Name,
+    /// The digits behind the point with which the values of its form are shown: the check's.
+    pub scale: Scale,
     /// The least value that its form can come to, whichever of the open reservations are applied.
     pub least: Wide,
     /// The greatest value that its form can come to.

@@ -1,6 +1,7 @@
 ghost use Rattle.std.specs.Prelude.{◌≡◌, ◌↔◌, IfOk, IsTrue};
 
 use crate::amount::Amount;
+use crate::decimal::Decimal;
 use crate::name::Name;
 use crate::row::Row;
 use crate::seq::Seq;
@@ -60,6 +61,16 @@ impl Copied for Amount {
     }
 
     fn is_same(&self, other: &Amount) -> bool {
+        *self == *other
+    }
+}
+
+impl Copied for Decimal {
+    fn copy(&self, _: Global) -> Result<Decimal, AllocError> {
+        Ok(*self)
+    }
+
+    fn is_same(&self, other: &Decimal) -> bool {
         *self == *other
     }
 }

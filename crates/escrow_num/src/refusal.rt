@@ -3,12 +3,13 @@ ghost use Rattle.escrow_num.specs.Refusal.{number_of};
 
 use crate::failure::Failure;
 use crate::name::Name;
+use crate::scale::Scale;
 use crate::span::Side;
 use crate::wide::Wide;
 use std::alloc::{AllocError, AllocFailed};
 
 /// The limit of a check that a change could break: the check's name, the side, the worst value on
-/// that side, and the limit beyond which it lies.
+/// that side, and the limit beyond which it lies. Both numbers are in units of the check's scale.
 #[derive(Clone, Copy, Debug, PartialEq, Eq)]
 pub struct Breach {
     /// The check's name.
@@ -19,14 +20,20 @@ pub struct Breach {
     pub worst: Wide,
     /// The limit of that side.
     pub limit: Wide,
+    /// How many digits the two numbers have behind the point: the check's scale.
+    pub scale: Scale,
 }
 
 impl Breach {
-    /// Whether two are the same: the check, the side, the worst value and the limit.
+    /// Whether two are the same: the check, the side, the worst value, the limit and the scale.
     pub fn is_same(&self, other: &Breach) -> bool
         ensures { IsTrue result ↔ (self.now ≡ other.now) }
     {
-        *self == *other
+        self.check == other.check
+            && self.side == other.side
+            && self.worst == other.worst
+            && self.limit == other.limit
+            && self.scale == other.scale
     }
 }
 

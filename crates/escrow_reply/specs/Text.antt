@@ -1,6 +1,5 @@
 -- Believed: a reply's lines, to the byte.
-use Rattle.std.specs.Prelude.{ℕ, ℤ, if◌then◌else◌, Option, Some, None, List, [], ◌∷◌, ◌++◌, length, map, codes, decimal}
-use Rattle.std.specs.Fmt.{signed_decimal}
+use Rattle.std.specs.Prelude.{ℕ, suc, ℤ, if◌then◌else◌, Option, Some, None, unwrap_or, option_map, List, [], ◌∷◌, ◌++◌, length, map, slice_get, codes, decimal}
 use Rattle.std.specs.Int.{is_negative}
 use Rattle.std.specs.List.{flat_map, join_by}
 use Rattle.escrow_num.specs.declared.span.Side.{Side}
@@ -9,12 +8,14 @@ use Rattle.escrow_num.specs.declared.refusal.Breach.{Breach}
 use Rattle.escrow_num.specs.declared.refusal.Refusal.{Refusal}
 use Rattle.escrow_num.specs.declared.refusal.Refusal.TheVariants as refusal
 use Rattle.escrow_num.specs.Refusal.{number_of}
+use Rattle.escrow_num.specs.Scaled.{scaled_text}
 use Rattle.escrow_num.specs.declared.value.Value.{Value}
 use Rattle.escrow_num.specs.declared.value.Value.TheVariants as value
 use Rattle.escrow_sql.specs.Lex.{doubled}
 use Rattle.escrow_machine.specs.declared.reply.CheckBounds.{CheckBounds}
 use Rattle.escrow_machine.specs.declared.reply.ColumnBounds.{ColumnBounds}
 use Rattle.escrow_machine.specs.declared.reply.ColumnChange.{ColumnChange}
+use Rattle.escrow_machine.specs.declared.reply.Heading.{Heading}
 use Rattle.escrow_machine.specs.declared.reply.JournalEntry.{JournalEntry}
 use Rattle.escrow_machine.specs.declared.reply.Reply.{Reply}
 use Rattle.escrow_machine.specs.declared.reply.Reply.TheVariants as reply
@@ -25,22 +26,32 @@ use Rattle.escrow_machine.specs.declared.reply.Reply.TheVariants as reply
 abbrev pub quoted : List ℕ → List ℕ
 quoted text = codes "'" ++ doubled text ++ codes "'"
 
--- a value: a number in decimal with a minus where it is negative, or a text in quotes
-abbrev pub value_text : Value → List ℕ
-value_text (value.Number number) = signed_decimal number
-value_text (value.Text text) = quoted text
+-- a value of a column of a scale: a number in decimal with just as many digits behind the point, and with
+-- a minus where it is negative, or a text in quotes
+abbrev pub value_text : ℕ → Value → List ℕ
+value_text scale (value.Number units) = scaled_text scale units
+value_text scale (value.Text text) = quoted text
 
 -- what stands between two columns
 abbrev pub bar : List ℕ
 bar = codes " | "
 
--- the values of a row
-abbrev pub row_text : List Value → List ℕ
-row_text values = join_by value_text bar values
+-- the scale of the k-th column, from 0; past the columns, where no row of a table has a value, 0
+abbrev pub scale_at : List Heading → ℕ → ℕ
+scale_at headings k = unwrap_or (option_map (λ heading. heading.scale) (slice_get headings k)) 0
+
+-- the values of a row from the k-th on, each with the scale of the column at its place
+abbrev pub value_texts : List Heading → ℕ → List Value → List (List ℕ)
+value_texts headings k [] = []
+value_texts headings k (v ∷ values) = value_text (scale_at headings k) v ∷ value_texts headings (suc k) values
+
+-- the values of a row, with a bar between each two
+abbrev pub row_text : List Heading → List Value → List ℕ
+row_text headings values = join_by (λ text. text) bar (value_texts headings 0 values)
 
 -- the names of columns
-abbrev pub header_text : List (List ℕ) → List ℕ
-header_text names = join_by (λ name. name) bar names
+abbrev pub header_text : List Heading → List ℕ
+header_text headings = join_by (λ heading. heading.name) bar headings
 
 -- REFUSALS
 
@@ -49,9 +60,9 @@ abbrev pub side_text : Side → List ℕ
 side_text side.Low = codes "low"
 side_text side.High = codes "high"
 
--- a limit that could be broken: the check, the side, the worst value, the limit
+-- a limit that could be broken: the check, the side, the worst value, the limit, both with the check's scale
 abbrev pub breach_text : Breach → List ℕ
-breach_text b = b.check ++ codes " " ++ side_text b.side ++ codes " " ++ signed_decimal b.worst ++ codes " limit " ++ signed_decimal b.limit
+breach_text b = b.check ++ codes " " ++ side_text b.side ++ codes " " ++ scaled_text b.scale b.worst ++ codes " limit " ++ scaled_text b.scale b.limit
 
 -- the words for a refusal
 abbrev pub refusal_text : Refusal → List ℕ
@@ -83,35 +94,37 @@ refusal_text refusal.UnknownVersion = codes "unknown version"
 
 -- BOUNDS
 
--- a column's bounds: its committed value, the least and the greatest that it can come to
+-- a column's bounds, with its scale: its committed value, the least and the greatest that it can come to
 unfoldable pub column_text : ColumnBounds → List ℕ
-column_text b = b.column ++ codes " value " ++ signed_decimal b.value ++ codes " inf " ++ signed_decimal b.inf ++ codes " sup " ++ signed_decimal b.sup
+column_text b =
+    b.column ++ codes " value " ++ scaled_text b.scale b.value ++ codes " inf " ++ scaled_text b.scale b.inf ++ codes " sup " ++ scaled_text b.scale b.sup
 
--- a limit, if there is one
-abbrev pub limit_text : Option ℤ → List ℕ
-limit_text None = codes "none"
-limit_text (Some limit) = signed_decimal limit
+-- a limit in units of a scale, if there is one
+abbrev pub limit_text : ℕ → Option ℤ → List ℕ
+limit_text scale None = codes "none"
+limit_text scale (Some limit) = scaled_text scale limit
 
--- a check's bounds: the least and the greatest value of its form, and its limits
+-- a check's bounds, with its scale: the least and the greatest value of its form, and its limits
 unfoldable pub check_text : CheckBounds → List ℕ
 check_text b =
-    codes "CHECK " ++ b.check ++ codes " least " ++ signed_decimal b.least ++ codes " greatest " ++ signed_decimal b.greatest
-    ++ codes " low " ++ limit_text b.limits.lo ++ codes " high " ++ limit_text b.limits.hi
+    codes "CHECK " ++ b.check ++ codes " least " ++ scaled_text b.scale b.least ++ codes " greatest " ++ scaled_text b.scale b.greatest
+    ++ codes " low " ++ limit_text b.scale b.limits.lo ++ codes " high " ++ limit_text b.scale b.limits.hi
 
 -- OPEN RESERVATIONS
 
--- a change, with its sign: a plus where it isn't negative
-abbrev pub signed_text : ℤ → List ℕ
-signed_text change = if is_negative change then signed_decimal change else codes "+" ++ signed_decimal change
+-- a change in units of a scale, with its sign: a plus where it isn't negative
+abbrev pub signed_text : ℕ → ℤ → List ℕ
+signed_text scale change = if is_negative change then scaled_text scale change else codes "+" ++ scaled_text scale change
 
--- the change of a column
+-- the change of a column, with its scale
 abbrev pub change_text : ColumnChange → List ℕ
-change_text c = codes " " ++ c.column ++ codes " " ++ signed_text c.change
+change_text c = codes " " ++ c.column ++ codes " " ++ signed_text c.scale c.change
 
--- an open reservation: its id, its session, its row, and the change of each column that it assigns
+-- an open reservation: its id, its session, its row, and the change of each column that it assigns; the row's
+-- key has the scale of the key's column
 unfoldable pub entry_text : JournalEntry → List ℕ
 entry_text e =
-    decimal e.id ++ codes " session " ++ decimal e.session ++ codes " " ++ e.row.table ++ codes " " ++ value_text e.row.key
+    decimal e.id ++ codes " session " ++ decimal e.session ++ codes " " ++ e.row.table ++ codes " " ++ value_text e.key_scale e.row.key
     ++ flat_map change_text e.changes
 
 -- REPLIES
@@ -138,7 +151,7 @@ reply_text reply.Restarted = codes "OK restarted"
 -- the lines before the last one: the columns' names and each row, or a table's text, or the bounds of
 -- each column and each check, or each open reservation
 abbrev pub shown_lines : Reply → List (List ℕ)
-shown_lines (reply.Rows columns rows) = header_text columns ∷ map row_text rows
+shown_lines (reply.Rows columns rows) = header_text columns ∷ map (row_text columns) rows
 shown_lines (reply.Table text) = text ∷ []
 shown_lines (reply.Bounds columns checks) = map column_text columns ++ map check_text checks
 shown_lines (reply.Journal entries) = map entry_text entries

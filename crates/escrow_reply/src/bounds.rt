@@ -1,10 +1,9 @@
 ghost use Rattle.std.specs.Prelude.{◌≡◌, ◌++◌, ◌∷◌, [], map, OnOk, codes};
-ghost use Rattle.std.specs.Fmt.{signed_decimal};
 ghost use Rattle.escrow_reply.specs.Text.{with_prefix, column_text, check_text, limit_text};
 
 use crate::push::{push_bytes, push_measure, push_text};
 use escrow_machine::{CheckBounds, ColumnBounds};
-use escrow_num::{Span, Wide};
+use escrow_num::{Scale, Span, Wide};
 use std::alloc::AllocError;
 
 /// A line for each column's bounds.
@@ -67,8 +66,10 @@ fn push_column(line: &mut Vec<u8>, bounds: &ColumnBounds) -> Result<(), AllocErr
     ensures { OnOk result (line.new.items ≡ line.old.items ++ column_text bounds.now) }
 {
     push_bytes(line, bounds.column.as_bytes())?;
-    push_measure(line, " value ", i128::from(bounds.value.get()))?;
-    push_extremes(line, " inf ", bounds.inf, " sup ", bounds.sup)
+    let scale = bounds.scale;
+    push_measure(line, " value ", Wide::from(bounds.value), scale)?;
+    push_measure(line, " inf ", bounds.inf, scale)?;
+    push_measure(line, " sup ", bounds.sup, scale)
 }
 
 /// A check's name, the least and the greatest value of its form, and its limits.
@@ -78,38 +79,30 @@ fn push_check(line: &mut Vec<u8>, bounds: &CheckBounds) -> Result<(), AllocError
 {
     push_text(line, "CHECK ")?;
     push_bytes(line, bounds.check.as_bytes())?;
-    push_extremes(line, " least ", bounds.least, " greatest ", bounds.greatest)?;
-    push_limits(line, bounds.limits)
+    push_measure(line, " least ", bounds.least, bounds.scale)?;
+    push_measure(line, " greatest ", bounds.greatest, bounds.scale)?;
+    push_limits(line, bounds.limits, bounds.scale)
 }
 
-/// The least and the greatest value of a form, each behind its words.
-fn push_extremes(
-    line: &mut Vec<u8>,
-    low: &str,
-    least: Wide,
-    high: &str,
-    greatest: Wide,
-) -> Result<(), AllocError>
-    ensures { OnOk result (line.new.items ≡ line.old.items ++ (low.now ++ signed_decimal least ++ high.now ++ signed_decimal greatest)) }
+/// The limits of a check, in units of its scale.
+fn push_limits(line: &mut Vec<u8>, limits: Span, scale: Scale) -> Result<(), AllocError>
+    ensures { OnOk result (line.new.items ≡ line.old.items ++ (codes " low " ++ limit_text scale limits.lo ++ codes " high " ++ limit_text scale limits.hi)) }
 {
-    push_measure(line, low, least.get())?;
-    push_measure(line, high, greatest.get())
-}
-
-/// The limits of a check.
-fn push_limits(line: &mut Vec<u8>, limits: Span) -> Result<(), AllocError>
-    ensures { OnOk result (line.new.items ≡ line.old.items ++ (codes " low " ++ limit_text limits.lo ++ codes " high " ++ limit_text limits.hi)) }
-{
-    push_limit(line, " low ", limits.lo)?;
-    push_limit(line, " high ", limits.hi)
+    push_limit(line, " low ", limits.lo, scale)?;
+    push_limit(line, " high ", limits.hi, scale)
 }
 
 /// Words and a limit behind them, or `none` where there isn't one.
-fn push_limit(line: &mut Vec<u8>, words: &str, limit: Option<Wide>) -> Result<(), AllocError>
-    ensures { OnOk result (line.new.items ≡ line.old.items ++ (words.now ++ limit_text limit)) }
+fn push_limit(
+    line: &mut Vec<u8>,
+    words: &str,
+    limit: Option<Wide>,
+    scale: Scale,
+) -> Result<(), AllocError>
+    ensures { OnOk result (line.new.items ≡ line.old.items ++ (words.now ++ limit_text scale limit)) }
 {
     match limit {
-        Some(limit) => push_measure(line, words, limit.get()),
+        Some(limit) => push_measure(line, words, limit, scale),
         None => {
             push_text(line, words)?;
             push_text(line, "none")

@@ -2,10 +2,10 @@ ghost use Rattle.std.specs.Prelude.{◌≡◌, ◌++◌, ◌∷◌, [], map, OnO
 ghost use Rattle.std.specs.List.{flat_map};
 ghost use Rattle.escrow_reply.specs.Text.{with_prefix, entry_text, change_text, signed_text};
 
-use crate::push::{push_bytes, push_counted, push_number, push_signed, push_text};
+use crate::push::{push_bytes, push_counted, push_number, push_text, push_units};
 use crate::values::push_value;
 use escrow_machine::{ColumnChange, JournalEntry};
-use escrow_num::Amount;
+use escrow_num::{Amount, Scale, Wide};
 use std::alloc::AllocError;
 
 /// A line for each open reservation.
@@ -45,7 +45,7 @@ fn push_entry(line: &mut Vec<u8>, entry: &JournalEntry) -> Result<(), AllocError
     push_text(line, " ")?;
     push_bytes(line, entry.row.table.as_bytes())?;
     push_text(line, " ")?;
-    push_value(line, &entry.row.key)?;
+    push_value(line, &entry.row.key, entry.key_scale)?;
     push_changes(line, entry.changes.as_slice())
 }
 
@@ -66,16 +66,15 @@ fn push_change(line: &mut Vec<u8>, change: &ColumnChange) -> Result<(), AllocErr
     push_text(line, " ")?;
     push_bytes(line, change.column.as_bytes())?;
     push_text(line, " ")?;
-    push_with_sign(line, change.change)
+    push_with_sign(line, change.change, change.scale)
 }
 
-/// A change with its sign: a plus where it isn't negative.
-fn push_with_sign(line: &mut Vec<u8>, change: Amount) -> Result<(), AllocError>
-    ensures { OnOk result (line.new.items ≡ line.old.items ++ signed_text change) }
+/// A change in units of a scale, with its sign: a plus where it isn't negative.
+fn push_with_sign(line: &mut Vec<u8>, change: Amount, scale: Scale) -> Result<(), AllocError>
+    ensures { OnOk result (line.new.items ≡ line.old.items ++ signed_text scale change) }
 {
-    let number = change.get();
-    if number >= 0 {
+    if change.get() >= 0 {
         push_text(line, "+")?;
     }
-    push_signed(line, i128::from(number))
+    push_units(line, Wide::from(change), scale)
 }

@@ -6,8 +6,8 @@ use crate::journal::push_entry_lines;
 use crate::push::{push_bytes, push_number, push_text};
 use crate::values::{push_header, push_row};
 use crate::words::push_words;
-use escrow_machine::Reply;
-use escrow_num::{Name, Seq, Session, Value};
+use escrow_machine::{Heading, Reply};
+use escrow_num::{Seq, Session, Value};
 use std::alloc::{AllocError, Global};
 
 /// How many bytes the longest prefix takes: `bank16.64> `.
@@ -87,7 +87,7 @@ fn push_shown(lines: &mut Vec<u8>, prefix: &[u8], reply: &Reply) -> Result<(), A
     match reply {
         Reply::Rows { columns, rows } => {
             push_header_line(lines, prefix, columns.as_slice())?;
-            push_row_lines(lines, prefix, rows.as_slice())
+            push_row_lines(lines, prefix, columns.as_slice(), rows.as_slice())
         }
         Reply::Table(text) => push_line(lines, prefix, text.as_str()),
         Reply::Bounds { columns, checks } => {
@@ -109,29 +109,43 @@ fn push_line(lines: &mut Vec<u8>, prefix: &[u8], text: &str) -> Result<(), Alloc
 }
 
 /// A line of the columns' names.
-fn push_header_line(lines: &mut Vec<u8>, prefix: &[u8], names: &[Name]) -> Result<(), AllocError>
-    ensures { OnOk result (lines.new.items ≡ lines.old.items ++ with_prefix prefix.now (header_text names.now ∷ [])) }
+fn push_header_line(
+    lines: &mut Vec<u8>,
+    prefix: &[u8],
+    headings: &[Heading],
+) -> Result<(), AllocError>
+    ensures { OnOk result (lines.new.items ≡ lines.old.items ++ with_prefix prefix.now (header_text headings.now ∷ [])) }
 {
     push_bytes(lines, prefix)?;
-    push_header(lines, names)?;
+    push_header(lines, headings)?;
     push_text(lines, "\n")
 }
 
-/// A line for each row.
-fn push_row_lines(lines: &mut Vec<u8>, prefix: &[u8], rows: &[Seq<Value>]) -> Result<(), AllocError>
-    ensures { OnOk result (lines.new.items ≡ lines.old.items ++ with_prefix prefix.now (map row_text rows.now)) }
+/// A line for each row under the headings.
+fn push_row_lines(
+    lines: &mut Vec<u8>,
+    prefix: &[u8],
+    headings: &[Heading],
+    rows: &[Seq<Value>],
+) -> Result<(), AllocError>
+    ensures { OnOk result (lines.new.items ≡ lines.old.items ++ with_prefix prefix.now (map (row_text headings.now) rows.now)) }
 {
     for row in rows {
-        push_row_line(lines, prefix, row.as_slice())?;
+        push_row_line(lines, prefix, headings, row.as_slice())?;
     }
     Ok(())
 }
 
 /// A line of a row's values.
-fn push_row_line(lines: &mut Vec<u8>, prefix: &[u8], values: &[Value]) -> Result<(), AllocError>
-    ensures { OnOk result (lines.new.items ≡ lines.old.items ++ with_prefix prefix.now (row_text values.now ∷ [])) }
+fn push_row_line(
+    lines: &mut Vec<u8>,
+    prefix: &[u8],
+    headings: &[Heading],
+    values: &[Value],
+) -> Result<(), AllocError>
+    ensures { OnOk result (lines.new.items ≡ lines.old.items ++ with_prefix prefix.now (row_text headings.now values.now ∷ [])) }
 {
     push_bytes(lines, prefix)?;
-    push_row(lines, values)?;
+    push_row(lines, headings, values)?;
     push_text(lines, "\n")
 }

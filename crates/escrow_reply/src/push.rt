@@ -1,7 +1,9 @@
 ghost use Rattle.std.specs.Prelude.{◌≡◌, ◌+◌, ◌++◌, OnOk, length, decimal};
 ghost use Rattle.std.specs.Fmt.{signed_decimal};
+ghost use Rattle.escrow_num.specs.Scaled.{scaled_text};
 ghost use Rattle.escrow_reply.specs.Room.{TakesRoom};
 
+use escrow_num::{Scale, Scaled, Wide};
 use itoa::Buffer;
 use std::alloc::AllocError;
 
@@ -28,8 +30,22 @@ pub(crate) fn push_number(line: &mut Vec<u8>, number: u64) -> Result<(), AllocEr
     push_text(line, digits.format(number))
 }
 
-/// A number in decimal, with a minus where it is negative.
-pub(crate) fn push_signed(line: &mut Vec<u8>, number: i128) -> Result<(), AllocError>
+/// Units of a scale: as many digits behind the point as the scale has, with a minus where the number
+/// is negative.
+#[tactic(auto, using(crate::proofs::Whole::whole_units))]
+pub(crate) fn push_units(line: &mut Vec<u8>, units: Wide, scale: Scale) -> Result<(), AllocError>
+    ensures text { OnOk result (line.new.items ≡ line.old.items ++ scaled_text scale units) }
+    ensures room { TakesRoom result line.old line.new 40 }
+{
+    if scale.get() == 0 {
+        push_whole(line, units.get())
+    } else {
+        push_bytes(line, Scaled::new(units, scale).as_bytes())
+    }
+}
+
+/// A whole number in decimal, with a minus where it is negative.
+fn push_whole(line: &mut Vec<u8>, number: i128) -> Result<(), AllocError>
     ensures text { OnOk result (line.new.items ≡ line.old.items ++ signed_decimal number) }
     ensures room { TakesRoom result line.old line.new 40 }
 {
@@ -37,13 +53,18 @@ pub(crate) fn push_signed(line: &mut Vec<u8>, number: i128) -> Result<(), AllocE
     push_text(line, digits.format(number))
 }
 
-/// Words and a number behind them, with a minus where it is negative.
-pub(crate) fn push_measure(line: &mut Vec<u8>, words: &str, number: i128) -> Result<(), AllocError>
-    ensures text { OnOk result (line.new.items ≡ line.old.items ++ (words.now ++ signed_decimal number)) }
+/// Words and units of a scale behind them.
+pub(crate) fn push_measure(
+    line: &mut Vec<u8>,
+    words: &str,
+    units: Wide,
+    scale: Scale,
+) -> Result<(), AllocError>
+    ensures text { OnOk result (line.new.items ≡ line.old.items ++ (words.now ++ scaled_text scale units)) }
     ensures room { TakesRoom result line.old line.new (length words.now + 40) }
 {
     push_text(line, words)?;
-    push_signed(line, number)
+    push_units(line, units, scale)
 }
 
 /// Words and a number behind them.

@@ -1,50 +1,65 @@
 ghost use Rattle.std.specs.Prelude.{◌≡◌, ◌++◌, ◌∷◌, [], OnOk};
 ghost use Rattle.escrow_sql.specs.Lex.{doubled};
-ghost use Rattle.escrow_reply.specs.Text.{quoted, value_text, row_text, header_text};
+ghost use Rattle.escrow_reply.specs.Text.{header_text, quoted, row_text, scale_at, value_text};
 
-use crate::push::{push_bytes, push_signed, push_text};
-use escrow_num::{Name, Value};
+use crate::push::{push_bytes, push_text, push_units};
+use escrow_machine::Heading;
+use escrow_num::{Scale, Value, Wide};
 use std::alloc::AllocError;
 
 /// What stands between two columns.
 const BAR: &str = " | ";
 
 /// The names of columns, with a bar between each two.
-pub(crate) fn push_header(line: &mut Vec<u8>, names: &[Name]) -> Result<(), AllocError>
-    ensures { OnOk result (line.new.items ≡ line.old.items ++ header_text names.now) }
+pub(crate) fn push_header(line: &mut Vec<u8>, headings: &[Heading]) -> Result<(), AllocError>
+    ensures { OnOk result (line.new.items ≡ line.old.items ++ header_text headings.now) }
 {
-    let [first, others @ ..] = names else {
+    let [first, others @ ..] = headings else {
         return Ok(());
     };
-    push_bytes(line, first.as_bytes())?;
-    for name in others {
+    push_bytes(line, first.name.as_bytes())?;
+    for heading in others {
         push_text(line, BAR)?;
-        push_bytes(line, name.as_bytes())?;
+        push_bytes(line, heading.name.as_bytes())?;
     }
     Ok(())
 }
 
-/// The values of a row, with a bar between each two.
-pub(crate) fn push_row(line: &mut Vec<u8>, values: &[Value]) -> Result<(), AllocError>
-    ensures { OnOk result (line.new.items ≡ line.old.items ++ row_text values.now) }
+/// The values of a row under the headings, with a bar between each two.
+pub(crate) fn push_row(
+    line: &mut Vec<u8>,
+    headings: &[Heading],
+    values: &[Value],
+) -> Result<(), AllocError>
+    ensures { OnOk result (line.new.items ≡ line.old.items ++ row_text headings.now values.now) }
 {
-    let [first, others @ ..] = values else {
+    if values.is_empty() {
         return Ok(());
-    };
-    push_value(line, first)?;
-    for value in others {
+    }
+    push_value(line, &values[0], scale_at(headings, 0))?;
+    for place in 1..values.len() {
         push_text(line, BAR)?;
-        push_value(line, value)?;
+        push_value(line, &values[place], scale_at(headings, place))?;
     }
     Ok(())
 }
 
-/// A value: a number in decimal, or a text in quotes.
-pub(crate) fn push_value(line: &mut Vec<u8>, value: &Value) -> Result<(), AllocError>
-    ensures { OnOk result (line.new.items ≡ line.old.items ++ value_text value.now) }
+/// The scale of the values at a place, from 0, under the headings.
+fn scale_at(headings: &[Heading], place: usize) -> Scale
+    ensures { result ≡ scale_at headings.now place }
+{
+    match headings.get(place) {
+        Some(heading) => heading.scale,
+        None => Scale::ZERO,
+    }
+}
+
+/// A value: a number, of units of a scale, in decimal, or a text in quotes.
+pub(crate) fn push_value(line: &mut Vec<u8>, value: &Value, scale: Scale) -> Result<(), AllocError>
+    ensures { OnOk result (line.new.items ≡ line.old.items ++ value_text scale value.now) }
 {
     match value {
-        Value::Number(number) => push_signed(line, i128::from(number.get())),
+        Value::Number(units) => push_units(line, Wide::from(*units), scale),
         Value::Text(text) => push_quoted(line, text.as_str()),
     }
 }

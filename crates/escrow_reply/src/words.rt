@@ -108,8 +108,8 @@ fn push_breach(line: &mut Vec<u8>, breach: &Breach) -> Result<(), AllocError>
 {
     push_bytes(line, breach.check.as_bytes())?;
     push_text(line, side_words(breach.side))?;
-    push_measure(line, " ", breach.worst.get())?;
-    push_measure(line, " limit ", breach.limit.get())
+    push_measure(line, " ", breach.worst, breach.scale)?;
+    push_measure(line, " limit ", breach.limit, breach.scale)
 }
 
 /// The word for a side, behind a space.

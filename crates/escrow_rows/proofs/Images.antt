@@ -1,13 +1,14 @@
 -- What steps make of an image.
-use Rattle.std.proofs.Common.{List, map, fold, flat_map, ◌∙◌, IsPermutation}
+use Rattle.std.proofs.Common.{List, map, fold, flat_map, sym, ◌∙◌, subst, IsPermutation}
 use Rattle.std.proofs.lemmas.List.Sorted.{IsPermutation-trans}
 use Rattle.sqlite.specs.Effect.{Database}
 use Rattle.escrow_num.specs.declared.row.Row.{Row}
 use Rattle.escrow_cells.specs.declared.step.Step.{Step}
 use Rattle.escrow_cells.specs.Step.{Contents, contents, done, Does}
+use Rattle.escrow_cells.specs.Store.{Migrates as MigratesStore}
 use Rattle.escrow_rows.specs.declared.stored.StoredTable.{StoredTable}
 use Rattle.escrow_rows.specs.Image.{IsImage, AreTables, AreRows, tab_row, cells_of}
-use Rattle.escrow_rows.specs.Changes.{Stands, TurnsRows}
+use Rattle.escrow_rows.specs.Changes.{Stands, TurnsRows, Migrates}
 
 -- the rows of CELL and of TAB are those of tables and rows, in any order
 pub record Encodes (tables : List StoredTable) (rows : List Row) (c : Contents) : Type 0 where
@@ -27,7 +28,18 @@ image_after steps tables after rows turned old new does turns image =
       cells_are = IsPermutation-trans _ _ _ is.cells_are holds.cells_are;
     }
 
--- the same, of a call that names one of the tables and leaves them all
+-- a store that is brought to the known format is the image of what it was the image of before
+pub image_migrated : (old new : Database) → MigratesStore old new → Migrates old new
+image_migrated old new migrates number tables rows image =
+    let has = migrates number image.store image.format_is in
+    record {
+      store = has.store;
+      format_is = has.metas_are;
+      tabs_are = subst (IsPermutation (map tab_row tables)) (sym has.tabs_are) image.tabs_are;
+      cells_are = subst (IsPermutation (flat_map (cells_of tables) rows)) (sym has.cells_are) image.cells_are;
+    }
+
+-- the same as of steps, of a call that names one of the tables and leaves them all
 pub rows_after : (steps : List Step) (s : StoredTable) (after : List Row → List Row) (old new : Database) → Does steps old new
     → ((tables : List StoredTable) (rows : List Row) → AreTables tables → AreRows tables rows → Stands tables s
     → (c : Contents) → Encodes tables rows c → Encodes tables (after rows) (fold done c steps))

@@ -9,7 +9,7 @@ use Rattle.escrow_num.specs.Order.{same_row}
 use Rattle.escrow_schema.specs.Rows.{with_row, without_row, without_rows_of, replaced, with_plain}
 use Rattle.escrow_rows.specs.declared.stored.StoredTable.{StoredTable}
 use Rattle.escrow_rows.specs.declared.amounts.NewAmounts.{NewAmounts}
-use Rattle.escrow_rows.specs.Image.{IsImage, AreTables, AreRows, stored_named}
+use Rattle.escrow_rows.specs.Image.{IsImage, IsImageIn, AreTables, AreRows, stored_named}
 
 -- a table is one of those that stand
 abbrev pub Stands : List StoredTable → StoredTable → Type 0
@@ -20,6 +20,11 @@ Stands tables s = stored_named tables s.table.name ≡ Some s
 abbrev pub TurnsRows : StoredTable → (List Row → List Row) → Database → Database → Type 0
 TurnsRows s after old new =
     (tables : List StoredTable) (rows : List Row) → AreTables tables → AreRows tables rows → Stands tables s → IsImage tables rows old → IsImage tables (after rows) new
+
+-- a migration: whatever format a database was the image of tables and rows in, it is now their image in the
+-- known one
+abbrev pub Migrates : Database → Database → Type 0
+Migrates old new = (number : ℤ) (tables : List StoredTable) (rows : List Row) → IsImageIn number tables rows old → IsImage tables rows new
 
 -- the name of the row of a key, in a table
 abbrev pub name_in : StoredTable → Value → RowName

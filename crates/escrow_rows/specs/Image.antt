@@ -17,6 +17,7 @@ use Rattle.escrow_schema.specs.Definition.{IsTable}
 use Rattle.escrow_schema.specs.Fit.{IsRowOf, values_of}
 use Rattle.escrow_schema.specs.Print.{canonical}
 use Rattle.escrow_schema.specs.Rows.{row_before, rows_of}
+use Rattle.escrow_cells.specs.declared.formats.TheConstants.{FORMAT}
 use Rattle.escrow_cells.specs.Store.{IsStore, format, metas, tabs, cells}
 use Rattle.escrow_rows.specs.declared.stored.StoredTable.{StoredTable}
 use Rattle.escrow_schema.specs.declared.table.TheConstants.TableDef.{MAX_ROWS}
@@ -52,12 +53,17 @@ stored_named tables name = find (λ s. bytes_eq s.table.name name) tables
 abbrev pub cells_of : List StoredTable → Row → List SqlRow
 cells_of tables row = unwrap_or (option_map (λ s. cells_in s row) (stored_named tables row.name.table)) []
 
--- THE IMAGE: META has the version of the format, TAB a row for each table, and CELL the cells of each row
-pub record IsImage (tables : List StoredTable) (rows : List Row) (db : Database) : Type 0 where
+-- THE IMAGE in the format of a number: META has this number, TAB a row for each table, and CELL the cells of
+-- each row
+pub record IsImageIn (number : ℤ) (tables : List StoredTable) (rows : List Row) (db : Database) : Type 0 where
   pub store : IsStore db
-  pub format_is : metas db ≡ format
+  pub format_is : metas db ≡ format number
   pub tabs_are : IsPermutation (map tab_row tables) (tabs db)
   pub cells_are : IsPermutation (flat_map (cells_of tables) rows) (cells db)
+
+-- the image in the known format
+abbrev pub IsImage : List StoredTable → List Row → Database → Type 0
+IsImage = IsImageIn FORMAT
 
 -- tables that can stand in a store together: each is one that some text defines, with a number from 1
 -- on; no two have one number or one name

@@ -15,6 +15,7 @@ mod insert;
 mod keyed_row;
 pub mod laws;
 mod listed;
+mod migration;
 mod plain;
 mod read;
 mod reader;

@@ -10,12 +10,13 @@ use Rattle.escrow_sql.specs.declared.statement.Literal.{Literal}
 use Rattle.escrow_schema.specs.declared.column.Column.{Column}
 use Rattle.escrow_schema.specs.declared.column.ColumnType.{ColumnType}
 use Rattle.escrow_schema.specs.declared.table.TableDef.{TableDef}
-use Rattle.escrow_schema.specs.Asked.{asked_values, is_list, literal_for, value_at, values_at}
-use Rattle.escrow_schema.specs.Column.{fits, value_in, value_of}
+use Rattle.escrow_schema.specs.Asked.{asked_value, asked_values, is_list, literal_for, values_at}
+use Rattle.escrow_schema.specs.Column.{scale_of, value_at, value_in}
 use Rattle.escrow_schema.specs.Definition.{are_distinct}
 use Rattle.escrow_schema.specs.Fit.{fitted, in_column_order, inserted_row, literal_beside, literals_beside, row_with, values_in}
 use Rattle.escrow_schema.proofs.DistinctLemmas.{first_apart, same_name}
 use Rattle.escrow_schema.proofs.FitLemmas.{as_many_values, pushed, row_some, some_from}
+use Rattle.escrow_schema.proofs.KeyValues.{value_in_at}
 use Rattle.escrow_schema.proofs.ListLemmas.{after, drop_item, mapped_some}
 
 nothing : (o : Option Value) (rest : Option (List Value)) → rest ≡ None → rest ≡ option_and_then (λ v. rest) o
@@ -36,7 +37,7 @@ beside_values : (names : List (List ℕ)) (literals : List Literal) (place : ℕ
 beside_values names literals place [] = refl
 beside_values names literals place (column ∷ columns) =
     step (literal_beside names literals column.name) (literals_beside names literals columns) column columns
-    ∙ ap (λ rest. option_and_then (λ v. option_map (λ vs. v ∷ vs) rest) (value_at (Some names) literals place column)) (beside_values names literals (place + 1) columns)
+    ∙ ap (λ rest. option_and_then (λ v. option_map (λ vs. v ∷ vs) rest) (asked_value (Some names) literals place column)) (beside_values names literals (place + 1) columns)
 
 -- and of literals as they stand
 standing_values : (literals all : List Literal) (place : ℕ) (columns : List Column) → length columns ≡ length literals
@@ -70,7 +71,7 @@ pub length-values_at : (names : Option (List (List ℕ))) (literals : List Liter
     → values_at names literals place columns ≡ Some values → length columns ≡ length values
 length-values_at names literals place [] values e = ap length (same_Some [] values e)
 length-values_at names literals place (column ∷ columns) values e =
-    option_and_then_some (λ v. option_map (λ vs. v ∷ vs) (values_at names literals (place + 1) columns)) (value_at names literals place column) values e
+    option_and_then_some (λ v. option_map (λ vs. v ∷ vs) (values_at names literals (place + 1) columns)) (asked_value names literals place column) values e
     (λ v here more. mapped_some (λ vs. v ∷ vs) (values_at names literals (place + 1) columns) values more
     (λ vs others whole.
     let rest = length-values_at names literals (place + 1) columns vs others in
@@ -105,14 +106,11 @@ no_row table text none = row_of_values table text ∙ go (asked_values table.col
     go None none = refl
     go (Some values) none = absurd (false≢true (sym none))
 
--- a literal that fits is its value
-pub value_pushed : (kind : ColumnType) (o : Option Literal) → is_some (option_and_then (value_in kind) o) ≡ true → option_map value_of o ≡ option_and_then (value_in kind) o
+-- a literal that fits is its value at the type's scale
+pub value_pushed : (kind : ColumnType) (o : Option Literal) → is_some (option_and_then (value_in kind) o) ≡ true
+    → option_and_then (value_at (scale_of kind)) o ≡ option_and_then (value_in kind) o
 value_pushed kind None some = absurd (false≢true some)
-value_pushed kind (Some l) some =
-    elim (cases_Bool (fits kind (value_of l))) [
-      | inl t ↦ rw t refl
-      | inr f ↦ absurd (false≢true (rw f at some))
-    ]
+value_pushed kind (Some l) some = let v = some_from (value_in kind l) some in value_in_at kind l v.0 v.1 ∙ sym v.1
 
 -- no literal stands beside a name where none is left
 beside_nothing : (names : List (List ℕ)) (name : List ℕ) → literal_beside names [] name ≡ None
@@ -142,16 +140,16 @@ list_of columns text some =
 pub one_more : (names : Option (List (List ℕ))) (literals : List Literal) (columns : List Column) (i : ℕ) (column : Column) (done values : List Value)
     → i < length columns → column ≡ get_or columns i column
     → after done (values_at names literals i (drop i columns)) ≡ values_at names literals 0 columns → is_some (values_at names literals 0 columns) ≡ true
-    → values ≡ done ++ option_to_list (option_map value_of (literal_for names literals i column.name))
+    → values ≡ done ++ option_to_list (option_and_then (value_at (scale_of column.kind)) (literal_for names literals i column.name))
     → after values (values_at names literals (i + 1) (drop (i + 1) columns)) ≡ values_at names literals 0 columns
 one_more names literals columns i column done values within at before some more =
     let c = drop_item columns i column within at in
     let split : after done (values_at names literals i (column ∷ drop (i + 1) columns)) ≡ values_at names literals 0 columns =
     subst (λ (cs : List Column). after done (values_at names literals i cs) ≡ values_at names literals 0 columns) c before in
-    let there : is_some (value_at names literals i column) ≡ true = first_there (value_at names literals i column) (values_at names literals (i + 1) (drop (i + 1) columns)) done (subst (λ o. is_some o ≡ true) (sym split) some) in
+    let there : is_some (asked_value names literals i column) ≡ true = first_there (asked_value names literals i column) (values_at names literals (i + 1) (drop (i + 1) columns)) done (subst (λ o. is_some o ≡ true) (sym split) some) in
     let same = value_pushed column.kind (literal_for names literals i column.name) there in
     subst (λ (vs : List Value). after vs (values_at names literals (i + 1) (drop (i + 1) columns)) ≡ values_at names literals 0 columns) (sym (more ∙ ap (λ o. done ++ option_to_list o) same))
-    (pushed (value_at names literals i column) (values_at names literals (i + 1) (drop (i + 1) columns)) (values_at names literals 0 columns) done split some)
+    (pushed (asked_value names literals i column) (values_at names literals (i + 1) (drop (i + 1) columns)) (values_at names literals 0 columns) done split some)
   where
     first_there : (o : Option Value) (rest : Option (List Value)) (done : List Value)
         → is_some (after done (option_and_then (λ v. option_map (λ vs. v ∷ vs) rest) o)) ≡ true → is_some o ≡ true

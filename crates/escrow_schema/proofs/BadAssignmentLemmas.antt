@@ -218,9 +218,10 @@ refused_where_bad table text is_table (inr (inr (inr (inr (inr h))))) =
 -- ---- where an UPDATE is refused for its assignments
 
 -- they are no changes, and no replacements
-neither_from : (a b : Bool) (k : Result Value Refusal) (changes : List (Option ℤ)) (values : Option (List (Option Value)))
+neither_from : (a b : Bool) (k : Result Value Refusal) (changes : Option (List (Option ℤ))) (values : Option (List (Option Value)))
     → ((r : Refusal) → k ≡ Err r → ¬ (r ≡ refusal.BadAssignment)) → plan_by a b k changes values ≡ Err refusal.BadAssignment → (a ≡ false) × (b ≡ false)
-neither_from true b (Ok key) changes values other e = absurd (cc)
+neither_from true b (Ok key) None values other e = absurd (cc)
+neither_from true b (Ok key) (Some cs) values other e = absurd (cc)
 neither_from true b (Err r) changes values other e = let same : r ≡ refusal.BadAssignment = cc in absurd (other r refl same)
 neither_from false true (Ok key) changes None other e = absurd (cc)
 neither_from false true (Ok key) changes (Some vs) other e = absurd (cc)

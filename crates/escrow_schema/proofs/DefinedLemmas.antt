@@ -14,7 +14,7 @@ use Rattle.escrow_checks.specs.WrittenName.{is_written_name}
 use Rattle.escrow_schema.specs.declared.column.Column.{Column}
 use Rattle.escrow_schema.specs.declared.table.TableDef.{TableDef}
 use Rattle.escrow_schema.specs.declared.table.TheConstants.TableDef.{MIN_COLUMNS, MAX_COLUMNS}
-use Rattle.escrow_schema.specs.Column.{is_numeric, reservables, names_of}
+use Rattle.escrow_schema.specs.Column.{is_numeric, reservables, names_of, scales_of}
 use Rattle.escrow_schema.specs.Definition.{are_columns, are_distinct, check_names, checks_in, definition_of, is_plain_at, key_place, only_one, place_of_column, range_checks, table_of, table_with}
 use Rattle.escrow_schema.specs.Rules.{FollowsRules}
 use Rattle.escrow_schema.proofs.DistinctLemmas.{distinct_back, first_apart, same_name}
@@ -67,7 +67,7 @@ with_key : (text : CreateText) (table : TableDef) → FollowsRules text table �
 with_key text table h =
     let written : is_written_name text.table ≡ true = subst (λ name. is_written_name name ≡ true) h.name h.written_names.0 in
     let follow = and_from (is_written_name text.table) (are_columns table.columns table.key) written (columns_follow text table h) in
-    let checks = checks_of (names_of (reservables table.columns)) (checks_in text.items) in
+    let checks = checks_of (names_of (reservables table.columns)) (scales_of (reservables table.columns)) (checks_in text.items) in
     subst (λ b. cond b (option_and_then (table_with text.table table.columns table.key) checks) None ≡ Some table) (sym follow)
     (subst (λ o. option_and_then (table_with text.table table.columns table.key) o ≡ Some table) (sym h.of_text) (with_checks text table h))
 

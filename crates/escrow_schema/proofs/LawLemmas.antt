@@ -13,11 +13,12 @@ use Rattle.escrow_sql.specs.declared.statement.CreateText.{CreateText}
 use Rattle.escrow_checks.specs.declared.check.Check.{Check}
 use Rattle.escrow_checks.specs.Condition.{MeetsText}
 use Rattle.escrow_checks.specs.Grant.{Meets}
+use Rattle.escrow_checks.specs.Scales.{in_millionths}
 use Rattle.escrow_checks.proofs.CheckNames.{checks_are_named}
 use Rattle.escrow_checks.proofs.ConditionLemmas.{checks_whole, mean_the_same}
 use Rattle.escrow_schema.specs.declared.column.Column.{Column}
 use Rattle.escrow_schema.specs.declared.table.TableDef.{TableDef}
-use Rattle.escrow_schema.specs.Column.{fits, reservables, names_of}
+use Rattle.escrow_schema.specs.Column.{fits, reservables, names_of, scales_of}
 use Rattle.escrow_schema.specs.Definition.{IsTable, are_distinct, check_names, checks_in, definition_of, range_check, range_checks}
 use Rattle.escrow_schema.specs.Fit.{FitColumns, IsRowOf, fitted, in_column_order, literals_beside, values_of}
 use Rattle.escrow_schema.specs.Laws.{NameOfTable, FewReservable, ChecksOfWholeRow, ChecksKeepAmounts, ChecksMeanConditions, DefinitionsFollowRules, FewChecks, NamesOfChecks, RowsOfTable, ValuesBesideNames, ValuesOfRow, ValuesFit}
@@ -31,7 +32,7 @@ use Rattle.escrow_schema.proofs.ListLemmas.{first_part, second_part, both_parts,
 use Rattle.escrow_schema.proofs.RangeLemmas.{fit_in_range, fitting_amounts, range_met}
 use Rattle.escrow_schema.proofs.RowLemmas.{KeyFits, NumericColumns, fit_at, fit_values, literal_at, made_values, plain_fits, values_from_fit}
 use Rattle.escrow_schema.proofs.DistinctLemmas.{distinct_from, one_place}
-use Rattle.escrow_schema.proofs.RuleLemmas.{rules_of, rules_on, column_types, follows_rules, numeric_each}
+use Rattle.escrow_schema.proofs.RuleLemmas.{rules_of, rules_on, column_types, follows_rules, numeric_each, table_scales}
 use Rattle.escrow_schema.proofs.TableLemmas.{parts}
 
 pub definitions_follow_rules : DefinitionsFollowRules
@@ -47,7 +48,7 @@ pub checks_of_whole_row : ChecksOfWholeRow
 checks_of_whole_row table is_table =
     let p = parts is_table.0 table is_table.1 in
     let names = names_of (reservables table.columns) in
-    let written = checks_whole names (checks_in is_table.0.items) p.written p.from_texts in
+    let written = checks_whole names (scales_of (reservables table.columns)) (checks_in is_table.0.items) p.written p.from_texts in
     let whole : AllByRecursion (IsWhole names) table.checks =
     subst (AllByRecursion (IsWhole names)) (sym p.checks) (both_parts (IsWhole names) p.written (range_checks table.columns) (recursion_from_All (IsWhole names) p.written written.2) (whole_ranges names (reservables table.columns))) in
     let as_many : length names ≡ length (reservables table.columns) = length-map (reservables table.columns) (λ column. column.name) in
@@ -79,11 +80,12 @@ checks_mean_conditions text table numbers e same =
     let p = parts text table e in
     let Met : Check → Type 0 = λ check. Meets check numbers in
     let names = names_of (reservables table.columns) in
-    let Written : CheckText → Type 0 = MeetsText names numbers in
+    let scales = scales_of (reservables table.columns) in
+    let Written : CheckText → Type 0 = MeetsText names (in_millionths scales numbers) in
     let texts = checks_in text.items in
     let distinct : are_distinct names ≡ true = reservables_distinct table.columns (rules_on table.columns table.key p.follow).distinct in
     let many : length numbers ≡ length names = same ∙ sym (length-map (reservables table.columns) (λ column. column.name)) in
-    let mean = mean_the_same names texts p.written p.from_texts (distinct_from names distinct) numbers many in (
+    let mean = mean_the_same names scales texts p.written p.from_texts (distinct_from names distinct) (table_scales table (text, e)) numbers many in (
       λ met. (
         recursion_from_All Written texts (mean.0 (All-from_recursion Met p.written (first_part Met p.written (range_checks table.columns) (split_checks text table e numbers met)))),
         fit_by_checks text table numbers e same met,
@@ -97,7 +99,7 @@ pub few_checks : FewChecks
 few_checks table is_table =
     let p = parts is_table.0 table is_table.1 in
     let names = names_of (reservables table.columns) in
-    let written = checks_whole names (checks_in is_table.0.items) p.written p.from_texts in
+    let written = checks_whole names (scales_of (reservables table.columns)) (checks_in is_table.0.items) p.written p.from_texts in
     let most = written.1 in
     let few = (rules_of table is_table).few_reservable in
     let ranges : length (range_checks table.columns) ≡ length (reservables table.columns) = length-map (reservables table.columns) (range_check names) in
@@ -115,7 +117,7 @@ names_of_checks text table e =
     let columns = names_of (reservables table.columns) in
     record {
       declared = check_names p.written;
-      of_text = checks_are_named columns (checks_in text.items) p.written p.from_texts;
+      of_text = checks_are_named columns (scales_of (reservables table.columns)) (checks_in text.items) p.written p.from_texts;
       names = ap check_names p.checks
           ∙ map-append (λ (check : Check). check.name) p.written (range_checks table.columns)
           ∙ ap (λ (rest : List (List ℕ)). check_names p.written ++ rest) (range_names columns (reservables table.columns));
@@ -154,7 +156,7 @@ values_beside_names table text names row is_table named e i k column literal the
     let apart : are_distinct names ≡ true = (and_parts _ _ (and_parts _ _ parts.0).0).0 in
     let beside : slice_get literals i ≡ Some literal =
     beside_at names text.values table.columns literals i column parts.1 there ∙ beside_is names text.values k column.name literal apart name_at literal_here in
-    literal_at table.columns literals (values_of table row) i literal (values_of_row table literals row is_table made) beside)
+    literal_at table.columns literals (values_of table row) i column literal (values_of_row table literals row is_table made) there beside)
 
 pub values_fit : ValuesFit
 values_fit table row is_table is_row met =

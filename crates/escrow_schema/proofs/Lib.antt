@@ -10,6 +10,7 @@ pub mod DefinedLemmas
 pub mod DistinctLemmas
 pub mod FitLemmas
 pub mod KeyLemmas
+pub mod KeyValues
 pub mod LawLemmas
 pub mod ListLemmas
 pub mod PlanLemmas

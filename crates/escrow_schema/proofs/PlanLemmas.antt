@@ -1,12 +1,14 @@
 -- What an UPDATE's plan is, and why it has none.
-use Rattle.std.proofs.Common.{◌≡◌, ◌⊎◌, Bool, true, false, cond, not, Option, Some, None, option_map, option_and_then, Result, Ok, Err, List, [], ◌∷◌, length, sym, subst, ap, ap₂, ◌∙◌, refl, inl, inr}
-use Rattle.std.specs.Prelude.{ℤ, IfSome, IsTrue, is_some}
+use Rattle.std.proofs.Common.{◌≡◌, ◌⊎◌, ℕ, Bool, true, false, cond, not, Option, Some, None, option_map, option_and_then, Result, Ok, Err, List, [], ◌∷◌, length, sym, subst, ap, ap₂, ◌∙◌, refl, inl, inr}
+use Rattle.std.specs.Prelude.{ℤ, IfSome, IsSome, IsTrue, is_some}
 use Rattle.std.proofs.lemmas.Bool.{false≢true}
 use Rattle.std.specs.List.{AllZip}
 use Rattle.std.specs.Option.{ok_or}
 use Rattle.std.specs.Result.{IfErr, IsErrAnd, IsErrOf, IsOk, result_err}
 use Rattle.std.proofs.lemmas.List.{length-map}
-use Rattle.std.proofs.lemmas.Option.{none-some, same_Some, cond_some, option_and_then_some}
+use Rattle.std.proofs.lemmas.Option.{none-some, same_Some, option_and_then_some}
+use Rattle.escrow_num.specs.Decimal.{units_at}
+use Rattle.escrow_num.specs.Refusal.{first_refusal, refuse_if}
 use Rattle.escrow_num.specs.declared.refusal.Refusal.{Refusal}
 use Rattle.escrow_num.specs.declared.refusal.Refusal.TheVariants as refusal
 use Rattle.escrow_num.specs.declared.value.Value.{Value}
@@ -19,72 +21,56 @@ use Rattle.escrow_schema.specs.declared.column.ColumnType.{ColumnType}
 use Rattle.escrow_schema.specs.declared.plan.Plan.{Plan}
 use Rattle.escrow_schema.specs.declared.plan.Plan.TheVariants.{Reserve, Plain}
 use Rattle.escrow_schema.specs.declared.table.TableDef.{TableDef}
-use Rattle.escrow_schema.specs.Assigned.{values_assigned}
-use Rattle.escrow_schema.specs.Column.{fits, reservables, value_in, value_of}
-use Rattle.escrow_schema.specs.Definition.{key_column}
+use Rattle.escrow_schema.specs.Assigned.{change_assigned, changes_assigned, values_assigned}
+use Rattle.escrow_schema.specs.Column.{fits, reservables, scale_of, value_at, value_in, truncated_value}
+use Rattle.escrow_schema.specs.Definition.{key_scale}
 use Rattle.escrow_schema.specs.Fit.{plains}
-use Rattle.escrow_schema.specs.Laws.{KeysOfPlans, PlainPlansFit, PlansOfWholeRow, RefusalsOfKeys, RefusalsOfPlans}
-use Rattle.escrow_schema.specs.Plan.{are_changes, are_replacements, assigned_to, changes_of, for_key, is_key, key_in, key_of, key_named, literal_in, new_value, new_values, new_values_of, planned}
+use Rattle.escrow_schema.specs.Laws.{KeysOfPlans, KeysOfWheres, PlainPlansFit, PlansOfWholeRow, RefusalsOfKeys, RefusalsOfPlans}
+use Rattle.escrow_schema.specs.Plan.{are_changes, are_replacements, assigned_to, change_at, change_in, changes_for, changes_of, for_key, is_key, key_in, key_of, key_named, literal_in, new_value, new_values, new_values_of, planned}
+use Rattle.escrow_schema.proofs.KeyValues.{key_exact, named_there, value_in_at, value_in_fits, where_key}
 use Rattle.escrow_schema.proofs.ListLemmas.{mapped_some}
 
 -- what is planned, by whether the assignments are changes, whether they replace values, what the
 -- WHERE names, the changes and the new values
-abbrev pub plan_by : Bool → Bool → Result Value Refusal → List (Option ℤ) → Option (List (Option Value)) → Result Plan Refusal
+abbrev pub plan_by : Bool → Bool → Result Value Refusal → Option (List (Option ℤ)) → Option (List (Option Value)) → Result Plan Refusal
 plan_by a b k changes values =
-    cond a (for_key (λ key. Ok (Reserve key changes)) k)
+    cond a (for_key (λ key. ok_or (option_map (λ cs. Reserve key cs) changes) refusal.BadValue) k)
     (cond b (for_key (λ key. ok_or (option_map (λ vs. Plain key vs) values) refusal.BadValue) k) (Err refusal.BadAssignment))
 
--- changes are refused as their WHERE is
-by_changes : (a b : Bool) (k : Result Value Refusal) (changes : List (Option ℤ)) (values : Option (List (Option Value)))
-    → a ≡ true → result_err k ≡ result_err (plan_by a b k changes values)
-by_changes a b (Ok key) changes values e = rw e refl
-by_changes a b (Err r) changes values e = rw e refl
+-- why assignments of one kind are refused: as their WHERE is, and then where one isn't good
+abbrev pub row_refusal : Result Value Refusal → Bool → Option Refusal
+row_refusal k good = first_refusal (result_err k ∷ refuse_if (not good) refusal.BadValue ∷ [])
 
-pub why_of_changes : (table : TableDef) (text : UpdateText) (why : Option Refusal)
-    → are_changes table.columns text.assigns ≡ true → why ≡ result_err (key_named table text.row) → why ≡ result_err (planned table text)
-why_of_changes table text why e h =
-    h ∙ by_changes (are_changes table.columns text.assigns) (are_replacements table text.assigns) (key_named table text.row) (changes_of table.columns text.assigns)
-    (new_values table text.assigns) e
+by_changes : (b : Bool) (k : Result Value Refusal) (changes : Option (List (Option ℤ))) (values : Option (List (Option Value)))
+    → row_refusal k (is_some changes) ≡ result_err (plan_by true b k changes values)
+by_changes b (Ok key) None values = refl
+by_changes b (Ok key) (Some cs) values = refl
+by_changes b (Err r) changes values = refl
+
+by_values : (k : Result Value Refusal) (changes : Option (List (Option ℤ))) (values : Option (List (Option Value)))
+    → row_refusal k (is_some values) ≡ result_err (plan_by false true k changes values)
+by_values (Ok key) changes None = refl
+by_values (Ok key) changes (Some vs) = refl
+by_values (Err r) changes values = refl
+
+pub why_of_changes : (table : TableDef) (text : UpdateText) (why : Option Refusal) (good : Bool)
+    → are_changes table.columns text.assigns ≡ true → good ≡ is_some (changes_of table.columns text.assigns)
+    → why ≡ row_refusal (key_named table text.row) good → why ≡ result_err (planned table text)
+why_of_changes table text why good e whole h =
+    h ∙ ap (row_refusal (key_named table text.row)) whole
+    ∙ rw e (by_changes (are_replacements table text.assigns) (key_named table text.row) (changes_of table.columns text.assigns) (new_values table text.assigns))
+
+pub why_of_values : (table : TableDef) (text : UpdateText) (why : Option Refusal) (good : Bool)
+    → are_changes table.columns text.assigns ≡ false → are_replacements table text.assigns ≡ true → good ≡ is_some (new_values table text.assigns)
+    → why ≡ row_refusal (key_named table text.row) good → why ≡ result_err (planned table text)
+why_of_values table text why good e r fit h =
+    h ∙ ap (row_refusal (key_named table text.row)) fit
+    ∙ rw (e, r) (by_values (key_named table text.row) (changes_of table.columns text.assigns) (new_values table text.assigns))
 
 -- assignments of neither kind are refused
 pub why_of_neither : (table : TableDef) (text : UpdateText)
     → are_changes table.columns text.assigns ≡ false → are_replacements table text.assigns ≡ false → Some refusal.BadAssignment ≡ result_err (planned table text)
 why_of_neither table text e h = rw (e, h) refl
-
--- replacements are refused as their WHERE is, and then where a literal doesn't fit
-by_values : (k : Result Value Refusal) (values : Option (List (Option Value)))
-    → is_some values ≡ true → result_err k ≡ result_err (plan_by false true k [] values)
-by_values (Ok key) None e = absurd (false≢true e)
-by_values (Ok key) (Some values) e = refl
-by_values (Err r) values e = refl
-
-by_key : (k : Result Value Refusal) (values : Option (List (Option Value))) (r : Refusal)
-    → Some r ≡ result_err k → Some r ≡ result_err (plan_by false true k [] values)
-by_key (Ok key) values r e = absurd (none-some r (sym e))
-by_key (Err q) values r e = e
-
-by_literal : (k : Result Value Refusal) (values : Option (List (Option Value)))
-    → None ≡ result_err k → is_some values ≡ false → Some refusal.BadValue ≡ result_err (plan_by false true k [] values)
-by_literal (Ok key) None e h = refl
-by_literal (Ok key) (Some values) e h = absurd (false≢true (sym h))
-by_literal (Err q) values e h = absurd (none-some q e)
-
-pub why_of_key : (table : TableDef) (text : UpdateText) (r : Refusal)
-    → are_changes table.columns text.assigns ≡ false → are_replacements table text.assigns ≡ true
-    → Some r ≡ result_err (key_named table text.row) → Some r ≡ result_err (planned table text)
-why_of_key table text r e h k = rw (e, h) (by_key (key_named table text.row) (new_values table text.assigns) r k)
-
-pub why_of_literal : (table : TableDef) (text : UpdateText)
-    → are_changes table.columns text.assigns ≡ false → are_replacements table text.assigns ≡ true
-    → None ≡ result_err (key_named table text.row) → is_some (new_values table text.assigns) ≡ false
-    → Some refusal.BadValue ≡ result_err (planned table text)
-why_of_literal table text e h k f = rw (e, h) (by_literal (key_named table text.row) (new_values table text.assigns) k f)
-
-pub why_of_none : (table : TableDef) (text : UpdateText)
-    → are_changes table.columns text.assigns ≡ false → are_replacements table text.assigns ≡ true
-    → None ≡ result_err (key_named table text.row) → is_some (new_values table text.assigns) ≡ true
-    → None ≡ result_err (planned table text)
-why_of_none table text e h k f = k ∙ rw (e, h) (by_values (key_named table text.row) (new_values table text.assigns) f)
 
 -- a plan that is refused, and one that isn't
 pub refused_by : (p : Result Plan Refusal) (r : Refusal) → Some r ≡ result_err p → p ≡ Err r
@@ -95,16 +81,29 @@ pub planned_by : (p : Result Plan Refusal) → None ≡ result_err p → IsOk p
 planned_by (Ok plan) e = refl
 planned_by (Err q) e = absurd (none-some q e)
 
+-- the change that a column of a scale is assigned, where it is a whole number of units
+assigned_change : (scale : ℕ) (o : Option ℤ) (c : Option ℤ) → change_at scale o ≡ Some c → c ≡ option_and_then (units_at scale) o
+assigned_change scale None c e = sym (same_Some None c e)
+assigned_change scale (Some z) c e = mapped_some (λ u. Some u) (units_at scale z) c e (λ u at same. sym same ∙ sym at)
+
+-- the changes are those that are assigned
+pub new_changes : (columns : List Column) (assigns : List Assign) (changes : List (Option ℤ)) → changes_for columns assigns ≡ Some changes
+    → changes ≡ changes_assigned columns assigns
+new_changes [] assigns changes e = sym (same_Some [] changes e)
+new_changes (column ∷ columns) assigns changes e =
+    let change : Option ℤ = option_and_then change_in (assigned_to assigns column.name) in
+    option_and_then_some (λ c. option_map (λ cs. c ∷ cs) (changes_for columns assigns)) (change_at (scale_of column.kind) change) changes e
+    (λ c one more. mapped_some (λ cs. c ∷ cs) (changes_for columns assigns) changes more
+    (λ cs others whole. sym whole ∙ ap₂ (λ (x : Option ℤ) (xs : List (Option ℤ)). x ∷ xs) (assigned_change (scale_of column.kind) change c one) (new_changes columns assigns cs others)))
+
 -- the value that a column of a type is assigned, where it fits
 assigned_value : (kind : ColumnType) (o : Option Literal) (v : Option Value) → new_value kind o ≡ Some v
-    → (v ≡ option_map value_of o) × IfSome v (λ x. IsTrue (fits kind x))
+    → (v ≡ option_and_then (value_at (scale_of kind)) o) × IfSome v (λ x. IsTrue (fits kind x))
 assigned_value kind None v e = let same = same_Some None v e in subst (λ (w : Option Value). (w ≡ None) × IfSome w (λ x. IsTrue (fits kind x))) same (refl, tt)
 assigned_value kind (Some literal) v e =
     mapped_some (λ x. Some x) (value_in kind literal) v e
-    (λ x at same.
-    let made = cond_some (fits kind (value_of literal)) (value_of literal) x at in
-    subst (λ (w : Option Value). (w ≡ Some (value_of literal)) × IfSome w (λ y. IsTrue (fits kind y))) same
-    (ap Some (sym made.1), subst (λ y. fits kind y ≡ true) made.1 made.0))
+    (λ x at same. subst (λ (w : Option Value). (w ≡ value_at (scale_of kind) literal) × IfSome w (λ y. IsTrue (fits kind y))) same
+    (sym (value_in_at kind literal x at), value_in_fits kind literal x at))
 
 -- new values are those that are assigned, and each fits its column's type
 abbrev pub FitNew : List Column → List (Option Value) → Type 0
@@ -128,16 +127,12 @@ pub exit_refused : {X Y : Type 0} (r : Result X Refusal) (call : Result Y Refusa
 exit_refused (Ok x) call why o is was known = absurd is
 exit_refused (Err e) call why o is was known = (ap Err is, sym (ap result_err was) ∙ known)
 
--- the key that a WHERE names is its literal, which fits the key's type
-named : (b : Bool) (o : Option Value) (key : Value) → cond (not b) (Err refusal.NotTheKey) (ok_or o refusal.BadValue) ≡ Ok key → o ≡ Some key
-named false o key e = absurd (cc)
-named true None key e = absurd (cc)
-named true (Some v) key e = cc
+-- the key that a WHERE names is that of its literal
+pub keys_of_wheres : KeysOfWheres
+keys_of_wheres table row key e = key_exact table row.literal key (where_key table row key e)
 
-pub named_key : (table : TableDef) (row : WhereText) (key : Value) → key_named table row ≡ Ok key → key ≡ value_of row.literal
-named_key table row key e =
-    option_and_then_some (λ column. value_in column.kind row.literal) (key_column table) key (named (is_key table row.column) (key_in table row.literal) key e)
-    (λ column at made. sym (cond_some (fits column.kind (value_of row.literal)) (value_of row.literal) key made).1)
+pub named_key : (table : TableDef) (row : WhereText) (key : Value) → key_named table row ≡ Ok key → key ≡ truncated_value (key_scale table) row.literal
+named_key table row key e = (keys_of_wheres table row key e).1
 
 -- why a WHERE names none
 unnamed : (b : Bool) (o : Option Value) (r : Refusal) → cond (not b) (Err refusal.NotTheKey) (ok_or o refusal.BadValue) ≡ Err r
@@ -150,37 +145,52 @@ pub refusals_of_keys : RefusalsOfKeys
 refusals_of_keys table row r e = unnamed (is_key table row.column) (key_in table row.literal) r e
 
 -- what a plan is made of
-key_by : (a b : Bool) (k : Result Value Refusal) (changes : List (Option ℤ)) (values : Option (List (Option Value))) (plan : Plan)
+key_by : (a b : Bool) (k : Result Value Refusal) (changes : Option (List (Option ℤ))) (values : Option (List (Option Value))) (plan : Plan)
     → plan_by a b k changes values ≡ Ok plan → k ≡ Ok (key_of plan)
-key_by true b (Ok key) changes values plan e = let same : Reserve key changes ≡ plan = cc in ap (λ p. Ok (key_of p)) same
+key_by true b (Ok key) None values plan e = absurd (cc)
+key_by true b (Ok key) (Some cs) values plan e = let same : Reserve key cs ≡ plan = cc in ap (λ p. Ok (key_of p)) same
 key_by true b (Err r) changes values plan e = absurd (cc)
 key_by false true (Ok key) changes None plan e = absurd (cc)
 key_by false true (Ok key) changes (Some values) plan e = let same : Plain key values ≡ plan = cc in ap (λ p. Ok (key_of p)) same
 key_by false true (Err r) changes values plan e = absurd (cc)
 key_by false false k changes values plan e = absurd (cc)
 
-pub changes_by : (a b : Bool) (k : Result Value Refusal) (made : List (Option ℤ)) (values : Option (List (Option Value))) (key : Value) (changes : List (Option ℤ))
-    → plan_by a b k made values ≡ Ok (Reserve key changes) → made ≡ changes
-changes_by true b (Ok v) made values key changes e = cc
+pub changes_by : (a b : Bool) (k : Result Value Refusal) (made : Option (List (Option ℤ))) (values : Option (List (Option Value))) (key : Value) (changes : List (Option ℤ))
+    → plan_by a b k made values ≡ Ok (Reserve key changes) → made ≡ Some changes
+changes_by true b (Ok v) None values key changes e = absurd (cc)
+changes_by true b (Ok v) (Some made) values key changes e = cc
 changes_by true b (Err r) made values key changes e = absurd (cc)
 changes_by false true (Ok v) made None key changes e = absurd (cc)
 changes_by false true (Ok v) made (Some values) key changes e = absurd (cc)
 changes_by false true (Err r) made values key changes e = absurd (cc)
 changes_by false false k made values key changes e = absurd (cc)
 
-pub values_by : (a b : Bool) (k : Result Value Refusal) (changes : List (Option ℤ)) (made : Option (List (Option Value))) (key : Value) (values : List (Option Value))
+pub values_by : (a b : Bool) (k : Result Value Refusal) (changes : Option (List (Option ℤ))) (made : Option (List (Option Value))) (key : Value) (values : List (Option Value))
     → plan_by a b k changes made ≡ Ok (Plain key values) → made ≡ Some values
-values_by true b (Ok v) changes made key values e = absurd (cc)
+values_by true b (Ok v) None made key values e = absurd (cc)
+values_by true b (Ok v) (Some changes) made key values e = absurd (cc)
 values_by true b (Err r) changes made key values e = absurd (cc)
 values_by false true (Ok v) changes None key values e = absurd (cc)
 values_by false true (Ok v) changes (Some made) key values e = cc
 values_by false true (Err r) changes made key values e = absurd (cc)
 values_by false false k changes made key values e = absurd (cc)
 
+-- the changes, and the new values, of a plan
+pub planned_changes_of : (table : TableDef) (text : UpdateText) (key : Value) (changes : List (Option ℤ)) → planned table text ≡ Ok (Reserve key changes)
+    → changes_of table.columns text.assigns ≡ Some changes
+planned_changes_of table text key changes e =
+    changes_by (are_changes table.columns text.assigns) (are_replacements table text.assigns) (key_named table text.row) (changes_of table.columns text.assigns) (new_values table text.assigns) key changes e
+
+pub planned_values_of : (table : TableDef) (text : UpdateText) (key : Value) (values : List (Option Value)) → planned table text ≡ Ok (Plain key values)
+    → new_values table text.assigns ≡ Some values
+planned_values_of table text key values e =
+    values_by (are_changes table.columns text.assigns) (are_replacements table text.assigns) (key_named table text.row) (changes_of table.columns text.assigns) (new_values table text.assigns) key values e
+
 -- why there is none
-refusal_by : (a b : Bool) (k : Result Value Refusal) (changes : List (Option ℤ)) (values : Option (List (Option Value))) (r : Refusal)
+refusal_by : (a b : Bool) (k : Result Value Refusal) (changes : Option (List (Option ℤ))) (values : Option (List (Option Value))) (r : Refusal)
     → plan_by a b k changes values ≡ Err r → (r ≡ refusal.BadAssignment) ⊎ ((k ≡ Err r) ⊎ (r ≡ refusal.BadValue))
-refusal_by true b (Ok key) changes values r e = absurd (cc)
+refusal_by true b (Ok key) None values r e = inr (inr (cc))
+refusal_by true b (Ok key) (Some cs) values r e = absurd (cc)
 refusal_by true b (Err q) changes values r e = inr (inl (cc))
 refusal_by false true (Ok key) changes None r e = inr (inr (cc))
 refusal_by false true (Ok key) changes (Some values) r e = absurd (cc)
@@ -202,32 +212,56 @@ pub not_memory : {X : Type 0} (table : TableDef) (text : UpdateText) (r : Result
     → r ≡ Err why → planned table text ≡ Err why → IsErrOf r refusal.Memory → IsOk (planned table text)
 not_memory table text r why returned e memory = let same : why ≡ refusal.Memory = cc in absurd (never_memory table text (e ∙ ap Err same))
 
--- a plan's key is the literal of the WHERE
+-- a plan's key is that of the WHERE's literal
 pub keys_of_plans : KeysOfPlans
 keys_of_plans table text plan e =
-    named_key table text.row (key_of plan)
+    keys_of_wheres table text.row (key_of plan)
     (key_by (are_changes table.columns text.assigns) (are_replacements table text.assigns) (key_named table text.row) (changes_of table.columns text.assigns) (new_values table text.assigns) plan e)
 
 -- a plan of changes has one, or none, for each RESERVABLE column
 pub plans_of_whole_row : PlansOfWholeRow
 plans_of_whole_row table text key changes e =
-    let made = changes_of table.columns text.assigns in
-    let same = changes_by (are_changes table.columns text.assigns) (are_replacements table text.assigns) (key_named table text.row) made (new_values table text.assigns) key changes e in
-    ap length (sym same) ∙ length-map (reservables table.columns) _
+    ap length (new_changes (reservables table.columns) text.assigns changes (planned_changes_of table text key changes e)) ∙ length-map (reservables table.columns) (change_assigned text.assigns)
 
 -- a plan of new values has one that fits, or none, for each plain column
 pub plain_plans_fit : PlainPlansFit
-plain_plans_fit table text key values e =
-    (new_ones (plains table.columns 0 table.key) text.assigns values
-    (values_by (are_changes table.columns text.assigns) (are_replacements table text.assigns) (key_named table text.row) (changes_of table.columns text.assigns) (new_values table text.assigns) key values e)).1
+plain_plans_fit table text key values e = (new_ones (plains table.columns 0 table.key) text.assigns values (planned_values_of table text key values e)).1
 
 -- a plan that isn't refused
 pub unrefused : (p : Result Plan Refusal) (Q : Refusal → Type 0) → None ≡ result_err p → IfErr p Q
 unrefused (Ok plan) Q e = tt
 unrefused (Err q) Q e = absurd (none-some q e)
 
--- an UPDATE that can be planned, and whose assignments aren't changes, has a plan of new values
-values_made : (b : Bool) (k : Result Value Refusal) (changes : List (Option ℤ)) (made : Option (List (Option Value))) (key : Value) (values : List (Option Value))
+-- an UPDATE that can be planned names a key
+key_planned : (a b : Bool) (k : Result Value Refusal) (changes : Option (List (Option ℤ))) (values : Option (List (Option Value))) → IsOk (plan_by a b k changes values) → IsOk k
+key_planned a b (Ok key) changes values e = refl
+key_planned true b (Err r) changes values e = absurd (false≢true e)
+key_planned false true (Err r) changes values e = absurd (false≢true e)
+key_planned false false (Err r) changes values e = absurd (false≢true e)
+
+pub planned_key : (table : TableDef) (text : UpdateText) → IsOk (planned table text) → IsSome (value_at (key_scale table) text.row.literal)
+planned_key table text can =
+    named_there table text.row
+    (key_planned (are_changes table.columns text.assigns) (are_replacements table text.assigns) (key_named table text.row) (changes_of table.columns text.assigns) (new_values table text.assigns) can)
+
+-- one whose assignments are changes has a plan of them
+changes_made : (b : Bool) (k : Result Value Refusal) (made : Option (List (Option ℤ))) (values : Option (List (Option Value))) (key : Value) (changes : List (Option ℤ))
+    → IsOk (plan_by true b k made values) → ((v : Value) → k ≡ Ok v → v ≡ key) → ((cs : List (Option ℤ)) → made ≡ Some cs → cs ≡ changes)
+    → plan_by true b k made values ≡ Ok (Reserve key changes)
+changes_made b (Ok v) None values key changes e same fit = absurd (false≢true e)
+changes_made b (Ok v) (Some cs) values key changes e same fit = ap₂ (λ (x : Value) (xs : List (Option ℤ)). Ok (Reserve x xs)) (same v refl) (fit cs refl)
+changes_made b (Err r) made values key changes e same fit = absurd (false≢true e)
+
+pub planned_changes : (table : TableDef) (text : UpdateText) (key : Value) (changes : List (Option ℤ))
+    → are_changes table.columns text.assigns ≡ true → IsOk (planned table text) → key ≡ truncated_value (key_scale table) text.row.literal
+    → changes ≡ changes_assigned (reservables table.columns) text.assigns → planned table text ≡ Ok (Reserve key changes)
+planned_changes table text key changes e can same fit =
+    rw e (changes_made (are_replacements table text.assigns) (key_named table text.row) (changes_of table.columns text.assigns) (new_values table text.assigns) key changes
+    (rw e at can) (λ v at. named_key table text.row v at ∙ sym same)
+    (λ cs at. new_changes (reservables table.columns) text.assigns cs at ∙ sym fit))
+
+-- and one whose assignments aren't has a plan of new values
+values_made : (b : Bool) (k : Result Value Refusal) (changes : Option (List (Option ℤ))) (made : Option (List (Option Value))) (key : Value) (values : List (Option Value))
     → IsOk (plan_by false b k changes made) → ((v : Value) → k ≡ Ok v → v ≡ key) → ((vs : List (Option Value)) → made ≡ Some vs → vs ≡ values)
     → plan_by false b k changes made ≡ Ok (Plain key values)
 values_made true (Ok v) changes None key values e same fit = absurd (false≢true e)
@@ -236,7 +270,7 @@ values_made true (Err r) changes made key values e same fit = absurd (false≢tr
 values_made false k changes made key values e same fit = absurd (false≢true e)
 
 pub planned_values : (table : TableDef) (text : UpdateText) (key : Value) (values : List (Option Value))
-    → are_changes table.columns text.assigns ≡ false → IsOk (planned table text) → key ≡ value_of text.row.literal
+    → are_changes table.columns text.assigns ≡ false → IsOk (planned table text) → key ≡ truncated_value (key_scale table) text.row.literal
     → values ≡ values_assigned (plains table.columns 0 table.key) text.assigns → planned table text ≡ Ok (Plain key values)
 planned_values table text key values e can same fit =
     rw e (values_made (are_replacements table text.assigns) (key_named table text.row) (changes_of table.columns text.assigns) (new_values table text.assigns) key values

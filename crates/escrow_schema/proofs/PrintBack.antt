@@ -1,10 +1,11 @@
 -- The canonical text of a table is read back as that table.
 use Rattle.std.proofs.Common.{◌≡◌, ℕ, ◌-◌, ◌≤◌, true, List, [], ◌∷◌, ◌++◌, Option, Some, None, option_and_then, length, map, take, refl, sym, ap, ◌∙◌, subst, arith, length-append}
-use Rattle.std.specs.Prelude.{cond, nat_le}
+use Rattle.std.specs.Prelude.{All, cond, nat_le}
 use Rattle.std.specs.List.{AllByRecursion, list_all}
 use Rattle.std.proofs.Math.Seq.{take-append_seam}
 use Rattle.std.proofs.lemmas.Bool.{cond-true, le-leb}
 use Rattle.std.proofs.lemmas.List.{length-map}
+use Rattle.escrow_num.specs.Scale.{IsScale}
 use Rattle.escrow_sql.specs.declared.statement.CreateText.{CreateText}
 use Rattle.escrow_sql.specs.declared.statement.Item.{Item}
 use Rattle.escrow_sql.proofs.Writing.{asks_written}
@@ -20,12 +21,12 @@ use Rattle.escrow_checks.specs.DeclaredCheck.{IsDeclared}
 use Rattle.escrow_checks.specs.WrittenName.{is_written_name}
 use Rattle.escrow_schema.specs.declared.column.Column.{Column}
 use Rattle.escrow_schema.specs.declared.table.TableDef.{TableDef}
-use Rattle.escrow_schema.specs.Column.{names_of, reservables}
+use Rattle.escrow_schema.specs.Column.{names_of, reservables, scales_of}
 use Rattle.escrow_schema.specs.Definition.{IsTable, are_distinct, definition_of, range_check, range_checks}
 use Rattle.escrow_schema.specs.ReadBack.{ReadsBack}
 use Rattle.escrow_schema.specs.Print.{canonical, check_words, columns_words, declared_checks}
 use Rattle.escrow_schema.specs.Rules.{FollowsRules}
-use Rattle.escrow_schema.proofs.ColumnsLemmas.{HasType, reservables_distinct, reservables_written}
+use Rattle.escrow_schema.proofs.ColumnsLemmas.{HasType, reservable_types, reservables_distinct, reservables_written, scales_typed}
 use Rattle.escrow_schema.proofs.DefinedLemmas.{defined}
 use Rattle.escrow_schema.proofs.ListLemmas.{both_parts}
 use Rattle.escrow_schema.proofs.RuleLemmas.{column_types, follows_rules, rules_of}
@@ -58,13 +59,14 @@ pub record Sound (table : TableDef) : Type 0 where
   pub columns : length table.columns ≤ 30
   pub reserved : length (reservables table.columns) ≤ 10
   pub few : length (declared_checks table) ≤ MAX_CHECKS
-  pub declared : AllByRecursion (IsDeclared (names_of (reservables table.columns))) (declared_checks table)
+  pub declared : AllByRecursion (IsDeclared (names_of (reservables table.columns)) (scales_of (reservables table.columns))) (declared_checks table)
   pub checks : table.checks ≡ declared_checks table ++ range_checks table.columns
 
 sound : (text : CreateText) (table : TableDef) → definition_of text ≡ Some table → FollowsRules text table → Sound table
 sound text table e h =
     let rules = rules_of table (text, e) in
     let names = names_of (reservables table.columns) in
+    let scales = scales_of (reservables table.columns) in
     let same = declared_first table h.declared h.checks in
     let least = rules.least in
     record {
@@ -77,38 +79,40 @@ sound text table e h =
       reserved = rules.few_reservable;
       few = subst (λ (checks : List Check). length checks ≤ MAX_CHECKS) (sym same) h.few_declared;
       checks = h.checks ∙ ap (λ (checks : List Check). checks ++ range_checks table.columns) (sym same);
-      declared = subst (AllByRecursion (IsDeclared names)) (sym same) h.good_declared;
+      declared = subst (AllByRecursion (IsDeclared names scales)) (sym same) h.good_declared;
     }
 
 pub sound_of : (table : TableDef) → IsTable table → Sound table
 sound_of table (text, e) = sound text table e (follows_rules text table e)
 
 -- the declared checks, of their own texts
-checks_again : (names : List (List ℕ)) (checks : List Check) → are_distinct names ≡ true → length checks ≤ MAX_CHECKS → AllByRecursion (IsDeclared names) checks → checks_of names (map (check_tree names) checks) ≡ Some checks
-checks_again names checks apart few all =
-    ap (option_and_then at_most) (all_again names checks 1 apart all) ∙ cond-true (nat_le (length checks) MAX_CHECKS) (Some checks) None (le-leb (length checks) MAX_CHECKS few)
+checks_again : (names : List (List ℕ)) (scales : List ℕ) (checks : List Check) → are_distinct names ≡ true → length checks ≤ MAX_CHECKS → AllByRecursion (IsDeclared names scales) checks
+    → checks_of names scales (map (check_tree names scales) checks) ≡ Some checks
+checks_again names scales checks apart few all =
+    ap (option_and_then at_most) (all_again names scales checks 1 apart all) ∙ cond-true (nat_le (length checks) MAX_CHECKS) (Some checks) None (le-leb (length checks) MAX_CHECKS few)
 
 -- the tree and the table follow the rules of definitions
 follows_tree : (text : CreateText) (table : TableDef) → Sound table → FollowsRules text table → FollowsRules (tree_of table) table
 follows_tree text table s h =
     let names = names_of (reservables table.columns) in
+    let scales = scales_of (reservables table.columns) in
     let checks = declared_checks table in
     record {
       name = refl;
-      columns = columns_back table.columns 0 table.key names checks s.types (plain_found table.columns 0 table.key table.key h.key (omega arith) h.key_there h.plain_key);
+      columns = columns_back table.columns 0 table.key names scales checks s.types (plain_found table.columns 0 table.key table.key h.key (omega arith) h.key_there h.plain_key);
       enough_columns = h.enough_columns;
       few_columns = h.few_columns;
       written_names = h.written_names;
       distinct_columns = h.distinct_columns;
       key = h.key;
       key_there = h.key_there;
-      one_key = keys_back table.columns 0 table.key table.key h.key names checks (omega arith) h.key_there;
+      one_key = keys_back table.columns 0 table.key table.key h.key names scales checks (omega arith) h.key_there;
       plain_key = h.plain_key;
       some_reservable = h.some_reservable;
       few_reservable = h.few_reservable;
       number_reservable = h.number_reservable;
       declared = checks;
-      of_text = ap (checks_of names) (checks_back table.columns 0 table.key names checks) ∙ checks_again names checks (reservables_distinct table.columns s.distinct) s.few s.declared;
+      of_text = ap (checks_of names scales) (checks_back table.columns 0 table.key names scales checks) ∙ checks_again names scales checks (reservables_distinct table.columns s.distinct) s.few s.declared;
       few_declared = s.few;
       good_declared = s.declared;
       checks = s.checks;
@@ -124,17 +128,19 @@ some_item (column ∷ columns) key rest some = omega arith
 asks_tree : (table : TableDef) → Sound table → Asks (canonical table) (requests.Statement (statements.Create (tree_of table)))
 asks_tree table s =
     let names = names_of (reservables table.columns) in
+    let scales = scales_of (reservables table.columns) in
+    let scaled : All IsScale scales = (scales_typed (reservables table.columns) (reservable_types table.columns s.types)).1 in
     let written = reservables_written table.columns s.names in
     let columns = columns_words table.columns 0 table.key in
-    let checks = map (check_words names) (declared_checks table) in
+    let checks = map (check_words names scales) (declared_checks table) in
     let few : length (columns ++ checks) ≤ 62 =
-    omega (arith, s.columns, s.few, length-append columns checks, length-columns_words table.columns 0 table.key, length-map (declared_checks table) (check_words names)) in
+    omega (arith, s.columns, s.few, length-append columns checks, length-columns_words table.columns 0 table.key, length-map (declared_checks table) (check_words names scales)) in
     let short : AllByRecursion IsShort (columns ++ checks) =
     both_parts IsShort columns checks (columns_short table.columns 0 table.key s.names s.types)
-    (checks_short names (declared_checks table) written (omega (arith, s.reserved, length-map (reservables table.columns) (λ (c : Column). c.name))) s.declared) in
-    let each = each_append item columns checks (columns_tree table.columns 0 table.key) (map (check_item names) (declared_checks table))
-    (writes_columns table.columns 0 table.key s.names s.types) (writes_checks names (declared_checks table) written s.declared) in
-    asks_written (writes_table table.name (columns ++ checks) (items_tree table) s.name (some_item table.columns table.key (map (check_item names) (declared_checks table)) s.some) each)
+    (checks_short names scales (declared_checks table) written (omega (arith, s.reserved, length-map (reservables table.columns) (λ (c : Column). c.name))) scaled s.declared) in
+    let each = each_append item columns checks (columns_tree table.columns 0 table.key) (map (check_item names scales) (declared_checks table))
+    (writes_columns table.columns 0 table.key s.names s.types) (writes_checks names scales (declared_checks table) written scaled s.declared) in
+    asks_written (writes_table table.name (columns ++ checks) (items_tree table) s.name (some_item table.columns table.key (map (check_item names scales) (declared_checks table)) s.some) each)
     (table_length table.name (columns ++ checks) s.name short few)
 
 pub read_back : (table : TableDef) → IsTable table → ReadsBack table (canonical table)

@@ -1,16 +1,18 @@
 -- The canonical text of a table writes its tree by the grammar.
 use Rattle.std.proofs.Common.{◌≡◌, ℕ, suc, ℤ, pos, negsuc, ◌+◌, ◌≤◌, ◌<◌, Bool, true, false, ◌&&◌, not, Option, Some, None, List, [], ◌∷◌, ◌++◌, length, map, refl, sym, subst, append_assoc, arith, inl, inr}
-use Rattle.std.specs.Prelude.{◌==◌, ◌||◌, codes, decimal, is_none, nat_le, unsigned_abs}
+use Rattle.std.specs.Prelude.{◌==◌, ◌||◌, All, codes, decimal, is_none, nat_le, unsigned_abs}
 use Rattle.std.specs.Char.{is_ascii_uppercase}
 use Rattle.std.specs.List.{AllByRecursion, list_all, list_any}
 use Rattle.std.specs.Option.{is_some}
 use Rattle.std.specs.Ordering.{int_eq}
 use Rattle.std.proofs.lemmas.Bool.{and_parts, cases_Bool, eqb-true, leb-true, false≢true}
 use Rattle.std.proofs.lemmas.Bool.Decides.{nat_tests}
+use Rattle.std.proofs.lemmas.List.{append-nil}
 use Rattle.escrow_num.specs.Name.{is_name_byte, spells_name}
+use Rattle.escrow_num.specs.Scale.{IsScale}
 use Rattle.escrow_num.specs.declared.name.TheConstants.Name.{MAX_WRITTEN}
 use Rattle.escrow_sql.specs.Grammar.{many}
-use Rattle.escrow_sql.specs.Statement.{body, check, column, condition, constraint, create, digits, item, mark, name, request, signed_term, sum, table_statement, term, test_part, type_text}
+use Rattle.escrow_sql.specs.Statement.{body, check, column, condition, constraint, create, digits, item, mark, name, request, signed_term, size, sum, table_statement, term, test_part, type_text}
 use Rattle.escrow_sql.specs.Word.{reserved}
 use Rattle.escrow_sql.specs.declared.statement.Comparison.TheVariants as comparisons
 use Rattle.escrow_sql.specs.declared.statement.Item.{Item}
@@ -22,19 +24,20 @@ use Rattle.escrow_sql.specs.declared.word.Word.TheVariants as words
 use Rattle.escrow_sql.proofs.Writing.{Writes, is_behind, none_more, one_more, writes_apart, writes_blank, writes_first, writes_left, writes_meaning, writes_nothing, writes_right}
 use Rattle.escrow_sql.proofs.WritingLists.{WriteEach, writes_listed}
 use Rattle.escrow_sql.proofs.WritingSums.{digits_plain, first_term, writes_between, writes_compare, writes_minus, writes_negated, writes_once, writes_plus, writes_sum, writes_times, writes_unsigned}
-use Rattle.escrow_sql.proofs.WritingTokens.{no_minus, writes_in_parentheses, writes_name, writes_number, writes_word}
+use Rattle.escrow_sql.proofs.WritingNumbers.{writes_scaled_size, writes_size}
+use Rattle.escrow_sql.proofs.WritingTokens.{no_minus, writes_in_parentheses, writes_name, writes_whole, writes_word}
 use Rattle.escrow_checks.specs.declared.check.Check.{Check}
-use Rattle.escrow_checks.specs.DeclaredCheck.{IsDeclared}
+use Rattle.escrow_checks.specs.DeclaredCheck.{IsDeclared, written_of}
 use Rattle.escrow_checks.specs.WrittenName.{is_written_name}
 use Rattle.escrow_schema.specs.declared.column.Column.{Column}
 use Rattle.escrow_schema.specs.declared.column.ColumnType.{ColumnType}
 use Rattle.escrow_schema.specs.declared.column.ColumnType.TheVariants.{Number, Varchar2}
 use Rattle.escrow_schema.specs.Column.{names_of}
-use Rattle.escrow_schema.specs.Print.{check_words, column_words, columns_words, form_words, limit_words, marks_words, sign_words, table_words, times_words, type_words}
+use Rattle.escrow_schema.specs.Print.{check_words, column_words, columns_words, condition_words, form_words, limit_words, marks_words, scale_words, sign_words, table_words, times_words, type_words}
 use Rattle.escrow_schema.specs.Typed.{IsType}
 use Rattle.escrow_schema.proofs.ColumnsLemmas.{HasType}
-use Rattle.escrow_schema.proofs.PrintChecks.{AreAmounts, IsSmall, amounts_of, small_each, some_coefficient}
-use Rattle.escrow_schema.proofs.PrintTree.{check_item, column_tree, columns_tree, condition_tree, marks_tree, terms_tree, test_tree, type_tree}
+use Rattle.escrow_schema.proofs.PrintChecks.{AreAmounts, IsSmall, amounts_of, scale_is, small_each, some_coefficient, written_covers}
+use Rattle.escrow_schema.proofs.PrintTree.{check_item, column_tree, columns_tree, condition_tree, marks_tree, scale_tree, terms_tree, test_tree, type_tree}
 
 none_from : {A : Type 0} (o : Option A) → is_none o ≡ true → o ≡ None
 none_from None e = refl
@@ -48,11 +51,20 @@ writes_own_name n h =
     let front = and_parts (spells_name n) (nat_le (length n) MAX_WRITTEN) parts.0 in
     writes_name n front.0 (leb-true (length n) MAX_WRITTEN front.1) (none_from (reserved n) parts.1)
 
+-- the size of a type of numbers, without a scale where it is 0
+writes_type_size : (p s : ℕ) → IsType (Number p s) → Writes is_behind size (decimal p ++ scale_words s) (record { digits = pos p; scale = scale_tree s })
+writes_type_size p s h =
+    elim (cases_Bool (s == 0)) [
+      | inl e ↦ rw (e, append-nil (decimal p)) (writes_size p (omega (arith, h.1)))
+      | inr e ↦ rw e (writes_scaled_size p s (omega (arith, h.1)) (omega (arith, h.2)))
+    ]
+
 writes_type : (kind : ColumnType) → IsType kind → Writes is_behind type_text (type_words kind) (type_tree kind)
 unfolding type_text digits
-writes_type (Number n) h =
-    writes_right (writes_left (writes_meaning (writes_apart (writes_word words.Number) refl (writes_left (writes_meaning (writes_in_parentheses (writes_number n (omega (arith, h.1)))))))))
-writes_type (Varchar2 n) h = writes_right (writes_right (writes_meaning (writes_apart (writes_word words.Varchar2) refl (writes_in_parentheses (writes_number n (omega (arith, h.1)))))))
+writes_type (Number p s) h =
+    subst (λ (text : List ℕ). Writes is_behind type_text (codes "NUMBER(" ++ text) (type_tree (Number p s))) (append_assoc (decimal p) (scale_words s) (codes ")"))
+    (writes_right (writes_left (writes_meaning (writes_apart (writes_word words.Number) refl (writes_left (writes_meaning (writes_in_parentheses (writes_type_size p s h))))))))
+writes_type (Varchar2 n) h = writes_right (writes_right (writes_meaning (writes_apart (writes_word words.Varchar2) refl (writes_in_parentheses (writes_whole n (omega (arith, h.1)))))))
 
 writes_marks : (is_key reservable : Bool) → Writes is_behind (many mark (λ ms. ms)) (marks_words is_key reservable) (marks_tree is_key reservable)
 unfolding mark marks_words
@@ -146,40 +158,42 @@ writes_form (n ∷ names) (c ∷ coeffs) written small whole some =
       | inr e ↦ rw e (writes_sum (writes_first_term c n parts.0 small.0) (later_behind names coeffs) (writes_later names coeffs parts.1 small.1))
     ]
 
-writes_test : (lo hi : Option ℤ) → (is_some lo || is_some hi) ≡ true → AreAmounts lo hi → Writes is_behind test_part (limit_words lo hi) (test_tree lo hi)
-writes_test (Some lo) (Some hi) limited amounts =
+writes_test : (scale : ℕ) (lo hi : Option ℤ) → IsScale scale → (is_some lo || is_some hi) ≡ true → AreAmounts lo hi → Writes is_behind test_part (limit_words scale lo hi) (test_tree scale lo hi)
+writes_test scale (Some lo) (Some hi) scaled limited amounts =
     elim (cases_Bool (int_eq lo hi)) [
-      | inl e ↦ rw e (writes_blank (writes_compare comparisons.Equal lo amounts.0))
-      | inr e ↦ rw e (writes_blank (writes_between lo hi amounts.0 amounts.1))
+      | inl e ↦ rw e (writes_blank (writes_compare comparisons.Equal scale lo scaled amounts.0))
+      | inr e ↦ rw e (writes_blank (writes_between scale lo hi scaled amounts.0 amounts.1))
     ]
-writes_test (Some lo) None limited amounts = writes_blank (writes_compare comparisons.AtLeast lo amounts.0)
-writes_test None (Some hi) limited amounts = writes_blank (writes_compare comparisons.AtMost hi amounts.1)
-writes_test None None limited amounts = absurd (false≢true limited)
+writes_test scale (Some lo) None scaled limited amounts = writes_blank (writes_compare comparisons.AtLeast scale lo scaled amounts.0)
+writes_test scale None (Some hi) scaled limited amounts = writes_blank (writes_compare comparisons.AtMost scale hi scaled amounts.1)
+writes_test scale None None scaled limited amounts = absurd (false≢true limited)
 
 -- limits may stand behind a form
-limits_behind : (lo hi : Option ℤ) → is_behind (limit_words lo hi) ≡ true
-limits_behind (Some lo) (Some hi) = elim (cases_Bool (int_eq lo hi)) [ inl e ↦ rw e refl | inr e ↦ rw e refl ]
-limits_behind (Some lo) None = refl
-limits_behind None (Some hi) = refl
-limits_behind None None = refl
+limits_behind : (scale : ℕ) (lo hi : Option ℤ) → is_behind (limit_words scale lo hi) ≡ true
+limits_behind scale (Some lo) (Some hi) = elim (cases_Bool (int_eq lo hi)) [ inl e ↦ rw e refl | inr e ↦ rw e refl ]
+limits_behind scale (Some lo) None = refl
+limits_behind scale None (Some hi) = refl
+limits_behind scale None None = refl
 
-writes_condition : (names : List (List ℕ)) (c : Check) → list_all is_written_name names ≡ true → IsDeclared names c
-    → Writes is_behind condition (form_words true names c.coeffs ++ limit_words c.span.lo c.span.hi) (condition_tree names c)
+writes_condition : (names : List (List ℕ)) (scales : List ℕ) (c : Check) → list_all is_written_name names ≡ true → All IsScale scales → IsDeclared names scales c
+    → Writes is_behind condition (condition_words names scales c) (condition_tree names scales c)
 unfolding condition
-writes_condition names c written h =
-    writes_apart (writes_form names c.coeffs written (small_each names c h) h.covers (some_coefficient names c h)) (limits_behind c.span.lo c.span.hi)
-    (writes_test c.span.lo c.span.hi h.limited (amounts_of names c h))
+writes_condition names scales c written scaled h =
+    writes_apart (writes_form names (written_of c scales) written (small_each names scales c h) (written_covers names scales c h) (some_coefficient names scales c h)) (limits_behind c.scale c.span.lo c.span.hi)
+    (writes_test c.scale c.span.lo c.span.hi (scale_is names scales c scaled h) h.limited (amounts_of names scales c h))
 
-writes_check : (names : List (List ℕ)) (c : Check) → list_all is_written_name names ≡ true → IsDeclared names c → Writes is_behind item (check_words names c) (check_item names c)
+writes_check : (names : List (List ℕ)) (scales : List ℕ) (c : Check) → list_all is_written_name names ≡ true → All IsScale scales → IsDeclared names scales c
+    → Writes is_behind item (check_words names scales c) (check_item names scales c)
 unfolding item check constraint check_words
-writes_check names c written h =
+writes_check names scales c written scaled h =
     writes_right (writes_left (writes_meaning (writes_apart
     (writes_left (writes_meaning (writes_apart (writes_word words.Constraint) refl (writes_blank (writes_own_name c.name h.written))))) refl
-    (writes_blank (writes_apart (writes_word words.Check) refl (writes_blank (writes_in_parentheses (writes_first (writes_condition names c written h) none_more))))))))
+    (writes_blank (writes_apart (writes_word words.Check) refl (writes_blank (writes_in_parentheses (writes_first (writes_condition names scales c written scaled h) none_more))))))))
 
-pub writes_checks : (names : List (List ℕ)) (checks : List Check) → list_all is_written_name names ≡ true → AllByRecursion (IsDeclared names) checks → WriteEach item (map (check_words names) checks) (map (check_item names) checks)
-writes_checks names [] written all = tt
-writes_checks names (c ∷ checks) written all = (writes_check names c written all.0, writes_checks names checks written all.1)
+pub writes_checks : (names : List (List ℕ)) (scales : List ℕ) (checks : List Check) → list_all is_written_name names ≡ true → All IsScale scales → AllByRecursion (IsDeclared names scales) checks
+    → WriteEach item (map (check_words names scales) checks) (map (check_item names scales) checks)
+writes_checks names scales [] written scaled all = tt
+writes_checks names scales (c ∷ checks) written scaled all = (writes_check names scales c written scaled all.0, writes_checks names scales checks written scaled all.1)
 
 pub writes_table : (n : List ℕ) (texts : List (List ℕ)) (is : List Item) → is_written_name n ≡ true → 1 ≤ length is → WriteEach item texts is
     → Writes is_behind request (table_words n texts) (requests.Statement (statements.Create (record { table = n; items = is })))

@@ -48,7 +48,7 @@ Between kind z = (neg_ℤ (top_of kind) ≤ℤ z) × (z ≤ℤ top_of kind)
 
 -- what is between the limits of a type is an amount
 amount_between : (kind : ColumnType) (z : ℤ) → IsType kind → Between kind z → IsAmount z
-amount_between (Number digits) z small h =
+amount_between (Number digits scale) z small h =
     let top = power_within digits small.1 in
     let positive = power_positive digits in
     (omega (arith, ints), omega (arith, ints))
@@ -69,15 +69,15 @@ int_le_from (negsuc a) (negsuc b) h = elim (leb_tells b a) [ inl t ↦ t.0 | inr
 
 -- what fits a type of numbers is between its limits, and what is between them fits
 between : (kind : ColumnType) (z : ℤ) → fits kind (value.Number z) ≡ true → Between kind z
-between (Number digits) z e =
-    let top = top_of (Number digits) in
+between (Number digits scale) z e =
+    let top = top_of (Number digits scale) in
     let parts = and_parts (int_le (neg_ℤ top) z) (int_le z top) e in
     (int_le_true (neg_ℤ top) z parts.0, int_le_true z top parts.1)
 between (Varchar2 bytes) z e = absurd (false≢true e)
 
 fits_between : (kind : ColumnType) (z : ℤ) → is_numeric kind ≡ true → Between kind z → fits kind (value.Number z) ≡ true
-fits_between (Number digits) z numeric h =
-    let top = top_of (Number digits) in
+fits_between (Number digits scale) z numeric h =
+    let top = top_of (Number digits scale) in
     and_from (int_le (neg_ℤ top) z) (int_le z top) (int_le_from (neg_ℤ top) z h.0) (int_le_from z top h.1)
 fits_between (Varchar2 bytes) z numeric h = absurd (false≢true numeric)
 

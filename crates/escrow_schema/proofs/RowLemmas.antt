@@ -3,7 +3,7 @@ use Rattle.std.proofs.Common.{◌≡◌, ℕ, ℤ, zero, suc, ◌+◌, ◌==◌,
 use Rattle.std.specs.Prelude.{IsSomeAnd, IsTrue, slice_get}
 use Rattle.std.specs.List.{AllByRecursion}
 use Rattle.std.proofs.lemmas.Bool.{cases_Bool, eqb-true, false≢true}
-use Rattle.std.proofs.lemmas.Option.{none-some, same_Some, cond_some}
+use Rattle.std.proofs.lemmas.Option.{none-some, same_Some}
 use Rattle.escrow_num.specs.declared.row.Row.{Row}
 use Rattle.escrow_num.specs.declared.value.Value.{Value}
 use Rattle.escrow_num.specs.declared.value.Value.TheVariants as value
@@ -12,20 +12,15 @@ use Rattle.escrow_schema.specs.declared.column.Column.{Column}
 use Rattle.escrow_schema.specs.declared.column.ColumnType.{ColumnType}
 use Rattle.escrow_schema.specs.declared.table.TableDef.{TableDef}
 use Rattle.escrow_schema.specs.declared.column.ColumnType.TheVariants.{Number, Varchar2}
-use Rattle.escrow_schema.specs.Column.{fits, is_numeric, reservables, value_in, value_of}
+use Rattle.escrow_schema.specs.Column.{fits, is_numeric, reservables, value_in}
 use Rattle.escrow_schema.specs.Fit.{FitColumns, plains, values_in, number_in, amounts_of, plain_of, values_from, values_of}
 use Rattle.escrow_schema.proofs.FitLemmas.{values_split}
-
--- a value that a literal is fits the type
-pub fits_value : (kind : ColumnType) (l : Literal) (v : Value) → value_in kind l ≡ Some v → fits kind v ≡ true
-fits_value kind l v e =
-    let made = cond_some (fits kind (value_of l)) (value_of l) v e in
-    subst (λ x. fits kind x ≡ true) made.1 made.0
+use Rattle.escrow_schema.proofs.KeyValues.{value_in_fits}
 
 -- what fits a type of numbers is a number
 number_value : (kind : ColumnType) (v : Value) → is_numeric kind ≡ true → fits kind v ≡ true → value.Number (number_in v) ≡ v
 number_value kind (value.Number z) numeric e = refl
-number_value (Number digits) (value.Text t) numeric e = absurd (false≢true e)
+number_value (Number digits scale) (value.Text t) numeric e = absurd (false≢true e)
 number_value (Varchar2 bytes) (value.Text t) numeric e = absurd (false≢true numeric)
 
 -- values that literals are fit their columns
@@ -35,7 +30,7 @@ fit_values [] (l ∷ literals) values e = absurd (none-some values e)
 fit_values (column ∷ columns) [] values e = absurd (none-some values e)
 fit_values (column ∷ columns) (l ∷ literals) values e =
     values_split column columns l literals values e
-    (λ v rest one others whole. subst (FitColumns (column ∷ columns)) whole (fits_value column.kind l v one, fit_values columns literals rest others))
+    (λ v rest one others whole. subst (FitColumns (column ∷ columns)) whole (value_in_fits column.kind l v one, fit_values columns literals rest others))
 
 -- each column, where it is RESERVABLE, is of numbers
 abbrev pub NumericColumns : List Column → Type 0
@@ -150,16 +145,15 @@ made_values table values key row numeric fit found made =
     subst (λ r. values ≡ values_of table r) made
     (values_back table.columns values 0 table.key key numeric fit (key_at values table.key key found))
 
--- the literal at a place is the value at that place
-pub literal_at : (columns : List Column) (literals : List Literal) (values : List Value) (i : ℕ) (l : Literal) → values_in columns literals ≡ Some values
-    → slice_get literals i ≡ Some l → slice_get values i ≡ Some (value_of l)
-literal_at [] [] values i l e at = absurd (none-some l at)
-literal_at [] (k ∷ literals) values i l e at = absurd (none-some values e)
-literal_at (column ∷ columns) [] values i l e at = absurd (none-some values e)
-literal_at (column ∷ columns) (k ∷ literals) values zero l e at =
-    values_split column columns k literals values e
-    (λ v rest one others whole. subst (λ vs. slice_get vs 0 ≡ Some (value_of l)) whole
-    (ap Some (sym (cond_some (fits column.kind (value_of k)) (value_of k) v one).1 ∙ ap value_of (same_Some k l at))))
-literal_at (column ∷ columns) (k ∷ literals) values (suc i) l e at =
-    values_split column columns k literals values e
-    (λ v rest one others whole. subst (λ vs. slice_get vs (suc i) ≡ Some (value_of l)) whole (literal_at columns literals rest i l others at))
+-- the value at a place is that of the literal there, in the column there
+pub literal_at : (columns : List Column) (literals : List Literal) (values : List Value) (i : ℕ) (column : Column) (l : Literal) → values_in columns literals ≡ Some values
+    → slice_get columns i ≡ Some column → slice_get literals i ≡ Some l → slice_get values i ≡ value_in column.kind l
+literal_at [] literals values i column l e there at = absurd (none-some column there)
+literal_at (first ∷ columns) [] values i column l e there at = absurd (none-some l at)
+literal_at (first ∷ columns) (k ∷ literals) values zero column l e there at =
+    values_split first columns k literals values e
+    (λ v rest one others whole. subst (λ vs. slice_get vs 0 ≡ value_in column.kind l) whole
+    (sym one ∙ ap₂ (λ (c : Column) (x : Literal). value_in c.kind x) (same_Some first column there) (same_Some k l at)))
+literal_at (first ∷ columns) (k ∷ literals) values (suc i) column l e there at =
+    values_split first columns k literals values e
+    (λ v rest one others whole. subst (λ vs. slice_get vs (suc i) ≡ value_in column.kind l) whole (literal_at columns literals rest i column l others there at))

@@ -12,16 +12,17 @@ use Rattle.escrow_sql.specs.declared.statement.CreateText.{CreateText}
 use Rattle.escrow_sql.specs.declared.statement.Item.{Item}
 use Rattle.escrow_checks.proofs.ConditionLemmas.{checks_declared, checks_whole}
 use Rattle.escrow_checks.specs.DeclaredCheck.{IsDeclared}
+use Rattle.escrow_checks.specs.Scales.{AreScales}
 use Rattle.escrow_checks.specs.declared.coefficients.TheConstants.Coefficients.{MAX_LEN}
 use Rattle.escrow_checks.specs.WrittenName.{is_written_name}
 use Rattle.escrow_schema.specs.declared.column.Column.{Column}
 use Rattle.escrow_schema.specs.declared.table.TableDef.{TableDef}
 use Rattle.escrow_schema.specs.declared.table.TheConstants.TableDef.{MIN_COLUMNS, MAX_COLUMNS}
-use Rattle.escrow_schema.specs.Column.{is_numeric, reservables, names_of}
+use Rattle.escrow_schema.specs.Column.{is_numeric, reservables, names_of, scales_of}
 use Rattle.escrow_schema.specs.Definition.{IsTable, check_names, checks_in, column_texts, columns_of, definition_of, are_columns, are_distinct, is_plain_at, key_names, key_place, only_one, place_of_column}
 use Rattle.escrow_schema.specs.Rules.{FollowsRules}
 use Rattle.escrow_schema.specs.Typed.{CanRange, TypedColumns}
-use Rattle.escrow_schema.proofs.ColumnsLemmas.{HasType, written_columns, reservables_distinct, reservables_written}
+use Rattle.escrow_schema.proofs.ColumnsLemmas.{HasType, written_columns, reservable_types, reservables_distinct, reservables_written, scales_typed}
 use Rattle.escrow_schema.proofs.DistinctLemmas.{distinct_from}
 use Rattle.escrow_schema.proofs.TableLemmas.{parts}
 
@@ -62,6 +63,10 @@ rules_of table is_table = rules_on table.columns table.key (parts is_table.0 tab
 -- each column of a table has a type
 pub column_types : (table : TableDef) → IsTable table → AllByRecursion HasType table.columns
 column_types table is_table = written_columns (column_texts is_table.0.items) table.columns (parts is_table.0 table is_table.1).columns
+
+-- beside the names of its RESERVABLE columns stand their scales
+pub table_scales : (table : TableDef) → IsTable table → AreScales (names_of (reservables table.columns)) (scales_of (reservables table.columns))
+table_scales table is_table = scales_typed (reservables table.columns) (reservable_types table.columns (column_types table is_table))
 
 -- a column at which a test holds stands there
 stands : (columns : List Column) (key : ℕ) → is_plain_at columns key ≡ true → key < length columns
@@ -129,8 +134,9 @@ follows_rules text table e =
     let rules = rules_on table.columns table.key p.follow in
     let key = plain_column (slice_get table.columns table.key) rules.plain_key in
     let names = names_of (reservables table.columns) in
+    let scales = scales_of (reservables table.columns) in
     let texts = checks_in text.items in
-    let written = checks_whole names texts p.written p.from_texts in
+    let written = checks_whole names scales texts p.written p.from_texts in
     record {
       name = p.name;
       columns = p.columns;
@@ -148,7 +154,7 @@ follows_rules text table e =
       declared = p.written;
       of_text = p.from_texts;
       few_declared = written.1;
-      good_declared = recursion_from_All (IsDeclared names) p.written (checks_declared names texts p.written p.from_texts);
+      good_declared = recursion_from_All (IsDeclared names scales) p.written (checks_declared names scales texts p.written p.from_texts);
       checks = p.checks;
       distinct_checks = distinct_from (check_names table.checks) p.distinct;
     }

@@ -8,7 +8,7 @@ use Rattle.escrow_checks.specs.Checks.{checks_of}
 use Rattle.escrow_checks.specs.WrittenName.{is_written_name}
 use Rattle.escrow_schema.specs.declared.column.Column.{Column}
 use Rattle.escrow_schema.specs.declared.table.TableDef.{TableDef}
-use Rattle.escrow_schema.specs.Column.{reservables, names_of}
+use Rattle.escrow_schema.specs.Column.{reservables, names_of, scales_of}
 use Rattle.escrow_schema.specs.Definition.{definition_of, table_of, table_with, column_texts, columns_of, key_place, are_columns, are_distinct, check_names, checks_in, range_checks}
 use Rattle.escrow_schema.proofs.ListLemmas.{some_under}
 
@@ -20,14 +20,14 @@ pub record Parts (text : CreateText) (table : TableDef) : Type 0 where
   pub key : key_place text.items table.columns ≡ Some table.key
   pub follow : are_columns table.columns table.key ≡ true
   pub written : List Check
-  pub from_texts : checks_of (names_of (reservables table.columns)) (checks_in text.items) ≡ Some written
+  pub from_texts : checks_of (names_of (reservables table.columns)) (scales_of (reservables table.columns)) (checks_in text.items) ≡ Some written
   pub checks : table.checks ≡ written ++ range_checks table.columns
   pub distinct : are_distinct (check_names table.checks) ≡ true
 
 with_checks : (text : CreateText) (columns : List Column) (key : ℕ) (written : List Check) (table : TableDef)
     → columns_of (column_texts text.items) ≡ Some columns → key_place text.items columns ≡ Some key
     → is_written_name text.table ≡ true → are_columns columns key ≡ true
-    → checks_of (names_of (reservables columns)) (checks_in text.items) ≡ Some written
+    → checks_of (names_of (reservables columns)) (scales_of (reservables columns)) (checks_in text.items) ≡ Some written
     → table_with text.table columns key written ≡ Some table → Parts text table
 with_checks text columns key written table at place writable follow from made =
     let made_of : TableDef = record { name = text.table; columns = columns; key = key; checks = written ++ range_checks columns } in
@@ -38,7 +38,7 @@ with_key : (text : CreateText) (columns : List Column) (key : ℕ) (table : Tabl
     → columns_of (column_texts text.items) ≡ Some columns → key_place text.items columns ≡ Some key
     → table_of text columns key ≡ Some table → Parts text table
 with_key text columns key table at place made =
-    let checks = checks_of (names_of (reservables columns)) (checks_in text.items) in
+    let checks = checks_of (names_of (reservables columns)) (scales_of (reservables columns)) (checks_in text.items) in
     let tested = some_under (is_written_name text.table && are_columns columns key) (option_and_then (table_with text.table columns key) checks) table made in
     let rules = and_parts (is_written_name text.table) (are_columns columns key) tested.0 in
     option_and_then_some (table_with text.table columns key) checks table tested.1

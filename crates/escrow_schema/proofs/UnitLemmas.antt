@@ -12,7 +12,7 @@ use Rattle.std.proofs.lemmas.Bool.{or_parts, and_parts, not-true, leb-true}
 use Rattle.escrow_checks.specs.Checks.{unit_of}
 use Rattle.escrow_checks.specs.WrittenName.{is_written_name}
 use Rattle.escrow_schema.specs.declared.column.Column.{Column}
-use Rattle.escrow_schema.specs.Column.{names_of, top_of}
+use Rattle.escrow_schema.specs.Column.{names_of, scale_of, top_of}
 use Rattle.escrow_schema.specs.Definition.{are_distinct, range_check}
 use Rattle.escrow_schema.specs.Typed.{CanRange}
 use Rattle.escrow_schema.proofs.DistinctLemmas.{same_name, either_order}
@@ -62,20 +62,19 @@ short_at (column ∷ columns) (suc place) d writable within =
 abbrev pub limits_of : Column → Span
 limits_of column = record { lo = Some (neg_ℤ (top_of column.kind)); hi = Some (top_of column.kind) }
 
--- a name, coefficients and limits that are those of a column's range check make it
-pub ranged : (columns : List Column) (place : ℕ) (column d : Column) (name : List ℕ) (coeffs : List ℤ) (span : Span)
+-- a name, coefficients, a scale and limits that are those of a column's range check make it
+pub ranged : (columns : List Column) (place : ℕ) (column d : Column) (name : List ℕ) (coeffs : List ℤ) (scale : ℕ) (span : Span)
     → CanRange columns → place < length columns → column ≡ get_or columns place column
     → name ≡ codes "RANGE_" ++ (get_or columns place column).name → coeffs ≡ set (replicate (length columns) (pos 0)) place (pos 1)
-    → span ≡ limits_of (get_or columns place column)
-    → let check : Check = record { name = name; coeffs = coeffs; span = span } in check ≡ range_check (names_of columns) (get_or columns place d)
-ranged columns place column d name coeffs span can within at named one limits =
+    → scale ≡ scale_of column.kind → span ≡ limits_of column
+    → let check : Check = record { name = name; coeffs = coeffs; scale = scale; span = span } in check ≡ range_check (names_of columns) (get_or columns place d)
+ranged columns place column d name coeffs scale span can within at named one own limits =
     let unit : unit_of (names_of columns) column.name ≡ coeffs =
     ap (λ (c : Column). unit_of (names_of columns) c.name) at ∙ (unit_at columns place column can.1 within ∙ sym one) in
     let called : name ≡ codes "RANGE_" ++ column.name = named ∙ ap (λ (c : Column). codes "RANGE_" ++ c.name) (sym at) in
-    let bounds : span ≡ limits_of column = limits ∙ ap limits_of (sym at) in
     let same : column ≡ get_or columns place d = get_or_read columns place column within at d in
-    let check : Check = record { name = name; coeffs = coeffs; span = span } in
-    let made : check ≡ range_check (names_of columns) column = rw (called, ← unit, bounds) refl in
+    let check : Check = record { name = name; coeffs = coeffs; scale = scale; span = span } in
+    let made : check ≡ range_check (names_of columns) column = rw (called, ← unit, own, limits) refl in
     subst (λ (c : Column). check ≡ range_check (names_of columns) c) same made
 
 -- the name at a place is short

@@ -20,13 +20,13 @@ literal_for (Some names) literals place name = literal_beside names literals nam
 
 -- the value of a column, and of columns of which the first stands at a place, where each has a
 -- literal that fits
-abbrev pub value_at : Option (List (List ℕ)) → List Literal → ℕ → Column → Option Value
-value_at names literals place column = option_and_then (value_in column.kind) (literal_for names literals place column.name)
+abbrev pub asked_value : Option (List (List ℕ)) → List Literal → ℕ → Column → Option Value
+asked_value names literals place column = option_and_then (value_in column.kind) (literal_for names literals place column.name)
 
 abbrev pub values_at : Option (List (List ℕ)) → List Literal → ℕ → List Column → Option (List Value)
 values_at names literals place [] = Some []
 values_at names literals place (column ∷ columns) =
-    option_and_then (λ v. option_map (λ values. v ∷ values) (values_at names literals (place + 1) columns)) (value_at names literals place column)
+    option_and_then (λ v. option_map (λ values. v ∷ values) (values_at names literals (place + 1) columns)) (asked_value names literals place column)
 
 -- the values of columns, where there are as many literals, and each fits
 abbrev pub asked_values : List Column → InsertText → Option (List Value)

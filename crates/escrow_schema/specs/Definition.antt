@@ -15,7 +15,7 @@ use Rattle.escrow_checks.specs.WrittenName.{is_written_name}
 use Rattle.escrow_schema.specs.declared.column.Column.{Column}
 use Rattle.escrow_schema.specs.declared.table.TableDef.{TableDef}
 use Rattle.escrow_schema.specs.declared.table.TheConstants.TableDef.{MIN_COLUMNS, MAX_COLUMNS}
-use Rattle.escrow_schema.specs.Column.{type_of, is_numeric, top_of, reservables, names_of}
+use Rattle.escrow_schema.specs.Column.{type_of, is_numeric, scale_of, top_of, reservables, names_of, scales_of}
 
 -- a mark is PRIMARY KEY
 abbrev pub is_key_mark : ColumnMark → Bool
@@ -98,11 +98,12 @@ abbrev pub are_distinct : List (List ℕ) → Bool
 are_distinct [] = true
 are_distinct (name ∷ names) = not (list_any (λ other. bytes_eq name other) names) && are_distinct names
 
--- the check of a RESERVABLE column's range: from its type's least to its type's greatest
+-- the check of a RESERVABLE column's range: from its type's least to its type's greatest, in units
 abbrev pub range_check : List (List ℕ) → Column → Check
 range_check names column = record {
   name = codes "RANGE_" ++ column.name;
   coeffs = unit_of names column.name;
+  scale = scale_of column.kind;
   span = record { lo = Some (neg_ℤ (top_of column.kind)); hi = Some (top_of column.kind) };
 }
 
@@ -139,7 +140,7 @@ table_with name columns key written =
 abbrev pub table_of : CreateText → List Column → ℕ → Option TableDef
 table_of text columns key =
     if is_written_name text.table && are_columns columns key
-    then option_and_then (table_with text.table columns key) (checks_of (names_of (reservables columns)) (checks_in text.items))
+    then option_and_then (table_with text.table columns key) (checks_of (names_of (reservables columns)) (scales_of (reservables columns)) (checks_in text.items))
     else None
 
 -- the table that a CREATE TABLE defines, or nothing where it breaks a rule
@@ -154,3 +155,7 @@ IsTable table = (text : CreateText) × (definition_of text ≡ Some table)
 -- the key column of a table
 abbrev pub key_column : TableDef → Option Column
 key_column table = slice_get table.columns table.key
+
+-- the scale of its type
+abbrev pub key_scale : TableDef → ℕ
+key_scale table = unwrap_or (option_map (λ column. scale_of column.kind) (key_column table)) 0

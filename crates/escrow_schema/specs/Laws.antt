@@ -2,6 +2,7 @@
 use Rattle.std.specs.Prelude.{◌≡◌, ◌⊎◌, ◌↔◌, ℕ, ℤ, ◌+◌, ◌≤◌, false, Option, Some, None, Ok, Err, IfSome, IsTrue, List, ◌++◌, bytes_eq, codes, length, map, slice_get}
 use Rattle.std.specs.List.{AllByRecursion, AllZip, list_any}
 use Rattle.escrow_num.specs.Amount.{IsAmount}
+use Rattle.escrow_num.specs.Decimal.{units_at}
 use Rattle.escrow_num.specs.declared.refusal.Refusal.{Refusal}
 use Rattle.escrow_num.specs.declared.refusal.Refusal.TheVariants as refusal
 use Rattle.escrow_num.specs.declared.row.Row.{Row}
@@ -19,6 +20,7 @@ use Rattle.escrow_checks.specs.declared.condition.TheConstants.{MAX_CHECKS}
 use Rattle.escrow_checks.specs.Condition.{MeetsText}
 use Rattle.escrow_checks.specs.Grant.{Meets}
 use Rattle.escrow_checks.specs.Laws.{AreNamed}
+use Rattle.escrow_checks.specs.Scales.{in_millionths}
 use Rattle.escrow_schema.specs.declared.catalog.TheConstants.Catalog.{MAX_TABLES}
 use Rattle.escrow_schema.specs.declared.column.TheConstants.ColumnType.{MAX_DIGITS, MAX_BYTES}
 use Rattle.escrow_schema.specs.declared.table.TheConstants.TableDef.{MIN_COLUMNS, MAX_COLUMNS, MAX_ROWS}
@@ -27,8 +29,8 @@ use Rattle.escrow_schema.specs.declared.plan.Plan.{Plan}
 use Rattle.escrow_schema.specs.declared.plan.Plan.TheVariants.{Reserve, Plain}
 use Rattle.escrow_schema.specs.declared.table.TableDef.{TableDef}
 use Rattle.escrow_schema.specs.BadAssignment.{IsBadlyAssigned}
-use Rattle.escrow_schema.specs.Column.{fits, reservables, names_of, value_of}
-use Rattle.escrow_schema.specs.Definition.{IsTable, check_names, checks_in, definition_of}
+use Rattle.escrow_schema.specs.Column.{fits, scale_of, reservables, names_of, scales_of, value_at, value_in, truncated_value}
+use Rattle.escrow_schema.specs.Definition.{IsTable, check_names, checks_in, definition_of, key_scale}
 use Rattle.escrow_schema.specs.Fit.{FitColumns, IsRowOf, fitted, inserted_row, plains, values_in, values_of}
 use Rattle.escrow_schema.specs.Plan.{key_named, key_of, planned}
 use Rattle.escrow_schema.specs.Rules.{FollowsRules}
@@ -73,30 +75,39 @@ PlainPlansFit =
     → AllZip (λ column new. IfSome new (λ v. IsTrue (fits column.kind v))) (plains table.columns 0 table.key) values
 
 -- a plan of changes has for each RESERVABLE column the change that is assigned to it, wherever it
--- stands, and none where nothing is
+-- stands, in units of the column's scale, which are a whole number, and none where nothing is
 abbrev pub ChangesAsAssigned : Type 0
 ChangesAsAssigned =
     (table : TableDef) (text : UpdateText) (key : Value) (changes : List (Option ℤ)) → planned table text ≡ Ok (Reserve key changes)
     → (i : ℕ) (column : Column) → slice_get (reservables table.columns) i ≡ Some column
     → ((k : ℕ) (assign : Assign) (source : List ℕ) (change : ℤ) → slice_get text.assigns k ≡ Some assign → assign.column ≡ column.name
-    → assign.value ≡ assigned.Change source change → slice_get changes i ≡ Some (Some change))
+    → assign.value ≡ assigned.Change source change → (units : ℤ) × (slice_get changes i ≡ Some (Some units)) × (units_at (scale_of column.kind) change ≡ Some units))
     × (list_any (λ assign. bytes_eq assign.column column.name) text.assigns ≡ false → slice_get changes i ≡ Some None)
 
--- a plan of new values has for each column that is neither RESERVABLE nor the key the literal that is
--- assigned to it, wherever it stands, and none where nothing is
+-- a plan of new values has for each column that is neither RESERVABLE nor the key the value there of
+-- the literal that is assigned to it, wherever it stands, and none where nothing is
 abbrev pub NewValuesAsAssigned : Type 0
 NewValuesAsAssigned =
     (table : TableDef) (text : UpdateText) (key : Value) (values : List (Option Value)) → planned table text ≡ Ok (Plain key values)
     → (i : ℕ) (column : Column) → slice_get (plains table.columns 0 table.key) i ≡ Some column
     → ((k : ℕ) (assign : Assign) (literal : Literal) → slice_get text.assigns k ≡ Some assign → assign.column ≡ column.name
-    → assign.value ≡ assigned.Literal literal → slice_get values i ≡ Some (Some (value_of literal)))
+    → assign.value ≡ assigned.Literal literal → (v : Value) × (slice_get values i ≡ Some (Some v)) × (value_in column.kind literal ≡ Some v))
     × (list_any (λ assign. bytes_eq assign.column column.name) text.assigns ≡ false → slice_get values i ≡ Some None)
+
+-- a value is a literal's at a scale: nothing of it is rounded
+abbrev pub IsValueOf : ℕ → Literal → Value → Type 0
+IsValueOf scale literal v = (value_at scale literal ≡ Some v) × (v ≡ truncated_value scale literal)
 
 -- a plan's key is the literal of the UPDATE's WHERE
 abbrev pub KeysOfPlans : Type 0
-KeysOfPlans = (table : TableDef) (text : UpdateText) (plan : Plan) → planned table text ≡ Ok plan → key_of plan ≡ value_of text.row.literal
+KeysOfPlans = (table : TableDef) (text : UpdateText) (plan : Plan) → planned table text ≡ Ok plan → IsValueOf (key_scale table) text.row.literal (key_of plan)
 
--- an UPDATE that can't be planned is refused for its assignments, for its WHERE's column or for a literal
+-- the key that a WHERE names is its literal
+abbrev pub KeysOfWheres : Type 0
+KeysOfWheres = (table : TableDef) (row : WhereText) (key : Value) → key_named table row ≡ Ok key → IsValueOf (key_scale table) row.literal key
+
+-- an UPDATE that can't be planned is refused for its assignments, for its WHERE's column, or for a
+-- literal or a change
 abbrev pub RefusalsOfPlans : Type 0
 RefusalsOfPlans =
     (table : TableDef) (text : UpdateText) (r : Refusal) → planned table text ≡ Err r
@@ -126,7 +137,7 @@ ValuesBesideNames =
     → inserted_row table text ≡ Some row
     → (i k : ℕ) (column : Column) (literal : Literal) → slice_get table.columns i ≡ Some column
     → slice_get names k ≡ Some column.name → slice_get text.values k ≡ Some literal
-    → slice_get (values_of table row) i ≡ Some (value_of literal)
+    → slice_get (values_of table row) i ≡ value_in column.kind literal
 
 -- the values of a row of a table, whose amounts meet every check of it, fit their columns' types
 abbrev pub ValuesFit : Type 0
@@ -146,13 +157,13 @@ pub record HasCheckNames (text : CreateText) (table : TableDef) : Type 0 where
 abbrev pub NamesOfChecks : Type 0
 NamesOfChecks = (text : CreateText) (table : TableDef) → definition_of text ≡ Some table → HasCheckNames text table
 
--- numbers, one for each RESERVABLE column, meet every check of a table exactly where they meet every
--- CHECK as it is written and each fits its column's type
+-- numbers, one for each RESERVABLE column in units of its scale, meet every check of a table exactly
+-- where in millionths they meet every CHECK as it is written, and each fits its column's type
 abbrev pub ChecksMeanConditions : Type 0
 ChecksMeanConditions =
     (text : CreateText) (table : TableDef) (numbers : List ℤ) → definition_of text ≡ Some table → length numbers ≡ length (reservables table.columns)
     → (AllByRecursion (λ check. Meets check numbers) table.checks
-    ↔ (AllByRecursion (MeetsText (names_of (reservables table.columns)) numbers) (checks_in text.items)
+    ↔ (AllByRecursion (MeetsText (names_of (reservables table.columns)) (in_millionths (scales_of (reservables table.columns)) numbers)) (checks_in text.items)
     × FitColumns (reservables table.columns) (map value.Number numbers)))
 
 -- a text defines a table exactly where the two follow the rules of definitions, one by one

@@ -2,6 +2,7 @@
 use Rattle.std.specs.Prelude.{ℕ, ℤ, Bool, true, false, ◌&&◌, not, if◌then◌else◌, Option, Some, None, option_map, option_and_then, unwrap_or, Result, Ok, Err, List, [], ◌∷◌, map, find, bytes_eq}
 use Rattle.std.specs.Option.{ok_or}
 use Rattle.std.specs.List.{list_any, list_all}
+use Rattle.escrow_num.specs.Decimal.{units_at}
 use Rattle.escrow_num.specs.declared.value.Value.{Value}
 use Rattle.escrow_num.specs.declared.refusal.Refusal.{Refusal}
 use Rattle.escrow_num.specs.declared.refusal.Refusal.TheVariants as refusal
@@ -16,7 +17,7 @@ use Rattle.escrow_schema.specs.declared.column.ColumnType.{ColumnType}
 use Rattle.escrow_schema.specs.declared.plan.Plan.{Plan}
 use Rattle.escrow_schema.specs.declared.plan.Plan.TheVariants.{Reserve, Plain}
 use Rattle.escrow_schema.specs.declared.table.TableDef.{TableDef}
-use Rattle.escrow_schema.specs.Column.{value_in, reservables}
+use Rattle.escrow_schema.specs.Column.{value_in, scale_of, reservables}
 use Rattle.escrow_schema.specs.Definition.{are_distinct, key_column}
 use Rattle.escrow_schema.specs.Fit.{plains}
 
@@ -76,9 +77,22 @@ abbrev pub literal_in : Assigned → Option Literal
 literal_in (assigned.Literal literal) = Some literal
 literal_in (assigned.Change source change) = None
 
--- the change of each RESERVABLE column, in column order: none where it isn't assigned
-abbrev pub changes_of : List Column → List Assign → List (Option ℤ)
-changes_of columns assigns = map (λ column. option_and_then change_in (assigned_to assigns column.name)) (reservables columns)
+-- the change of a column of a scale, in units of it: none where none is assigned to it, and nothing
+-- at all where that isn't a whole number of units, or these are no amount
+abbrev pub change_at : ℕ → Option ℤ → Option (Option ℤ)
+change_at scale None = Some None
+change_at scale (Some z) = option_map (λ units. Some units) (units_at scale z)
+
+-- the change, or none, of each of some columns, where each is good
+abbrev pub changes_for : List Column → List Assign → Option (List (Option ℤ))
+changes_for [] assigns = Some []
+changes_for (column ∷ columns) assigns =
+    option_and_then (λ change. option_map (λ changes. change ∷ changes) (changes_for columns assigns))
+    (change_at (scale_of column.kind) (option_and_then change_in (assigned_to assigns column.name)))
+
+-- the change, or none, of each RESERVABLE column, in column order
+abbrev pub changes_of : List Column → List Assign → Option (List (Option ℤ))
+changes_of columns assigns = changes_for (reservables columns) assigns
 
 -- the new value of a column of a type: none where no literal is assigned to it, and nothing at all
 -- where the literal doesn't fit
@@ -108,11 +122,12 @@ for_key plan (Ok key) = plan key
 for_key plan (Err refusal) = Err refusal
 
 -- what an UPDATE asks, or why it can't be planned: bad assignments, then a WHERE of another column
--- than the key, then a literal, of the WHERE or assigned, that its column's type doesn't hold
+-- than the key, then a literal, of the WHERE or assigned, that its column's type doesn't hold, or a
+-- change that isn't a whole number of its column's units, or of more of them than an amount has
 abbrev pub planned : TableDef → UpdateText → Result Plan Refusal
 planned table text =
     if are_changes table.columns text.assigns
-    then for_key (λ key. Ok (Reserve key (changes_of table.columns text.assigns))) (key_named table text.row)
+    then for_key (λ key. ok_or (option_map (λ changes. Reserve key changes) (changes_of table.columns text.assigns)) refusal.BadValue) (key_named table text.row)
     else (if are_replacements table text.assigns
     then for_key (λ key. ok_or (option_map (λ values. Plain key values) (new_values table text.assigns)) refusal.BadValue) (key_named table text.row)
     else Err refusal.BadAssignment)

@@ -1,19 +1,24 @@
 -- Believed: the canonical text of a table, to the byte.
 use Rattle.std.specs.Prelude.{ℕ, ℤ, pos, negsuc, ◌+◌, ◌-◌, ◌==◌, Bool, true, false, if◌then◌else◌, Option, Some, None, List, [], ◌∷◌, ◌++◌, length, take, map, codes, decimal}
-use Rattle.std.specs.Fmt.{signed_decimal}
 use Rattle.std.specs.Int.RustNames.{unsigned_abs}
 use Rattle.std.specs.Ordering.{int_eq}
+use Rattle.escrow_num.specs.Scaled.{scaled_text}
 use Rattle.escrow_sql.specs.Joined.{joined}
 use Rattle.escrow_checks.specs.declared.check.Check.{Check}
+use Rattle.escrow_checks.specs.DeclaredCheck.{written_of}
 use Rattle.escrow_schema.specs.declared.column.Column.{Column}
 use Rattle.escrow_schema.specs.declared.column.ColumnType.{ColumnType}
 use Rattle.escrow_schema.specs.declared.column.ColumnType.TheVariants.{Number, Varchar2}
 use Rattle.escrow_schema.specs.declared.table.TableDef.{TableDef}
-use Rattle.escrow_schema.specs.Column.{reservables, names_of}
+use Rattle.escrow_schema.specs.Column.{reservables, names_of, scales_of}
 
--- a type: NUMBER and its digits, or VARCHAR2 and its bytes
+-- a scale behind a precision; none is written where it is 0
+abbrev pub scale_words : ℕ → List ℕ
+scale_words scale = if scale == 0 then [] else codes "," ++ decimal scale
+
+-- a type: NUMBER(p) or NUMBER(p,s), or VARCHAR2 and its bytes
 abbrev pub type_words : ColumnType → List ℕ
-type_words (Number digits) = codes "NUMBER(" ++ (decimal digits ++ codes ")")
+type_words (Number digits scale) = codes "NUMBER(" ++ (decimal digits ++ (scale_words scale ++ codes ")"))
 type_words (Varchar2 bytes) = codes "VARCHAR2(" ++ (decimal bytes ++ codes ")")
 
 -- the mark of the key, or of a RESERVABLE column; another has none
@@ -49,19 +54,23 @@ form_words is_first (name ∷ names) (c ∷ coeffs) =
     if int_eq c (pos 0) then form_words is_first names coeffs
     else (sign_words is_first c ++ times_words (unsigned_abs c) name) ++ form_words false names coeffs
 
--- the limits of a form
-abbrev pub limit_words : Option ℤ → Option ℤ → List ℕ
-limit_words (Some lo) (Some hi) =
-    if int_eq lo hi then codes " = " ++ signed_decimal lo
-    else codes " BETWEEN " ++ (signed_decimal lo ++ (codes " AND " ++ signed_decimal hi))
-limit_words (Some lo) None = codes " >= " ++ signed_decimal lo
-limit_words None (Some hi) = codes " <= " ++ signed_decimal hi
-limit_words None None = []
+-- the limits of a form, in units of a scale
+abbrev pub limit_words : ℕ → Option ℤ → Option ℤ → List ℕ
+limit_words scale (Some lo) (Some hi) =
+    if int_eq lo hi then codes " = " ++ scaled_text scale lo
+    else codes " BETWEEN " ++ (scaled_text scale lo ++ (codes " AND " ++ scaled_text scale hi))
+limit_words scale (Some lo) None = codes " >= " ++ scaled_text scale lo
+limit_words scale None (Some hi) = codes " <= " ++ scaled_text scale hi
+limit_words scale None None = []
 
--- a declared check, over the RESERVABLE columns of these names
-unfoldable pub check_words : List (List ℕ) → Check → List ℕ
-check_words names check =
-    (codes "CONSTRAINT " ++ check.name) ++ (codes " CHECK (" ++ ((form_words true names check.coeffs ++ limit_words check.span.lo check.span.hi) ++ codes ")"))
+-- the condition of a check over columns of these names and scales: its coefficients as they are
+-- written, of units of the columns' own scales, and its limits
+abbrev pub condition_words : List (List ℕ) → List ℕ → Check → List ℕ
+condition_words names scales check = form_words true names (written_of check scales) ++ limit_words check.scale check.span.lo check.span.hi
+
+-- a declared check, over the RESERVABLE columns of these names and scales
+unfoldable pub check_words : List (List ℕ) → List ℕ → Check → List ℕ
+check_words names scales check = (codes "CONSTRAINT " ++ check.name) ++ (codes " CHECK (" ++ (condition_words names scales check ++ codes ")"))
 
 -- the checks that a table's text declared: those before the ranges of its RESERVABLE columns
 abbrev pub declared_checks : TableDef → List Check
@@ -75,4 +84,5 @@ table_words name items = codes "CREATE TABLE " ++ (name ++ (codes " (" ++ (joine
 abbrev pub canonical : TableDef → List ℕ
 canonical table =
     table_words table.name
-    (columns_words table.columns 0 table.key ++ map (check_words (names_of (reservables table.columns))) (declared_checks table))
+    (columns_words table.columns 0 table.key
+    ++ map (check_words (names_of (reservables table.columns)) (scales_of (reservables table.columns))) (declared_checks table))

@@ -11,7 +11,7 @@ use Rattle.escrow_checks.specs.WrittenName.{is_written_name}
 use Rattle.escrow_schema.specs.declared.column.Column.{Column}
 use Rattle.escrow_schema.specs.declared.table.TableDef.{TableDef}
 use Rattle.escrow_schema.specs.declared.table.TheConstants.TableDef.{MIN_COLUMNS, MAX_COLUMNS}
-use Rattle.escrow_schema.specs.Column.{is_numeric, reservables, names_of}
+use Rattle.escrow_schema.specs.Column.{is_numeric, reservables, names_of, scales_of}
 use Rattle.escrow_schema.specs.Definition.{check_names, checks_in, column_texts, columns_of, key_names, range_checks}
 
 -- a table follows the rules that its text has to keep
@@ -36,10 +36,10 @@ pub record FollowsRules (text : CreateText) (table : TableDef) : Type 0 where
   -- its checks are at most 32 declared ones, in order, where each condition of a CHECK is a check of
   -- its own, and behind them the range of each RESERVABLE column; no two have one name
   pub declared : List Check
-  pub of_text : checks_of (names_of (reservables table.columns)) (checks_in text.items) ≡ Some declared
+  pub of_text : checks_of (names_of (reservables table.columns)) (scales_of (reservables table.columns)) (checks_in text.items) ≡ Some declared
   pub few_declared : length declared ≤ MAX_CHECKS
-  -- each declared one is over the RESERVABLE columns, of coefficients, limits and a name as CHECKs may
-  -- give them
-  pub good_declared : AllByRecursion (IsDeclared (names_of (reservables table.columns))) declared
+  -- each declared one is over the RESERVABLE columns, of coefficients, a scale, limits and a name as
+  -- CHECKs may give them
+  pub good_declared : AllByRecursion (IsDeclared (names_of (reservables table.columns)) (scales_of (reservables table.columns))) declared
   pub checks : table.checks ≡ declared ++ range_checks table.columns
   pub distinct_checks : IsDistinct bytes_eq (check_names table.checks)

@@ -1,6 +1,7 @@
 -- Helps: what private contracts say of columns. Nothing that callers see rests on it.
 use Rattle.std.specs.Prelude.{◌≡◌, ◌≤◌, true, List, length, All}
 use Rattle.std.specs.List.{list_all}
+use Rattle.escrow_num.specs.declared.scale.TheConstants.Scale.{MAX}
 use Rattle.escrow_checks.specs.declared.coefficients.TheConstants.Coefficients.{MAX_LEN}
 use Rattle.escrow_checks.specs.WrittenName.{is_written_name}
 use Rattle.escrow_schema.specs.declared.column.Column.{Column}
@@ -10,9 +11,10 @@ use Rattle.escrow_schema.specs.declared.column.TheConstants.ColumnType.{MAX_DIGI
 use Rattle.escrow_schema.specs.Column.{names_of}
 use Rattle.escrow_schema.specs.Definition.{are_distinct}
 
--- a type holds numbers of 1 to 15 digits, or texts of at most 1 to 255 bytes
+-- a type holds numbers of 1 to 15 digits, at most 6 of them, and no more than there are, behind the
+-- point, or texts of at most 1 to 255 bytes
 abbrev pub IsType : ColumnType → Type 0
-IsType (Number digits) = (1 ≤ digits) × (digits ≤ MAX_DIGITS)
+IsType (Number digits scale) = (1 ≤ digits) × (digits ≤ MAX_DIGITS) × (scale ≤ MAX) × (scale ≤ digits)
 IsType (Varchar2 bytes) = (1 ≤ bytes) × (bytes ≤ MAX_BYTES)
 
 -- each of columns has a type

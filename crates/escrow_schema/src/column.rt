@@ -1,13 +1,15 @@
-ghost use Rattle.std.specs.Prelude.{◌≡◌, ◌&&◌, if◌then◌else◌, None, Some, int_le, pos, unsigned_abs};
+ghost use Rattle.std.specs.Prelude.{◌≡◌, ◌&&◌, if◌then◌else◌, None, Some, int_le, is_some, pos, unsigned_abs};
+ghost use Rattle.escrow_schema.specs.Column.{is_size, number_type, scale_of};
 
-use escrow_num::{Amount, Name, Text, Value};
+use escrow_num::{Amount, Name, Scale, Text, Value};
 use escrow_sql::{Literal, TypeText};
 
 /// The type of a column: the set of the values that it can hold.
 #[derive(Clone, Copy, Debug, PartialEq, Eq)]
 pub enum ColumnType {
-    /// Whole numbers of at most this many digits, from 1 to [`ColumnType::MAX_DIGITS`].
-    Number { digits: u8 },
+    /// Numbers of at most `digits` digits in all, from 1 to [`ColumnType::MAX_DIGITS`], of which
+    /// `scale` stand behind the point, no more than there are: whole units of 10^-scale.
+    Number { digits: u8, scale: Scale },
     /// Texts in UTF-8 of one byte to this many, from 1 to [`ColumnType::MAX_BYTES`].
     Varchar2 { bytes: u8 },
 }
@@ -15,7 +17,7 @@ pub enum ColumnType {
 impl ColumnType {
     ghost use Rattle.escrow_num.specs.Amount.{IsAmount};
     ghost use Rattle.escrow_num.specs.declared.value.Value.TheVariants as value;
-    ghost use Rattle.escrow_schema.specs.Column.{fits, is_numeric, type_of, top_of, value_of};
+    ghost use Rattle.escrow_schema.specs.Column.{fits, is_numeric, type_of, top_of, value_in};
     ghost use Rattle.escrow_schema.specs.Typed.{IsType};
 
     /// The most digits of a number, and those of a type that names none.
@@ -24,18 +26,20 @@ impl ColumnType {
     /// The most bytes of a text.
     pub const MAX_BYTES: u8 = 255;
 
-    /// The type that a text writes, or `None` where `NUMBER(p)` has a p beyond 1 to 15, or
-    /// `VARCHAR2(n)` an n beyond 1 to 255.
+    /// The type that a text writes, or `None` where `NUMBER(p,s)` has a p beyond 1 to 15, or an s
+    /// beyond 0 to 6 or above p, or `VARCHAR2(n)` an n beyond 1 to 255. `NUMBER(p)` has scale 0, and
+    /// `NUMBER` and `INTEGER` are `NUMBER(15)`.
     pub fn from_text(text: &TypeText) -> Option<Self>
         ensures { result ≡ type_of text.now }
     {
         match *text {
             TypeText::Integer | TypeText::Number(None) => Some(ColumnType::Number {
                 digits: Self::MAX_DIGITS,
+                scale: Scale::ZERO,
             }),
-            TypeText::Number(Some(digits)) => Some(ColumnType::Number {
-                digits: size_up_to(digits, Self::MAX_DIGITS)?,
-            }),
+            TypeText::Number(Some(size)) => {
+                number_type(size.digits, size.scale.unwrap_or(Amount::ZERO))
+            }
             TypeText::Varchar2(bytes) => Some(ColumnType::Varchar2 {
                 bytes: size_up_to(bytes, Self::MAX_BYTES)?,
             }),
@@ -52,33 +56,48 @@ impl ColumnType {
         }
     }
 
+    /// The scale of a type of numbers: these are whole units of 10^-scale. A type of texts has
+    /// scale 0.
+    pub fn scale(&self) -> Scale
+        ensures { result ≡ scale_of self.now }
+    {
+        match *self {
+            ColumnType::Number { scale, .. } => scale,
+            ColumnType::Varchar2 { .. } => Scale::ZERO,
+        }
+    }
+
     #[tactic(auto, using(crate::proofs::ColumnLemmas::power_positive, crate::proofs::ColumnLemmas::power_within))]
-    /// The greatest number of a type of numbers, as far above zero as its least is below it; 0 of
-    /// a type of texts.
+    /// The greatest number of a type of numbers, in units of its scale, as far above zero as its
+    /// least is below it; 0 of a type of texts.
     pub(crate) fn top(&self) -> i64
         requires { IsType self.now }
         ensures value { result ≡ top_of self.now }
         ensures within { IsAmount result }
     {
         match *self {
-            ColumnType::Number { digits } => (10u64.pow(u32::from(digits)) - 1) as i64,
+            ColumnType::Number { digits, .. } => (10u64.pow(u32::from(digits)) - 1) as i64,
             ColumnType::Varchar2 { .. } => 0,
         }
     }
 
-    /// Whether a literal fits the type: a number from the type's least to its greatest does, and a
-    /// text of one byte to as many as the type holds.
+    /// Whether a literal fits the type: a number that is a whole number of its units does, from the
+    /// type's least to its greatest, and a text of one byte to as many as the type holds.
     pub(crate) fn fits(&self, literal: &Literal) -> bool
         requires { IsType self.now }
-        ensures { result ≡ fits self.now (value_of literal.now) }
+        ensures { result ≡ is_some (value_in self.now literal.now) }
     {
         match literal {
-            Literal::Number(number) => self.holds_number(*number),
+            Literal::Number(number) => match number.at_scale(self.scale().get()) {
+                Some(units) => self.holds_number(units),
+                None => false,
+            },
             Literal::Text(text) => self.holds_text(text),
         }
     }
 
-    /// Whether a value fits the type, as the literal that it is does.
+    /// Whether a value fits the type: a number of units from the type's least to its greatest does,
+    /// and a text of one byte to as many as the type holds.
     pub(crate) fn holds(&self, value: &Value) -> bool
         requires { IsType self.now }
         ensures { result ≡ fits self.now value.now }
@@ -89,7 +108,7 @@ impl ColumnType {
         }
     }
 
-    /// Whether a number fits the type.
+    /// Whether a number of units fits the type.
     fn holds_number(&self, number: Amount) -> bool
         requires { IsType self.now }
         ensures { result ≡ fits self.now (value.Number number) }
@@ -114,6 +133,31 @@ impl ColumnType {
     }
 }
 
+/// The type of numbers of so many digits in all, of which so many stand behind the point, or `None`
+/// where they are no precision and scale of a type.
+fn number_type(digits: Amount, scale: Amount) -> Option<ColumnType>
+    ensures { result ≡ number_type digits scale }
+{
+    if !is_size(digits.get(), scale.get()) {
+        return None;
+    }
+    Some(ColumnType::Number {
+        digits: digits.get() as u8,
+        scale: Scale::new(scale.get() as u8)?,
+    })
+}
+
+/// Whether numbers are a precision, from 1 to 15, and a scale, from 0 to 6 and not above it.
+fn is_size(digits: i64, scale: i64) -> bool
+    ensures { result ≡ is_size digits scale }
+{
+    1 <= digits
+        && digits <= i64::from(ColumnType::MAX_DIGITS)
+        && 0 <= scale
+        && scale <= i64::from(Scale::MAX)
+        && scale <= digits
+}
+
 /// The size that is written, from 1 to the most.
 fn size_up_to(size: Amount, most: u8) -> Option<u8>
     ensures { result ≡ (if int_le (pos 1) size && int_le size (pos most) then Some (unsigned_abs size) else None) }
@@ -134,4 +178,15 @@ pub struct Column {
     pub kind: ColumnType,
     /// Whether UPDATEs reserve changes of it instead of writing it.
     pub reservable: bool,
+}
+
+impl Column {
+    ghost use Rattle.escrow_schema.specs.Column.{scale_of};
+
+    /// The scale of its type: its numbers are whole units of 10^-scale. A column of texts has scale 0.
+    pub fn scale(&self) -> Scale
+        ensures { result ≡ scale_of self.now.kind }
+    {
+        self.kind.scale()
+    }
 }

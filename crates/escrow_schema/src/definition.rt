@@ -1,6 +1,6 @@
 ghost use Rattle.std.specs.Prelude.{◌≡◌, ◌++◌, ◌⊎◌, None, Some, IfOk, IfErr, IsErr, IsErrOf, map};
 ghost use Rattle.escrow_checks.specs.Checks.{checks_of};
-ghost use Rattle.escrow_schema.specs.Column.{reservables, names_of};
+ghost use Rattle.escrow_schema.specs.Column.{reservables, names_of, scales_of};
 ghost use Rattle.escrow_schema.specs.Definition.{checks_in, definition_of, key_place, range_check, table_of, table_with};
 ghost use Rattle.escrow_schema.specs.Typed.{CanRange, TypedColumns};
 
@@ -8,7 +8,7 @@ use crate::column::Column;
 use crate::items::{checks_in, columns_of, key_name};
 use crate::ranges::push_ranges;
 use crate::rules::{
-    are_columns, are_distinct, check_names, names_of, place_of_column, reservables,
+    are_columns, are_distinct, check_names, names_of, place_of_column, reservables, scales_of,
 };
 use crate::table::TableDef;
 use escrow_checks::{Check, CheckFault, is_written_name, normalise};
@@ -89,11 +89,12 @@ fn declared_checks(
     columns: &[Column],
 ) -> Result<Option<Seq<Check>>, AllocError>
     requires { CanRange columns.now }
-    ensures { IfOk result (λ checks. checks ≡ checks_of (names_of columns.now) (checks_in items.now)) }
+    ensures { IfOk result (λ checks. checks ≡ checks_of (names_of columns.now) (scales_of columns.now) (checks_in items.now)) }
 {
     let texts = checks_in(alloc, items)?;
     let names = names_of(alloc, columns)?;
-    match normalise(alloc, texts.as_slice(), names.as_slice()) {
+    let scales = scales_of(alloc, columns)?;
+    match normalise(alloc, texts.as_slice(), names.as_slice(), scales.as_slice()) {
         Ok(checks) => Ok(Some(checks)),
         Err(CheckFault::Definition) => Ok(None),
         Err(CheckFault::Memory) => Err(AllocError),

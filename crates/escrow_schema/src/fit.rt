@@ -1,12 +1,12 @@
-ghost use Rattle.std.specs.Prelude.{◌≡◌, ◌↔◌, ◌++◌, ◌⊎◌, None, Some, IfOk, IfErr, IsErrOf, IsSome, OnOk, is_some, option_copied, option_map, option_to_list};
-ghost use Rattle.escrow_schema.specs.Asked.{asked_values, is_list, literal_for, value_at, values_at};
-ghost use Rattle.escrow_schema.specs.Column.{value_of};
+ghost use Rattle.std.specs.Prelude.{◌≡◌, ◌↔◌, ◌++◌, ◌⊎◌, None, Some, IfOk, IfErr, IsErrOf, IsSome, OnOk, is_some, option_and_then, option_copied, option_to_list};
+ghost use Rattle.escrow_schema.specs.Asked.{asked_value, asked_values, is_list, literal_for, values_at};
+ghost use Rattle.escrow_schema.specs.Column.{scale_of, value_at};
 ghost use Rattle.escrow_schema.specs.Definition.{IsTable};
 ghost use Rattle.escrow_schema.specs.Fit.{inserted_row, literal_beside};
 ghost use Rattle.escrow_schema.specs.Typed.{IsType, TypedColumns};
 
 use crate::column::Column;
-use crate::literal::value_of;
+use crate::literal::value_at;
 use crate::row::row_with;
 use crate::rules::are_distinct;
 use crate::table::TableDef;
@@ -72,7 +72,7 @@ fn each_fits(columns: &[Column], text: &InsertText) -> bool
 /// Whether the column at a place has a literal that fits its type.
 fn has_value(column: &Column, place: usize, text: &InsertText) -> bool
     requires { IsType column.now.kind }
-    ensures { result ≡ is_some (value_at text.now.columns text.now.values place column.now) }
+    ensures { result ≡ is_some (asked_value text.now.columns text.now.values place column.now) }
 {
     match literal_for(text, place, &column.name) {
         Some(literal) => column.kind.fits(literal),
@@ -124,7 +124,7 @@ fn values_at(alloc: Global, columns: &[Column], text: &InsertText) -> Result<Vec
     Ok(values)
 }
 
-/// Adds the value of the column at a place, if it has a literal.
+/// Adds the value of the column at a place, if it has a literal that is one at its scale.
 fn push_value(
     alloc: Global,
     values: &mut Vec<Value>,
@@ -132,10 +132,12 @@ fn push_value(
     place: usize,
     text: &InsertText,
 ) -> Result<(), AllocError>
-    ensures { OnOk result (values.new.items ≡ values.old.items ++ option_to_list (option_map value_of (literal_for text.now.columns text.now.values place column.now.name))) }
+    ensures { OnOk result (values.new.items ≡ values.old.items ++ option_to_list (option_and_then (value_at (scale_of column.now.kind)) (literal_for text.now.columns text.now.values place column.now.name))) }
 {
     if let Some(literal) = literal_for(text, place, &column.name) {
-        values.push(value_of(alloc, literal)?)?;
+        if let Some(value) = value_at(alloc, column.scale(), literal)? {
+            values.push(value)?;
+        }
     }
     Ok(())
 }

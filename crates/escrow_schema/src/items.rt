@@ -19,7 +19,7 @@ pub(crate) fn columns_of(alloc: Global, items: &[Item]) -> Result<Option<Seq<Col
             continue;
         };
         match column_of(text) {
-            Some(column) => columns.push(column)?,
+            Some(column) => add(&mut columns, column)?,
             None => return Ok(None),
         }
     }

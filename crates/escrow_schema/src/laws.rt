@@ -1,14 +1,14 @@
 //! What holds of every table that a text defines, and of the rows and plans of it: each law is the
 //! contract of a function that does nothing.
-ghost use Rattle.escrow_schema.specs.Laws.{NameOfTable, NamesOfChecks, FewReservable, ChecksOfWholeRow, ChecksKeepAmounts, FewChecks, RowsOfTable, ValuesOfRow, ValuesBesideNames, ValuesFit, ChecksMeanConditions, DefinitionsFollowRules, PlansOfWholeRow, PlainPlansFit, ChangesAsAssigned, NewValuesAsAssigned, KeysOfPlans, RefusalsOfPlans, BadAssignmentsAreOfSixKinds, RefusalsOfKeys, Limits};
+ghost use Rattle.escrow_schema.specs.Laws.{NameOfTable, NamesOfChecks, FewReservable, ChecksOfWholeRow, ChecksKeepAmounts, FewChecks, RowsOfTable, ValuesOfRow, ValuesBesideNames, ValuesFit, ChecksMeanConditions, DefinitionsFollowRules, PlansOfWholeRow, PlainPlansFit, ChangesAsAssigned, NewValuesAsAssigned, KeysOfPlans, KeysOfWheres, RefusalsOfPlans, BadAssignmentsAreOfSixKinds, RefusalsOfKeys, Limits};
 
 /// A text defines a table exactly where the two follow the rules of definitions, one by one.
 pub fn definitions_follow_rules()
     ensures { DefinitionsFollowRules }
 {}
 
-/// Numbers meet every check of a table exactly where they meet every CHECK as it is written and each
-/// fits its column's type.
+/// Numbers in units of their columns' scales meet every check of a table exactly where in millionths
+/// they meet every CHECK as it is written, and each fits its column's type.
 pub fn checks_mean_conditions()
     ensures { ChecksMeanConditions }
 {}
@@ -57,7 +57,7 @@ pub fn values_of_row()
 {}
 
 /// The literal beside a column's name is the column's value in the row that an INSERT with a column
-/// list makes, wherever in the list the two stand.
+/// list makes, in units of the column's scale, wherever in the list the two stand.
 pub fn values_beside_names()
     ensures { ValuesBesideNames }
 {}
@@ -78,8 +78,8 @@ pub fn plain_plans_fit()
     ensures { PlainPlansFit }
 {}
 
-/// A plan of changes has for each RESERVABLE column the change that is assigned to it, and none where
-/// nothing is.
+/// A plan of changes has for each RESERVABLE column the change that is assigned to it, in units of
+/// the column's scale, of which it is a whole number, and none where nothing is.
 pub fn changes_as_assigned()
     ensures { ChangesAsAssigned }
 {}
@@ -90,13 +90,20 @@ pub fn new_values_as_assigned()
     ensures { NewValuesAsAssigned }
 {}
 
-/// A plan's key is the literal of the UPDATE's WHERE.
+/// A plan's key is the literal of the UPDATE's WHERE, in units of the key's scale, of which it is a
+/// whole number.
 pub fn keys_of_plans()
     ensures { KeysOfPlans }
 {}
 
-/// An UPDATE that can't be planned is refused for its assignments, for its WHERE's column or for a
-/// literal.
+/// The key that a WHERE names is its literal, in units of the key's scale, of which it is a whole
+/// number.
+pub fn keys_of_wheres()
+    ensures { KeysOfWheres }
+{}
+
+/// An UPDATE that can't be planned is refused for its assignments, for its WHERE's column, or for a
+/// literal or a change.
 pub fn refusals_of_plans()
     ensures { RefusalsOfPlans }
 {}

@@ -5,8 +5,10 @@
 //! [`define`] gives the table that a text defines, and refuses exactly where a rule of definitions
 //! is broken. [`Catalog`] keeps such tables in order of name. [`fit_row`] and [`plan_update`] refuse
 //! exactly what doesn't fit the table, before they take memory. [`values_of`] and [`row_of`] turn a row
-//! into its values and back. [`print_table`]'s text is read back
-//! as the same table.
+//! into its values and back. [`print_table`]'s text is read back as the same table.
+//!
+//! A number of a column is a whole number of units of 10^-scale, where the scale is that of the
+//! column's type; a literal that isn't one is refused, and nothing is rounded.
 #![tactic(auto)]
 
 mod catalog;
@@ -32,10 +34,10 @@ pub use column::{Column, ColumnType};
 pub use definition::define;
 pub use fit::fit_row;
 pub use key::check_key;
-pub use literal::{is_value, value_of};
+pub use literal::{is_value, truncated_value, value_at};
 pub use plan::{Plan, plan_update};
 pub use print::print_table;
 pub use row::row_of;
-pub use rules::{names_of, reservable_names};
+pub use rules::{names_of, reservable_names, reservable_scales, reservables, scales_of};
 pub use table::TableDef;
 pub use values::values_of;

@@ -1,29 +1,45 @@
 //! Literals as values.
-ghost use Rattle.std.specs.Prelude.{◌≡◌, IfOk};
-ghost use Rattle.escrow_num.specs.Order.{value_eq};
-ghost use Rattle.escrow_schema.specs.Column.{value_of};
+ghost use Rattle.std.specs.Prelude.{◌≡◌, ◌↔◌, IfOk, IsSome, IsTrue, Some};
+ghost use Rattle.escrow_schema.specs.Column.{value_at, truncated_value};
 
-use escrow_num::Value;
+use escrow_num::{Scale, Value};
 use escrow_sql::Literal;
 use std::alloc::{AllocError, Global};
 
-/// Whether a literal is a value. Takes no memory.
-pub fn is_value(literal: &Literal, value: &Value) -> bool
-    ensures { result ≡ value_eq (value_of literal.now) value.now }
+/// Whether a value is the one that a literal is at a scale. Takes no memory.
+pub fn is_value(scale: Scale, literal: &Literal, value: &Value) -> bool
+    ensures { IsTrue result ↔ (value_at scale literal.now ≡ Some value.now) }
 {
     match (literal, value) {
-        (Literal::Number(a), Value::Number(b)) => *a == *b,
+        (Literal::Number(a), Value::Number(b)) => a.at_scale(scale.get()) == Some(*b),
         (Literal::Text(a), Value::Text(b)) => a.is_same(b),
         _ => false,
     }
 }
 
-/// The value that a literal is. Only a text takes memory.
-pub fn value_of(alloc: Global, literal: &Literal) -> Result<Value, AllocError>
-    ensures { IfOk result (λ v. v ≡ value_of literal.now) }
+/// The value that a literal is at a scale, which is 0 to 6: a number in units of 10^-scale. `None`
+/// where the number isn't a whole number of them, or they are no amount; nothing is rounded. Only a
+/// text takes memory.
+pub fn value_at(alloc: Global, scale: Scale, literal: &Literal) -> Result<Option<Value>, AllocError>
+    ensures { IfOk result (λ v. v ≡ value_at scale literal.now) }
 {
     match literal {
-        Literal::Number(number) => Ok(Value::Number(*number)),
-        Literal::Text(text) => Ok(Value::Text(text.copy(alloc)?)),
+        Literal::Number(number) => match number.at_scale(scale.get()) {
+            Some(units) => Ok(Some(Value::Number(units))),
+            None => Ok(None),
+        },
+        Literal::Text(text) => Ok(Some(Value::Text(text.copy(alloc)?))),
+    }
+}
+
+/// The value of a literal that has no more digits than the scale has, as every literal that fits a
+/// column has at the column's: so nothing is cut. Only a text takes memory.
+pub fn truncated_value(alloc: Global, scale: Scale, literal: &Literal) -> Result<Value, AllocError>
+    requires { IsSome (value_at scale literal.now) }
+    ensures { IfOk result (λ v. v ≡ truncated_value scale literal.now) }
+{
+    match value_at(alloc, scale, literal)? {
+        Some(value) => Ok(value),
+        None => unreachable!(),
     }
 }

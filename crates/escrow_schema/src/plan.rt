@@ -1,19 +1,20 @@
 //! What an UPDATE asks of a row: changes of RESERVABLE columns, or new values of plain ones.
-ghost use Rattle.std.specs.Prelude.{◌≡◌, ◌⊎◌, Ok, Err, IfOk, IfErr, IsErrOf, IsOk};
+ghost use Rattle.std.specs.Prelude.{◌≡◌, ◌⊎◌, [], ◌∷◌, Ok, Err, IfOk, IfErr, IsErrOf, IsOk, not};
 ghost use Rattle.std.specs.Result.{result_err};
+ghost use Rattle.escrow_num.specs.Refusal.{first_refusal, refuse_if};
 ghost use Rattle.escrow_schema.specs.Definition.{IsTable};
-ghost use Rattle.escrow_schema.specs.Plan.{planned};
+ghost use Rattle.escrow_schema.specs.Plan.{key_named, planned};
 
 mod assigned;
 mod changes;
 mod values;
 
 use crate::key::check_key;
-use crate::literal::value_of;
+use crate::literal::truncated_value;
 use crate::table::TableDef;
-use changes::{are_changes, changes_of};
+use changes::{are_changes, are_whole, changes_of};
 use escrow_num::{Changes, Refusal, Seq, Value};
-use escrow_sql::UpdateText;
+use escrow_sql::{UpdateText, WhereText};
 use std::alloc::{AllocError, Global};
 use values::{all_fit, are_replacements, new_values};
 
@@ -24,7 +25,8 @@ pub enum Plan {
     Reserve {
         /// The row's key.
         key: Value,
-        /// The change of each RESERVABLE column, in column order: `None` where it isn't assigned.
+        /// The change of each RESERVABLE column, in units of its scale and in column order: `None`
+        /// where it isn't assigned.
         changes: Changes,
     },
     /// To write its plain columns, which are those that are neither RESERVABLE nor the key.
@@ -37,8 +39,9 @@ pub enum Plan {
 }
 
 /// What an UPDATE asks, or why it can't be planned: bad assignments, a WHERE of another column than
-/// the key, or a literal that its column's type doesn't hold, the first of these that applies.
-/// Memory is only taken for a plan.
+/// the key, a literal that its column's type doesn't hold, or a change that isn't a whole number of
+/// its column's units or is no amount of them, the first of these that applies. Memory is only taken
+/// for a plan.
 pub fn plan_update(alloc: Global, table: &TableDef, text: &UpdateText) -> Result<Plan, Refusal>
     requires { IsTable table.now }
     ensures plan { IfOk result (λ plan. planned table.now text.now ≡ Ok plan) }
@@ -58,13 +61,22 @@ fn check_update(table: &TableDef, text: &UpdateText) -> Result<(), Refusal>
     let columns = table.typed_columns();
     let assigns = text.assigns.as_slice();
     if are_changes(columns, assigns) {
-        return check_key(table, &text.row);
+        return check_row(table, &text.row, are_whole(columns, assigns));
     }
     if !are_replacements(table, assigns) {
         return Err(Refusal::BadAssignment);
     }
-    check_key(table, &text.row)?;
-    if !all_fit(columns, table.key, assigns) {
+    check_row(table, &text.row, all_fit(columns, table.key, assigns))
+}
+
+/// Why an UPDATE whose assignments are of one kind can't be planned, if it can't: its WHERE, and then
+/// that not every number and text that it assigns is good.
+fn check_row(table: &TableDef, row: &WhereText, are_good: bool) -> Result<(), Refusal>
+    requires { IsTable table.now }
+    ensures { result_err result ≡ first_refusal (result_err (key_named table.now row.now) ∷ refuse_if (not are_good) Refusal.BadValue ∷ []) }
+{
+    check_key(table, row)?;
+    if !are_good {
         return Err(Refusal::BadValue);
     }
     Ok(())
@@ -72,12 +84,13 @@ fn check_update(table: &TableDef, text: &UpdateText) -> Result<(), Refusal>
 
 /// The plan of an UPDATE that can be planned.
 fn make_plan(alloc: Global, table: &TableDef, text: &UpdateText) -> Result<Plan, AllocError>
-    requires { IsOk (planned table.now text.now) }
+    requires table { IsTable table.now }
+    requires planned { IsOk (planned table.now text.now) }
     ensures { IfOk result (λ plan. planned table.now text.now ≡ Ok plan) }
 {
     let columns = table.columns.as_slice();
     let assigns = text.assigns.as_slice();
-    let key = value_of(alloc, &text.row.literal)?;
+    let key = truncated_value(alloc, table.key_scale(), &text.row.literal)?;
     if are_changes(columns, assigns) {
         let changes = changes_of(alloc, columns, assigns)?;
         Ok(Plan::Reserve { key, changes })

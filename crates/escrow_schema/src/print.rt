@@ -2,19 +2,19 @@
 ghost use Rattle.std.specs.Prelude.{◌≡◌, ◌++◌, ◌-◌, ◌==◌, [], IfOk, OnOk, codes, decimal, if◌then◌else◌, length, map, string_bytes, true};
 ghost use Rattle.std.specs.List.{flat_map};
 ghost use Rattle.escrow_sql.specs.Joined.{joined};
-ghost use Rattle.escrow_schema.specs.Column.{reservables, names_of};
+ghost use Rattle.escrow_schema.specs.Column.{reservables, names_of, scales_of};
 ghost use Rattle.escrow_schema.specs.Definition.{IsTable};
 ghost use Rattle.escrow_schema.specs.ReadBack.{ReadsBack};
-ghost use Rattle.escrow_schema.specs.Print.{canonical, check_words, column_words, columns_words, declared_checks, form_words, limit_words, marks_words, table_words, type_words};
+ghost use Rattle.escrow_schema.specs.Print.{canonical, check_words, column_words, columns_words, condition_words, declared_checks, marks_words, scale_words, table_words, type_words};
 
 mod words;
 
 use crate::column::{Column, ColumnType};
 use crate::print::words::{push, push_form, push_limits, push_named, push_number};
-use crate::rules::reservable_names;
+use crate::rules::{reservable_names, reservable_scales};
 use crate::table::TableDef;
 use escrow_checks::Check;
-use escrow_num::{Name, Text};
+use escrow_num::{Name, Scale, Text};
 use std::alloc::{AllocError, Global};
 
 /// The canonical text of a table: its columns in order, each with its type and its mark, then its
@@ -36,26 +36,30 @@ fn push_table(alloc: Global, text: &mut String, table: &TableDef) -> Result<(), 
     ensures { OnOk result (string_bytes text.new ≡ string_bytes text.old ++ canonical table.now) }
 {
     let names = reservable_names(alloc, table.columns.as_slice())?;
+    let scales = reservable_scales(alloc, table.columns.as_slice())?;
     push_named(text, "CREATE TABLE ", &table.name)?;
     push(text, " (")?;
-    push_items(alloc, text, table, names.as_slice())?;
+    push_items(alloc, text, table, names.as_slice(), scales.as_slice())?;
     push(text, ")")
 }
 
-/// Adds the columns, and behind them the declared checks, which are over the columns of these names.
+/// Adds the columns, and behind them the declared checks, which are over the columns of these names
+/// and scales.
 fn push_items(
     alloc: Global,
     text: &mut String,
     table: &TableDef,
     names: &[Name],
+    scales: &[Scale],
 ) -> Result<(), AllocError>
     requires table { IsTable table.now }
     requires names { names.now ≡ names_of (reservables table.now.columns) }
     ensures { OnOk result (string_bytes text.new ≡ string_bytes text.old
-        ++ joined (columns_words table.now.columns 0 table.now.key ++ map (check_words names.now) (declared_checks table.now))) }
+        ++ joined (columns_words table.now.columns 0 table.now.key ++ map (check_words names.now scales.now) (declared_checks table.now))) }
 {
     push_columns(alloc, text, table.columns.as_slice(), table.key)?;
-    push_checks(alloc, text, names, declared_checks(table, names.len()))
+    let checks = declared_checks(table, names.len());
+    push_checks(alloc, text, names, scales, checks)
 }
 
 /// The declared checks of a table with so many RESERVABLE columns: those before the ranges.
@@ -110,9 +114,10 @@ fn push_type(alloc: Global, text: &mut String, kind: &ColumnType) -> Result<(), 
     ensures { OnOk result (string_bytes text.new ≡ string_bytes text.old ++ type_words kind.now) }
 {
     match kind {
-        ColumnType::Number { digits } => {
+        ColumnType::Number { digits, scale } => {
             push(text, "NUMBER(")?;
             push_number(alloc, text, u64::from(*digits))?;
+            push_scale(alloc, text, *scale)?;
         }
         ColumnType::Varchar2 { bytes } => {
             push(text, "VARCHAR2(")?;
@@ -120,6 +125,17 @@ fn push_type(alloc: Global, text: &mut String, kind: &ColumnType) -> Result<(), 
         }
     }
     push(text, ")")
+}
+
+/// Adds a scale behind a precision; none where it is 0.
+fn push_scale(alloc: Global, text: &mut String, scale: Scale) -> Result<(), AllocError>
+    ensures { OnOk result (string_bytes text.new ≡ string_bytes text.old ++ scale_words scale) }
+{
+    if scale.get() == 0 {
+        return Ok(());
+    }
+    push(text, ",")?;
+    push_number(alloc, text, u64::from(scale.get()))
 }
 
 /// The mark of the key, or of a RESERVABLE column, behind a space.
@@ -136,19 +152,20 @@ fn mark_of(is_key: bool, reservable: bool) -> &'static str
     }
 }
 
-/// Adds checks over the RESERVABLE columns of these names, behind what stands before them.
+/// Adds checks over the RESERVABLE columns of these names and scales, behind what stands before them.
 fn push_checks(
     alloc: Global,
     text: &mut String,
     names: &[Name],
+    scales: &[Scale],
     checks: &[Check],
 ) -> Result<(), AllocError>
     ensures { OnOk result (string_bytes text.new ≡ string_bytes text.old
-        ++ flat_map (λ words. codes ", " ++ words) (map (check_words names.now) checks.now)) }
+        ++ flat_map (λ words. codes ", " ++ words) (map (check_words names.now scales.now) checks.now)) }
 {
     for check in checks {
         push(text, ", ")?;
-        push_check(alloc, text, names, check)?;
+        push_check(alloc, text, names, scales, check)?;
     }
     Ok(())
 }
@@ -158,26 +175,28 @@ fn push_check(
     alloc: Global,
     text: &mut String,
     names: &[Name],
+    scales: &[Scale],
     check: &Check,
 ) -> Result<(), AllocError>
-    ensures { OnOk result (string_bytes text.new ≡ string_bytes text.old ++ check_words names.now check.now) }
+    ensures { OnOk result (string_bytes text.new ≡ string_bytes text.old ++ check_words names.now scales.now check.now) }
 {
     push_named(text, "CONSTRAINT ", &check.name)?;
     push(text, " CHECK (")?;
-    push_condition(alloc, text, names, check)?;
+    push_condition(alloc, text, names, scales, check)?;
     push(text, ")")
 }
 
-/// Adds the condition of a check: its form and its limits.
+/// Adds the condition of a check: its form, of coefficients as they are written, and its limits.
 fn push_condition(
     alloc: Global,
     text: &mut String,
     names: &[Name],
+    scales: &[Scale],
     check: &Check,
 ) -> Result<(), AllocError>
-    ensures { OnOk result (string_bytes text.new ≡ string_bytes text.old
-        ++ (form_words true names.now check.now.coeffs ++ limit_words check.now.span.lo check.now.span.hi)) }
+    ensures { OnOk result (string_bytes text.new ≡ string_bytes text.old ++ condition_words names.now scales.now check.now) }
 {
-    push_form(alloc, text, names, check.coeffs.as_slice())?;
-    push_limits(alloc, text, &check.span)
+    let written = check.written(scales);
+    push_form(alloc, text, names, written.as_slice())?;
+    push_limits(text, check.scale, &check.span)
 }

@@ -34,14 +34,16 @@ fn range_check(name: Name, columns: &[Column], place: usize) -> Check
     requires named { (d : Column) → name ≡ codes "RANGE_" ++ (slice_index_or columns.now place d).name }
     ensures { (d : Column) → result ≡ range_check (names_of columns.now) (slice_index_or columns.now place d) }
 {
+    let column = &columns[place];
     Check {
         name,
         coeffs: Coefficients::unit(columns.len(), place),
-        span: range_span(&columns[place].kind),
+        scale: column.scale(),
+        span: range_span(&column.kind),
     }
 }
 
-/// From the least number of a type to its greatest.
+/// From the least number of a type to its greatest, in units.
 fn range_span(kind: &ColumnType) -> Span
     requires { IsType kind.now }
     ensures { result ≡ record { lo = Some (neg_ℤ (top_of kind.now)); hi = Some (top_of kind.now) } }

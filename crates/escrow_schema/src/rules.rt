@@ -2,13 +2,13 @@
 ghost use Rattle.std.specs.Prelude.{◌≡◌, ◌&&◌, IfOk, bytes_eq, position};
 ghost use Rattle.std.specs.List.{list_any, list_all};
 ghost use Rattle.escrow_checks.specs.WrittenName.{is_written_name};
-ghost use Rattle.escrow_schema.specs.Column.{is_numeric, reservables, names_of};
+ghost use Rattle.escrow_schema.specs.Column.{is_numeric, reservables, names_of, scales_of};
 ghost use Rattle.escrow_schema.specs.Definition.{are_columns, are_distinct, check_names, is_plain_at, place_of_column};
 
 use crate::column::Column;
 use crate::table::TableDef;
 use escrow_checks::{Check, Coefficients, is_written_name};
-use escrow_num::Name;
+use escrow_num::{Name, Scale};
 use std::alloc::{AllocError, Global};
 
 /// Whether columns follow the rules: 2 to 30 of them, of distinct names that a statement can write;
@@ -91,8 +91,8 @@ fn is_plain_at(columns: &[Column], place: usize) -> bool
     }
 }
 
-/// The RESERVABLE columns, in order.
-pub(crate) fn reservables(alloc: Global, columns: &[Column]) -> Result<Vec<Column>, AllocError>
+/// The RESERVABLE ones of columns, in order. Want of memory is the only error.
+pub fn reservables(alloc: Global, columns: &[Column]) -> Result<Vec<Column>, AllocError>
     ensures { IfOk result (λ chosen. chosen.items ≡ reservables columns.now) }
 {
     columns
@@ -117,6 +117,24 @@ pub fn reservable_names(alloc: Global, columns: &[Column]) -> Result<Vec<Name>, 
         .iter()
         .filter(|column| column.reservable)
         .map(|column| column.name)
+        .collect(alloc)
+}
+
+/// The scales of columns, in order. Want of memory is the only error.
+pub fn scales_of(alloc: Global, columns: &[Column]) -> Result<Vec<Scale>, AllocError>
+    ensures { IfOk result (λ scales. scales.items ≡ scales_of columns.now) }
+{
+    columns.iter().map(|column| column.scale()).collect(alloc)
+}
+
+/// The scales of the RESERVABLE ones of columns, in order. Want of memory is the only error.
+pub fn reservable_scales(alloc: Global, columns: &[Column]) -> Result<Vec<Scale>, AllocError>
+    ensures { IfOk result (λ scales. scales.items ≡ scales_of (reservables columns.now)) }
+{
+    columns
+        .iter()
+        .filter(|column| column.reservable)
+        .map(|column| column.scale())
         .collect(alloc)
 }
 

@@ -2,7 +2,7 @@ ghost use Rattle.std.specs.Prelude.{◌≡◌, ◌<◌, Some, length};
 
 use crate::column::Column;
 use escrow_checks::Check;
-use escrow_num::{Name, Seq};
+use escrow_num::{Name, Scale, Seq};
 
 /// The definition of a table.
 #[derive(Debug)]
@@ -30,7 +30,7 @@ impl Drop for TableDef {
 }
 
 impl TableDef {
-    ghost use Rattle.escrow_schema.specs.Definition.{IsTable, key_column};
+    ghost use Rattle.escrow_schema.specs.Definition.{IsTable, key_column, key_scale};
     ghost use Rattle.escrow_schema.specs.Typed.{TypedColumns};
 
     /// The fewest columns of a table: its key, and a RESERVABLE one.
@@ -58,5 +58,13 @@ impl TableDef {
         ensures { key_column self.now ≡ Some result.now }
     {
         &self.typed_columns()[self.key]
+    }
+
+    /// The scale of the key column: a key that is a number is one of units of 10^-scale.
+    pub fn key_scale(&self) -> Scale
+        requires { IsTable self.now }
+        ensures { result ≡ key_scale self.now }
+    {
+        self.key_column().scale()
     }
 }

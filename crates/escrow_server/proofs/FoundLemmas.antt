@@ -1,6 +1,6 @@
 -- The states in which databases begin, by what their stores hold.
-use Rattle.std.proofs.Common.{◌≡◌, ◌≢◌, ◌⊎◌, ℕ, zero, suc, ◌+◌, List, [], ◌∷◌, ◌++◌, length, Some, arith, refl, sym, ap, ap₂, subst, ◌∙◌, inl, inr}
-use Rattle.std.specs.Prelude.{Result, Ok, Err, is_ok, is_err, if◌then◌else◌, false, slice_get, replicate}
+use Rattle.std.proofs.Common.{◌≡◌, ◌≢◌, ◌⊎◌, ℕ, Bool, true, zero, suc, ◌+◌, List, [], ◌∷◌, ◌++◌, length, Some, arith, refl, sym, ap, ap₂, subst, ◌∙◌, inl, inr}
+use Rattle.std.specs.Prelude.{Result, Ok, Err, IsTrue, OnOk, is_ok, is_err, if◌then◌else◌, false, slice_get, replicate}
 use Rattle.std.proofs.lemmas.Bool.{true≢false}
 use Rattle.sqlite.specs.Effect.{Database}
 use Rattle.sqlite.specs.Held.{state}
@@ -12,10 +12,20 @@ use Rattle.sqlite_trees.specs.declared.store.Store.{Ghosts}
 use Rattle.escrow_cells.specs.Store.{HasTables}
 use Rattle.escrow_cells.specs.Tables.{no_schema}
 use Rattle.sqlite.specs.State.{HasCleanDisk}
+use Rattle.escrow_tables.specs.Committed.{Holds}
+use Rattle.escrow_tables.specs.Migrated.{HoldsBefore}
 use Rattle.escrow_core.specs.Seen.{Seen}
 use Rattle.escrow_machine.specs.State.{State, empty}
+use Rattle.escrow_server.specs.declared.fault.RunFault.{RunFault}
+use Rattle.escrow_server.specs.Opened.{IsOpened}
 use Rattle.escrow_server.specs.Output.{HaveCleanDisks, states_of}
 use Rattle.escrow_server.specs.Program.{empty_states, AreFound, IsFound, StartsAs}
+
+-- what is held was held before it was opened, in the known format or in the one before
+pub held_either : (s : State) (old new : Database) (migrated : Bool) → Holds s.catalog s.rows new → (migrated ≡ false → new ≡ old)
+    → (IsTrue migrated → HoldsBefore s.catalog s.rows old) → Holds s.catalog s.rows old ⊎ HoldsBefore s.catalog s.rows old
+held_either s old new false holds same before = inl (subst (Holds s.catalog s.rows) (same refl) holds)
+held_either s old new true holds same before = inr (before refl)
 
 -- a schema has no object, or it has
 pub bare_or : (schema : Schema) → (schema ≡ no_schema) ⊎ (schema ≢ no_schema)
@@ -77,9 +87,13 @@ found_more g may_hold count databases d are is used =
 no_tables : (schema : Schema) → schema ≡ no_schema → HasTables schema → ⊥
 no_tables schema none has = let e : no_schema ≡ schema = sym none in let tables = ap (λ (s : Schema). s.tables) (e ∙ has.is) in cc
 
+no_store : (s : State) (db : Database) → db.schema ≡ no_schema → Holds s.catalog s.rows db ⊎ HoldsBefore s.catalog s.rows db → ⊥
+no_store s db none (inl holds) = no_tables db.schema none holds.image.store.tables
+no_store s db none (inr before) = no_tables db.schema none before.store.store.image.store.tables
+
 begins_empty : (db : Database) (s : State) → db.schema ≡ no_schema → StartsAs db s → s ≡ empty
 begins_empty db s none (inl bare) = bare.1
-begins_empty db s none (inr holds) = absurd (no_tables db.schema none holds.0.image.store.tables)
+begins_empty db s none (inr holds) = absurd (no_store s db none holds.0)
 
 all_empty : (states : List State) → ((place : ℕ) (s : State) → slice_get states place ≡ Some s → s ≡ empty) → states ≡ replicate (length states) empty
 all_empty [] each = refl
@@ -91,3 +105,10 @@ pub found_empty : (count : ℕ) (states : List State) → AreFound (λ _ db. db.
 found_empty count states found =
     all_empty states (λ place s at. let is = found.each place s at in begins_empty is.0 s is.1 is.2)
     ∙ ap (λ (n : ℕ). replicate n empty) found.length_is
+
+-- and so they do where all of them were opened
+pub opened_empty : {S : Type 0} (g : Ghosts S) (result : Result (Unit {0}) RunFault) (databases : List (Seen S)) (count : ℕ)
+    → (HaveCleanDisks g databases → OnOk result (AreFound (λ _ db. db.schema ≡ no_schema) count (states_of databases)))
+    → (states : List State) → IsOpened g result databases states → states ≡ empty_states count
+opened_empty g (Ok done) databases count found states is = is.2 ∙ found_empty count (states_of databases) (found is.1)
+opened_empty g (Err fault) databases count found states is = absurd (true≢false (sym is.0))

@@ -1,12 +1,15 @@
 -- What is said before the program ends.
-use Rattle.std.proofs.Common.{◌≡◌, ℕ, ◌+◌, ◌<◌, List, [], ◌++◌, length, take, Option, Some, None, true, false, arith, refl, sym, subst, inl, inr}
-use Rattle.std.specs.Prelude.{Result, Ok, Err, OnOk, OnErr, IfErr, IfSome, is_ok}
+use Rattle.std.proofs.Common.{◌≡◌, ◌⊎◌, ℕ, ◌+◌, ◌<◌, List, [], ◌∷◌, ◌++◌, length, map, take, Option, Some, None, true, false, if◌then◌else◌, arith, refl, sym, ap, ap₂, subst, ◌∙◌, inl, inr}
+use Rattle.std.specs.Prelude.{Result, Ok, Err, OnOk, OnErr, IfErr, IfSome, codes, is_ok, option_and_then}
 use Rattle.std.specs.Io.KnownBytes.{Appends, IsAtEnd, Keeps}
 use Rattle.std.proofs.Math.Seq.{take-append-add}
-use Rattle.std.proofs.lemmas.List.{take_all, take-append-le}
+use Rattle.std.proofs.lemmas.Grind.{flat_map-append}
+use Rattle.std.specs.List.{flat_map}
+use Rattle.std.proofs.lemmas.List.{append-nil, map-append, take_all, take-append-le}
 use Rattle.std.proofs.lemmas.Bool.{true≢false}
 use Rattle.std.proofs.lemmas.Option.{IfSome_then}
 use Rattle.escrow_machine.specs.State.{State}
+use Rattle.escrow_server.specs.declared.args.Args.{Args}
 use Rattle.escrow_server.specs.declared.args.Mode.{Mode}
 use Rattle.escrow_server.specs.declared.args.Mode.TheVariants as mode
 use Rattle.escrow_server.specs.declared.fault.RunFault.{RunFault}
@@ -14,8 +17,8 @@ use Rattle.escrow_server.specs.declared.fault.RunFault.TheVariants as run_fault
 use Rattle.escrow_script.specs.declared.fault.ServeFault.TheVariants as fault
 use Rattle.escrow_server.specs.Free.{RunsFree}
 use Rattle.escrow_server.specs.Output.{ServesWhole, StopsWithin}
-use Rattle.escrow_server.specs.Program.{empty_states, run_status, EndsFree, EndsInMemory, EndsOverFiles, EndsScript, Stops, WritesFront, WritesNothing}
-use Rattle.escrow_script.proofs.WrittenLemmas.{appends_more}
+use Rattle.escrow_server.specs.Program.{empty_states, file_of, migrated_line, run_status, AreLinesOf, EndsFree, EndsInMemory, EndsOverFiles, EndsScript, IsQuiet, SaysReason, SaysWhy, Stops, TellsOfMigrated, TellsOfStoresAlone, WritesFront, WritesNothing}
+use Rattle.escrow_script.proofs.WrittenLemmas.{appends_more, appends_none}
 use Rattle.escrow_server.proofs.ServeLemmas.{stopped_unserved}
 
 -- all of the bytes were written, or fewer of them
@@ -45,6 +48,39 @@ pub front_second : {X Z : Type 0} (old mid new : Option (List ℕ)) (first secon
 front_second old mid new first second (Ok x) wrote went more =
     (length first + more.0, subst (λ (b : List ℕ). Appends old new b) (sym (take-append-add first second more.0)) (appends_more old mid new first (take more.0 second) wrote more.1))
 front_second old mid new first second (Err z) wrote went more = absurd (true≢false (sym went))
+
+-- LINES OF STORES THAT WERE MIGRATED
+
+-- none
+tells_none : (path bytes : Option (List ℕ)) → TellsOfMigrated path bytes bytes
+tells_none None bytes = appends_none bytes
+tells_none (Some path) bytes = ([], inl ([], refl), (0, appends_none bytes))
+
+-- without them a reason alone is said
+pub says_why : (path old new : Option (List ℕ)) → SaysReason old new → SaysWhy path old new
+says_why path old new says = (old, tells_none path old, says)
+
+-- or nothing
+pub is_quiet : (path old new : Option (List ℕ)) → TellsOfStoresAlone old new → IsQuiet path old new
+is_quiet path old new tells = (old, tells_none path old, tells)
+
+-- where the words were read, the path that they ask is that of their arguments
+pub path_asked : (asked : Option Args) (args : Args) → ((other : Args) → asked ≡ Some other → args ≡ other) → (asked ≡ None → ⊥)
+    → args.path ≡ option_and_then (λ (a : Args). a.path) asked
+path_asked None args same there = absurd (there refl)
+path_asked (Some other) args same there = ap (λ (a : Args). a.path) (same other refl)
+
+lines_more : (path lines more : List ℕ) (place : ℕ) → AreLinesOf path lines → more ≡ migrated_line (file_of path place) → AreLinesOf path (lines ++ more)
+lines_more path lines more place are is =
+    let one : more ≡ flat_map migrated_line (map (file_of path) (place ∷ [])) = is ∙ sym (append-nil (migrated_line (file_of path place))) in
+    let all = ap (flat_map migrated_line) (map-append (file_of path) are.0 (place ∷ [])) ∙ flat_map-append migrated_line (map (file_of path) are.0) (map (file_of path) (place ∷ [])) in
+    (are.0 ++ place ∷ [], ap₂ (λ (a b : List ℕ). a ++ b) are.1 one ∙ sym all)
+
+-- a line more, where there was room for it
+pub lines_pushed : {X Z : Type 0} (pushed : Result X Z) (path old new more : List ℕ) (place : ℕ) → AreLinesOf path old → more ≡ migrated_line (file_of path place)
+    → new ≡ (if is_ok pushed then old ++ more else old) → OnOk pushed (AreLinesOf path new)
+lines_pushed (Ok x) path old new more place are is same = subst (AreLinesOf path) (sym same) (lines_more path old more place are is)
+lines_pushed (Err z) path old new more place are is same = tt
 
 -- WITHOUT A LINE SERVED
 

@@ -1,5 +1,6 @@
 pub mod Args
 pub mod Free
+pub mod Opened
 pub mod Output
 pub mod Program
 pub mod Totals

@@ -1,11 +1,13 @@
 -- Believed: how the program ends.
-use Rattle.std.specs.Prelude.{◌≡◌, ◌⊎◌, ℕ, ◌+◌, ◌==◌, if◌then◌else◌, Option, Some, List, [], ◌++◌, length, take, slice_get, replicate, codes, decimal}
+use Rattle.std.specs.Prelude.{◌≡◌, ◌⊎◌, ℕ, ◌+◌, ◌==◌, if◌then◌else◌, Option, Some, None, List, [], ◌++◌, length, map, take, slice_get, replicate, codes, decimal}
 use Rattle.std.specs.declared.io.ErrorKind.{ErrorKind}
 use Rattle.std.specs.declared.io.ErrorKind.TheVariants as error
+use Rattle.std.specs.List.{flat_map}
 use Rattle.std.specs.Io.KnownBytes.{Appends, IsAtEnd, Keeps}
 use Rattle.sqlite.specs.Effect.{Database}
 use Rattle.escrow_cells.specs.Tables.{no_schema}
 use Rattle.escrow_tables.specs.Committed.{Holds}
+use Rattle.escrow_tables.specs.Migrated.{HoldsBefore}
 use Rattle.escrow_machine.specs.State.{State, empty, opened}
 use Rattle.escrow_server.specs.declared.args.ArgFault.{ArgFault}
 use Rattle.escrow_server.specs.declared.args.ArgFault.TheVariants as arg_fault
@@ -25,9 +27,11 @@ abbrev pub file_of : List ℕ → ℕ → List ℕ
 file_of path place = if place == 0 then path else path ++ codes "." ++ decimal (place + 1)
 
 -- a database of SQLite without objects begins without tables, and any other with the tables and rows that
--- it holds; nothing is open
+-- it holds, in the known format or in the one before; nothing is open
 abbrev pub StartsAs : Database → State → Type 0
-StartsAs db s = ((db.schema ≡ no_schema) × (s ≡ empty)) ⊎ (Holds s.catalog s.rows db × (s ≡ opened s.catalog s.rows))
+StartsAs db s =
+    ((db.schema ≡ no_schema) × (s ≡ empty))
+    ⊎ ((Holds s.catalog s.rows db ⊎ HoldsBefore s.catalog s.rows db) × (s ≡ opened s.catalog s.rows))
 
 -- a state is that in which a database begins whose store holds what it may hold
 abbrev pub IsFound : (Database → Type 0) → State → Type 0
@@ -46,21 +50,47 @@ empty_states count = replicate count empty
 abbrev pub WritesFront : Option (List ℕ) → Option (List ℕ) → List ℕ → Type 0
 WritesFront old_bytes new_bytes text = (len : ℕ) × Appends old_bytes new_bytes (take len text)
 
--- why the program ends was said: its name, a colon and a text, as far as the writer took them
-abbrev pub SaysWhy : Option (List ℕ) → Option (List ℕ) → Type 0
-SaysWhy old_bytes new_bytes = (text : List ℕ) × WritesFront old_bytes new_bytes (codes "escrowd: " ++ text)
-
 -- nothing was written
 abbrev pub WritesNothing : Option (List ℕ) → Option (List ℕ) → Type 0
 WritesNothing old_bytes new_bytes = Appends old_bytes new_bytes []
+
+-- the line that tells of a file whose store was brought to the known format
+abbrev pub migrated_line : List ℕ → List ℕ
+migrated_line file = codes "escrowd: " ++ (file ++ codes " was of format 1 and is now of format 2\n")
+
+-- a text is the lines of the files at such places of a path, one after another, if any
+abbrev pub AreLinesOf : List ℕ → List ℕ → Type 0
+AreLinesOf path text = (places : List ℕ) × (text ≡ flat_map migrated_line (map (file_of path) places))
+
+-- the line where memory is short, which names no file
+abbrev pub nameless_line : List ℕ
+nameless_line = migrated_line (codes "a store")
+
+-- such lines were written of the stores of a path, as far as the writer took them, and nothing of stores in memory
+abbrev pub TellsOfMigrated : Option (List ℕ) → Option (List ℕ) → Option (List ℕ) → Type 0
+TellsOfMigrated None old_bytes new_bytes = WritesNothing old_bytes new_bytes
+TellsOfMigrated (Some path) old_bytes new_bytes = (text : List ℕ) × (AreLinesOf path text ⊎ (text ≡ nameless_line)) × WritesFront old_bytes new_bytes text
+
+-- a reason was said: the program's name, a colon and a text, as far as the writer took them
+abbrev pub SaysReason : Option (List ℕ) → Option (List ℕ) → Type 0
+SaysReason old_bytes new_bytes = (text : List ℕ) × WritesFront old_bytes new_bytes (codes "escrowd: " ++ text)
+
+-- why the program ends was said, behind the lines of a path's stores that were migrated
+abbrev pub SaysWhy : Option (List ℕ) → Option (List ℕ) → Option (List ℕ) → Type 0
+SaysWhy path old_bytes new_bytes = (told_bytes : Option (List ℕ)) × TellsOfMigrated path old_bytes told_bytes × SaysReason told_bytes new_bytes
 
 -- stores that can't be closed were told of, as far as the writer took it
 abbrev pub TellsOfStores : Option (List ℕ) → Option (List ℕ) → Type 0
 TellsOfStores old_bytes new_bytes = (text : List ℕ) × WritesFront old_bytes new_bytes (codes "escrowd: the store of " ++ text)
 
 -- nothing was said, or of stores alone that can't be closed
-abbrev pub IsQuiet : Option (List ℕ) → Option (List ℕ) → Type 0
-IsQuiet old_bytes new_bytes = WritesNothing old_bytes new_bytes ⊎ TellsOfStores old_bytes new_bytes
+abbrev pub TellsOfStoresAlone : Option (List ℕ) → Option (List ℕ) → Type 0
+TellsOfStoresAlone old_bytes new_bytes = WritesNothing old_bytes new_bytes ⊎ TellsOfStores old_bytes new_bytes
+
+-- nothing was said but the lines of a path's stores that were migrated, and behind them of stores alone that can't
+-- be closed
+abbrev pub IsQuiet : Option (List ℕ) → Option (List ℕ) → Option (List ℕ) → Type 0
+IsQuiet path old_bytes new_bytes = (told_bytes : Option (List ℕ)) × TellsOfMigrated path old_bytes told_bytes × TellsOfStoresAlone told_bytes new_bytes
 
 -- the exit status where the words of the command line can't be had: 2 where one isn't UTF-8, otherwise 1
 abbrev pub unread_status : ErrorKind → ℕ

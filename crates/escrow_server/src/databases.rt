@@ -11,7 +11,7 @@ use crate::site::Site;
 use crate::stores::{CloseFault, OpenFault, OpenStore, Opened, close};
 use escrow_core::Database;
 use escrow_script::{MAX_DATABASES, database_name};
-use escrow_tables::open_store;
+use escrow_tables::migrate;
 use sqlite::{Alter, Connection, File, FileStore};
 use std::alloc::Global;
 
@@ -24,10 +24,12 @@ pub(crate) fn open_databases<S: Alter + Drop, O: OpenStore<S>>(
     databases: &mut Vec<Database<S>>,
     sites: &mut Vec<Option<Site>>,
 ) -> Result<(), RunFault>
+    requires some { 1 ≤ count }
     requires few { count ≤ MAX_DATABASES }
     requires none { databases.old.items ≡ [] }
     ensures found { HaveCleanDisks S.Store databases.new.items → OnOk result (AreFound (O.may_hold stores.now) count (states_of databases.new.items)) }
-    ensures len { OnOk result (vec_len databases.new ≡ count) }
+    ensures least { OnOk result (1 ≤ vec_len databases.new) }
+    ensures most { OnOk result (vec_len databases.new ≤ MAX_DATABASES) }
     ensures kind { IfErr result (λ fault. run_status fault ≡ 3) }
 {
     // What is opened has to be closed, so room for it is made before.
@@ -70,9 +72,15 @@ fn open_database<S: Alter + Drop, O: OpenStore<S>>(
 ) -> Result<Database<S>, OpenFault>
     ensures { IfOk result (λ d. HasCleanDisk (state S.Store d.store) → IsFound (O.may_hold stores.now place) d.state) }
 {
-    let Opened { connection, site } = stores.open(alloc, place)?;
+    let Opened {
+        connection,
+        mut site,
+    } = stores.open(alloc, place)?;
     match over(alloc, connection) {
-        Ok(database) => {
+        Ok((database, migrated)) => {
+            if let Some(site) = &mut site {
+                site.note_migrated(migrated);
+            }
             if sites.push(site).is_err() {
                 return Err(OpenFault::Memory);
             }
@@ -90,17 +98,18 @@ fn open_database<S: Alter + Drop, O: OpenStore<S>>(
 }
 
 /// The database of what a store holds: its tables and rows, or none where it has no objects. Nothing is
-/// open in it. Where it is refused the connection is handed back.
+/// open in it. A store of the format before is brought to the known one, and that is told beside it. Where it
+/// is refused the connection is handed back.
 fn over<S: Alter + Drop>(
     alloc: Global,
     connection: Connection<S>,
-) -> Result<Database<S>, (OpenFault, Connection<S>)>
-    ensures found { IfOk result (λ d. HasCleanDisk (state S.Store d.store) → StartsAs (state S.Store connection).now d.state) }
-    ensures usable { IfOk result (λ d. HasCleanDisk (state S.Store d.store) → IsUsable (state S.Store connection)) }
+) -> Result<(Database<S>, bool), (OpenFault, Connection<S>)>
+    ensures found { IfOk result (λ d. HasCleanDisk (state S.Store d.0.store) → StartsAs (state S.Store connection).now d.0.state) }
+    ensures usable { IfOk result (λ d. HasCleanDisk (state S.Store d.0.store) → IsUsable (state S.Store connection)) }
 {
-    match open_store(alloc, connection) {
-        Ok(tables) => match Database::open(alloc, tables) {
-            Ok(database) => Ok(database),
+    match migrate(alloc, connection) {
+        Ok(opened) => match Database::open(alloc, opened.tables) {
+            Ok(database) => Ok((database, opened.migrated)),
             Err(failed) => Err((OpenFault::Memory, failed.value.into_connection())),
         },
         Err(fault) => Err((OpenFault::from(fault.cause), fault.connection)),

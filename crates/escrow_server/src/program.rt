@@ -1,12 +1,13 @@
-ghost use Rattle.std.specs.Prelude.{◌≡◌, ◌≢◌, ◌⊎◌, ◌≤◌, ◌<◌, ◌++◌, ℕ, List, Some, None, map, take, codes, [], IfErr, IfSome, IsSome, OnOk};
+ghost use Rattle.std.specs.Prelude.{◌≡◌, ◌≢◌, ◌⊎◌, ◌≤◌, ◌<◌, ◌++◌, ℕ, List, Option, Some, None, map, codes, [], string_bytes, vec_len, IfErr, IfOk, IfSome, IsSome, OnOk};
 ghost use Rattle.std.specs.Io.KnownBytes.{IsAtEnd, Keeps};
 ghost use Rattle.std.specs.Process.{exit_status};
 ghost use Rattle.escrow_machine.specs.State.{State};
 ghost use Rattle.escrow_server.specs.declared.args.Args.{Args};
 ghost use Rattle.escrow_server.specs.Free.{HoldCleanDisks, RunsFree};
-ghost use Rattle.escrow_server.specs.Args.{asked_by, fault_status, refused_status};
+ghost use Rattle.escrow_server.specs.Args.{asked_by, asked_path, fault_status, refused_status};
 ghost use Rattle.escrow_server.specs.Output.{states_of, HaveCleanDisks, ServesWhole};
-ghost use Rattle.escrow_server.specs.Program.{help_of, run_status, unread_status, AreFound, EndsInMemory, EndsOverFiles, IsQuiet, SaysWhy, Stops, TellsOfStores, WritesFront, WritesNothing};
+ghost use Rattle.escrow_server.specs.Opened.{IsOpened};
+ghost use Rattle.escrow_server.specs.Program.{file_of, help_of, migrated_line, run_status, unread_status, AreLinesOf, EndsInMemory, EndsOverFiles, IsQuiet, SaysReason, SaysWhy, Stops, TellsOfMigrated, TellsOfStoresAlone, WritesFront, WritesNothing};
 
 use crate::args::{ArgFault, Args, Mode, read_args};
 use crate::databases::{Unclosed, close_databases, open_databases};
@@ -14,7 +15,7 @@ use crate::fault::RunFault;
 use crate::free::serve_phases;
 use crate::serve::serve_script;
 use crate::site::Site;
-use crate::stores::{CloseFault, InFiles, InMemory, OpenStore, file_of};
+use crate::stores::{CloseFault, InFiles, InMemory, file_of};
 use escrow_core::Database;
 use escrow_script::{MAX_DATABASES, database_name, write_whole};
 use sqlite::Alter;
@@ -47,10 +48,10 @@ pub fn run_program<T: Threads + Wait + Sync, E: Env, R: Read, W: Write, F: Write
     output: &mut W,
     errors: &mut F,
 ) -> ExitCode
-    // Status 0 comes without a word on `errors`, or with one of stores that can't be closed, and any other with
-    // one, as far as it is taken.
-    ensures quiet { exit_status result ≡ 0 → IsQuiet (F.contents errors.old) (F.contents errors.new) }
-    ensures said { exit_status result ≢ 0 → SaysWhy (F.contents errors.old) (F.contents errors.new) }
+    // Status 0 comes without a word on `errors`, or with one of the stores of a path that were migrated or can't be
+    // closed, and any other with one that says why, as far as it is taken.
+    ensures quiet { exit_status result ≡ 0 → (path : Option (List ℕ)) × IsQuiet path (F.contents errors.old) (F.contents errors.new) }
+    ensures said { exit_status result ≢ 0 → (path : Option (List ℕ)) × SaysWhy path (F.contents errors.old) (F.contents errors.new) }
 {
     let status = match words(rt.alloc(), line) {
         Ok(words) => run_words(rt, threads, words.as_slice(), input, output, errors),
@@ -65,9 +66,11 @@ fn words<E: Env>(alloc: Global, line: &E) -> io::Result<Vec<String>> {
 }
 
 /// Says why the words can't be had, and answers the exit status.
+#[tactic(auto, using(crate::proofs::ProgramLemmas::says_why))]
 fn without_words<F: Write>(errors: &mut F, error: ErrorKind) -> u8
     ensures status { result ≡ unread_status error }
-    ensures said { SaysWhy (F.contents errors.old) (F.contents errors.new) }
+    ensures failed { 1 ≤ result }
+    ensures said { SaysWhy None (F.contents errors.old) (F.contents errors.new) }
 {
     match error {
         ErrorKind::InvalidData => {
@@ -104,8 +107,8 @@ fn run_words<T: Threads + Wait + Sync, S: AsStr, R: Read, W: Write, F: Write>(
 
     ensures silent { (args : Args) → asked_by (map S.text words.now) ≡ Some args → args.path ≡ None → result ≡ 0
         → WritesNothing (F.contents errors.old) (F.contents errors.new) }
-    ensures quiet { result ≡ 0 → IsQuiet (F.contents errors.old) (F.contents errors.new) }
-    ensures said { result ≢ 0 → SaysWhy (F.contents errors.old) (F.contents errors.new) }
+    ensures quiet { result ≡ 0 → IsQuiet (asked_path (map S.text words.now)) (F.contents errors.old) (F.contents errors.new) }
+    ensures said { result ≢ 0 → SaysWhy (asked_path (map S.text words.now)) (F.contents errors.old) (F.contents errors.new) }
 {
     match read_args(rt.alloc(), words) {
         Ok(args) => run_args(rt, threads, &args, input, output, errors),
@@ -129,22 +132,27 @@ fn run_args<T: Threads + Wait + Sync, R: Read, W: Write, F: Write>(
     ensures files { IfSome (R.remaining input.old) (λ script.
         EndsOverFiles result script (R.remaining input.new) (W.contents output.old) (W.contents output.new)) }
     ensures silent { args.now.path ≡ None → result ≡ 0 → WritesNothing (F.contents errors.old) (F.contents errors.new) }
-    ensures quiet { result ≡ 0 → IsQuiet (F.contents errors.old) (F.contents errors.new) }
-    ensures said { result ≢ 0 → SaysWhy (F.contents errors.old) (F.contents errors.new) }
+    ensures quiet { result ≡ 0 → IsQuiet args.now.path (F.contents errors.old) (F.contents errors.new) }
+    ensures said { result ≢ 0 → SaysWhy args.now.path (F.contents errors.old) (F.contents errors.new) }
 {
     let alloc = rt.alloc();
     let mut sites = Vec::new(alloc);
     match &args.path {
         None => {
             let mut databases = Vec::new(alloc);
-            let served = serve_stores(
-                threads,
+            let opened = open_databases(
                 alloc,
                 &InMemory,
-                args.mode,
                 args.databases,
                 &mut databases,
                 &mut sites,
+            );
+            let served = serve_opened(
+                threads,
+                alloc,
+                opened,
+                args.mode,
+                &mut databases,
                 input,
                 output,
             );
@@ -153,14 +161,20 @@ fn run_args<T: Threads + Wait + Sync, R: Read, W: Write, F: Write>(
         Some(path) => {
             let path = path.as_str();
             let mut databases = Vec::new(alloc);
-            let served = serve_stores(
-                threads,
+            let opened = open_databases(
                 alloc,
                 &InFiles { rt, path },
-                args.mode,
                 args.databases,
                 &mut databases,
                 &mut sites,
+            );
+            tell_migrated(alloc, errors, path, sites.as_slice());
+            let served = serve_opened(
+                threads,
+                alloc,
+                opened,
+                args.mode,
+                &mut databases,
                 input,
                 output,
             );
@@ -170,49 +184,85 @@ fn run_args<T: Threads + Wait + Sync, R: Read, W: Write, F: Write>(
     }
 }
 
-/// Opens so many stores, and serves the script in the databases over them, which are left in `databases`, and where
-/// their files are in `sites`. It may wait.
-fn serve_stores<
-    S: Alter + Drop + Send,
-    T: Threads + Wait + Sync,
-    O: OpenStore<S>,
-    R: Read,
-    W: Write,
->(
+/// Serves the script in databases, where all of their stores were opened. It may wait.
+fn serve_opened<S: Alter + Drop + Send, T: Threads + Wait + Sync, R: Read, W: Write>(
     rt: &T,
     alloc: Global,
-    stores: &O,
+    opened: Result<(), RunFault>,
     mode: Mode,
-    count: u8,
     databases: &mut Vec<Database<S>>,
-    sites: &mut Vec<Option<Site>>,
     input: &mut R,
     output: &mut W,
 ) -> Result<(), RunFault>
-    requires least { 1 ≤ count }
-    requires most { count ≤ MAX_DATABASES }
-    requires none { databases.old.items ≡ [] }
-    // Line after line: where each disk has returned what was written, the script was served from the states that the
-    // stores held.
+    requires least { OnOk opened (1 ≤ vec_len databases.old) }
+    requires most { OnOk opened (vec_len databases.old ≤ MAX_DATABASES) }
+    requires kind { IfErr opened (λ fault. run_status fault ≡ 3) }
+    // Line after line: where each disk has returned what was written, the script was served from the states of the
+    // databases.
     ensures served { mode ≡ Mode.Run → HaveCleanDisks S.Store databases.new.items → OnOk result (IfSome (R.remaining input.old) (λ script. (old : List State)
-        × AreFound (O.may_hold stores.now) count old × ServesWhole script old (states_of databases.new.items) (W.contents output.old) (W.contents output.new))) }
+        × IsOpened S.Store opened databases.old.items old × ServesWhole script old (states_of databases.new.items) (W.contents output.old) (W.contents output.new))) }
     ensures stopped { mode ≡ Mode.Run → HaveCleanDisks S.Store databases.new.items → IfErr result (λ fault. IfSome (R.remaining input.old) (λ script.
-        Stops fault (AreFound (O.may_hold stores.now) count) (states_of databases.new.items) script (R.remaining input.new) (W.contents output.old) (W.contents output.new))) }
+        Stops fault (IsOpened S.Store opened databases.old.items) (states_of databases.new.items) script (R.remaining input.new) (W.contents output.old) (W.contents output.new))) }
 
     // Sessions at the same time: so it was where disks always return what was written.
     ensures free { mode ≡ Mode.Free → HoldCleanDisks S.Store → OnOk result (IfSome (R.remaining input.old) (λ script. (old : List State)
-        × AreFound (O.may_hold stores.now) count old × RunsFree script old (W.contents output.old) (W.contents output.new))) }
+        × IsOpened S.Store opened databases.old.items old × RunsFree script old (W.contents output.old) (W.contents output.new))) }
 
     // Whatever the stores do, all of the script was read, or nothing was where a store isn't opened.
     ensures end { OnOk result (IfSome (R.remaining input.old) (λ script. IsAtEnd (R.remaining input.new))) }
     ensures unopened { IfErr result (λ fault. run_status fault ≡ 3 → Keeps (R.remaining input.old) (R.remaining input.new) × WritesNothing (W.contents output.old) (W.contents output.new)) }
 {
-    open_databases(alloc, stores, count, databases, sites)?;
+    opened?;
     match mode {
         Mode::Run => serve_script(alloc, databases, input, output)?,
         Mode::Free => serve_phases(rt, alloc, databases, input, output)?,
     }
     Ok(())
+}
+
+/// Tells which stores had the format before, if any, and have the known one since.
+fn tell_migrated<F: Write>(alloc: Global, errors: &mut F, path: &str, sites: &[Option<Site>])
+    ensures { TellsOfMigrated (Some path.now) (F.contents errors.old) (F.contents errors.new) }
+{
+    match migrated_text(alloc, path, sites) {
+        Ok(text) => print(errors, text.as_str()),
+        Err(_) => print(errors, MIGRATED),
+    }
+}
+
+/// What is told where no memory is left for the name of a file.
+const MIGRATED: &str = "escrowd: a store was of format 1 and is now of format 2\n";
+
+/// The stores that had the format before, a line each.
+fn migrated_text(alloc: Global, path: &str, sites: &[Option<Site>]) -> Result<String, AllocError>
+    ensures { IfOk result (λ text. AreLinesOf path.now (string_bytes text)) }
+{
+    let mut text = String::new(alloc);
+    for place in 0..MAX_DATABASES {
+        if let Some(Some(site)) = sites.get(usize::from(place)) {
+            if site.is_migrated() {
+                add_migrated(alloc, &mut text, path, place)?;
+            }
+        }
+    }
+    Ok(text)
+}
+
+/// Adds the line of the store at a place to the lines in front of it.
+fn add_migrated(alloc: Global, text: &mut String, path: &str, place: u8) -> Result<(), AllocError>
+    requires { AreLinesOf path.now (string_bytes text.old) }
+    ensures { OnOk result (AreLinesOf path.now (string_bytes text.new)) }
+{
+    let line = migrated_line(alloc, path, place)?;
+    text.push_str(line.as_str())
+}
+
+/// The line of the store at a place, which had the format before.
+fn migrated_line(alloc: Global, path: &str, place: u8) -> Result<String, AllocError>
+    ensures { IfOk result (λ line. string_bytes line ≡ migrated_line (file_of path.now place)) }
+{
+    let file = file_of(alloc, path, place)?;
+    format!(in alloc; "escrowd: {file} was of format 1 and is now of format 2\n")
 }
 
 /// Prints help where it is asked, or else says what is wrong, and answers the exit status.
@@ -221,18 +271,18 @@ fn refuse<W: Write, F: Write>(output: &mut W, errors: &mut F, fault: &ArgFault) 
     ensures help { WritesFront (W.contents output.old) (W.contents output.new) (help_of fault.now) }
     ensures unserved { result ≢ 0 → WritesNothing (W.contents output.old) (W.contents output.new) }
     ensures silent { result ≡ 0 → WritesNothing (F.contents errors.old) (F.contents errors.new) }
-    ensures said { result ≢ 0 → SaysWhy (F.contents errors.old) (F.contents errors.new) }
+    ensures said { result ≢ 0 → SaysReason (F.contents errors.old) (F.contents errors.new) }
 {
     match fault {
-        ArgFault::Help(text) => print_help(output, text.as_str()),
+        ArgFault::Help(text) => print(output, text.as_str()),
         ArgFault::Wrong(text) => say_why(errors, text.as_str()),
         ArgFault::Memory => say_why(errors, NO_MEMORY),
     }
     fault.status()
 }
 
-/// Prints help, as far as the output takes it: the exit status is the same.
-fn print_help<W: Write>(output: &mut W, text: &str)
+/// Prints a text, as far as it is taken: the exit status is the same.
+fn print<W: Write>(output: &mut W, text: &str)
     ensures { WritesFront (W.contents output.old) (W.contents output.new) text.now }
 {
     let _ = write_whole(output, text.as_bytes());
@@ -246,7 +296,7 @@ fn status_in_memory<F: Write>(alloc: Global, errors: &mut F, served: Result<(), 
     ensures ok { OnOk served (result ≡ 0) }
     ensures err { IfErr served (λ fault. result ≡ run_status fault) }
     ensures silent { result ≡ 0 → WritesNothing (F.contents errors.old) (F.contents errors.new) }
-    ensures said { result ≢ 0 → SaysWhy (F.contents errors.old) (F.contents errors.new) }
+    ensures said { result ≢ 0 → SaysReason (F.contents errors.old) (F.contents errors.new) }
 {
     match served {
         Ok(()) => 0,
@@ -268,8 +318,8 @@ fn status_over_files<F: Write>(
 ) -> u8
     ensures ok { OnOk served (result ≡ 0) }
     ensures err { IfErr served (λ fault. result ≡ run_status fault) }
-    ensures quiet { result ≡ 0 → IsQuiet (F.contents errors.old) (F.contents errors.new) }
-    ensures said { result ≢ 0 → SaysWhy (F.contents errors.old) (F.contents errors.new) }
+    ensures quiet { result ≡ 0 → TellsOfStoresAlone (F.contents errors.old) (F.contents errors.new) }
+    ensures said { result ≢ 0 → SaysReason (F.contents errors.old) (F.contents errors.new) }
 {
     match served {
         Ok(()) => {
@@ -287,7 +337,7 @@ fn status_over_files<F: Write>(
 fn stop<F: Write>(errors: &mut F, fault: RunFault, text: Result<String, AllocError>) -> u8
     ensures status { result ≡ run_status fault }
     ensures failed { 1 ≤ result }
-    ensures said { SaysWhy (F.contents errors.old) (F.contents errors.new) }
+    ensures said { SaysReason (F.contents errors.old) (F.contents errors.new) }
 {
     match text {
         Ok(text) => say_why(errors, text.as_str()),
@@ -333,7 +383,7 @@ const STORE: &str = "escrowd: the store of ";
 
 /// Tells which stores aren't closed, if any.
 fn tell_unclosed<F: Write>(alloc: Global, errors: &mut F, path: &str, unclosed: &Unclosed)
-    ensures { IsQuiet (F.contents errors.old) (F.contents errors.new) }
+    ensures { TellsOfStoresAlone (F.contents errors.old) (F.contents errors.new) }
 {
     match unclosed_text(alloc, path, unclosed) {
         Ok(text) => {

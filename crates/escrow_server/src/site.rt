@@ -27,6 +27,8 @@ pub struct Site {
     database: Option<Identity>,
     log: Option<Identity>,
     log_len: u64,
+    // Whether the store had the format before when it was opened.
+    migrated: bool,
 }
 
 /// Which file of the system's a file is, whatever it is called: its device, and its number there.
@@ -147,11 +149,22 @@ impl Outlook {
             log: file_at(rt, self.log.as_str()),
             outlook: self,
             log_len,
+            migrated: false,
         }
     }
 }
 
 impl Site {
+    /// Notes whether the store had the format before when it was opened, and has the known one since.
+    pub(crate) fn note_migrated(&mut self, migrated: bool) {
+        self.migrated = migrated;
+    }
+
+    /// Whether the store had the format before when it was opened.
+    pub(crate) fn is_migrated(&self) -> bool {
+        self.migrated
+    }
+
     /// Puts back what stood there: takes away what the program has made, and cuts off what opening a log
     /// writes behind it. Both files have to be locked; what can't be put back stays.
     pub(crate) fn put_back(&self, rt: &HostRuntime) {

@@ -14,7 +14,7 @@ use Rattle.escrow_sql.specs.declared.word.Word.TheVariants as word
 -- the classes in the order of their numbers
 abbrev classes : List Kind
 classes =
-    (kind.Name [] ∷ kind.Number (pos 0) ∷ kind.Text [] ∷ map kind.Symbol (symbol.Open ∷ symbol.Close ∷ symbol.Comma ∷ symbol.Semicolon ∷ symbol.Star ∷ symbol.Plus ∷ symbol.Minus ∷ symbol.Equal ∷ symbol.Below ∷ symbol.AtMost ∷ symbol.Above ∷ symbol.AtLeast ∷ []))
+    (kind.Name [] ∷ kind.Number (pos 0) ∷ kind.Decimal (pos 0) ∷ kind.Text [] ∷ map kind.Symbol (symbol.Open ∷ symbol.Close ∷ symbol.Comma ∷ symbol.Semicolon ∷ symbol.Star ∷ symbol.Plus ∷ symbol.Minus ∷ symbol.Equal ∷ symbol.Below ∷ symbol.AtMost ∷ symbol.Above ∷ symbol.AtLeast ∷ []))
     ++ map kind.Word reserved_words
 
 -- each class is found by its number
@@ -72,6 +72,7 @@ word_found word.Work = refl
 found : (k : Kind) → get_or classes (class_number k) (kind.Name []) ≡ class_of k
 found (kind.Name name) = refl
 found (kind.Number n) = refl
+found (kind.Decimal d) = refl
 found (kind.Text text) = refl
 found (kind.Symbol s) = symbol_found s
 found (kind.Word w) = word_found w
@@ -83,6 +84,7 @@ same_class k l e = sym (found k) ∙ (ap (λ (n : ℕ). get_or classes n (kind.N
 number_of_class : (k : Kind) → class_number (class_of k) ≡ class_number k
 number_of_class (kind.Name name) = refl
 number_of_class (kind.Number n) = refl
+number_of_class (kind.Decimal d) = refl
 number_of_class (kind.Text text) = refl
 number_of_class (kind.Symbol s) = refl
 number_of_class (kind.Word w) = refl

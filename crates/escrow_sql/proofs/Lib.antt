@@ -14,9 +14,11 @@ pub mod QuotedLemmas
 pub mod Reading
 pub mod Sentences
 pub mod Slices
+pub mod Spelled
 pub mod TextLemmas
 pub mod TokenLemmas
 pub mod Writing
 pub mod WritingLists
+pub mod WritingNumbers
 pub mod WritingSums
 pub mod WritingTokens

@@ -1,5 +1,5 @@
 -- A piece takes at least one byte, and lies within the text.
-use Rattle.std.proofs.Common.{◌≡◌, ℕ, suc, pos, ◌+◌, ◌-◌, ◌≤◌, ◌<◌, Bool, true, false, cond, Result, Ok, Err, List, [], ◌∷◌, length, get_or, drop, take, arith, refl, sym, subst, map}
+use Rattle.std.proofs.Common.{◌≡◌, ℕ, suc, ◌+◌, ◌-◌, ◌≤◌, ◌<◌, Bool, true, false, cond, Result, Ok, Err, List, [], ◌∷◌, length, get_or, drop, take, arith, refl, sym, subst, map}
 use Rattle.std.specs.Prelude.{nat_lt, nat_eq, not, ◌&&◌, IfOk}
 use Rattle.std.specs.declared.alloc.AllocError.{AllocError}
 use Rattle.std.specs.Char.{is_ascii_alphabetic, is_ascii_digit, to_ascii_uppercase}
@@ -7,16 +7,16 @@ use Rattle.std.specs.List.{prefix_len}
 use Rattle.std.proofs.lemmas.Bool.{cond_both}
 use Rattle.std.proofs.lemmas.Bool.Decides.{nat_tests}
 use Rattle.std.proofs.lemmas.List.{length-drop}
+use Rattle.std.proofs.lemmas.List.Folds.{length-prefix_len}
 use Rattle.std.proofs.lemmas.List.Sums.{prefix_len-le-length}
-use Rattle.escrow_num.specs.Amount.{is_amount, number_of}
 use Rattle.escrow_num.specs.declared.name.TheConstants.Name.{MAX_WRITTEN}
 use Rattle.escrow_sql.proofs.NameLemmas.{letter_goes_on}
+use Rattle.escrow_sql.proofs.NumberLemmas.{number_within}
 use Rattle.escrow_sql.proofs.QuotedLemmas.{text_within}
 use Rattle.escrow_sql.specs.Word.{reserved}
 use Rattle.escrow_sql.specs.declared.lexer.piece.Piece.{Piece}
 use Rattle.escrow_sql.specs.declared.lexer.piece.Piece.TheVariants as piece
 use Rattle.escrow_sql.specs.declared.token.Kind.{Kind}
-use Rattle.escrow_sql.specs.declared.token.Kind.TheVariants as kind
 use Rattle.escrow_sql.specs.Lex.{plain_piece, name_piece, number_piece, symbol_piece, goes_on, is_blank, begins, word_or_name}
 use Rattle.escrow_sql.specs.Scan.{IsWithin, piece_of, text_piece}
 
@@ -33,15 +33,8 @@ name_within c next h =
     cond_both (nat_lt MAX_WRITTEN len) (piece.Fault 0) (piece.Token (word_or_name (map to_ascii_uppercase (take len (c ∷ next))) (reserved (map to_ascii_uppercase (take len (c ∷ next))))) len)
     (IsWithin (length (c ∷ next))) (λ e. omega arith) (λ e. (one, all))
 
-number_within : (c : ℕ) (next : List ℕ) → is_ascii_digit c ≡ true → IsWithin (length (c ∷ next)) (number_piece (c ∷ next))
-unfolding number_piece
-number_within c next h =
-    let len = prefix_len is_ascii_digit (c ∷ next) in
-    let value = number_of (take len (c ∷ next)) in
-    let one : 1 ≤ len = prefix_len-first is_ascii_digit c next h in
-    let all : len ≤ length (c ∷ next) = prefix_len-le-length is_ascii_digit (c ∷ next) in
-    cond_both (is_amount (pos value)) (piece.Token (kind.Number (pos value)) len) (piece.Fault 0)
-    (IsWithin (length (c ∷ next))) (λ e. (one, all)) (λ e. omega arith)
+digits_within : (c : ℕ) (next : List ℕ) → is_ascii_digit c ≡ true → IsWithin (length (c ∷ next)) (number_piece (c ∷ next))
+digits_within c next h = number_within (c ∷ next) (omega (arith, length-prefix_len is_ascii_digit (c ∷ next), prefix_len-first is_ascii_digit c next h))
 
 equal_within : (a b : Kind) (next : List ℕ) → IsWithin (suc (length next)) (cond (begins 61 next) (piece.Token a 2) (piece.Token b 1))
 equal_within a b [] = (omega arith, omega arith)
@@ -84,7 +77,7 @@ plain_within c next =
     either_within (suc n) (is_blank c) (piece.Blank 1) _ (λ e. (omega arith, omega arith)) (λ e.
     either_within (suc n) (nat_eq c 45 && begins 45 next) (piece.Blank (prefix_len (λ b. not (nat_eq b 10)) (c ∷ next))) _ (λ e. comment_within c next (first_of_both (nat_eq c 45) (begins 45 next) e)) (λ e.
     either_within (suc n) (is_ascii_alphabetic c) _ _ (λ e. name_within c next e) (λ e.
-    either_within (suc n) (is_ascii_digit c) _ _ (λ e. number_within c next e) (λ e. symbol_within c next))))
+    either_within (suc n) (is_ascii_digit c) _ _ (λ e. digits_within c next e) (λ e. symbol_within c next))))
 
 pub piece_of-within : (c : ℕ) (next : List ℕ) → IsWithin (suc (length next)) (piece_of c next)
 piece_of-within c next = either_within (suc (length next)) (nat_eq c 39) (text_piece next) (plain_piece c next) (λ e. text_within next) (λ e. plain_within c next)

@@ -1,12 +1,11 @@
 -- The bytes of a token, alone, are that token.
-use Rattle.std.proofs.Common.{◌≡◌, ℕ, zero, suc, pos, ◌+◌, ◌-◌, ◌≤◌, Bool, false, cond, Ok, List, [], ◌∷◌, length, drop, take, arith, refl, sym, ap, ap₂, ◌∙◌, subst, map, inl, inr}
+use Rattle.std.proofs.Common.{◌≡◌, ℕ, zero, suc, ◌+◌, ◌-◌, ◌≤◌, Bool, false, cond, Ok, List, [], ◌∷◌, length, drop, take, arith, refl, sym, ap, ap₂, ◌∙◌, subst, map, inl, inr}
 use Rattle.std.specs.Prelude.{nat_lt, not, ◌&&◌, ◌==◌, if◌then◌else◌, slice_range}
 use Rattle.std.specs.Char.{is_ascii_alphabetic, is_ascii_digit, to_ascii_uppercase}
 use Rattle.std.specs.List.{prefix_len, AllByRecursion}
 use Rattle.std.proofs.lemmas.Bool.{cond_both, cond-true, cond-false, cases_Bool, and_cases, and_left, and_right, eqb-true}
 use Rattle.std.proofs.lemmas.List.{take-take, length-take-le, length-take, length-drop, drop-drop, get_or-take}
 use Rattle.std.proofs.lemmas.List.Sums.{prefix_len_is, prefix_len-le-length, prefix_len_passes}
-use Rattle.escrow_num.specs.Amount.{is_amount, number_of}
 use Rattle.escrow_num.specs.declared.name.TheConstants.Name.{MAX_WRITTEN}
 use Rattle.escrow_sql.specs.declared.lexer.TheConstants.{MAX_TEXT}
 use Rattle.escrow_sql.specs.Word.{reserved}
@@ -18,6 +17,7 @@ use Rattle.escrow_sql.specs.declared.token.Symbol.TheVariants as symbol
 use Rattle.escrow_sql.specs.declared.token.Token.{Token}
 use Rattle.escrow_sql.specs.Lex.{plain_piece, name_piece, number_piece, symbol_piece, goes_on, is_blank, begins, word_or_name, IsItsSlice, with_token}
 use Rattle.escrow_sql.specs.Scan.{piece_of, text_piece, IsWithin, tokens_from}
+use Rattle.escrow_sql.proofs.NumberLemmas.{number_alone, number_token_len}
 use Rattle.escrow_sql.proofs.PieceLemmas.{piece_of-within}
 use Rattle.escrow_sql.proofs.Pieces.{is_lexed}
 use Rattle.escrow_sql.proofs.QuotedLemmas.{text_alone}
@@ -31,14 +31,11 @@ prefix_alone p xs =
     prefix_len_is p (take n xs) n 0 (omega arith)
     (λ k l. ap p (get_or-take n xs k 0 l) ∙ prefix_len_passes p xs k 0 l) (λ l. absurd (omega arith))
 
--- a name and a number, by their lengths and their bytes
+-- a name, by its length and its bytes
 abbrev name_with : ℕ → List ℕ → Piece
 name_with len front =
     let upper = map to_ascii_uppercase front in
     if nat_lt MAX_WRITTEN len then piece.Fault 0 else piece.Token (word_or_name upper (reserved upper)) len
-
-abbrev number_with : ℕ → List ℕ → Piece
-number_with len front = if is_amount (pos (number_of front)) then piece.Token (kind.Number (pos (number_of front))) len else piece.Fault 0
 
 name_alone : (xs : List ℕ) → name_piece (take (prefix_len goes_on xs) xs) ≡ name_piece xs
 unfolding name_piece
@@ -47,27 +44,13 @@ name_alone xs =
     let e = prefix_alone goes_on xs in
     ap₂ (λ (l : ℕ) (front : List ℕ). name_with l front) e (ap (λ (l : ℕ). take l (take n xs)) e ∙ take-take n n xs (omega arith))
 
-number_alone : (xs : List ℕ) → number_piece (take (prefix_len is_ascii_digit xs) xs) ≡ number_piece xs
-unfolding number_piece
-number_alone xs =
-    let n = prefix_len is_ascii_digit xs in
-    let e = prefix_alone is_ascii_digit xs in
-    ap₂ (λ (l : ℕ) (front : List ℕ). number_with l front) e (ap (λ (l : ℕ). take l (take n xs)) e ∙ take-take n n xs (omega arith))
-
--- how long the token of a name or a number is
+-- how long the token of a name is
 name_len : (xs : List ℕ) (k : Kind) (len : ℕ) → name_piece xs ≡ piece.Token k len → len ≡ prefix_len goes_on xs
 unfolding name_piece
 name_len xs k len h =
     let n = prefix_len goes_on xs in
     let upper = map to_ascii_uppercase (take n xs) in
     cond_both (nat_lt MAX_WRITTEN n) (piece.Fault 0) (piece.Token (word_or_name upper (reserved upper)) n) (λ (p : Piece). p ≡ piece.Token k len → len ≡ n) (λ e q. absurd (cc)) (λ e q. cc) h
-
-number_len : (xs : List ℕ) (k : Kind) (len : ℕ) → number_piece xs ≡ piece.Token k len → len ≡ prefix_len is_ascii_digit xs
-unfolding number_piece
-number_len xs k len h =
-    let n = prefix_len is_ascii_digit xs in
-    let value = number_of (take n xs) in
-    cond_both (is_amount (pos value)) (piece.Token (kind.Number (pos value)) n) (piece.Fault 0) (λ (p : Piece). p ≡ piece.Token k len → len ≡ n) (λ e q. cc) (λ e q. absurd (cc)) h
 
 -- a symbol other than `<` and `>` is the same whatever follows
 symbol_other : (c : ℕ) (x y : List ℕ) → (c == 60) ≡ false → (c == 62) ≡ false → symbol_piece c x ≡ symbol_piece c y
@@ -149,7 +132,7 @@ token_alone c next k len one h =
           elim (cases_Bool (is_ascii_digit c)) [
             | inl f ↦
                 let n = sym (not_name next ∙ cond-true (is_ascii_digit c) (number_piece (c ∷ next)) (symbol_piece c next) f) ∙ h in
-                let l = number_len (c ∷ next) k len n in
+                let l = number_token_len (c ∷ next) k len n in
                 not_name short ∙ (cond-true (is_ascii_digit c) (number_piece (c ∷ short)) (symbol_piece c short) f
                 ∙ (ap number_piece (sym front ∙ ap (λ (m : ℕ). take m (c ∷ next)) l) ∙ (number_alone (c ∷ next) ∙ n)))
             | inr f ↦

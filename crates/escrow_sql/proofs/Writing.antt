@@ -5,7 +5,7 @@ use Rattle.std.proofs.lemmas.List.{append-nil}
 use Rattle.escrow_sql.specs.declared.lexer.piece.Piece.TheVariants as piece
 use Rattle.escrow_sql.specs.declared.token.Token.{Token}
 use Rattle.escrow_sql.specs.Grammar.{Grammar, nothing, sequence, either, many, Sentence, Repeats}
-use Rattle.escrow_sql.specs.Lex.{is_blank, plain_piece}
+use Rattle.escrow_sql.specs.Lex.{IsLexed, is_blank, plain_piece}
 use Rattle.escrow_sql.specs.Scan.{tokens_from}
 use Rattle.escrow_sql.specs.Parser.{Asks}
 use Rattle.escrow_sql.specs.Statement.{meaning, request}
@@ -135,9 +135,14 @@ pub one_more : {A V : Type 0} {a : Grammar A} {f : List A → V} {s t : List ℕ
     → Writes is_behind a s x → is_behind t ≡ true → Writes is_behind (many a (λ ys. ys)) t xs → Writes is_behind (many a f) (s ++ t) (f (x ∷ xs))
 one_more {t = t} l e r = more_both l (λ rest q. behind_both t rest e q) r
 
--- a text that writes a request asks it
-pub asks_written : {text : List ℕ} {r : Request} → Writes is_behind request text r → length text ≤ MAX_TEXT → Asks text r
-asks_written {text = text} w short =
+-- a text that writes a value has tokens that mean it
+pub reads_written : {V : Type 0} {g : Grammar V} {text : List ℕ} {v : V} → Writes is_behind g text v → length text ≤ MAX_TEXT
+    → (tokens : List Token) × IsLexed text (Ok tokens) × Sentence g tokens v
+reads_written {text = text} w short =
     let c = w.cut [] 0 refl in
     let lexed : tokens_from 0 0 text ≡ Ok c.0 = ap (tokens_from 0 0) (sym (append-nil text)) ∙ (c.1 ∙ ap (λ (ts : List Token). Ok ts) (append-nil c.0)) in
     (c.0, is_lexed text (Ok c.0) short lexed, c.2)
+
+-- and one that writes a request asks it
+pub asks_written : {text : List ℕ} {r : Request} → Writes is_behind request text r → length text ≤ MAX_TEXT → Asks text r
+asks_written w short = reads_written w short

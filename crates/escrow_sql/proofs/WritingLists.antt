@@ -1,19 +1,14 @@
--- Lists and signed numbers, as they are written, are read as themselves.
-use Rattle.std.proofs.Common.{◌≡◌, ℕ, suc, ℤ, pos, negsuc, ◌^◌, ◌≤◌, ◌<◌, true, List, [], ◌∷◌, ◌++◌, length, get_or, map, arith, refl, sym}
+-- Lists, as they are written, are read as themselves.
+use Rattle.std.proofs.Common.{◌≡◌, ℕ, ◌≤◌, true, List, [], ◌∷◌, ◌++◌, length, map, arith, refl, sym}
 use Rattle.std.specs.Prelude.{codes, flat_map}
-use Rattle.std.specs.Fmt.{decimal, signed_decimal}
 use Rattle.std.specs.List.{AllByRecursion}
-use Rattle.std.proofs.lemmas.Bool.Decides.{nat_tests}
-use Rattle.std.proofs.lemmas.Fmt.{decimal_nonempty, first_decimal}
-use Rattle.std.proofs.lemmas.Int.{ints}
 use Rattle.std.proofs.lemmas.List.{flat_map_more}
-use Rattle.escrow_num.specs.Amount.{IsAmount}
 use Rattle.escrow_sql.specs.declared.token.Symbol.TheVariants as symbols
 use Rattle.escrow_sql.specs.Grammar.{Grammar, many}
 use Rattle.escrow_sql.specs.Joined.{joined}
-use Rattle.escrow_sql.specs.Statement.{symbol, ◌then◌, list, sign, signed_number}
-use Rattle.escrow_sql.proofs.Writing.{Writes, is_behind, writes_both, writes_joined, writes_apart, writes_blank, writes_left, writes_right, writes_meaning, writes_nothing, none_more, one_more}
-use Rattle.escrow_sql.proofs.WritingTokens.{writes_symbol, writes_number, no_minus}
+use Rattle.escrow_sql.specs.Statement.{symbol, ◌then◌, list}
+use Rattle.escrow_sql.proofs.Writing.{Writes, is_behind, writes_joined, writes_apart, writes_blank, none_more, one_more}
+use Rattle.escrow_sql.proofs.WritingTokens.{writes_symbol}
 
 -- each text writes its value
 abbrev pub WriteEach : {V : Type 0} → Grammar V → List (List ℕ) → List V → Type 0
@@ -51,20 +46,6 @@ writes_listed a [] [] long h = absurd (omega arith)
 writes_listed a (t ∷ ts) (v ∷ vs) long h = writes_apart h.0 (others_behind ts) (writes_others a ts vs h.1)
 writes_listed a [] (v ∷ vs) long h = absurd h
 writes_listed a (t ∷ ts) [] long h = absurd h
-
--- digits begin with no minus
-pub digits_no_minus : (ds rest : List ℕ) → 0 < length ds → 48 < get_or ds 0 0 → no_minus (ds ++ rest) ≡ true
-digits_no_minus [] rest long first = absurd (omega arith)
-digits_no_minus (c ∷ cs) rest long first = grind (arith, nat_tests)
-
-pub writes_signed : (z : ℤ) → IsAmount z → Writes is_behind signed_number (signed_decimal z) z
-unfolding signed_number sign
-writes_signed (pos n) h = writes_joined (writes_right writes_nothing) (writes_number n (omega (arith, ints, h.1)))
-writes_signed (negsuc n) h =
-    let small : suc n ≤ 999999999999999 = omega (arith, ints, h.0) in
-    let fits : suc n < 2 ^ 64 = omega arith in
-    writes_both (writes_left (writes_right (writes_meaning (writes_symbol symbols.Minus))))
-    (λ rest q. digits_no_minus (decimal (suc n)) rest (decimal_nonempty (suc n) fits) (first_decimal (suc n) (omega arith) fits)) (writes_number (suc n) small)
 
 -- one text more at the end of some
 pub joined_more : (ts : List (List ℕ)) (t : List ℕ) → 1 ≤ length ts → joined (ts ++ t ∷ []) ≡ joined ts ++ (codes ", " ++ t)

@@ -1,10 +1,12 @@
 -- Terms, sums and what is asked of them, as they are written, are read as themselves.
-use Rattle.std.proofs.Common.{◌≡◌, ℕ, suc, ℤ, pos, negsuc, ◌^◌, ◌≤◌, ◌<◌, false, true, List, [], ◌∷◌, ◌++◌, arith, refl}
+use Rattle.std.proofs.Common.{◌≡◌, ℕ, suc, ℤ, pos, negsuc, ◌*ℤ◌, ◌^◌, ◌≤◌, ◌<◌, false, true, List, [], ◌∷◌, ◌++◌, arith, refl}
 use Rattle.std.specs.Prelude.{codes}
-use Rattle.std.specs.Fmt.{decimal, signed_decimal}
+use Rattle.std.specs.Fmt.{decimal}
 use Rattle.std.proofs.lemmas.Fmt.{decimal_nonempty, first_decimal}
 use Rattle.std.proofs.lemmas.Int.{ints}
 use Rattle.escrow_num.specs.Amount.{IsAmount}
+use Rattle.escrow_num.specs.Scale.{IsScale, unit_at}
+use Rattle.escrow_num.specs.Scaled.{scaled_text}
 use Rattle.escrow_sql.specs.declared.statement.Comparison.{Comparison}
 use Rattle.escrow_sql.specs.declared.statement.Comparison.TheVariants as comparisons
 use Rattle.escrow_sql.specs.declared.statement.Term.{Term}
@@ -16,18 +18,18 @@ use Rattle.escrow_sql.specs.declared.word.Word.TheVariants as words
 use Rattle.escrow_sql.specs.Grammar.{Grammar, many, sequence}
 use Rattle.escrow_sql.specs.Statement.{comparison, name, optional, sign, signed, signed_term, sum, term, test_part}
 use Rattle.escrow_sql.proofs.Writing.{Writes, is_behind, none_more, writes_both, writes_joined, writes_apart, writes_blank, writes_first, writes_left, writes_right, writes_meaning, writes_nothing}
-use Rattle.escrow_sql.proofs.WritingLists.{digits_no_minus, writes_signed}
-use Rattle.escrow_sql.proofs.WritingTokens.{no_minus, writes_number, writes_symbol, writes_symbol_apart, writes_word, written}
+use Rattle.escrow_sql.proofs.WritingNumbers.{digits_no_minus, magnitude_no_minus, writes_magnitude_term, writes_signed}
+use Rattle.escrow_sql.proofs.WritingTokens.{no_minus, writes_whole, writes_symbol, writes_symbol_apart, writes_word, written}
 
 -- a column by itself, and a number of times
 pub writes_once : {n : List ℕ} → Writes is_behind name n n → Writes is_behind term n (terms.Column (pos 1) n)
 unfolding term
-writes_once w = writes_right (writes_first w (writes_right writes_nothing))
+writes_once w = writes_right (writes_right (writes_first w (writes_right writes_nothing)))
 
 pub writes_times : {n : List ℕ} (m : ℕ) → m ≤ 999999999999999 → Writes is_behind name n n → Writes is_behind term (decimal m ++ (codes " * " ++ n)) (terms.Column (pos m) n)
 unfolding term
 writes_times m small w =
-    writes_left (writes_apart (writes_number m small) refl (writes_left (writes_meaning (writes_blank (writes_joined (writes_symbol symbols.Star) (writes_blank w))))))
+    writes_left (writes_apart (writes_whole m small) refl (writes_left (writes_meaning (writes_blank (writes_joined (writes_symbol symbols.Star) (writes_blank w))))))
 
 -- a term behind others, with its sign
 pub writes_plus : {t : List ℕ} {x : Term} → Writes is_behind term t x → Writes is_behind signed_term (codes " + " ++ t) (signed false x)
@@ -60,14 +62,13 @@ writes_sum w behind others = writes_apart w behind others
 pub digits_plain : (n : ℕ) (rest : List ℕ) → 0 < n → n < 2 ^ 64 → no_minus (decimal n ++ rest) ≡ true
 digits_plain n rest some fits = digits_no_minus (decimal n) rest (decimal_nonempty n fits) (first_decimal n some fits)
 
--- a sum that is one number
-pub writes_number_sum : (z : ℤ) → IsAmount z → Writes is_behind sum (signed_decimal z) (terms.Number z ∷ [])
-unfolding sum term
-writes_number_sum (pos n) h = writes_first (writes_unsigned (writes_left (writes_first (writes_number n (omega (arith, ints, h.1))) (writes_right writes_nothing)))) none_more
-writes_number_sum (negsuc n) h =
+-- a sum that is one number, written with a scale
+pub writes_number_sum : (k : ℕ) (z : ℤ) → IsScale k → IsAmount z → Writes is_behind sum (scaled_text k z) (terms.Number (z *ℤ pos (unit_at k)) ∷ [])
+unfolding scaled_text sum
+writes_number_sum k (pos n) scaled h = writes_first (writes_unsigned (writes_magnitude_term k n scaled (omega (arith, ints, h.1)))) none_more
+writes_number_sum k (negsuc n) scaled h =
     let small : suc n ≤ 999999999999999 = omega (arith, ints, h.0) in
-    let fits : suc n < 2 ^ 64 = omega arith in
-    writes_first (writes_negated (λ rest. digits_plain (suc n) rest (omega arith) fits) (writes_left (writes_first (writes_number (suc n) small) (writes_right writes_nothing)))) none_more
+    writes_first (writes_negated (λ rest. magnitude_no_minus k (suc n) rest small) (writes_magnitude_term k (suc n) scaled small)) none_more
 
 -- the symbol of a comparison
 abbrev pub symbol_of : Comparison → Symbol
@@ -85,13 +86,14 @@ writes_comparison comparisons.Above = writes_right (writes_right (writes_left (w
 writes_comparison comparisons.AtLeast = writes_right (writes_right (writes_right (writes_left (writes_meaning (writes_symbol_apart symbols.AtLeast)))))
 writes_comparison comparisons.Equal = writes_right (writes_right (writes_right (writes_right (writes_meaning (writes_symbol_apart symbols.Equal)))))
 
--- a comparison with a number
-pub writes_compare : (c : Comparison) (z : ℤ) → IsAmount z → Writes is_behind test_part (written (symbol_of c) ++ (codes " " ++ signed_decimal z)) (tests.Compare c (terms.Number z ∷ []))
+-- a comparison with a number that is written with a scale
+pub writes_compare : (c : Comparison) (k : ℕ) (z : ℤ) → IsScale k → IsAmount z
+    → Writes is_behind test_part (written (symbol_of c) ++ (codes " " ++ scaled_text k z)) (tests.Compare c (terms.Number (z *ℤ pos (unit_at k)) ∷ []))
 unfolding test_part
-writes_compare c z h = writes_left (writes_apart (writes_comparison c) refl (writes_blank (writes_number_sum z h)))
+writes_compare c k z scaled h = writes_left (writes_apart (writes_comparison c) refl (writes_blank (writes_number_sum k z scaled h)))
 
-pub writes_between : (lo hi : ℤ) → IsAmount lo → IsAmount hi
-    → Writes is_behind test_part (codes "BETWEEN " ++ (signed_decimal lo ++ (codes " AND " ++ signed_decimal hi))) (tests.Between lo hi)
+pub writes_between : (k : ℕ) (lo hi : ℤ) → IsScale k → IsAmount lo → IsAmount hi
+    → Writes is_behind test_part (codes "BETWEEN " ++ (scaled_text k lo ++ (codes " AND " ++ scaled_text k hi))) (tests.Between (lo *ℤ pos (unit_at k)) (hi *ℤ pos (unit_at k)))
 unfolding test_part
-writes_between lo hi l h =
-    writes_right (writes_apart (writes_word words.Between) refl (writes_blank (writes_apart (writes_signed lo l) refl (writes_blank (writes_apart (writes_word words.And) refl (writes_blank (writes_signed hi h)))))))
+writes_between k lo hi scaled l h =
+    writes_right (writes_apart (writes_word words.Between) refl (writes_blank (writes_apart (writes_signed k lo scaled l) refl (writes_blank (writes_apart (writes_word words.And) refl (writes_blank (writes_signed k hi scaled h)))))))

@@ -1,5 +1,5 @@
 -- Words, symbols, names and numbers, as they are written, are read as themselves.
-use Rattle.std.proofs.Common.{◌≡◌, ℕ, pos, ◌+◌, ◌^◌, ◌≤◌, ◌<◌, Bool, true, false, Result, Ok, Err, List, [], ◌∷◌, ◌++◌, length, take, drop, map, Some, None, arith, rules, refl, sym, ap, ap₂, ◌∙◌, append_assoc, length-append, inl}
+use Rattle.std.proofs.Common.{◌≡◌, ℕ, ℤ, pos, ◌+◌, ◌^◌, ◌≤◌, ◌<◌, Bool, true, false, Result, Ok, Err, List, [], ◌∷◌, ◌++◌, length, take, drop, map, Some, None, arith, rules, refl, sym, ap, ap₂, ◌∙◌, append_assoc, length-append, inl}
 use Rattle.std.specs.Prelude.{codes, position, not, nat_lt, nat_le, ◌==◌, if◌then◌else◌}
 use Rattle.std.specs.Char.{is_ascii_alphabetic, is_ascii_uppercase, is_ascii_digit, to_ascii_uppercase}
 use Rattle.std.specs.Fmt.{decimal}
@@ -8,10 +8,12 @@ use Rattle.std.specs.Str.{all_ascii_digits}
 use Rattle.std.proofs.Math.Seq.{take-append_seam, drop-append_seam}
 use Rattle.std.proofs.lemmas.Bool.{and_parts, and_from, or_left, not-true, le-leb, leb-true, le-ltb, cond-true, cond-false}
 use Rattle.std.proofs.lemmas.Bool.Decides.{nat_tests}
+use Rattle.std.proofs.lemmas.List.{append-nil}
 use Rattle.std.proofs.lemmas.Fmt.{digits_decimal, digits_value-decimal, decimal_nonempty}
 use Rattle.std.proofs.lemmas.Str.Ascii.{uppercase_is}
 use Rattle.std.proofs.lemmas.Str.Parse.{IsNumeralModel, numerals_by_fold, tells_all_ascii_digits}
-use Rattle.escrow_num.specs.Amount.{is_amount, number_after, number_of}
+use Rattle.escrow_num.specs.Amount.{is_amount, is_numeral, number_after, number_of}
+use Rattle.escrow_num.specs.Decimal.{millionths_of}
 use Rattle.escrow_num.specs.Name.{is_name_byte, spells_name}
 use Rattle.escrow_num.specs.declared.name.TheConstants.Name.{MAX_WRITTEN}
 use Rattle.escrow_sql.specs.declared.lexer.piece.Piece.{Piece}
@@ -24,11 +26,12 @@ use Rattle.escrow_sql.specs.declared.token.Token.{Token}
 use Rattle.escrow_sql.specs.declared.word.Word.{Word}
 use Rattle.escrow_sql.specs.declared.word.Word.TheVariants as words
 use Rattle.escrow_sql.specs.Grammar.{Grammar, token}
-use Rattle.escrow_sql.specs.Lex.{begins, doubled, goes_on, is_blank, is_forbidden, IsQuoted, quoted_piece, word_or_name, name_piece, number_piece, symbol_piece, plain_piece, with_token}
+use Rattle.escrow_sql.specs.Lex.{begins, doubled, goes_on, is_blank, is_forbidden, IsQuoted, quoted_piece, word_or_name, name_piece, front_digits, point_digits, point_piece, whole_piece, number_piece, symbol_piece, plain_piece, with_token}
 use Rattle.escrow_sql.specs.Scan.{piece_of, tokens_from}
-use Rattle.escrow_sql.specs.Statement.{word, symbol, in_parentheses, name, name_in, number, number_in, text, text_in}
+use Rattle.escrow_sql.specs.Statement.{word, symbol, in_parentheses, name, name_in, point, point_in, text, text_in, whole, whole_in}
 use Rattle.escrow_sql.specs.Token.{class_of}
 use Rattle.escrow_sql.specs.Word.{reserved, spelling}
+use Rattle.escrow_sql.proofs.NumberLemmas.{behind_len, ends, front_whole, number_read}
 use Rattle.escrow_sql.proofs.QuotedLemmas.{text_piece-only}
 use Rattle.escrow_sql.proofs.TokenLemmas.{after, tokens_from-piece, tokens_from-behind}
 use Rattle.escrow_sql.proofs.Writing.{Writes, is_behind, anything, weaker, writes_both, writes_joined}
@@ -111,19 +114,6 @@ writes_symbol_apart s = weaker (behind_symbol s) (writes_symbol s)
 pub writes_in_parentheses : {V : Type 0} {Q : List ℕ → Bool} {a : Grammar V} {s : List ℕ} {v : V} → Writes is_behind a s v → Writes Q (in_parentheses a) (codes "(" ++ (s ++ codes ")")) v
 writes_in_parentheses w = writes_joined (writes_symbol symbols.Open) (writes_both w (λ rest q. refl) (weaker (λ rest q. refl) (writes_symbol symbols.Close)))
 
--- bytes don't go on as a front does
-abbrev ends : (ℕ → Bool) → List ℕ → Bool
-ends p [] = true
-ends p (c ∷ cs) = not (p c)
-
-front_whole : (p : ℕ → Bool) (front rest : List ℕ) → list_all p front ≡ true → ends p rest ≡ true → prefix_len p (front ++ rest) ≡ length front
-front_whole p [] [] e q = refl
-front_whole p [] (c ∷ cs) e q = cond-false (p c) (1 + prefix_len p cs) 0 (not-true (p c) q)
-front_whole p (c ∷ front) rest e q =
-    let all = and_parts (p c) (list_all p front) e in
-    let others = front_whole p front rest all.1 q in
-    cond-true (p c) (1 + prefix_len p (front ++ rest)) 0 all.0 ∙ omega arith
-
 name_ends : (rest : List ℕ) → is_behind rest ≡ true → ends goes_on rest ≡ true
 name_ends [] e = refl
 name_ends (c ∷ cs) e = let u = uppercase_is c in grind (arith, nat_tests)
@@ -131,6 +121,11 @@ name_ends (c ∷ cs) e = let u = uppercase_is c in grind (arith, nat_tests)
 number_ends : (rest : List ℕ) → is_behind rest ≡ true → ends is_ascii_digit rest ≡ true
 number_ends [] e = refl
 number_ends (c ∷ cs) e = grind (arith, nat_tests)
+
+-- nor does a number go on with a point there
+no_point : (rest : List ℕ) → is_behind rest ≡ true → point_digits rest ≡ []
+no_point [] e = refl
+no_point (c ∷ cs) e = cond-false (c == 46) (front_digits cs) [] (grind (arith, nat_tests))
 
 -- bytes of a name are in upper case, and it goes on with them
 byte_upper : (c : ℕ) → is_name_byte c ≡ true → to_ascii_uppercase c ≡ c
@@ -154,7 +149,7 @@ begins_name c next h =
     let letter : is_ascii_alphabetic c ≡ true = grind (arith, nat_tests) in
     rw (quote, blank, minus, letter) refl
 
-begins_number : (c : ℕ) (next : List ℕ) → is_ascii_digit c ≡ true → piece_of c next ≡ number_piece (c ∷ next)
+pub begins_number : (c : ℕ) (next : List ℕ) → is_ascii_digit c ≡ true → piece_of c next ≡ number_piece (c ∷ next)
 unfolding plain_piece
 begins_number c next h =
     let quote : (c == 39) ≡ false = grind (arith, nat_tests) in
@@ -163,12 +158,9 @@ begins_number c next h =
     let letter : is_ascii_alphabetic c ≡ false = grind (arith, nat_tests) in
     rw (quote, blank, minus, letter, h) refl
 
--- a name and a number, by their lengths and their bytes
+-- a name, by its length and its bytes
 abbrev name_with : ℕ → List ℕ → Piece
 name_with len upper = if nat_lt MAX_WRITTEN len then piece.Fault 0 else piece.Token (word_or_name upper (reserved upper)) len
-
-abbrev number_with : ℕ → List ℕ → Piece
-number_with len digits = if is_amount (pos (number_of digits)) then piece.Token (kind.Number (pos (number_of digits))) len else piece.Fault 0
 
 name_read : (n rest : List ℕ) → list_all is_name_byte n ≡ true → length n ≤ MAX_WRITTEN → is_behind rest ≡ true
     → name_piece (n ++ rest) ≡ piece.Token (word_or_name n (reserved n)) (length n)
@@ -180,14 +172,9 @@ name_read n rest h short q =
     ap (λ (k : ℕ). map to_ascii_uppercase (take k (n ++ rest))) len ∙ (ap (map to_ascii_uppercase) (take-append_seam n rest) ∙ upper.0) in
     ap₂ name_with len front ∙ cond-false (nat_lt MAX_WRITTEN (length n)) (piece.Fault 0) (piece.Token (word_or_name n (reserved n)) (length n)) (le-ltb MAX_WRITTEN (length n) short)
 
-number_read : (n : ℕ) (digits rest : List ℕ) → list_all is_ascii_digit digits ≡ true → number_of digits ≡ n → is_amount (pos n) ≡ true → is_behind rest ≡ true
-    → number_piece (digits ++ rest) ≡ piece.Token (kind.Number (pos n)) (length digits)
-unfolding number_piece
-number_read n digits rest h value small q =
-    let len : prefix_len is_ascii_digit (digits ++ rest) ≡ length digits = front_whole is_ascii_digit digits rest h (number_ends rest q) in
-    let front : take (prefix_len is_ascii_digit (digits ++ rest)) (digits ++ rest) ≡ digits = ap (λ (k : ℕ). take k (digits ++ rest)) len ∙ take-append_seam digits rest in
-    ap₂ number_with len front ∙ (ap (λ (m : ℕ). if is_amount (pos m) then piece.Token (kind.Number (pos m)) (length digits) else piece.Fault 0) value
-    ∙ cond-true (is_amount (pos n)) (piece.Token (kind.Number (pos n)) (length digits)) (piece.Fault 0) small)
+whole_read : (digits rest : List ℕ) → list_all is_ascii_digit digits ≡ true → is_behind rest ≡ true → number_piece (digits ++ rest) ≡ whole_piece digits
+whole_read digits rest h q =
+    ap (λ (xs : List ℕ). number_piece (xs ++ rest)) (sym (append-nil digits)) ∙ number_read digits [] rest h refl (number_ends rest q) (no_point rest q)
 
 -- what spells a name is read as a word or a name
 writes_spelled : {V : Type 0} (like : Kind) (f : Kind → V) (n : List ℕ) (k : Kind) → spells_name n ≡ true → length n ≤ MAX_WRITTEN → word_or_name n (reserved n) ≡ k → class_of k ≡ class_of like
@@ -213,16 +200,23 @@ writes_word w =
 pub writes_name : (n : List ℕ) → spells_name n ≡ true → length n ≤ MAX_WRITTEN → reserved n ≡ None → Writes is_behind name n n
 writes_name n h short free = writes_spelled (kind.Name []) name_in n (kind.Name n) h short (ap (word_or_name n) free) refl
 
-digits_all : (ds : List ℕ) → all_ascii_digits ds ≡ true → list_all is_ascii_digit ds ≡ true
+pub digits_all : (ds : List ℕ) → all_ascii_digits ds ≡ true → list_all is_ascii_digit ds ≡ true
 digits_all [] h = refl
 digits_all (c ∷ cs) h = let p = and_parts (is_ascii_digit c) (all_ascii_digits cs) h in and_from (is_ascii_digit c) (list_all is_ascii_digit cs) p.0 (digits_all cs p.1)
 
-writes_digits : (n : ℕ) (ds : List ℕ) → all_ascii_digits ds ≡ true → 0 < length ds → number_of ds ≡ n → is_amount (pos n) ≡ true → Writes is_behind number ds (pos n)
+-- digits alone are a number without a point
+pub whole_alone : (digits : List ℕ) → is_numeral digits ≡ true → number_piece digits ≡ whole_piece digits
+whole_alone [] h = absurd (cc)
+whole_alone (c ∷ cs) h = ap number_piece (sym (append-nil (c ∷ cs))) ∙ whole_read (c ∷ cs) [] (digits_all (c ∷ cs) h) refl
+
+pub writes_digits : (n : ℕ) (ds : List ℕ) → all_ascii_digits ds ≡ true → 0 < length ds → number_of ds ≡ n → is_amount (pos n) ≡ true → Writes is_behind whole ds (pos n)
 writes_digits n [] h long value small = absurd (omega arith)
 writes_digits n (c ∷ cs) h long value small =
     let first = and_parts (is_ascii_digit c) (all_ascii_digits cs) h in
-    writes_token is_behind (kind.Number (pos 0)) (kind.Number (pos n)) number_in c cs refl
-    (λ rest q. begins_number c (cs ++ rest) first.0 ∙ number_read n (c ∷ cs) rest (digits_all (c ∷ cs) h) value small q)
+    writes_token is_behind (kind.Number (pos 0)) (kind.Number (pos n)) whole_in c cs refl
+    (λ rest q. begins_number c (cs ++ rest) first.0 ∙ (whole_read (c ∷ cs) rest (digits_all (c ∷ cs) h) q
+    ∙ (ap (λ (m : ℕ). if is_amount (pos m) then piece.Token (kind.Number (pos m)) (length (c ∷ cs)) else piece.Fault 0) value
+    ∙ cond-true (is_amount (pos n)) (piece.Token (kind.Number (pos n)) (length (c ∷ cs))) (piece.Fault 0) small)))
 
 -- the digits and the number of specs/Amount.antt are those that are written
 own : IsNumeralModel (λ ds. all_ascii_digits ds ≡ true) number_of
@@ -231,10 +225,24 @@ own = numerals_by_fold _ tells_all_ascii_digits number_after (search rules)
 small_amount : (n : ℕ) → n ≤ 999999999999999 → is_amount (pos n) ≡ true
 small_amount n h = le-leb n 999999999999999 h
 
-pub writes_number : (n : ℕ) → n ≤ 999999999999999 → Writes is_behind number (decimal n) (pos n)
-writes_number n h =
+-- a number without a point
+pub writes_whole : (n : ℕ) → n ≤ 999999999999999 → Writes is_behind whole (decimal n) (pos n)
+writes_whole n h =
     let fits : n < 2 ^ 64 = omega arith in
     writes_digits n (decimal n) (digits_decimal own n fits) (decimal_nonempty n fits) (digits_value-decimal own n fits) (small_amount n h)
+
+-- a number with a point
+pub writes_point : (front behind : List ℕ) (z : ℤ) → is_numeral front ≡ true → is_numeral behind ≡ true → millionths_of front behind ≡ Some z
+    → Writes is_behind point (front ++ 46 ∷ behind) z
+writes_point [] behind z h k value = absurd (cc)
+writes_point (c ∷ cs) [] z h k value = absurd (cc)
+writes_point (c ∷ cs) (d ∷ ds) z h k value =
+    let first = and_parts (is_ascii_digit c) (all_ascii_digits cs) h in
+    let len : length (c ∷ cs) + behind_len (d ∷ ds) ≡ length (c ∷ (cs ++ 46 ∷ d ∷ ds)) = omega (arith, length-append cs (46 ∷ d ∷ ds)) in
+    writes_token is_behind (kind.Decimal (pos 0)) (kind.Decimal z) point_in c (cs ++ 46 ∷ d ∷ ds) refl
+    (λ rest q. begins_number c ((cs ++ 46 ∷ d ∷ ds) ++ rest) first.0
+    ∙ (number_read (c ∷ cs) (d ∷ ds) rest (digits_all (c ∷ cs) h) (digits_all (d ∷ ds) k) (number_ends rest q) (no_point rest q)
+    ∙ ap₂ point_piece len value))
 
 -- a text in quotes, with each quote in it twice, is read back where all of its characters may stand in one
 pub writes_text : (t : List ℕ) → position is_forbidden (doubled t) ≡ None → Writes is_behind text ((39 ∷ doubled t) ++ 39 ∷ []) t

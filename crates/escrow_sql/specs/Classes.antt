@@ -64,6 +64,7 @@ number_of word.Work = 34
 abbrev pub class_number : Kind → ℕ
 class_number (kind.Name name) = 0
 class_number (kind.Number n) = 1
-class_number (kind.Text text) = 2
-class_number (kind.Symbol s) = 3 + symbol_number s
-class_number (kind.Word w) = 15 + number_of w
+class_number (kind.Decimal d) = 2
+class_number (kind.Text text) = 3
+class_number (kind.Symbol s) = 4 + symbol_number s
+class_number (kind.Word w) = 16 + number_of w

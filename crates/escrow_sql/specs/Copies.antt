@@ -8,7 +8,7 @@ use Rattle.escrow_sql.specs.declared.statement.WhereText.{WhereText}
 
 -- a literal holds memory, which a copy of it takes too: a text does
 abbrev pub literal_holds_memory : Literal → Bool
-literal_holds_memory (literal.Number amount) = false
+literal_holds_memory (literal.Number number) = false
 literal_holds_memory (literal.Text text) = true
 
 -- what stands behind WHERE, if it does, holds memory: its literal does

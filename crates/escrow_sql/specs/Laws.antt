@@ -1,5 +1,7 @@
 -- Believed: what laws say of texts.
-use Rattle.std.specs.Prelude.{◌≡◌, ℕ, ◌⊎◌, ◌↔◌, Result, List}
+use Rattle.std.specs.Prelude.{◌≡◌, ℕ, ℤ, ◌≤◌, ◌⊎◌, ◌↔◌, true, Some, None, Result, Ok, Err, List, ◌∷◌, ◌++◌, length}
+use Rattle.escrow_num.specs.Amount.{is_numeral}
+use Rattle.escrow_num.specs.Decimal.{decimal_spelled}
 use Rattle.escrow_sql.specs.declared.statement.Request.{Request}
 use Rattle.escrow_sql.specs.declared.lexer.TheConstants.{MAX_TEXT}
 use Rattle.escrow_sql.specs.declared.token.Token.{Token}
@@ -7,12 +9,22 @@ use Rattle.escrow_sql.specs.Factored.{factored_request}
 use Rattle.escrow_sql.specs.Grammar.{Sentence, IsFirstFault}
 use Rattle.escrow_sql.specs.Lex.{IsLexed}
 use Rattle.escrow_sql.specs.Parser.{Asks, IsFaultColumn}
-use Rattle.escrow_sql.specs.Statement.{request}
+use Rattle.escrow_sql.specs.Statement.{number, request}
 
 -- each text has tokens or a lexing fault, and never two answers
 pub record EachIsLexedOnce : Type 0 where
   pub lexed : (text : List ℕ) → (r : Result (List Token) ℕ) × IsLexed text r
   pub once : (text : List ℕ) (r q : Result (List Token) ℕ) → IsLexed text r → IsLexed text q → r ≡ q
+
+-- a text alone is a number that means the millionths that it spells; where it spells none its fault is at its first byte
+pub record IsReadAsSpelled (text : List ℕ) : Type 0 where
+  pub read : (millionths : ℤ) → decimal_spelled text ≡ Some millionths → (tokens : List Token) × IsLexed text (Ok tokens) × Sentence number tokens millionths
+  pub fault : decimal_spelled text ≡ None → IsLexed text (Err 1)
+
+-- so it is with digits, and with digits, a point and digits
+pub record NumbersAreReadAsSpelled : Type 0 where
+  pub whole : (digits : List ℕ) → is_numeral digits ≡ true → length digits ≤ MAX_TEXT → IsReadAsSpelled digits
+  pub pointed : (front behind : List ℕ) → is_numeral front ≡ true → is_numeral behind ≡ true → length (front ++ 46 ∷ behind) ≤ MAX_TEXT → IsReadAsSpelled (front ++ 46 ∷ behind)
 
 -- each text asks one thing, or has its fault at one column, and never both
 pub record EachIsAnsweredOnce : Type 0 where

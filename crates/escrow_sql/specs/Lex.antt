@@ -1,8 +1,9 @@
 -- Believed: what the tokens of a text are, and where its leftmost lexing fault is.
-use Rattle.std.specs.Prelude.{◌≡◌, ℕ, pos, ◌+◌, ◌-◌, ◌==◌, Bool, false, not, ◌&&◌, ◌||◌, nat_lt, if◌then◌else◌, MatchBool, ◌⊎◌, Option, Some, None, Result, Ok, Err, List, [], ◌∷◌, ◌++◌, length, take, drop, map, position, slice_range}
+use Rattle.std.specs.Prelude.{◌≡◌, ℕ, ℤ, pos, ◌+◌, ◌-◌, ◌==◌, Bool, false, not, ◌&&◌, ◌||◌, nat_lt, if◌then◌else◌, MatchBool, ◌⊎◌, Option, Some, None, Result, Ok, Err, List, [], ◌∷◌, ◌++◌, length, take, drop, map, position, slice_range}
 use Rattle.std.specs.Char.{is_ascii_alphabetic, is_ascii_digit, to_ascii_uppercase}
 use Rattle.std.specs.List.{prefix_len}
 use Rattle.escrow_num.specs.Amount.{is_amount, number_of}
+use Rattle.escrow_num.specs.Decimal.{millionths_of}
 use Rattle.escrow_num.specs.Name.{is_name_byte}
 use Rattle.escrow_num.specs.declared.name.TheConstants.Name.{MAX_WRITTEN}
 use Rattle.escrow_sql.specs.Word.{reserved}
@@ -46,12 +47,36 @@ name_piece bytes =
     let upper = map to_ascii_uppercase (take len bytes) in
     if nat_lt MAX_WRITTEN len then piece.Fault 0 else piece.Token (word_or_name upper (reserved upper)) len
 
--- the number at the front, as long as it goes on; one that is no amount is a fault
+-- the digits at the front
+abbrev pub front_digits : List ℕ → List ℕ
+front_digits bytes = take (prefix_len is_ascii_digit bytes) bytes
+
+-- the digits right behind a point at the front, where one stands there
+abbrev pub point_digits : List ℕ → List ℕ
+point_digits [] = []
+point_digits (c ∷ cs) = if c == 46 then front_digits cs else []
+
+-- the digits right behind a point that follows the digits at the front
+abbrev pub behind_digits : List ℕ → List ℕ
+behind_digits bytes = point_digits (drop (length (front_digits bytes)) bytes)
+
+-- a number without a point; one that is no amount is a fault at its first digit
+abbrev pub whole_piece : List ℕ → Piece
+whole_piece digits = if is_amount (pos (number_of digits)) then piece.Token (kind.Number (pos (number_of digits))) (length digits) else piece.Fault 0
+
+-- a number with a point, of so many bytes and millionths; one that is no decimal is a fault at its first digit too
+abbrev pub point_piece : ℕ → Option ℤ → Piece
+point_piece len None = piece.Fault 0
+point_piece len (Some millionths) = piece.Token (kind.Decimal millionths) len
+
+-- the number of digits in front of a point and of those behind it; where there are none behind it no point is taken
+abbrev pub number_with : List ℕ → List ℕ → Piece
+number_with front [] = whole_piece front
+number_with front (d ∷ ds) = point_piece (length front + (1 + length (d ∷ ds))) (millionths_of front (d ∷ ds))
+
+-- the number at the front, as long as it goes on: digits, and a point where a digit follows it
 unfoldable pub number_piece : List ℕ → Piece
-number_piece bytes =
-    let len = prefix_len is_ascii_digit bytes in
-    let value = number_of (take len bytes) in
-    if is_amount (pos value) then piece.Token (kind.Number (pos value)) len else piece.Fault 0
+number_piece bytes = number_with (front_digits bytes) (behind_digits bytes)
 
 -- a text with each quote in it twice
 abbrev pub doubled : List ℕ → List ℕ

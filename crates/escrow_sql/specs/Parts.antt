@@ -1,13 +1,13 @@
 -- Helps: what a list of a statement is made of is never nothing.
 use Rattle.std.specs.Prelude.{◌≡◌, refl, false}
 use Rattle.escrow_sql.specs.Predictive.{may_be_empty}
-use Rattle.escrow_sql.specs.Statement.{name, sign, signed_number, literal, assign, constraint, check, signed_term, term, sum, condition, mark, column, item}
+use Rattle.escrow_sql.specs.Statement.{name, number, sign, signed_number, literal, assign, constraint, check, signed_term, term, sum, condition, mark, column, item}
 
 pub name-not_empty : may_be_empty name ≡ false
 name-not_empty = refl
 
 pub literal-not_empty : may_be_empty literal ≡ false
-unfolding literal signed_number sign
+unfolding literal signed_number sign number
 literal-not_empty = refl
 
 pub assign-not_empty : may_be_empty assign ≡ false

@@ -1,5 +1,6 @@
 -- Believed: the grammar of statements, and what each sentence of it means.
-use Rattle.std.specs.Prelude.{ℕ, ℤ, pos, neg_ℤ, Bool, true, false, if◌then◌else◌, Option, Some, None, List, [], ◌∷◌}
+use Rattle.std.specs.Prelude.{ℕ, ℤ, pos, neg_ℤ, ◌*ℤ◌, Bool, true, false, if◌then◌else◌, Option, Some, None, List, [], ◌∷◌}
+use Rattle.escrow_num.specs.Scale.{unit_at}
 use Rattle.escrow_sql.specs.Grammar.{Grammar, token, nothing, sequence, either, many}
 use Rattle.escrow_sql.specs.declared.token.Symbol.{Symbol}
 use Rattle.escrow_sql.specs.declared.token.Symbol.TheVariants as symbols
@@ -23,6 +24,7 @@ use Rattle.escrow_sql.specs.declared.statement.Item.{Item}
 use Rattle.escrow_sql.specs.declared.statement.Item.TheVariants as items
 use Rattle.escrow_sql.specs.declared.statement.Literal.{Literal}
 use Rattle.escrow_sql.specs.declared.statement.Literal.TheVariants as literals
+use Rattle.escrow_sql.specs.declared.statement.NumberSize.{NumberSize}
 use Rattle.escrow_sql.specs.declared.statement.Request.{Request}
 use Rattle.escrow_sql.specs.declared.statement.Request.TheVariants as requests
 use Rattle.escrow_sql.specs.declared.statement.RowText.{RowText}
@@ -82,27 +84,44 @@ list a = separated (symbol symbols.Comma) a
 abbrev pub in_parentheses : {V : Type 0} → Grammar V → Grammar V
 in_parentheses a = symbol symbols.Open then before a (symbol symbols.Close)
 
+-- what a token holds: a name, a number that is written without a point, the millionths of one with a
+-- point, a text
 abbrev pub name_in : Kind → List ℕ
 name_in (kind.Name n) = n
 name_in other = []
 
-abbrev pub number_in : Kind → ℤ
-number_in (kind.Number n) = n
-number_in other = pos 0
+abbrev pub whole_in : Kind → ℤ
+whole_in (kind.Number n) = n
+whole_in other = pos 0
+
+abbrev pub point_in : Kind → ℤ
+point_in (kind.Decimal d) = d
+point_in other = pos 0
 
 abbrev pub text_in : Kind → List ℕ
 text_in (kind.Text t) = t
 text_in other = []
 
--- a name, a number, a text
+-- a name, a number that is written without a point, one with a point (which means its millionths), a text
 abbrev pub name : Grammar (List ℕ)
 name = token (kind.Name []) name_in
 
-abbrev pub number : Grammar ℤ
-number = token (kind.Number (pos 0)) number_in
+abbrev pub whole : Grammar ℤ
+whole = token (kind.Number (pos 0)) whole_in
+
+abbrev pub point : Grammar ℤ
+point = token (kind.Decimal (pos 0)) point_in
 
 abbrev pub text : Grammar (List ℕ)
 text = token (kind.Text []) text_in
+
+-- the millionths that a whole number is
+abbrev pub millionths : ℤ → ℤ
+millionths n = n *ℤ pos (unit_at 0)
+
+-- number = whole | point, in millionths
+unfoldable pub number : Grammar ℤ
+number = meaning millionths whole or point
 
 -- a minus makes a number negative
 abbrev pub with_sign : Bool → ℤ → ℤ
@@ -169,16 +188,17 @@ comparison =
     or meaning (λ s. comparisons.AtLeast) (symbol symbols.AtLeast)
     or meaning (λ s. comparisons.Equal) (symbol symbols.Equal)
 
--- a number by itself, or times the column behind it
+-- a whole number by itself, which counts in millionths, or times the column behind it
 abbrev pub times : ℤ → Option (List ℕ) → Term
-times n None = terms.Number n
+times n None = terms.Number (millionths n)
 times n (Some column) = terms.Column n column
 
--- term = number [ "*" name ] | name [ "*" number ]
+-- term = whole [ "*" name ] | point | name [ "*" whole ]
 unfoldable pub term : Grammar Term
 term =
-    sequence number (optional None (meaning (λ c. Some c) (symbol symbols.Star then name))) times
-    or sequence name (optional (pos 1) (symbol symbols.Star then number)) (λ c n. terms.Column n c)
+    sequence whole (optional None (meaning (λ c. Some c) (symbol symbols.Star then name))) times
+    or meaning terms.Number point
+    or sequence name (optional (pos 1) (symbol symbols.Star then whole)) (λ c n. terms.Column n c)
 
 -- a minus makes a term's number negative
 abbrev pub signed : Bool → Term → Term
@@ -219,16 +239,20 @@ mark =
     or meaning (λ k. marks.NotNull) (word words.Not then word words.Null)
     or meaning marks.Check check
 
--- digits = [ "(" number ")" ]
-unfoldable pub digits : Grammar (Option ℤ)
-digits = optional None (meaning (λ n. Some n) (in_parentheses number))
+-- size = whole [ "," whole ], the digits of a NUMBER and how many of them stand behind the point
+unfoldable pub size : Grammar NumberSize
+size = sequence whole (optional None (meaning (λ s. Some s) (symbol symbols.Comma then whole))) (λ p s. record { digits = p; scale = s })
 
--- type = INTEGER | NUMBER digits | VARCHAR2 "(" number ")"
+-- digits = [ "(" size ")" ]
+unfoldable pub digits : Grammar (Option NumberSize)
+digits = optional None (meaning (λ s. Some s) (in_parentheses size))
+
+-- type = INTEGER | NUMBER digits | VARCHAR2 "(" whole ")"
 unfoldable pub type_text : Grammar TypeText
 type_text =
     meaning (λ k. types.Integer) (word words.Integer)
     or meaning types.Number (word words.Number then digits)
-    or meaning types.Varchar2 (word words.Varchar2 then in_parentheses number)
+    or meaning types.Varchar2 (word words.Varchar2 then in_parentheses whole)
 
 -- column = name type { mark }
 unfoldable pub column : Grammar ColumnText

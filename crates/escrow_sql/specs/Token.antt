@@ -4,11 +4,12 @@ use Rattle.escrow_sql.specs.declared.token.Kind.{Kind}
 use Rattle.escrow_sql.specs.declared.token.Kind.TheVariants as kind
 use Rattle.escrow_sql.specs.declared.token.Token.{Token}
 
--- what a token is, without what it holds: all names are one class, all numbers, all texts, and each
--- symbol and each reserved word is one of its own
+-- what a token is, without what it holds: all names are one class, all numbers without a point, all
+-- numbers with one, all texts, and each symbol and each reserved word is one of its own
 abbrev pub class_of : Kind → Kind
 class_of (kind.Name name) = kind.Name []
 class_of (kind.Number n) = kind.Number (pos 0)
+class_of (kind.Decimal d) = kind.Decimal (pos 0)
 class_of (kind.Text text) = kind.Text []
 class_of (kind.Symbol s) = kind.Symbol s
 class_of (kind.Word w) = kind.Word w

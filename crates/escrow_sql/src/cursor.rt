@@ -2,13 +2,13 @@ ghost use Rattle.std.specs.Prelude.{◌≡◌, [], ◌∷◌, pos, false, Ok, Ma
 ghost use Rattle.escrow_sql.specs.Predictive.{run, starts};
 ghost use Rattle.escrow_sql.specs.Cursor.{Advances, bare};
 ghost use Rattle.escrow_sql.specs.Classes.{class_number};
-ghost use Rattle.escrow_sql.specs.Statement.{word, symbol, name, number, text};
+ghost use Rattle.escrow_sql.specs.Statement.{word, symbol, name, whole, point, text};
 ghost use Rattle.escrow_sql.specs.declared.token.Kind.TheVariants as kind;
 
 use crate::halt::Halt;
 use crate::token::{Kind, Symbol, Token};
 use crate::word::Word;
-use escrow_num::{Amount, Name, Text};
+use escrow_num::{Amount, Decimal, Name, Text};
 use std::alloc::Global;
 
 /// A place among the tokens of a text. Each method that reads leaves it behind what was read, or at
@@ -50,13 +50,23 @@ impl Cursor<'_> {
         }
     }
 
-    /// Whether a number comes next.
-    pub(crate) fn is_at_number(&self) -> bool
+    /// Whether a number without a point comes next.
+    pub(crate) fn is_at_whole(&self) -> bool
         ensures { result ≡ starts (class_number (kind.Number (pos 0)) ∷ []) self.now.tokens.now }
     {
         match self.tokens {
             [] => false,
             [token, ..] => matches!(&token.kind, Kind::Number(_)),
+        }
+    }
+
+    /// Whether a number with a point comes next.
+    pub(crate) fn is_at_point(&self) -> bool
+        ensures { result ≡ starts (class_number (kind.Decimal (pos 0)) ∷ []) self.now.tokens.now }
+    {
+        match self.tokens {
+            [] => false,
+            [token, ..] => matches!(&token.kind, Kind::Decimal(_)),
         }
     }
 
@@ -126,15 +136,31 @@ impl Cursor<'_> {
         }
     }
 
-    /// Reads a number.
-    pub(crate) fn number(&mut self) -> Result<Amount, Halt>
-        ensures { Advances self.new.tokens.now result (run number self.old.tokens.now) }
+    /// Reads a number without a point.
+    pub(crate) fn whole_number(&mut self) -> Result<Amount, Halt>
+        ensures { Advances self.new.tokens.now result (run whole self.old.tokens.now) }
     {
         let [token, rest @ ..] = self.tokens else {
             return Err(Halt::Syntax);
         };
         match &token.kind {
             Kind::Number(number) => {
+                self.tokens = rest;
+                Ok(*number)
+            }
+            _ => Err(Halt::Syntax),
+        }
+    }
+
+    /// Reads a number with a point.
+    pub(crate) fn point_number(&mut self) -> Result<Decimal, Halt>
+        ensures { Advances self.new.tokens.now result (run point self.old.tokens.now) }
+    {
+        let [token, rest @ ..] = self.tokens else {
+            return Err(Halt::Syntax);
+        };
+        match &token.kind {
+            Kind::Decimal(number) => {
                 self.tokens = rest;
                 Ok(*number)
             }

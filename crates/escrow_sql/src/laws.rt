@@ -1,10 +1,16 @@
 //! Laws of the definitions: facts about them, each the contract of a function that does nothing.
 
-ghost use Rattle.escrow_sql.specs.Laws.{EachIsAnsweredOnce, EachIsLexedOnce, FactoringKeepsSentences, Limits};
+ghost use Rattle.escrow_sql.specs.Laws.{EachIsAnsweredOnce, EachIsLexedOnce, FactoringKeepsSentences, Limits, NumbersAreReadAsSpelled};
 
 /// What is lexed of a text stands fast: tokens, or the column of a fault, and never two answers.
 pub fn each_is_lexed_once()
     ensures { EachIsLexedOnce }
+{}
+
+/// A number of a statement, with a point or without one, means the millionths that `Decimal::read`
+/// reads of its text; where that reads none, the text's fault is at its first digit.
+pub fn numbers_are_read_as_spelled()
+    ensures { NumbersAreReadAsSpelled }
 {}
 
 /// A text asks one thing, since the grammar is unambiguous, or it has its fault at one column, and

@@ -20,8 +20,8 @@ pub use lexer::{MAX_TEXT, lex};
 pub use parser::parse;
 pub use statement::{
     Assign, Assigned, CheckText, ColumnMark, ColumnText, Comparison, Condition, CreateText,
-    InsertText, Item, Literal, Request, RowText, SelectText, Statement, Term, Test, TypeText,
-    UpdateText, WhereText,
+    InsertText, Item, Literal, NumberSize, Request, RowText, SelectText, Statement, Term, Test,
+    TypeText, UpdateText, WhereText,
 };
 pub use token::{Kind, Symbol, Token};
 pub use word::Word;

@@ -1,4 +1,4 @@
-use escrow_num::{Amount, Name, Seq, Text};
+use escrow_num::{Amount, Decimal, Name, Seq, Text};
 
 /// What a text asks of the server.
 #[derive(Debug, Drop)]
@@ -92,10 +92,20 @@ pub struct ColumnText {
 pub enum TypeText {
     /// `INTEGER`
     Integer,
-    /// `NUMBER`, or `NUMBER(p)` with the p that is written.
-    Number(Option<Amount>),
+    /// `NUMBER`, or `NUMBER(p)` or `NUMBER(p, s)` with what is written in the parentheses.
+    Number(Option<NumberSize>),
     /// `VARCHAR2(n)`, with the n that is written.
     Varchar2(Amount),
+}
+
+/// What stands in the parentheses of a `NUMBER(p)` or `NUMBER(p, s)`, as written: neither number is
+/// judged yet.
+#[derive(Clone, Copy, Debug, PartialEq, Eq)]
+pub struct NumberSize {
+    /// The p: how many digits a value may have in all.
+    pub digits: Amount,
+    /// The s, if it is written: how many of the digits stand behind the point.
+    pub scale: Option<Amount>,
 }
 
 /// What may stand behind a column's type.
@@ -142,9 +152,9 @@ pub enum Test {
     /// `BETWEEN low AND high`: that it is one of the numbers from the one to the other.
     Between {
         /// The least number.
-        low: Amount,
+        low: Decimal,
         /// The greatest number.
-        high: Amount,
+        high: Decimal,
     },
 }
 
@@ -152,10 +162,10 @@ pub enum Test {
 #[derive(Clone, Copy, Debug, PartialEq, Eq)]
 pub enum Term {
     /// A number by itself.
-    Number(Amount),
-    /// A number times a column; a column by itself is taken once.
+    Number(Decimal),
+    /// A whole number times a column; a column by itself is taken once.
     Column {
-        /// The number.
+        /// The whole number, which is written without a point.
         coefficient: Amount,
         /// The column.
         column: Name,
@@ -218,7 +228,7 @@ pub enum Assigned {
         /// The column that is changed.
         source: Name,
         /// What is added to it.
-        change: Amount,
+        change: Decimal,
     },
 }
 
@@ -252,8 +262,8 @@ pub struct WhereText {
 /// A literal, as written: it is a value only once it is known to fit a column.
 #[derive(Debug, Drop)]
 pub enum Literal {
-    /// A whole number.
-    Number(Amount),
+    /// A number, in millionths.
+    Number(Decimal),
     /// A text.
     Text(Text),
 }

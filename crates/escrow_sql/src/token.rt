@@ -1,7 +1,7 @@
 ghost use Rattle.std.specs.Prelude.{◌≡◌};
 
 use crate::word::Word;
-use escrow_num::{Amount, Name, Text};
+use escrow_num::{Amount, Decimal, Name, Text};
 
 /// A symbol of a statement.
 #[derive(Clone, Copy, Debug, PartialEq, Eq)]
@@ -39,8 +39,10 @@ pub enum Kind {
     Word(Word),
     /// A name, in upper case.
     Name(Name),
-    /// A number, which is not negative.
+    /// A number that is written without a point. It is not negative.
     Number(Amount),
+    /// A number that is written with a point, in millionths. It is not negative.
+    Decimal(Decimal),
     /// A text, without its quotes, each quote inside it once.
     Text(Text),
     /// A symbol.
@@ -68,9 +70,10 @@ impl Kind {
         match self {
             Kind::Name(_) => 0,
             Kind::Number(_) => 1,
-            Kind::Text(_) => 2,
-            Kind::Symbol(symbol) => 3 + symbol.number(),
-            Kind::Word(word) => 15 + word.number(),
+            Kind::Decimal(_) => 2,
+            Kind::Text(_) => 3,
+            Kind::Symbol(symbol) => 4 + symbol.number(),
+            Kind::Word(word) => 16 + word.number(),
         }
     }
 }

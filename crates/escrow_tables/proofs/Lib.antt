@@ -6,6 +6,7 @@ pub mod Committing
 pub mod Created
 pub mod Dropped
 pub mod Held
+pub mod Migrating
 pub mod Named
 pub mod NewRows
 pub mod Numbers

@@ -1,5 +1,5 @@
 -- What a disk has holds one catalog, and one list of rows, and is then a store.
-use Rattle.std.proofs.Common.{◌≡◌, pos, List, [], ◌∷◌, map, sym, ap, ap₂, ◌∙◌, subst, IsPermutation}
+use Rattle.std.proofs.Common.{◌≡◌, List, [], ◌∷◌, map, sym, ap, ap₂, ◌∙◌, subst, IsPermutation}
 use Rattle.std.specs.List.{flat_map}
 use Rattle.std.specs.List.{AllByRecursion}
 use Rattle.sqlite_value.specs.Order.{Row as SqlRow, column}
@@ -8,6 +8,7 @@ use Rattle.escrow_num.specs.declared.row.Row.{Row}
 use Rattle.escrow_schema.specs.declared.table.TableDef.{TableDef}
 use Rattle.sqlite_trees.specs.Tree.{Trees, rowid}
 use Rattle.escrow_schema.specs.Catalog.{IsCatalog}
+use Rattle.escrow_cells.specs.declared.formats.TheConstants.{FORMAT}
 use Rattle.escrow_cells.specs.Store.{cells, tabs}
 use Rattle.escrow_cells.specs.Tables.{cell_tree, tab_tree}
 use Rattle.escrow_rows.specs.Image.{tab_row}
@@ -16,6 +17,7 @@ use Rattle.escrow_rows.specs.declared.stored.StoredTable.{StoredTable}
 use Rattle.escrow_rows.proofs.ViewLemmas.{rows_are}
 use Rattle.escrow_schema.specs.Rows.{MeetsChecks}
 use Rattle.escrow_verify.specs.Stored.{HasHeldValues, HasOtherFormat, IsStoreOf}
+use Rattle.escrow_verify.proofs.Metas.{not_other}
 use Rattle.escrow_tables.specs.Committed.{Holds}
 use Rattle.escrow_tables.specs.Laws.{OneIsHeld, HeldIsAStore}
 use Rattle.escrow_tables.proofs.Verifying.{stored_once}
@@ -48,10 +50,7 @@ stored catalog rows db held meet values = record {
 
 -- the format of a store is the known one
 one_format : (catalog : List TableDef) (rows : List Row) (db : Database) → Holds catalog rows db → ¬ (HasOtherFormat db)
-one_format catalog rows db held other =
-    let both = sym other.format_is ∙ held.image.format_is in
-    let same : other.number ≡ pos 1 = cc in
-    other.other same
+one_format catalog rows db held other = not_other db FORMAT held.image.format_is other
 
 pub held_is_a_store : HeldIsAStore
 held_is_a_store catalog rows db held meet values = (λ none. none held.tables rows (stored catalog rows db held meet values), one_format catalog rows db held)

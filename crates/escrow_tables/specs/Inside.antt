@@ -1,14 +1,16 @@
 -- Helps: what the fields of the tables of a database hold.
-use Rattle.std.specs.Prelude.{◌≡◌, List}
+use Rattle.std.specs.Prelude.{◌≡◌, List, IsTrue}
 use Rattle.std.specs.List.{AllByRecursion}
 use Rattle.sqlite.specs.Effect.{Database}
 use Rattle.sqlite.specs.State.{State, HasCleanDisk}
+use Rattle.sqlite_trees.specs.Tree.{Trees}
 use Rattle.escrow_num.specs.declared.row.Row.{Row}
 use Rattle.escrow_schema.specs.Catalog.{IsCatalog}
 use Rattle.escrow_rows.specs.Answers.{IsUsable}
 use Rattle.escrow_rows.specs.Image.{IsImage, AreTables, AreRows}
 use Rattle.escrow_rows.specs.View.{rows_in}
 use Rattle.escrow_verify.specs.declared.counted_table.CountedTable.{CountedTable}
+use Rattle.escrow_tables.specs.Migrated.{IsMigrated}
 pub use Rattle.escrow_verify.specs.Stored.{stored_of, catalog_of, HasCount}
 
 -- a database is the image of the tables, of rows of theirs, and these are counted
@@ -25,3 +27,8 @@ pub record Keeps (s last : State) (tables : List CountedTable) : Type 0 where
   pub is_catalog : IsCatalog (catalog_of tables)
   pub held : HasCleanDisk s → IsHeld tables (rows_in (stored_of tables) last.now) last.now
   pub same : IsUsable s → s.now ≡ last.now
+
+-- a store was open, and what a disk has holds the tables and rows that it held in the format before
+pub record WasMigrated (old : State) (trees : Trees) : Type 0 where
+  pub is_open : IsTrue old.is_open
+  pub is_migrated : IsMigrated old.now trees

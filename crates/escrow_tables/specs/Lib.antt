@@ -3,5 +3,6 @@ pub mod Committed
 pub mod Found
 pub mod Inside
 pub mod Laws
+pub mod Migrated
 pub mod Puts
 pub mod Whole

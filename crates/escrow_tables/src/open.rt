@@ -75,7 +75,7 @@ pub fn open_store<S: Alter>(
 }
 
 /// The tables of a database without objects, of which an empty store is made.
-fn make_tables<S: Alter>(
+pub(crate) fn make_tables<S: Alter>(
     alloc: Global,
     mut connection: Connection<S>,
 ) -> Result<Tables<S>, StoreFault<S>>

@@ -1,5 +1,5 @@
 -- What a store of tables and rows has of each table.
-use Rattle.std.proofs.Common.{◌≡◌, ℕ, pos, inl, inr, true, Option, Some, List, [], ◌∷◌, map, filter, find, flat_map, sym, ap, ◌∙◌, subst, IsPermutation}
+use Rattle.std.proofs.Common.{◌≡◌, ℕ, ℤ, pos, inl, inr, true, Option, Some, List, [], ◌∷◌, map, filter, find, flat_map, sym, ap, ◌∙◌, subst, IsPermutation}
 use Rattle.std.specs.Prelude.{IsSomeAnd, bytes_eq, option_map}
 use Rattle.std.specs.List.{AllByRecursion}
 use Rattle.std.proofs.lemmas.List.Sorted.{IsPermutation-map, IsPermutation-sym, IsPermutation-trans}
@@ -26,15 +26,15 @@ use Rattle.escrow_rows.proofs.ImageTables.{has_permutation, pieces_same}
 use Rattle.escrow_rows.proofs.KeyedCells.{with_key, cells_keyed}
 use Rattle.escrow_rows.specs.Placed.{keyed_cells}
 use Rattle.escrow_verify.specs.Inside.{AreOfTables, AreRowsIn, AreTablesIn, IsKnown, IsNumberOf, IsSoundRow}
-use Rattle.escrow_verify.specs.Stored.{HasHeldValues, IsStoreOf}
+use Rattle.escrow_verify.specs.Stored.{HasHeldValues, IsStoreIn}
 use Rattle.escrow_verify.proofs.Parts.{find_mapped, found_named}
 use Rattle.escrow_verify.proofs.Split.{has_number}
 
 -- a store of tables and rows is one of the format that is known, with these tables
-pub store_known : (tables : List StoredTable) (rows : List Row) (db : Database) → IsStoreOf tables rows db → IsKnown db
+pub store_known : {number : ℤ} (tables : List StoredTable) (rows : List Row) (db : Database) → IsStoreIn number tables rows db → IsKnown number db
 store_known tables rows db is = record { store = is.image.store; format_is = is.image.format_is }
 
-pub store_tables : (tables : List StoredTable) (rows : List Row) (db : Database) → IsStoreOf tables rows db → AreTablesIn tables db
+pub store_tables : {number : ℤ} (tables : List StoredTable) (rows : List Row) (db : Database) → IsStoreIn number tables rows db → AreTablesIn tables db
 store_tables tables rows db is = record { are_tables = is.are_tables; tabs_are = is.image.tabs_are }
 
 -- a table of a store has a number of the tables that TAB's rows are
@@ -44,7 +44,7 @@ number_kept tables s t has same =
     (t.id, sym number, has_number tables t has)
 
 -- each cell of a store is of one of the tables that TAB's rows are
-pub store_cells : (found tables : List StoredTable) (rows : List Row) (db : Database) → AreTablesIn found db → IsStoreOf tables rows db → AreOfTables found db
+pub store_cells : {number : ℤ} (found tables : List StoredTable) (rows : List Row) (db : Database) → AreTablesIn found db → IsStoreIn number tables rows db → AreOfTables found db
 store_cells found tables rows db in_store is =
     let same : IsPermutation (map tab_row tables) (map tab_row found) = IsPermutation-trans _ _ _ is.image.tabs_are (IsPermutation-sym _ _ in_store.tabs_are) in
     all-permutation (λ c. IsNumberOf found (column c 0)) (flat_map (cells_of tables) rows) (cells db) is.image.cells_are
@@ -63,7 +63,7 @@ store_cells found tables rows db in_store is =
     mapped (u ∷ ts) t (inr h) = inr (mapped ts t h)
 
 -- each table of a store has its rows
-pub store_rows : (tables : List StoredTable) (rows : List Row) (db : Database) (s : StoredTable) → Has tables s → IsStoreOf tables rows db → AreRowsIn s (rows_of rows s.table.name) db
+pub store_rows : {number : ℤ} (tables : List StoredTable) (rows : List Row) (db : Database) (s : StoredTable) → Has tables s → IsStoreIn number tables rows db → AreRowsIn s (rows_of rows s.table.name) db
 store_rows tables rows db s has is =
     let mine = rows_of rows s.table.name in
     let stands : Stands tables s = found_named tables is.are_tables s has in

@@ -12,3 +12,4 @@ pub mod TableCounts
 pub mod Tabs
 pub mod Together
 pub mod Verified
+pub mod WholeTables

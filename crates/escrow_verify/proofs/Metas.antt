@@ -1,5 +1,5 @@
 -- What META says, once it is read.
-use Rattle.std.proofs.Common.{◌≡◌, ℤ, pos, List, [], ◌∷◌, refl, sym, ap, ◌∙◌, subst, IsPermutation}
+use Rattle.std.proofs.Common.{◌≡◌, ℤ, List, [], ◌∷◌, refl, sym, ap, ◌∙◌, subst, IsPermutation}
 use Rattle.std.proofs.lemmas.List.Sorted.{IsPermutation-sym}
 use Rattle.sqlite_value.specs.Order.{Row as SqlRow}
 use Rattle.sqlite.proofs.Callers.{one_permutation}
@@ -9,7 +9,7 @@ use Rattle.escrow_cells.specs.Store.{IsStoreSchema, format, metas}
 use Rattle.escrow_verify.specs.declared.format.Meta.{Meta}
 use Rattle.escrow_verify.specs.declared.format.Meta.TheVariants.{Empty, Format, Other}
 use Rattle.escrow_verify.specs.Format.{IsMetaOf, format_row}
-use Rattle.escrow_verify.specs.Stored.{HasOtherFormat}
+use Rattle.escrow_verify.specs.Stored.{HasFormatBut}
 
 -- META is read from nothing on
 abbrev pub IsRead : Database → Meta → Type 0
@@ -39,12 +39,15 @@ none_told db number meta read is =
     at Other rows one h = absurd (h.1 number one)
 
 -- the number of another format
-pub other_format : (db : Database) (number : ℤ) → IsStoreSchema db.schema → ¬ (number ≡ pos 1) → metas db ≡ format_row number ∷ [] → HasOtherFormat db
-other_format db number has other is = record { schema = has; number = number; other = other; format_is = is }
+pub other_format : (db : Database) (number known : ℤ) → IsStoreSchema db.schema → ¬ (number ≡ known) → metas db ≡ format_row number ∷ [] → HasFormatBut known db
+other_format db number known has other is = record { number = number; other = other; has = record { schema = has; format_is = is } }
+
+-- META says one number
+pub one_format : (db : Database) (a b : ℤ) → metas db ≡ format a → metas db ≡ format b → a ≡ b
+one_format db a b first second =
+    let rows : format a ≡ format b = sym first ∙ second in
+    cc
 
 -- which the known format isn't
-pub not_other : (db : Database) → metas db ≡ format → HasOtherFormat db → ⊥
-not_other db known h =
-    let rows : format ≡ format_row h.number ∷ [] = sym known ∙ h.format_is in
-    let same : pos 1 ≡ h.number = cc in
-    h.other (sym same)
+pub not_other : (db : Database) (known : ℤ) → metas db ≡ format known → HasFormatBut known db → ⊥
+not_other db known is h = h.other (one_format db h.number known h.has.format_is is)

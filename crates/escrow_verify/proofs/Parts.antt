@@ -1,5 +1,5 @@
 -- A store, put together of its tables and the rows of each.
-use Rattle.std.proofs.Common.{◌≡◌, ◌⊎◌, ℕ, ◌≤◌, Bool, true, false, not, Option, Some, List, [], ◌∷◌, ◌++◌, map, filter, find, flat_map, length, refl, sym, ap, ap₂, ◌∙◌, subst, inl, inr, arith, IsTrue, IsPermutation, Ordering, Less, Equal, Greater}
+use Rattle.std.proofs.Common.{◌≡◌, ◌⊎◌, ℕ, ℤ, ◌≤◌, Bool, true, false, not, Option, Some, List, [], ◌∷◌, ◌++◌, map, filter, find, flat_map, length, refl, sym, ap, ap₂, ◌∙◌, subst, inl, inr, arith, IsTrue, IsPermutation, Ordering, Less, Equal, Greater}
 use Rattle.std.specs.Prelude.{IsSomeAnd, bytes_eq, option_map, cond}
 use Rattle.std.specs.List.{AllByRecursion}
 use Rattle.std.specs.Ordering.{is_lt, nat_cmp, ordering_then}
@@ -31,7 +31,7 @@ use Rattle.escrow_rows.proofs.Cells.{filter_pieces, one_name, row_of_stored}
 use Rattle.escrow_rows.proofs.ImageTables.{pieces_same}
 use Rattle.escrow_verify.specs.declared.counted_table.CountedTable.{CountedTable}
 use Rattle.escrow_verify.specs.Inside.{AreOfTables, AreRowsIn, AreTablesIn, HasRows, IsKnown, IsSoundRow}
-use Rattle.escrow_verify.specs.Stored.{HasCount, HasHeldValues, IsStoreOf, stored_of}
+use Rattle.escrow_verify.specs.Stored.{HasCount, HasHeldValues, IsStoreIn, stored_of}
 use Rattle.escrow_verify.proofs.Split.{cells_of_part, cells_split, of_one}
 
 -- items whose images ascend
@@ -175,8 +175,8 @@ own_rows db parts are apart p has =
         ]
 
 -- what is known of a database's parts
-record Whole (db : Database) (parts : List Part) : Type 0 where
-  known : IsKnown db
+record Whole (number : ℤ) (db : Database) (parts : List Part) : Type 0 where
+  known : IsKnown number db
   tables_in : AreTablesIn (all_tables parts) db
   order : IsAscending table_before (map (λ (s : StoredTable). s.table) (all_tables parts))
   of_tables : AreOfTables (all_tables parts) db
@@ -187,7 +187,7 @@ has_part [] p h = absurd h
 has_part (q ∷ parts) p (inl e) = inl (ap (λ (r : Part). r.counted.stored) e)
 has_part (q ∷ parts) p (inr h) = inr (has_part parts p h)
 
-module _ (db : Database) (parts : List Part) (whole : Whole db parts) where
+module _ {number : ℤ} (db : Database) (parts : List Part) (whole : Whole number db parts) where
   are_tables : AreTables (all_tables parts)
   are_tables = whole.tables_in.are_tables
 
@@ -245,7 +245,7 @@ module _ (db : Database) (parts : List Part) (whole : Whole db parts) where
       let split = cells_split (all_tables parts) (cells db) are_tables.ids_apart (of_one (all_tables parts) db whole.of_tables) in
       subst (λ xs. IsPermutation xs (cells db)) (sym by_part) (IsPermutation-trans _ _ _ each (subst (λ xs. IsPermutation xs (cells db)) by_table split))
 
-  is_store_of : IsStoreOf (all_tables parts) (all_rows parts) db
+  is_store_of : IsStoreIn number (all_tables parts) (all_rows parts) db
   is_store_of = record {
     are_tables = are_tables;
     are_rows = record {
@@ -269,12 +269,12 @@ module _ (db : Database) (parts : List Part) (whole : Whole db parts) where
       (has_all _ parts (λ p has. (all_has (IsPart db) parts whole.parts_are p has).1 ∙ sym (ap length (own_rows db parts whole.parts_are names_apart p has))))
 
 -- tables that are counted, of which each has its rows in a store, are those of the store
-pub counted_store : (db : Database) (tables : List CountedTable) → IsKnown db → AreTablesIn (stored_of tables) db → IsAscending table_before (map (λ s. s.table) (stored_of tables))
-    → AreOfTables (stored_of tables) db → AllByRecursion (HasRows db) tables → (rows : List Row) × IsStoreOf (stored_of tables) rows db × AllByRecursion (HasCount rows) tables
-counted_store db tables known in_store order of have =
+pub counted_store : {number : ℤ} (db : Database) (tables : List CountedTable) → IsKnown number db → AreTablesIn (stored_of tables) db → IsAscending table_before (map (λ s. s.table) (stored_of tables))
+    → AreOfTables (stored_of tables) db → AllByRecursion (HasRows db) tables → (rows : List Row) × IsStoreIn number (stored_of tables) rows db × AllByRecursion (HasCount rows) tables
+counted_store {number} db tables known in_store order of have =
     let found = parts_of db tables have in
     let is = found.1 in
-    let whole : Whole db found.0 = record {
+    let whole : Whole number db found.0 = record {
       known = known;
       tables_in = subst (λ (cs : List CountedTable). AreTablesIn (stored_of cs) db) (sym is) in_store;
       order = subst (λ (cs : List CountedTable). IsAscending table_before (map (λ s. s.table) (stored_of cs))) (sym is) order;
@@ -282,6 +282,6 @@ counted_store db tables known in_store order of have =
       parts_are = found.2;
     } in (
       all_rows found.0,
-      subst (λ (cs : List CountedTable). IsStoreOf (stored_of cs) (all_rows found.0) db) is (is_store_of db found.0 whole),
+      subst (λ (cs : List CountedTable). IsStoreIn number (stored_of cs) (all_rows found.0) db) is (is_store_of db found.0 whole),
       subst (AllByRecursion (HasCount (all_rows found.0))) is (have_counts db found.0 whole),
     )

@@ -1,5 +1,5 @@
 -- What the parts of a verification say together.
-use Rattle.std.proofs.Common.{◌≡◌, List, map, sym, ap, ◌∙◌, subst, arith, IsTrue, Result, Ok, Err}
+use Rattle.std.proofs.Common.{◌≡◌, ℤ, List, map, sym, ap, ◌∙◌, subst, arith, IsTrue, Result, Ok, Err}
 use Rattle.std.specs.List.{AllByRecursion}
 use Rattle.std.specs.Result.{IsErrAnd}
 use Rattle.sqlite_trees.proofs.ListLemmas.{map-map}
@@ -20,7 +20,7 @@ use Rattle.escrow_verify.specs.declared.unverified.PartFault.TheVariants.{Failed
 use Rattle.escrow_verify.specs.declared.unverified.Unverified.{Unverified}
 use Rattle.escrow_verify.specs.declared.unverified.Unverified.TheVariants.{ForeignStore}
 use Rattle.escrow_verify.specs.Inside.{AreOfTables, AreRowsIn, AreTablesIn, HasRows, HaveRows, IsKnown, unverified_by}
-use Rattle.escrow_verify.specs.Stored.{HasCount, HasOtherFormat, IsNoStore, IsStoreOf, catalog_of, stored_of}
+use Rattle.escrow_verify.specs.Stored.{HasCount, HasFormatBut, IsNoStoreIn, IsStoreIn, catalog_of, stored_of}
 use Rattle.escrow_verify.proofs.Metas.{not_other}
 use Rattle.escrow_verify.proofs.Back.{store_cells, store_rows, store_tables}
 use Rattle.escrow_verify.proofs.Only.{only_tables}
@@ -37,17 +37,17 @@ was_clean : (a b : State) → Looks a b → HasCleanDisk b → HasCleanDisk a
 was_clean a b looks clean = let more = looks.survives.clean in omega arith
 
 -- a database whose format was tested is of no other
-pub not_another : (first format last : State) → (HasCleanDisk format → IsTrue format.is_open × IsKnown first.now) → Looks format last → IsUsable last → HasOtherFormat first.now → ⊥
-not_another first format last known looks usable = not_other first.now (known (looks.usable usable).0).1.format_is
+pub not_another : (number : ℤ) (first format last : State) → (HasCleanDisk format → IsTrue format.is_open × IsKnown number first.now) → Looks format last → IsUsable last → HasFormatBut number first.now → ⊥
+not_another number first format last known looks usable = not_other first.now number (known (looks.usable usable).0).1.format_is
 
 -- tables are found in a store: its format is tested, then TAB is read
-pub record Finds (first format tab : State) (tables : List StoredTable) : Type 0 where
+pub record Finds (number : ℤ) (first format tab : State) (tables : List StoredTable) : Type 0 where
   pub to_format : Looks first format
   pub to_tab : Looks format tab
-  pub known : HasCleanDisk format → IsTrue format.is_open × IsKnown first.now
+  pub known : HasCleanDisk format → IsTrue format.is_open × IsKnown number first.now
   pub found : HasCleanDisk tab → IsTrue tab.is_open × (IsStore format.now → AreTablesIn tables format.now)
 
-module _ (first format tab : State) (tables : List StoredTable) (finds : Finds first format tab tables) where
+module _ (number : ℤ) (first format tab : State) (tables : List StoredTable) (finds : Finds number first format tab tables) where
   tab_same : IsUsable tab → tab.now ≡ first.now
   tab_same usable = finds.to_tab.same usable ∙ finds.to_format.same (finds.to_tab.usable usable)
 
@@ -57,7 +57,7 @@ module _ (first format tab : State) (tables : List StoredTable) (finds : Finds f
       subst (AreTablesIn tables) same ((finds.found usable.0).1 (subst IsStore (sym same) store))
 
   -- cells of no table are in no store
-  pub strange_cells : (cells : State) → Looks tab cells → IsUsable cells → (HasTables tab.now.schema → AreOfTables tables tab.now → ⊥) → IsNoStore first.now
+  pub strange_cells : (cells : State) → Looks tab cells → IsUsable cells → (HasTables tab.now.schema → AreOfTables tables tab.now → ⊥) → IsNoStoreIn number first.now
   strange_cells cells to_cells usable strange others rows is =
       let before = to_cells.usable usable in
       let same = tab_same before in
@@ -69,7 +69,7 @@ module _ (first format tab : State) (tables : List StoredTable) (finds : Finds f
     cells_same usable = to_cells.same usable ∙ tab_same (to_cells.usable usable)
 
     -- nor are rows that no table has
-    pub strange_rows : (last : State) → Looks cells last → IsUsable last → (IsStore cells.now → HaveRows cells.now tables → ⊥) → IsNoStore first.now
+    pub strange_rows : (last : State) → Looks cells last → IsUsable last → (IsStore cells.now → HaveRows cells.now tables → ⊥) → IsNoStoreIn number first.now
     strange_rows last to_last usable strange others rows is =
         let before = to_last.usable usable in
         let same = cells_same before in
@@ -84,7 +84,7 @@ module _ (first format tab : State) (tables : List StoredTable) (finds : Finds f
         → (HasCleanDisk cells → IsTrue cells.is_open × (HasTables tab.now.schema → AreOfTables tables tab.now))
         → stored_of counted ≡ tables
         → (HasCleanDisk last → IsTrue cells.is_open → IsTrue last.is_open × (IsStore cells.now → AllByRecursion (HasRows cells.now) counted))
-        → HasCleanDisk last → IsTrue last.is_open × (rows : List Row) × IsStoreOf (stored_of counted) rows first.now × AllByRecursion (HasCount rows) counted
+        → HasCleanDisk last → IsTrue last.is_open × (rows : List Row) × IsStoreIn number (stored_of counted) rows first.now × AllByRecursion (HasCount rows) counted
     verified counted last to_last catalog owned are counts clean =
         let clean_cells = was_clean cells last to_last clean in
         let of = owned clean_cells in

@@ -55,10 +55,10 @@ pub record AreTablesIn (tables : List StoredTable) (db : Database) : Type 0 wher
   pub are_tables : AreTables tables
   pub tabs_are : IsPermutation (map tab_row tables) (tabs db)
 
--- a store of the format that is known
-pub record IsKnown (db : Database) : Type 0 where
+-- a store of the format that is to be known
+pub record IsKnown (known : ℤ) (db : Database) : Type 0 where
   pub store : IsStore db
-  pub format_is : metas db ≡ format
+  pub format_is : metas db ≡ format known
 
 -- whether a number is that of one of these tables
 abbrev pub is_number_of : List StoredTable → ℤ → Bool

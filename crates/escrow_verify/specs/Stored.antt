@@ -1,7 +1,6 @@
 -- Believed: when a database of SQLite is a store, and of which tables and rows.
-use Rattle.std.specs.Prelude.{◌≡◌, ◌≢◌, ℤ, pos, IsSomeAnd, List, [], ◌∷◌, map, length, codes}
+use Rattle.std.specs.Prelude.{◌≡◌, ◌≢◌, ℤ, IsSomeAnd, List, map, length}
 use Rattle.std.specs.List.{AllByRecursion}
-use Rattle.sqlite_value.specs.declared.value.Value.TheVariants.{Int, Text}
 use Rattle.sqlite.specs.Effect.{Database}
 use Rattle.escrow_num.specs.declared.refusal.Refusal.{Refusal}
 use Rattle.escrow_num.specs.declared.refusal.Refusal.TheVariants as refusal
@@ -9,10 +8,12 @@ use Rattle.escrow_num.specs.Refusal.{refusal_for}
 use Rattle.escrow_num.specs.declared.row.Row.{Row}
 use Rattle.escrow_schema.specs.declared.table.TableDef.{TableDef}
 use Rattle.escrow_schema.specs.Catalog.{table_named}
+use Rattle.escrow_schema.specs.Column.{scale_of}
 use Rattle.escrow_schema.specs.Fit.{values_of}
-use Rattle.escrow_cells.specs.Store.{IsStoreSchema, metas}
+use Rattle.escrow_cells.specs.declared.formats.TheConstants.{FORMAT, FORMAT_BEFORE}
+use Rattle.escrow_cells.specs.Store.{IsStoreSchema, format, metas}
 use Rattle.escrow_rows.specs.declared.stored.StoredTable.{StoredTable}
-use Rattle.escrow_rows.specs.Image.{CanBeHeld, IsImage, AreTables, AreRows}
+use Rattle.escrow_rows.specs.Image.{CanBeHeld, IsImageIn, AreTables, AreRows}
 use Rattle.escrow_schema.specs.Rows.{rows_of, MeetsChecks}
 use Rattle.escrow_verify.specs.declared.counted_table.CountedTable.{CountedTable}
 use Rattle.escrow_verify.specs.declared.unverified.Unverified.{Unverified}
@@ -22,25 +23,55 @@ use Rattle.escrow_verify.specs.declared.unverified.Unverified.TheVariants.{Faile
 abbrev pub HasHeldValues : List TableDef → Row → Type 0
 HasHeldValues catalog row = IsSomeAnd (table_named catalog row.name.table) (λ table. AllByRecursion CanBeHeld (values_of table row))
 
--- A STORE: the image of tables and rows, each row of which meets the checks of its table, and has values
--- that can be held
-pub record IsStoreOf (tables : List StoredTable) (rows : List Row) (db : Database) : Type 0 where
+-- A STORE in the format of a number: the image of tables and rows, each row of which meets the checks of its
+-- table, and has values that can be held
+pub record IsStoreIn (number : ℤ) (tables : List StoredTable) (rows : List Row) (db : Database) : Type 0 where
   pub are_tables : AreTables tables
   pub are_rows : AreRows tables rows
   pub meet : AllByRecursion (MeetsChecks (map (λ s. s.table) tables)) rows
   pub held : AllByRecursion (HasHeldValues (map (λ s. s.table) tables)) rows
-  pub image : IsImage tables rows db
+  pub image : IsImageIn number tables rows db
 
--- a database that is the store of no tables and rows whatever
-abbrev pub IsNoStore : Database → Type 0
-IsNoStore db = (tables : List StoredTable) (rows : List Row) → IsStoreOf tables rows db → ⊥
+-- a database that is the store of no tables and rows whatever in a format
+abbrev pub IsNoStoreIn : ℤ → Database → Type 0
+IsNoStoreIn number db = (tables : List StoredTable) (rows : List Row) → IsStoreIn number tables rows db → ⊥
 
--- the tables are those of a store, and META has one row, which says that the format is another
-pub record HasOtherFormat (db : Database) : Type 0 where
+-- the tables are those of a store, and META has one row, which says that the format is this one
+pub record HasFormat (number : ℤ) (db : Database) : Type 0 where
   pub schema : IsStoreSchema db.schema
+  pub format_is : metas db ≡ format number
+
+-- it says that the format is another than one
+pub record HasFormatBut (known : ℤ) (db : Database) : Type 0 where
   pub number : ℤ
-  pub other : number ≢ pos 1
-  pub format_is : metas db ≡ (Text (codes "format") ∷ Int number ∷ []) ∷ []
+  pub other : number ≢ known
+  pub has : HasFormat number db
+
+-- the same of the known format
+abbrev pub IsStoreOf : List StoredTable → List Row → Database → Type 0
+IsStoreOf = IsStoreIn FORMAT
+
+abbrev pub IsNoStore : Database → Type 0
+IsNoStore = IsNoStoreIn FORMAT
+
+abbrev pub HasOtherFormat : Database → Type 0
+HasOtherFormat = HasFormatBut FORMAT
+
+-- a table without a column that has a scale: its numbers are whole ones
+abbrev pub IsWhole : TableDef → Type 0
+IsWhole table = AllByRecursion (λ column. scale_of column.kind ≡ 0) table.columns
+
+abbrev pub AreWhole : List TableDef → Type 0
+AreWhole = AllByRecursion IsWhole
+
+-- A STORE in the format before, in which no column has a scale
+pub record IsStoreBefore (tables : List StoredTable) (rows : List Row) (db : Database) : Type 0 where
+  pub store : IsStoreIn FORMAT_BEFORE tables rows db
+  pub whole : AreWhole (map (λ s. s.table) tables)
+
+-- a database that is the store of no tables and rows whatever in the format before
+abbrev pub IsNoStoreBefore : Database → Type 0
+IsNoStoreBefore db = (tables : List StoredTable) (rows : List Row) → IsStoreBefore tables rows db → ⊥
 
 -- what isn't verified is refused for want of memory (51) or by the store (60), as no store (61), or as one
 -- of another format (62)

@@ -4,15 +4,16 @@ ghost use Rattle.sqlite_value.specs.declared.value.Value.TheVariants.{Int as Int
 ghost use Rattle.sqlite_value.specs.Value.{owned};
 ghost use Rattle.sqlite.specs.Held.{state};
 ghost use Rattle.sqlite.specs.State.{HasCleanDisk};
+ghost use Rattle.escrow_cells.specs.Formats.{format_number};
 ghost use Rattle.escrow_cells.specs.Store.{HasTables, IsStoreSchema, metas, format};
 ghost use Rattle.escrow_rows.specs.Answers.{IsUsable, Looks};
 ghost use Rattle.escrow_verify.specs.Inside.{IsKnown};
-ghost use Rattle.escrow_verify.specs.Stored.{HasOtherFormat};
+ghost use Rattle.escrow_verify.specs.Stored.{HasFormatBut};
 ghost use Rattle.escrow_verify.specs.Format.{IsMetaOf};
 ghost use Rattle.escrow_verify.specs.declared.unverified.Unverified.TheVariants as unverified;
 
 use crate::unverified::Unverified;
-use escrow_cells::{Sink, failure_of};
+use escrow_cells::{Format, Sink, failure_of};
 use escrow_num::Failure;
 use escrow_rows::RowStore;
 use sqlite::types::ValueRef;
@@ -20,17 +21,20 @@ use sqlite::{Alter, Row};
 
 /// Tests whether a database is a store of the format that is known: its schema, META, and SQLite's
 /// numbers of the rows, in this order.
-pub(crate) fn check_format<S: Alter>(store: &mut RowStore<S>) -> Result<(), Unverified>
-    ensures known { HasCleanDisk (state S.Store store.new) → OnOk result (IsTrue (state S.Store store.new).is_open × IsKnown (state S.Store store.old).now) }
-    ensures foreign { IsUsable (state S.Store store.new) → result ≡ Err unverified.ForeignStore → IsKnown (state S.Store store.old).now → ⊥ }
-    ensures other { IsUsable (state S.Store store.new) → result ≡ Err unverified.ForeignStore → HasOtherFormat (state S.Store store.old).now → ⊥ }
-    ensures version { IsUsable (state S.Store store.new) → result ≡ Err unverified.OtherFormat → HasOtherFormat (state S.Store store.old).now }
+pub(crate) fn check_format<S: Alter>(
+    store: &mut RowStore<S>,
+    known: Format,
+) -> Result<(), Unverified>
+    ensures known { HasCleanDisk (state S.Store store.new) → OnOk result (IsTrue (state S.Store store.new).is_open × IsKnown (format_number known) (state S.Store store.old).now) }
+    ensures foreign { IsUsable (state S.Store store.new) → result ≡ Err unverified.ForeignStore → IsKnown (format_number known) (state S.Store store.old).now → ⊥ }
+    ensures other { IsUsable (state S.Store store.new) → result ≡ Err unverified.ForeignStore → HasFormatBut (format_number known) (state S.Store store.old).now → ⊥ }
+    ensures version { IsUsable (state S.Store store.new) → result ≡ Err unverified.OtherFormat → HasFormatBut (format_number known) (state S.Store store.old).now }
     ensures looks { Looks (state S.Store store.old) (state S.Store store.new) }
 {
     if !store.is_store() {
         return Err(Unverified::ForeignStore);
     }
-    check_meta(store)?;
+    check_meta(store, known)?;
     if store.are_numbered()? {
         Ok(())
     } else {
@@ -39,11 +43,11 @@ pub(crate) fn check_format<S: Alter>(store: &mut RowStore<S>) -> Result<(), Unve
 }
 
 /// Tests whether META has the one row of the format that is known.
-fn check_meta<S: Alter>(store: &mut RowStore<S>) -> Result<(), Unverified>
-    ensures known { HasCleanDisk (state S.Store store.new) → OnOk result (IsTrue (state S.Store store.new).is_open × (HasTables (state S.Store store.old).now.schema → metas (state S.Store store.old).now ≡ format)) }
-    ensures foreign { IsUsable (state S.Store store.new) → result ≡ Err unverified.ForeignStore → HasTables (state S.Store store.old).now.schema → metas (state S.Store store.old).now ≡ format → ⊥ }
-    ensures other { IsUsable (state S.Store store.new) → result ≡ Err unverified.ForeignStore → HasOtherFormat (state S.Store store.old).now → ⊥ }
-    ensures version { IsUsable (state S.Store store.new) → result ≡ Err unverified.OtherFormat → IsStoreSchema (state S.Store store.old).now.schema → HasOtherFormat (state S.Store store.old).now }
+fn check_meta<S: Alter>(store: &mut RowStore<S>, known: Format) -> Result<(), Unverified>
+    ensures known { HasCleanDisk (state S.Store store.new) → OnOk result (IsTrue (state S.Store store.new).is_open × (HasTables (state S.Store store.old).now.schema → metas (state S.Store store.old).now ≡ format (format_number known))) }
+    ensures foreign { IsUsable (state S.Store store.new) → result ≡ Err unverified.ForeignStore → HasTables (state S.Store store.old).now.schema → metas (state S.Store store.old).now ≡ format (format_number known) → ⊥ }
+    ensures other { IsUsable (state S.Store store.new) → result ≡ Err unverified.ForeignStore → HasFormatBut (format_number known) (state S.Store store.old).now → ⊥ }
+    ensures version { IsUsable (state S.Store store.new) → result ≡ Err unverified.OtherFormat → IsStoreSchema (state S.Store store.old).now.schema → HasFormatBut (format_number known) (state S.Store store.old).now }
     ensures looks { Looks (state S.Store store.old) (state S.Store store.new) }
 {
     let mut meta = Meta::Empty;
@@ -51,15 +55,13 @@ fn check_meta<S: Alter>(store: &mut RowStore<S>) -> Result<(), Unverified>
     let Meta::Format(number) = meta else {
         return Err(Unverified::ForeignStore);
     };
-    if number == KNOWN {
+    let wanted = known.number();
+    if number == wanted {
         Ok(())
     } else {
         Err(Unverified::OtherFormat)
     }
 }
-
-/// The number of the format that is known.
-const KNOWN: i64 = 1;
 
 /// What META says, as it is read.
 #[derive(Clone, Copy)]

@@ -6,11 +6,12 @@ ghost use Rattle.sqlite.specs.State.{HasCleanDisk};
 ghost use Rattle.escrow_num.specs.declared.row.Row.{Row};
 ghost use Rattle.escrow_schema.specs.Catalog.{IsCatalog};
 ghost use Rattle.escrow_schema.specs.Definition.{IsTable};
+ghost use Rattle.escrow_cells.specs.Formats.{format_number};
 ghost use Rattle.escrow_cells.specs.Store.{IsStore};
 ghost use Rattle.escrow_rows.specs.Answers.{IsUsable, Looks};
 ghost use Rattle.escrow_rows.specs.Image.{AreTables};
 ghost use Rattle.escrow_verify.specs.Inside.{HasRows, HaveRows};
-ghost use Rattle.escrow_verify.specs.Stored.{IsStoreOf, IsNoStore, HasOtherFormat, HasCount, stored_of, catalog_of};
+ghost use Rattle.escrow_verify.specs.Stored.{IsStoreOf, IsStoreIn, IsNoStore, IsNoStoreIn, HasOtherFormat, HasFormatBut, HasCount, stored_of, catalog_of};
 ghost use Rattle.escrow_verify.specs.declared.unverified.PartFault.TheVariants.{Foreign};
 ghost use Rattle.escrow_verify.specs.declared.unverified.Unverified.TheVariants as unverified;
 
@@ -20,6 +21,7 @@ use crate::format::check_format;
 use crate::rows::count_rows;
 use crate::tables::read_tables;
 use crate::unverified::{PartFault, Unverified};
+use escrow_cells::Format;
 use escrow_rows::{RowStore, StoredTable};
 use sqlite::Alter;
 use std::alloc::Global;
@@ -43,7 +45,23 @@ pub fn verify<S: Alter>(
     ensures other { IsUsable (state S.Store store.new) → result ≡ Err unverified.ForeignStore → HasOtherFormat (state S.Store store.old).now → ⊥ }
     ensures looks { Looks (state S.Store store.old) (state S.Store store.new) }
 {
-    check_format(store)?;
+    verify_format(alloc, store, Format::Known)
+}
+
+/// The same, of a store in one of the formats.
+pub(crate) fn verify_format<S: Alter>(
+    alloc: Global,
+    store: &mut RowStore<S>,
+    known: Format,
+) -> Result<Vec<CountedTable>, Unverified>
+    ensures tables { IfOk result (λ tables. AreTables (stored_of tables.items) × IsCatalog (catalog_of tables.items)) }
+    ensures store { HasCleanDisk (state S.Store store.new) → IfOk result (λ tables. IsTrue (state S.Store store.new).is_open × (rows : List Row) × IsStoreIn (format_number known) (stored_of tables.items) rows (state S.Store store.old).now × AllByRecursion (HasCount rows) tables.items) }
+    ensures foreign { IsUsable (state S.Store store.new) → result ≡ Err unverified.ForeignStore → IsNoStoreIn (format_number known) (state S.Store store.old).now }
+    ensures version { IsUsable (state S.Store store.new) → result ≡ Err unverified.OtherFormat → HasFormatBut (format_number known) (state S.Store store.old).now }
+    ensures other { IsUsable (state S.Store store.new) → result ≡ Err unverified.ForeignStore → HasFormatBut (format_number known) (state S.Store store.old).now → ⊥ }
+    ensures looks { Looks (state S.Store store.old) (state S.Store store.new) }
+{
+    check_format(store, known)?;
     let tables = read_tables(alloc, store)?;
     check_cells(store, tables.as_slice())?;
     Ok(count_all(alloc, store, tables)?)

@@ -1,44 +1,45 @@
 //! The limits of a condition.
 
 ghost use Rattle.std.specs.Prelude.{◌≡◌, ◌&&◌, true, if◌then◌else◌, Some, None};
-ghost use Rattle.escrow_checks.specs.Checks.{condition_limits, span_of, is_limit, in_order, is_good_span};
-ghost use Rattle.escrow_checks.specs.Contribution.{IsDifference};
+ghost use Rattle.escrow_checks.specs.Checks.{condition_limits, has_good_limits, span_of, is_limit, in_order, is_good_span};
+ghost use Rattle.escrow_checks.specs.Parts.{is_near};
 
-use super::sums::{less, number_sum, right_of};
-use escrow_num::{Amount, Span, Wide};
+use super::parts::Parts;
+use super::sums::number_sum;
+use escrow_num::{Amount, Scale, Span, Wide};
 use escrow_sql::{Comparison, Condition, Test};
 
-/// The limits of a condition, or `None` where one has more than 15 digits, or the low one is
-/// greater than the high one.
-pub(super) fn limits_of(condition: &Condition) -> Option<Span>
-    ensures { let span = condition_limits condition.now in
-        result ≡ (if is_good_span span then Some span else None) }
+/// The limits of a condition, in units of a scale, or `None` where one isn't a whole number of them
+/// or has more than 15 digits, or the low one is greater than the high one.
+pub(super) fn limits_of(condition: &Condition, scale: Scale) -> Option<Span>
+    ensures { result ≡ (if has_good_limits scale condition.now then Some (condition_limits scale condition.now) else None) }
 {
     let left = number_sum(condition.sum.as_slice());
     match &condition.test {
         Test::Compare { comparison, sum } => {
-            span_of(*comparison, less(number_sum(sum.as_slice()), left))
+            let number = number_sum(sum.as_slice()).less(left).units(scale)?;
+            span_of(*comparison, number)
         }
         Test::Between { low, high } => {
-            let low = less(i128::from(low.get()), left);
-            let high = less(i128::from(high.get()), left);
+            let low = Parts::of(*low).less(left).units(scale)?;
+            let high = Parts::of(*high).less(left).units(scale)?;
             good_span(Some(low), Some(high))
         }
     }
 }
 
-/// The limits that a comparison with a number sets.
-fn span_of(comparison: Comparison, number: i128) -> Option<Span>
-    requires { IsDifference number }
-    ensures { let span = span_of comparison number in
+/// The limits that a comparison with a number of units sets.
+fn span_of(comparison: Comparison, units: i128) -> Option<Span>
+    requires { is_near units ≡ true }
+    ensures { let span = span_of comparison units in
         result ≡ (if is_good_span span then Some span else None) }
 {
     match comparison {
-        Comparison::Below => good_span(None, Some(number - 1)),
-        Comparison::AtMost => good_span(None, Some(number)),
-        Comparison::Above => good_span(Some(number + 1), None),
-        Comparison::AtLeast => good_span(Some(number), None),
-        Comparison::Equal => good_span(Some(number), Some(number)),
+        Comparison::Below => good_span(None, Some(units - 1)),
+        Comparison::AtMost => good_span(None, Some(units)),
+        Comparison::Above => good_span(Some(units + 1), None),
+        Comparison::AtLeast => good_span(Some(units), None),
+        Comparison::Equal => good_span(Some(units), Some(units)),
     }
 }
 

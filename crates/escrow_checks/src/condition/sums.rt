@@ -1,13 +1,15 @@
 //! What the terms of a condition add up to. A list of terms may be long, so that the sums are
 //! taken in 128 bits.
 
-ghost use Rattle.std.specs.Prelude.{◌≡◌, ◌+ℤ◌, ◌-ℤ◌, if◌then◌else◌, Some, None};
+ghost use Rattle.std.specs.Prelude.{◌≡◌, ◌+ℤ◌, if◌then◌else◌, Some, None};
 ghost use Rattle.escrow_num.specs.Amount.{IsAmount};
 ghost use Rattle.escrow_checks.specs.Checks.{coefficient_in, coefficient_of, is_coefficient, number_in, right_of};
 ghost use Rattle.escrow_checks.specs.Condition.{total};
-ghost use Rattle.escrow_checks.specs.Contribution.{IsTermSum, IsDifference};
+ghost use Rattle.escrow_checks.specs.Contribution.{IsTermSum};
+ghost use Rattle.escrow_checks.specs.Parts.{AreTermSums, millionths, rest_in, wholes_in};
 
 use super::MAX_COEFFICIENT;
+use super::parts::{Parts, less, rest_of, wholes_of};
 use escrow_num::{Amount, Name};
 use escrow_sql::{Condition, Term, Test};
 
@@ -49,14 +51,37 @@ fn coefficient_sum(terms: &[Term], column: &Name) -> i128
     sum
 }
 
-/// The sum of the numbers that stand by themselves among terms.
-pub(super) fn number_sum(terms: &[Term]) -> i128
-    ensures value { result ≡ total number_in terms.now }
+/// The parts of the sum of the numbers that stand by themselves among terms.
+pub(super) fn number_sum(terms: &[Term]) -> Parts
+    ensures value { millionths result ≡ total number_in terms.now }
+    ensures within { AreTermSums result }
+{
+    Parts {
+        whole: wholes_sum(terms),
+        rest: rest_sum(terms),
+    }
+}
+
+/// The sum of the wholes of the numbers among terms.
+fn wholes_sum(terms: &[Term]) -> i128
+    ensures value { result ≡ total wholes_in terms.now }
     ensures within { IsTermSum result }
 {
     let mut sum = 0;
     for term in terms {
-        sum = plus(sum, number_in(term));
+        sum = plus(sum, wholes_in(term));
+    }
+    sum
+}
+
+/// The sum of the millionths beside these wholes.
+fn rest_sum(terms: &[Term]) -> i128
+    ensures value { result ≡ total rest_in terms.now }
+    ensures within { IsTermSum result }
+{
+    let mut sum = 0;
+    for term in terms {
+        sum = plus(sum, rest_in(term));
     }
     sum
 }
@@ -80,12 +105,22 @@ fn coefficient_in(term: &Term, name: &Name) -> Amount
     }
 }
 
-/// What a term adds to the numbers of a sum.
-fn number_in(term: &Term) -> Amount
-    ensures { result ≡ number_in term.now }
+/// The wholes that a term adds to the numbers of a sum.
+fn wholes_in(term: &Term) -> Amount
+    ensures { result ≡ wholes_in term.now }
 {
     match term {
-        Term::Number(number) => *number,
+        Term::Number(number) => wholes_of(*number),
+        Term::Column { .. } => Amount::ZERO,
+    }
+}
+
+/// The millionths that a term adds beside these wholes.
+fn rest_in(term: &Term) -> Amount
+    ensures { result ≡ rest_in term.now }
+{
+    match term {
+        Term::Number(number) => rest_of(*number),
         Term::Column { .. } => Amount::ZERO,
     }
 }
@@ -96,14 +131,4 @@ fn plus(sum: i128, amount: Amount) -> i128
     ensures { result ≡ sum +ℤ amount }
 {
     sum + i128::from(amount.get())
-}
-
-/// A sum of terms less another.
-pub(super) fn less(sum: i128, other: i128) -> i128
-    requires sum { IsTermSum sum }
-    requires other { IsTermSum other }
-    ensures value { result ≡ sum -ℤ other }
-    ensures within { IsDifference result }
-{
-    sum - other
 }

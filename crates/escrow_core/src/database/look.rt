@@ -3,19 +3,40 @@ ghost use Rattle.std.specs.Prelude.{◌≡◌, IfOk};
 use crate::database::Database;
 use crate::recent::ReadRow;
 use escrow_num::{Amount, Failure, Name, RowName, Seq, Value};
+use escrow_schema::truncated_value;
+use escrow_sql::WhereText;
 use sqlite::Alter;
 use std::alloc::{AllocError, Global};
 
 impl<S: Alter> Database<S> {
-    ghost use Rattle.std.specs.Prelude.{Some, IsSomeAnd, IsTrue, IfSome, OnOk, is_some, length, map, option_map};
+    ghost use Rattle.std.specs.Prelude.{Some, None, IsSomeAnd, IsTrue, IfSome, OnOk, is_some, length, map, option_map};
     ghost use Rattle.sqlite.specs.Held.{state};
     ghost use Rattle.sqlite.specs.State.{HasCleanDisk};
     ghost use Rattle.escrow_num.specs.Ascending.{IsAscending};
     ghost use Rattle.escrow_schema.specs.Catalog.{place_named, table_named};
     ghost use Rattle.escrow_schema.specs.Column.{reservables};
     ghost use Rattle.escrow_schema.specs.Fit.{values_of};
+    ghost use Rattle.escrow_machine.specs.Asked.{key_refusal_of, named_by};
     ghost use Rattle.escrow_core.specs.Serving.{Looks};
     ghost use Rattle.escrow_schema.specs.Rows.{row_named, rows_of, row_before};
+
+    /// The name of the row that a WHERE names in the table of a name, which stands at a place; the WHERE isn't
+    /// refused. Want of memory is the only error, and the store isn't asked.
+    pub(crate) fn named_by(
+        &self,
+        alloc: Global,
+        place: usize,
+        table: Name,
+        row: &WhereText,
+    ) -> Result<RowName, AllocError>
+        requires place { place_named self.now.state.catalog table ≡ Some place }
+        requires row { key_refusal_of self.now.state table row.now ≡ None }
+        ensures { IfOk result (λ name. name ≡ named_by self.now.state.catalog table row.now) }
+    {
+        let scale = self.tables.table(place).key_scale();
+        let key = truncated_value(alloc, scale, &row.literal)?;
+        Ok(RowName { table, key })
+    }
 
     /// The amounts of the committed row of a name, one for each RESERVABLE column in column order, if there is
     /// such a row; all rows are in order. The place is that of its table. The store is asked unless it is

@@ -1,23 +1,23 @@
-ghost use Rattle.std.specs.Prelude.{◌≡◌, IfOk, option_to_list};
+ghost use Rattle.std.specs.Prelude.{◌≡◌, IfOk, map, option_to_list};
+ghost use Rattle.escrow_machine.specs.Asked.{heading_of};
 
 use crate::database::Database;
-use escrow_machine::Reply;
-use escrow_num::{Failure, Name, Refusal, RowName, Seq, Value};
-use escrow_schema::{check_key, names_of, value_of};
+use escrow_machine::{Heading, Reply};
+use escrow_num::{Failure, Refusal, Seq, Value};
+use escrow_schema::{Column, check_key};
 use escrow_sql::{SelectText, Statement, WhereText};
 use sqlite::Alter;
 use std::alloc::{AllocError, Global};
 
 impl<S: Alter> Database<S> {
-    ghost use Rattle.std.specs.Prelude.{◌≡◌, ◌<◌, ℕ, Some, IfOk, IsSomeAnd, IsTrue, List, OnOk, filter, length, map};
+    ghost use Rattle.std.specs.Prelude.{◌≡◌, ◌<◌, ℕ, Some, None, IfOk, IsSomeAnd, IsTrue, List, OnOk, filter, length, map};
     ghost use Rattle.std.specs.Result.{result_err};
     ghost use Rattle.sqlite.specs.Held.{state};
     ghost use Rattle.sqlite.specs.State.{HasCleanDisk};
     ghost use Rattle.escrow_num.specs.Refusal.{first_refusal};
     ghost use Rattle.escrow_schema.specs.Catalog.{place_named, table_named};
-    ghost use Rattle.escrow_schema.specs.Column.{names_of};
     ghost use Rattle.escrow_schema.specs.Fit.{values_of};
-    ghost use Rattle.escrow_machine.specs.Asked.{is_shown};
+    ghost use Rattle.escrow_machine.specs.Asked.{heading_of, is_shown, key_refusal_of, select_refusal_of};
     ghost use Rattle.escrow_core.specs.Serves.{Serves};
     ghost use Rattle.escrow_core.specs.Serving.{Looks, answer_of};
     ghost use Rattle.escrow_machine.specs.Turn.{turn_of};
@@ -27,7 +27,7 @@ impl<S: Alter> Database<S> {
         ensures { (session : ℕ) → Serves S.Store session (Statement.Select text.now) self.old (answer_of result) self.new }
     {
         let place = self.check_select(text)?;
-        let columns = self.column_names(alloc, place)?;
+        let columns = self.headings(alloc, place)?;
         let rows = self.shown_values(alloc, place, text)?;
         Ok(Reply::Rows { columns, rows })
     }
@@ -36,6 +36,7 @@ impl<S: Alter> Database<S> {
     #[tactic(auto, unfolding(escrow_machine::specs::Turn::turn_of))]
     fn check_select(&self, text: &SelectText) -> Result<usize, Refusal>
         ensures place { IfOk result (λ place. place_named self.now.state.catalog text.now.table ≡ Some place) }
+        ensures row { IfOk result (λ _. select_refusal_of self.now.state text.now ≡ None) }
         ensures early { (session : ℕ) → result_err result ≡ first_refusal (turn_of self.now.state session (Statement.Select text.now)).early }
     {
         let Some(place) = self.tables.place(text.table) else {
@@ -47,14 +48,14 @@ impl<S: Alter> Database<S> {
         Ok(place)
     }
 
-    /// The names of the columns of the table at a place.
-    fn column_names(&self, alloc: Global, place: usize) -> Result<Seq<Name>, AllocError>
+    /// The headings of the columns of the table at a place.
+    fn headings(&self, alloc: Global, place: usize) -> Result<Seq<Heading>, AllocError>
         requires { place < length self.now.state.catalog }
-        ensures { IfOk result (λ names. (name : List ℕ) → place_named self.now.state.catalog name ≡ Some place
-            → IsSomeAnd (table_named self.now.state.catalog name) (λ table. names ≡ names_of table.columns)) }
+        ensures { IfOk result (λ headings. (name : List ℕ) → place_named self.now.state.catalog name ≡ Some place
+            → IsSomeAnd (table_named self.now.state.catalog name) (λ table. headings ≡ map heading_of table.columns)) }
     {
         let columns = self.tables.table(place).columns.as_slice();
-        Ok(Seq::from_vec(names_of(alloc, columns)?))
+        Ok(Seq::from_vec(headings_of(alloc, columns)?))
     }
 
     /// The values of each row that a SELECT shows.
@@ -64,8 +65,9 @@ impl<S: Alter> Database<S> {
         place: usize,
         text: &SelectText,
     ) -> Result<Seq<Seq<Value>>, Failure>
-        requires { place_named self.old.state.catalog text.now.table ≡ Some place }
-        ensures told { HasCleanDisk (state S.Store self.new.store) → IfOk result (λ rows. IsSomeAnd (table_named self.old.state.catalog text.now.table) (λ table. rows ≡ map (values_of table) (filter (is_shown text.now.table text.now.row) self.old.state.rows))) }
+        requires place { place_named self.old.state.catalog text.now.table ≡ Some place }
+        requires row { select_refusal_of self.old.state text.now ≡ None }
+        ensures told { HasCleanDisk (state S.Store self.new.store) → IfOk result (λ rows. IsSomeAnd (table_named self.old.state.catalog text.now.table) (λ table. rows ≡ map (values_of table) (filter (is_shown self.old.state.catalog text.now.table text.now.row) self.old.state.rows))) }
         ensures looks { Looks S.Store self.old self.new }
         ensures open { HasCleanDisk (state S.Store self.new.store) → OnOk result (IsTrue (state S.Store self.new.store).is_open) }
     {
@@ -83,17 +85,35 @@ impl<S: Alter> Database<S> {
         text: &SelectText,
         row: &WhereText,
     ) -> Result<Seq<Seq<Value>>, Failure>
-        requires { place_named self.old.state.catalog text.now.table ≡ Some place }
-        ensures told { HasCleanDisk (state S.Store self.new.store) → IfOk result (λ rows. IsSomeAnd (table_named self.old.state.catalog text.now.table) (λ table. rows ≡ map (values_of table) (filter (is_shown text.now.table (Some row.now)) self.old.state.rows))) }
+        requires place { place_named self.old.state.catalog text.now.table ≡ Some place }
+        requires row { key_refusal_of self.old.state text.now.table row.now ≡ None }
+        ensures told { HasCleanDisk (state S.Store self.new.store) → IfOk result (λ rows. IsSomeAnd (table_named self.old.state.catalog text.now.table) (λ table. rows ≡ map (values_of table) (filter (is_shown self.old.state.catalog text.now.table (Some row.now)) self.old.state.rows))) }
         ensures looks { Looks S.Store self.old self.new }
         ensures open { HasCleanDisk (state S.Store self.new.store) → OnOk result (IsTrue (state S.Store self.new.store).is_open) }
     {
-        let name = RowName {
-            table: text.table,
-            key: value_of(alloc, &row.literal)?,
-        };
+        let name = self.named_by(alloc, place, text.table, row)?;
         let found = self.values(alloc, place, &name)?;
         Ok(listed(alloc, found)?)
+    }
+}
+
+/// The headings of columns, in order. Want of memory is the only error.
+fn headings_of(alloc: Global, columns: &[Column]) -> Result<Vec<Heading>, AllocError>
+    ensures { IfOk result (λ headings. headings.items ≡ map heading_of columns.now) }
+{
+    columns
+        .iter()
+        .map(|column| heading_of(column))
+        .collect(alloc)
+}
+
+/// What stands over the values of a column.
+fn heading_of(column: &Column) -> Heading
+    ensures { result ≡ heading_of column.now }
+{
+    Heading {
+        name: column.name,
+        scale: column.scale(),
     }
 }
 

@@ -5,11 +5,11 @@ ghost use Rattle.std.specs.Option.{option_and_then};
 ghost use Rattle.escrow_schema.specs.Definition.{are_distinct};
 ghost use Rattle.escrow_schema.specs.Plan.{assigned_to, change_in, literal_in};
 
-use escrow_num::{Amount, Name};
+use escrow_num::{Decimal, Name};
 use escrow_sql::{Assign, Assigned, Literal};
 
-/// The change that is assigned to a column, if one is.
-pub(crate) fn change_to(assigns: &[Assign], column: Name) -> Option<Amount>
+/// The change that is assigned to a column, if one is, in millionths.
+pub(crate) fn change_to(assigns: &[Assign], column: Name) -> Option<Decimal>
     ensures { result ≡ option_and_then change_in (assigned_to assigns.now column) }
 {
     match &assign_of(assigns, column)?.value {

@@ -9,7 +9,7 @@ ghost use Rattle.escrow_schema.specs.Typed.{IsType, TypedColumns};
 
 use super::assigned::{are_apart, literal_to};
 use crate::column::Column;
-use crate::literal::value_of;
+use crate::literal::value_at;
 use crate::table::TableDef;
 use escrow_num::{Name, Value};
 use escrow_sql::{Assign, Assigned};
@@ -104,7 +104,7 @@ pub(crate) fn new_values(
     Ok(values)
 }
 
-/// The value that is assigned to a column, if a literal is.
+/// The value that is assigned to a column, if a literal is that is one at its scale.
 fn new_value(
     alloc: Global,
     column: &Column,
@@ -113,7 +113,7 @@ fn new_value(
     ensures { IfOk result (λ value. value ≡ value_assigned assigns.now column.now) }
 {
     match literal_to(assigns, column.name) {
-        Some(literal) => Ok(Some(value_of(alloc, literal)?)),
+        Some(literal) => value_at(alloc, column.scale(), literal),
         None => Ok(None),
     }
 }

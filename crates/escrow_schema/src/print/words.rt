@@ -1,10 +1,10 @@
 //! Words, numbers, forms and limits of a text.
 ghost use Rattle.std.specs.Prelude.{◌≡◌, ◌++◌, Some, OnOk, decimal, pos, string_bytes, true, unsigned_abs};
-ghost use Rattle.std.specs.Fmt.{signed_decimal};
 ghost use Rattle.std.specs.Ordering.{int_eq};
+ghost use Rattle.escrow_num.specs.Scaled.{scaled_text};
 ghost use Rattle.escrow_schema.specs.Print.{form_words, limit_words, sign_words, times_words};
 
-use escrow_num::{Amount, Name, Span, Wide};
+use escrow_num::{Amount, Name, Scale, Scaled, Span, Wide};
 use std::alloc::{AllocError, Global};
 
 /// Adds words.
@@ -30,13 +30,12 @@ pub(crate) fn push_number(alloc: Global, text: &mut String, number: u64) -> Resu
     push(text, digits.as_str())
 }
 
-/// Adds words and a number behind them, with a minus where it is negative.
-fn push_limit(alloc: Global, text: &mut String, words: &str, limit: Wide) -> Result<(), AllocError>
-    ensures { OnOk result (string_bytes text.new ≡ string_bytes text.old ++ (words.now ++ signed_decimal limit)) }
+/// Adds words and a number of units of a scale behind them, with a minus where it is negative.
+fn push_limit(text: &mut String, words: &str, scale: Scale, limit: Wide) -> Result<(), AllocError>
+    ensures { OnOk result (string_bytes text.new ≡ string_bytes text.old ++ (words.now ++ scaled_text scale limit)) }
 {
-    let digits = limit.get().to_string(alloc)?;
     push(text, words)?;
-    push(text, digits.as_str())
+    push(text, Scaled::new(limit, scale).as_str())
 }
 
 /// Adds a form over columns of these names: each with a coefficient other than zero, in order.
@@ -108,25 +107,25 @@ fn is_zero(number: Amount) -> bool
     number.get() == 0
 }
 
-/// Adds the limits of a form.
-pub(crate) fn push_limits(alloc: Global, text: &mut String, span: &Span) -> Result<(), AllocError>
-    ensures { OnOk result (string_bytes text.new ≡ string_bytes text.old ++ limit_words span.now.lo span.now.hi) }
+/// Adds the limits of a form, in units of a scale.
+pub(crate) fn push_limits(text: &mut String, scale: Scale, span: &Span) -> Result<(), AllocError>
+    ensures { OnOk result (string_bytes text.new ≡ string_bytes text.old ++ limit_words scale span.now.lo span.now.hi) }
 {
     match (span.lo, span.hi) {
-        (Some(lo), Some(hi)) => push_range(alloc, text, lo, hi),
-        (Some(lo), None) => push_limit(alloc, text, " >= ", lo),
-        (None, Some(hi)) => push_limit(alloc, text, " <= ", hi),
+        (Some(lo), Some(hi)) => push_range(text, scale, lo, hi),
+        (Some(lo), None) => push_limit(text, " >= ", scale, lo),
+        (None, Some(hi)) => push_limit(text, " <= ", scale, hi),
         (None, None) => Ok(()),
     }
 }
 
-/// Adds two limits.
-fn push_range(alloc: Global, text: &mut String, lo: Wide, hi: Wide) -> Result<(), AllocError>
-    ensures { OnOk result (string_bytes text.new ≡ string_bytes text.old ++ limit_words (Some lo) (Some hi)) }
+/// Adds two limits, in units of a scale.
+fn push_range(text: &mut String, scale: Scale, lo: Wide, hi: Wide) -> Result<(), AllocError>
+    ensures { OnOk result (string_bytes text.new ≡ string_bytes text.old ++ limit_words scale (Some lo) (Some hi)) }
 {
     if lo == hi {
-        return push_limit(alloc, text, " = ", lo);
+        return push_limit(text, " = ", scale, lo);
     }
-    push_limit(alloc, text, " BETWEEN ", lo)?;
-    push_limit(alloc, text, " AND ", hi)
+    push_limit(text, " BETWEEN ", scale, lo)?;
+    push_limit(text, " AND ", scale, hi)
 }

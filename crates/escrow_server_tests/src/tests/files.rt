@@ -251,7 +251,7 @@ fn stores_of_others(rt: HostRuntime) -> Result<(), Fail> {
     for (path, sql, errors) in [
         (
             "files_others/newer.db",
-            "UPDATE META SET V = 2 WHERE K = 'format'",
+            "UPDATE META SET V = 3 WHERE K = 'format'",
             "escrowd: the store of bank, `files_others/newer.db`, can't be opened: it was made by another version of escrowd\n",
         ),
         (

@@ -1,12 +1,13 @@
-ghost use Rattle.std.specs.Prelude.{◌≡◌, pos, SomeIff};
+ghost use Rattle.std.specs.Prelude.{◌≡◌, ◌<◌, ◌+◌, pos, SomeIff, length};
 ghost use Rattle.std.specs.List.{prefix_len};
 ghost use Rattle.std.specs.Char.{is_ascii_digit};
 ghost use Rattle.escrow_num.specs.Amount.{IsAmount, number_of};
-ghost use Rattle.escrow_sql.specs.Lex.{number_piece};
+ghost use Rattle.escrow_num.specs.Decimal.{millionths_of};
+ghost use Rattle.escrow_sql.specs.Lex.{front_digits, number_piece, point_digits, point_piece, whole_piece};
 
 use crate::lexer::piece::Piece;
 use crate::token::Kind;
-use escrow_num::Amount;
+use escrow_num::{Amount, Decimal};
 
 /// How many digits stand at the front.
 fn digits_len(bytes: &[u8]) -> usize
@@ -16,6 +17,23 @@ fn digits_len(bytes: &[u8]) -> usize
         .iter()
         .take_while(|byte| byte.is_ascii_digit())
         .count()
+}
+
+/// The digits at the front.
+fn front_digits(bytes: &[u8]) -> &[u8]
+    ensures { result.now ≡ front_digits bytes.now }
+{
+    &bytes[..digits_len(bytes)]
+}
+
+/// The digits right behind a point at the front, where one stands there.
+fn point_digits(bytes: &[u8]) -> &[u8]
+    ensures { result.now ≡ point_digits bytes.now }
+{
+    match bytes {
+        [first, rest @ ..] if *first == b'.' => front_digits(rest),
+        _ => &[],
+    }
 }
 
 /// The number that the digits spell, or `None` past the limit of an amount.
@@ -32,14 +50,36 @@ fn value_of(digits: &[u8]) -> Option<Amount>
     Amount::new(value as i64)
 }
 
-/// The number at the front of the bytes.
+/// The number of digits without a point.
+fn whole_number(digits: &[u8]) -> Piece
+    ensures { result ≡ whole_piece digits.now }
+{
+    match value_of(digits) {
+        Some(value) => Piece::Token(Kind::Number(value), digits.len()),
+        None => Piece::Fault(0),
+    }
+}
+
+/// The number of digits in front of a point and behind it, which takes so many bytes.
+fn point_number(len: usize, front: &[u8], behind: &[u8]) -> Piece
+    ensures { result ≡ point_piece len (millionths_of front.now behind.now) }
+{
+    match Decimal::of_digits(front, behind) {
+        Some(value) => Piece::Token(Kind::Decimal(value), len),
+        None => Piece::Fault(0),
+    }
+}
+
+/// The number at the front of the bytes: its point is taken only where a digit follows it.
 #[tactic(auto, unfolding(crate::specs::Lex::number_piece))]
 pub(super) fn read_number(bytes: &[u8]) -> Piece
     ensures { result ≡ number_piece bytes.now }
 {
-    let len = digits_len(bytes);
-    match value_of(&bytes[..len]) {
-        Some(value) => Piece::Token(Kind::Number(value), len),
-        None => Piece::Fault(0),
+    let front = front_digits(bytes);
+    let behind = point_digits(&bytes[front.len()..]);
+    if behind.is_empty() {
+        whole_number(front)
+    } else {
+        point_number(front.len() + 1 + behind.len(), front, behind)
     }
 }

@@ -1,7 +1,7 @@
 ghost use Rattle.std.specs.Prelude.{◌≡◌, refl, false};
 ghost use Rattle.escrow_sql.specs.Predictive.{run, starts, first};
 ghost use Rattle.escrow_sql.specs.Cursor.{Advances};
-ghost use Rattle.escrow_sql.specs.Statement.{optional, sign, signed_number, with_sign, literal, where_part, change, assigned, assign, update};
+ghost use Rattle.escrow_sql.specs.Statement.{optional, sign, number, signed_number, with_sign, literal, where_part, change, assigned, assign, update};
 
 use crate::cursor::Cursor;
 use crate::halt::Halt;
@@ -10,18 +10,14 @@ use crate::parser::part::Part;
 use crate::statement::{Assign, Assigned, Literal, UpdateText, WhereText};
 use crate::token::Symbol;
 use crate::word::Word;
-use escrow_num::Amount;
+use escrow_num::Decimal;
 use std::alloc::Global;
 
 /// The number, made negative by a minus.
-pub(super) fn apply_sign(minus: bool, number: Amount) -> Amount
+pub(super) fn apply_sign(minus: bool, number: Decimal) -> Decimal
     ensures { result ≡ with_sign minus number }
 {
-    if minus {
-        Amount::new(-number.get()).unwrap()
-    } else {
-        number
-    }
+    if minus { number.negated() } else { number }
 }
 
 impl Cursor<'_> {
@@ -56,9 +52,29 @@ impl Cursor<'_> {
         Ok(false)
     }
 
+    /// Whether a number comes next.
+    #[tactic(auto, unfolding(crate::specs::Statement::number))]
+    fn is_at_number(&self) -> bool
+        ensures { result ≡ starts (first number) self.now.tokens.now }
+    {
+        self.is_at_whole() || self.is_at_point()
+    }
+
+    /// `whole | point`
+    #[tactic(auto, unfolding(crate::specs::Statement::number))]
+    fn number(&mut self) -> Result<Decimal, Halt>
+        ensures { Advances self.new.tokens.now result (run number self.old.tokens.now) }
+    {
+        if self.is_at_whole() {
+            let whole = self.whole_number()?;
+            return Ok(Decimal::from(whole));
+        }
+        self.point_number()
+    }
+
     /// `[ sign ] number`
     #[tactic(auto, unfolding(crate::specs::Statement::signed_number))]
-    pub(super) fn signed_number(&mut self) -> Result<Amount, Halt>
+    pub(super) fn signed_number(&mut self) -> Result<Decimal, Halt>
         ensures { Advances self.new.tokens.now result (run signed_number self.old.tokens.now) }
     {
         let minus = self.optional_sign()?;
@@ -67,7 +83,7 @@ impl Cursor<'_> {
     }
 
     /// Whether a signed number comes next.
-    #[tactic(auto, unfolding(crate::specs::Statement::signed_number, crate::specs::Statement::sign))]
+    #[tactic(auto, unfolding(crate::specs::Statement::signed_number, crate::specs::Statement::sign, crate::specs::Statement::number))]
     fn is_at_signed_number(&self) -> bool
         ensures { result ≡ starts (first signed_number) self.now.tokens.now }
     {
@@ -75,7 +91,7 @@ impl Cursor<'_> {
     }
 
     /// Whether a literal comes next.
-    #[tactic(auto, unfolding(crate::specs::Statement::literal, crate::specs::Statement::signed_number, crate::specs::Statement::sign))]
+    #[tactic(auto, unfolding(crate::specs::Statement::literal, crate::specs::Statement::signed_number, crate::specs::Statement::sign, crate::specs::Statement::number))]
     fn is_at_literal(&self) -> bool
         ensures { result ≡ starts (first literal) self.now.tokens.now }
     {
@@ -109,7 +125,7 @@ impl Cursor<'_> {
 
     /// `sign number`
     #[tactic(auto, unfolding(crate::specs::Statement::change))]
-    fn change(&mut self) -> Result<Amount, Halt>
+    fn change(&mut self) -> Result<Decimal, Halt>
         ensures { Advances self.new.tokens.now result (run change self.old.tokens.now) }
     {
         let minus = self.sign()?;

@@ -2,7 +2,7 @@ ghost use Rattle.std.specs.Prelude.{◌≡◌, pos, false, Some, None};
 ghost use Rattle.escrow_sql.specs.Grammar.{sequence};
 ghost use Rattle.escrow_sql.specs.Predictive.{run, starts, first};
 ghost use Rattle.escrow_sql.specs.Cursor.{Advances};
-ghost use Rattle.escrow_sql.specs.Statement.{optional, meaning, ◌then◌, word, symbol, name, number, sign, signed, signed_number, times, term, signed_term, sum, test_part, comparison, condition, constraint, check};
+ghost use Rattle.escrow_sql.specs.Statement.{optional, meaning, ◌then◌, word, symbol, name, whole, sign, signed, signed_number, times, with_sign, term, signed_term, sum, test_part, comparison, condition, constraint, check};
 ghost use Rattle.escrow_sql.specs.declared.statement.Term.TheVariants as terms;
 ghost use Rattle.escrow_sql.specs.declared.statement.Test.TheVariants as tests;
 ghost use Rattle.escrow_sql.specs.declared.token.Symbol.TheVariants as symbols;
@@ -15,8 +15,19 @@ use crate::parser::{change, part};
 use crate::statement::{CheckText, Comparison, Condition, Term, Test};
 use crate::token::{Kind, Symbol};
 use crate::word::Word;
-use escrow_num::{Amount, Name, Seq};
+use escrow_num::{Amount, Decimal, Name, Seq};
 use std::alloc::Global;
+
+/// The coefficient, made negative by a minus.
+fn sign_coefficient(minus: bool, coefficient: Amount) -> Amount
+    ensures { result ≡ with_sign minus coefficient }
+{
+    if minus {
+        Amount::new(-coefficient.get()).unwrap()
+    } else {
+        coefficient
+    }
+}
 
 /// The term, its number made negative by a minus.
 fn apply_sign(minus: bool, term: Term) -> Term
@@ -28,20 +39,20 @@ fn apply_sign(minus: bool, term: Term) -> Term
             coefficient,
             column,
         } => Term::Column {
-            coefficient: change::apply_sign(minus, coefficient),
+            coefficient: sign_coefficient(minus, coefficient),
             column,
         },
     }
 }
 
 impl Cursor<'_> {
-    /// `number [ "*" name ]`
-    fn number_term(&mut self) -> Result<Term, Halt>
-        ensures { Advances self.new.tokens.now result (run (sequence number (optional None (meaning (λ c. Some c) (symbol symbols.Star then name))) times) self.old.tokens.now) }
+    /// `whole [ "*" name ]`
+    fn whole_term(&mut self) -> Result<Term, Halt>
+        ensures { Advances self.new.tokens.now result (run (sequence whole (optional None (meaning (λ c. Some c) (symbol symbols.Star then name))) times) self.old.tokens.now) }
     {
-        let number = self.number()?;
+        let number = self.whole_number()?;
         if !self.is_at_symbol(Symbol::Star) {
-            return Ok(Term::Number(number));
+            return Ok(Term::Number(Decimal::from(number)));
         }
         self.symbol(Symbol::Star)?;
         let column = self.name()?;
@@ -51,9 +62,9 @@ impl Cursor<'_> {
         })
     }
 
-    /// `name [ "*" number ]`
+    /// `name [ "*" whole ]`
     fn column_term(&mut self) -> Result<Term, Halt>
-        ensures { Advances self.new.tokens.now result (run (sequence name (optional (pos 1) (symbol symbols.Star then number)) (λ c n. terms.Column n c)) self.old.tokens.now) }
+        ensures { Advances self.new.tokens.now result (run (sequence name (optional (pos 1) (symbol symbols.Star then whole)) (λ c n. terms.Column n c)) self.old.tokens.now) }
     {
         let column = self.name()?;
         if !self.is_at_symbol(Symbol::Star) {
@@ -63,20 +74,23 @@ impl Cursor<'_> {
             });
         }
         self.symbol(Symbol::Star)?;
-        let coefficient = self.number()?;
+        let coefficient = self.whole_number()?;
         Ok(Term::Column {
             coefficient,
             column,
         })
     }
 
-    /// `number [ "*" name ] | name [ "*" number ]`
+    /// `whole [ "*" name ] | point | name [ "*" whole ]`
     #[tactic(auto, unfolding(crate::specs::Statement::term))]
     fn term(&mut self) -> Result<Term, Halt>
         ensures { Advances self.new.tokens.now result (run term self.old.tokens.now) }
     {
-        if self.is_at_number() {
-            return self.number_term();
+        if self.is_at_whole() {
+            return self.whole_term();
+        }
+        if self.is_at_point() {
+            return Ok(Term::Number(self.point_number()?));
         }
         self.column_term()
     }

@@ -1,14 +1,14 @@
 ghost use Rattle.std.specs.Prelude.{◌≡◌};
 ghost use Rattle.escrow_sql.specs.Predictive.{run, starts, first};
 ghost use Rattle.escrow_sql.specs.Cursor.{Advances};
-ghost use Rattle.escrow_sql.specs.Statement.{mark, digits, type_text, column, item, create, drop, name, number, in_parentheses, word, ◌then◌};
+ghost use Rattle.escrow_sql.specs.Statement.{mark, size, digits, type_text, column, item, create, drop, name, whole, in_parentheses, word, ◌then◌};
 ghost use Rattle.escrow_sql.specs.declared.word.Word.TheVariants as words;
 
 use crate::cursor::Cursor;
 use crate::halt::Halt;
 use crate::parser::part;
 use crate::parser::part::{Part, Repeated};
-use crate::statement::{ColumnMark, ColumnText, CreateText, Item, TypeText};
+use crate::statement::{ColumnMark, ColumnText, CreateText, Item, NumberSize, TypeText};
 use crate::token::Symbol;
 use crate::word::Word;
 use escrow_num::{Amount, Name};
@@ -49,29 +49,51 @@ impl Cursor<'_> {
         Ok(ColumnMark::Check(check))
     }
 
-    /// `"(" number ")"`
-    fn number_in_parentheses(&mut self) -> Result<Amount, Halt>
-        ensures { Advances self.new.tokens.now result (run (in_parentheses number) self.old.tokens.now) }
+    /// `"(" whole ")"`
+    fn whole_in_parentheses(&mut self) -> Result<Amount, Halt>
+        ensures { Advances self.new.tokens.now result (run (in_parentheses whole) self.old.tokens.now) }
     {
         self.symbol(Symbol::Open)?;
-        let number = self.number()?;
+        let number = self.whole_number()?;
         self.symbol(Symbol::Close)?;
         Ok(number)
     }
 
-    /// `[ "(" number ")" ]`
+    /// `whole [ "," whole ]`
+    #[tactic(auto, unfolding(crate::specs::Statement::size))]
+    fn size(&mut self) -> Result<NumberSize, Halt>
+        ensures { Advances self.new.tokens.now result (run size self.old.tokens.now) }
+    {
+        let digits = self.whole_number()?;
+        if !self.is_at_symbol(Symbol::Comma) {
+            return Ok(NumberSize {
+                digits,
+                scale: None,
+            });
+        }
+        self.symbol(Symbol::Comma)?;
+        let scale = self.whole_number()?;
+        Ok(NumberSize {
+            digits,
+            scale: Some(scale),
+        })
+    }
+
+    /// `[ "(" size ")" ]`
     #[tactic(auto, unfolding(crate::specs::Statement::digits))]
-    fn digits(&mut self) -> Result<Option<Amount>, Halt>
+    fn digits(&mut self) -> Result<Option<NumberSize>, Halt>
         ensures { Advances self.new.tokens.now result (run digits self.old.tokens.now) }
     {
         if !self.is_at_symbol(Symbol::Open) {
             return Ok(None);
         }
-        let number = self.number_in_parentheses()?;
-        Ok(Some(number))
+        self.symbol(Symbol::Open)?;
+        let size = self.size()?;
+        self.symbol(Symbol::Close)?;
+        Ok(Some(size))
     }
 
-    /// `INTEGER | NUMBER digits | VARCHAR2 "(" number ")"`
+    /// `INTEGER | NUMBER digits | VARCHAR2 "(" whole ")"`
     #[tactic(auto, unfolding(crate::specs::Statement::type_text))]
     fn type_text(&mut self) -> Result<TypeText, Halt>
         ensures { Advances self.new.tokens.now result (run type_text self.old.tokens.now) }
@@ -86,7 +108,7 @@ impl Cursor<'_> {
             return Ok(TypeText::Number(digits));
         }
         self.word(Word::Varchar2)?;
-        let size = self.number_in_parentheses()?;
+        let size = self.whole_in_parentheses()?;
         Ok(TypeText::Varchar2(size))
     }
 

@@ -67,7 +67,7 @@ const RUNS: [&[Run]; 3] = [
         Run {
             steps: &[],
             is_done: true,
-            held: "format,1;||||",
+            held: "format,2;||||",
         },
         Run {
             steps: &[
@@ -79,7 +79,7 @@ const RUNS: [&[Run]; 3] = [
                 cell!(2, ONE, 1, Datum::Number(999_999_999_999_999)),
             ],
             is_done: true,
-            held: "format,1;|2,A,first;7,B,second;||1,1,999999999999999;|1,1,1;1,2,it's é;it's é,1,-5;",
+            held: "format,2;|2,A,first;7,B,second;||1,1,999999999999999;|1,1,1;1,2,it's é;it's é,1,-5;",
         },
         Run {
             steps: &[
@@ -91,12 +91,12 @@ const RUNS: [&[Run]; 3] = [
                 },
             ],
             is_done: true,
-            held: "format,1;|2,A,first;7,B,second;||1,1,999999999999999;|1,1,1;1,2,new;",
+            held: "format,2;|2,A,first;7,B,second;||1,1,999999999999999;|1,1,1;1,2,new;",
         },
         Run {
             steps: &[Step::DeleteCells { table: 7 }, Step::DeleteTab { id: 7 }],
             is_done: true,
-            held: "format,1;|2,A,first;||1,1,999999999999999;|",
+            held: "format,2;|2,A,first;||1,1,999999999999999;|",
         },
     ],
     // all steps are done, or none
@@ -104,22 +104,22 @@ const RUNS: [&[Run]; 3] = [
         Run {
             steps: &[cell!(1, ONE, 1, ONE)],
             is_done: true,
-            held: "format,1;||1,1,1;||",
+            held: "format,2;||1,1,1;||",
         },
         Run {
             steps: &[cell!(1, ONE, 2, ONE), cell!(1, ONE, 1, ONE)],
             is_done: false,
-            held: "format,1;||1,1,1;||",
+            held: "format,2;||1,1,1;||",
         },
         Run {
             steps: &[tab!(1, "A", ""), tab!(1, "A", "")],
             is_done: false,
-            held: "format,1;||1,1,1;||",
+            held: "format,2;||1,1,1;||",
         },
         Run {
             steps: &[],
             is_done: true,
-            held: "format,1;||1,1,1;||",
+            held: "format,2;||1,1,1;||",
         },
     ],
     // cells stand in order of their keys, numbers before texts, and then of their places
@@ -136,7 +136,7 @@ const RUNS: [&[Run]; 3] = [
             cell!(1, Datum::Text("aa"), 1, Datum::Text("e")),
         ],
         is_done: true,
-        held: "format,1;||-5,1,z;3,1,y;20,2,d;20,10,c;Z,1,h;a,1,f;aa,1,e;é,1,g;|4,1,other;|",
+        held: "format,2;||-5,1,z;3,1,y;20,2,d;20,10,c;Z,1,h;a,1,f;aa,1,e;é,1,g;|4,1,other;|",
     }],
 ];
 
@@ -152,7 +152,7 @@ const STORED: [Run; 3] = [
             cell!(2, ONE, 1, ONE),
         ],
         is_done: true,
-        held: "format,1;|1,A,first;2,B,second;|-5,1,1;1,1,1;1,2,it's é;|1,1,1;|",
+        held: "format,2;|1,A,first;2,B,second;|-5,1,1;1,1,1;1,2,it's é;|1,1,1;|",
     },
     Run {
         steps: &[
@@ -160,12 +160,12 @@ const STORED: [Run; 3] = [
             Step::DeleteTab { id: 2 },
         ],
         is_done: true,
-        held: "format,1;|1,A,first;|-5,1,1;1,1,new;1,2,it's é;|1,1,1;|",
+        held: "format,2;|1,A,first;|-5,1,1;1,1,new;1,2,it's é;|1,1,1;|",
     },
     Run {
         steps: &[Step::DeleteCells { table: 1 }, cell!(2, ONE, 1, ONE)],
         is_done: false,
-        held: "format,1;|1,A,first;|-5,1,1;1,1,new;1,2,it's é;|1,1,1;|",
+        held: "format,2;|1,A,first;|-5,1,1;1,1,new;1,2,it's é;|1,1,1;|",
     },
 ];
 
@@ -315,32 +315,32 @@ const LIMITED: [(Step<'static>, bool, &str); 6] = [
     (
         cell!(1, ONE, 3, ONE),
         false,
-        "format,1;|1,A,first;|1,1,1;1,2,1;1,3,1;2,1,1;||",
+        "format,2;|1,A,first;|1,1,1;1,2,1;1,3,1;2,1,1;||",
     ),
     (
         set!(1, ONE, 2, Datum::Number(3)),
         true,
-        "format,1;|1,A,first;|1,1,1;1,2,3;2,1,1;||",
+        "format,2;|1,A,first;|1,1,1;1,2,3;2,1,1;||",
     ),
     (
         Step::DeleteRow { table: 1, key: ONE },
         true,
-        "format,1;|1,A,first;|2,1,1;||",
+        "format,2;|1,A,first;|2,1,1;||",
     ),
     (
         Step::DeleteCells { table: 1 },
         true,
-        "format,1;|1,A,first;|||",
+        "format,2;|1,A,first;|||",
     ),
     (
         tab!(2, "B", "second"),
         false,
-        "format,1;|1,A,first;2,B,second;|1,1,1;1,2,1;2,1,1;||",
+        "format,2;|1,A,first;2,B,second;|1,1,1;1,2,1;2,1,1;||",
     ),
     (
         Step::DeleteTab { id: 1 },
         true,
-        "format,1;||1,1,1;1,2,1;2,1,1;||",
+        "format,2;||1,1,1;1,2,1;2,1,1;||",
     ),
 ];
 

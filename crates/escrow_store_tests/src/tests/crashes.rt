@@ -26,7 +26,7 @@ pub(super) struct Plan<'a> {
 }
 
 /// A connection over files. Few pages are kept in memory.
-fn connect<D: Disk + Drop>(
+pub(super) fn connect<D: Disk + Drop>(
     alloc: Global,
     files: Files<D>,
     frames: usize,
@@ -116,7 +116,7 @@ pub(super) fn file_of(alloc: Global, bytes: &[u8]) -> io::Result<Memory> {
 }
 
 /// What was written to a file.
-fn written(alloc: Global, file: &Fuse<Memory>) -> Result<Vec<u8>, AllocError> {
+pub(super) fn written(alloc: Global, file: &Fuse<Memory>) -> Result<Vec<u8>, AllocError> {
     let mut bytes = Vec::new(alloc);
     bytes.extend_from_slice(file.inner().bytes())?;
     Ok(bytes)
@@ -149,7 +149,7 @@ fn check_left<R: Abort + AllocGlobal>(
 }
 
 /// Both of two files, or one where they are the same.
-fn distinct<'a, 'b>(files: &'b [&'a [u8]; 2]) -> &'b [&'a [u8]] {
+pub(super) fn distinct<'a, 'b>(files: &'b [&'a [u8]; 2]) -> &'b [&'a [u8]] {
     if files[0] == files[1] {
         &files[..1]
     } else {
@@ -237,7 +237,7 @@ const NONE: &str = "bank.1> ERR 21 no such table\n";
 const EMPTY: &str = "bank.1> ID | BALANCE\nbank.1> OK rows 0\n";
 
 /// The account as it was inserted.
-const FULL: &str = "bank.1> ID | BALANCE\nbank.1> 1 | 100\nbank.1> OK rows 1\n";
+pub(super) const FULL: &str = "bank.1> ID | BALANCE\nbank.1> 1 | 100\nbank.1> OK rows 1\n";
 
 /// The account behind the COMMIT.
 const LESS: &str = "bank.1> ID | BALANCE\nbank.1> 1 | 70\nbank.1> OK rows 1\n";

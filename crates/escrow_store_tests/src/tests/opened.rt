@@ -5,7 +5,7 @@ use escrow_cells::{Datum, Step, failure_of};
 use escrow_memory::BlockStore;
 use escrow_num::{Failure, Refusal};
 use escrow_tables::open_store;
-use sqlite::{Connection, Error};
+use sqlite::{Alter, Connection, Error};
 use std::alloc::Global;
 use std::test::Fail;
 
@@ -31,9 +31,9 @@ const ACCOUNT: [Step<'static>; 3] = [
 ];
 
 /// Changes of that store, each with the number of the refusal to open it, or 0 where it is opened.
-const CHANGES: [(&str, u8); 35] = [
+pub(super) const CHANGES: [(&str, u8); 35] = [
     // none
-    ("UPDATE META SET V = 1", 0),
+    (KNOWN, 0),
     // a further table, one that points at a row of a store, and a view
     (NOTES, 0),
     ("CREATE TABLE NOTES (A INTEGER REFERENCES TAB (ID))", 61),
@@ -102,20 +102,26 @@ const CHANGES: [(&str, u8); 35] = [
 /// A table that is none of a store's.
 const NOTES: &str = "CREATE TABLE NOTES (ID INTEGER PRIMARY KEY, NOTE TEXT)";
 
+/// The known version.
+pub(super) const KNOWN: &str = "UPDATE META SET V = 2";
+
+/// The version before.
+pub(super) const BEFORE: &str = "UPDATE META SET V = 1";
+
 /// A version that is unknown.
-const THREE: &str = "UPDATE META SET V = 3";
+pub(super) const THREE: &str = "UPDATE META SET V = 3";
 
 /// A table with a text of two lines, which no statement can write.
 const LINES: &str =
     "INSERT INTO TAB VALUES (2, 'T', 'CREATE TABLE T (ID NUMBER(15) PRIMARY KEY, NOTE VARCHAR2(5), N NUMBER(15) RESERVABLE)'); INSERT INTO CELL VALUES (2, 1, 1, 1); INSERT INTO CELL VALUES (2, 1, 2, 'a\nb'); INSERT INTO CELL VALUES (2, 1, 3, 7)";
 
 /// Executes statements of SQL.
-fn execute(conn: &mut Connection<BlockStore>, text: &str) -> Result<(), Error> {
+pub(super) fn execute<S: Alter>(conn: &mut Connection<S>, text: &str) -> Result<(), Error> {
     conn.execute_batch(text)
 }
 
 /// The store with the account, changed by statements of SQL.
-fn changed(alloc: Global, change: &str) -> Result<Connection<BlockStore>, Failure> {
+pub(super) fn changed(alloc: Global, change: &str) -> Result<Connection<BlockStore>, Failure> {
     let mut conn = empty(alloc)?;
     done(&mut conn, &ACCOUNT)?;
     execute(&mut conn, change).map_err(failure_of)?;
@@ -174,7 +180,7 @@ fn what_stands_is_left(rt: HostRuntime) -> Result<(), Fail> {
     }
     let conn = changed(alloc, THREE)?;
     let mut conn = handed_back(alloc, conn).expect(&rt, "a refusal");
-    execute(&mut conn, "UPDATE META SET V = 1")?;
+    execute(&mut conn, KNOWN)?;
     assert_eq!(rt; refusal(alloc, conn), 0);
     Ok(())
 }

@@ -1,6 +1,7 @@
-//! Checks: how far open reservations move their forms, what a new one breaks of them, and their names.
-use escrow_checks::{Check, Coefficients, Spread, is_written_name, normalise};
-use escrow_num::{Amount, Breach, Name, Seq, Side};
+//! Checks: how far open reservations move their forms, what a new one breaks of them, columns of several
+//! scales, and their names.
+use escrow_checks::{Check, CheckFault, Coefficients, Spread, is_written_name, normalise};
+use escrow_num::{Amount, Breach, Name, Scale, Seq, Side, Wide};
 use escrow_sql::{Item, Request, Statement, parse};
 use std::alloc::Global;
 use std::process::Abort;
@@ -19,9 +20,15 @@ pub(super) fn columns(rt: &impl Abort) -> [Name; 10] {
     columns
 }
 
-/// The one check that a table's text declares over RESERVABLE columns.
-pub(super) fn check(rt: &impl Abort, alloc: Global, columns: &[Name], text: &str) -> Check {
-    assert!(rt; columns.len() <= Coefficients::MAX_LEN);
+/// What the one CHECK of a table's text declares over RESERVABLE columns of these scales.
+fn checks_of(
+    rt: &impl Abort,
+    alloc: Global,
+    columns: &[Name],
+    scales: &[Scale],
+    text: &str,
+) -> Result<Seq<Check>, CheckFault> {
+    assert!(rt; columns.len() <= Coefficients::MAX_LEN && scales.len() == columns.len());
     let request = match parse(alloc, text) {
         Ok(request) => request,
         Err(fault) => panic!(rt; "{text}: {fault:?}"),
@@ -32,11 +39,29 @@ pub(super) fn check(rt: &impl Abort, alloc: Global, columns: &[Name], text: &str
     let Some(Item::Check(condition)) = create.items.as_slice().first() else {
         panic!(rt; "no check: {text}");
     };
-    let checks = match normalise(alloc, &[condition], columns) {
+    normalise(alloc, &[condition], columns, scales)
+}
+
+/// The one check that a table's text declares over RESERVABLE columns of these scales.
+fn scaled_check(
+    rt: &impl Abort,
+    alloc: Global,
+    columns: &[Name],
+    scales: &[Scale],
+    text: &str,
+) -> Check {
+    let checks = match checks_of(rt, alloc, columns, scales, text) {
         Ok(checks) => checks,
         Err(refusal) => panic!(rt; "{text}: {refusal:?}"),
     };
     *checks.as_slice().first().expect(rt, "a check")
+}
+
+/// The one check that a table's text declares over RESERVABLE columns of whole numbers.
+pub(super) fn check(rt: &impl Abort, alloc: Global, columns: &[Name], text: &str) -> Check {
+    assert!(rt; columns.len() <= Coefficients::MAX_LEN);
+    let whole = [Scale::ZERO; 10];
+    scaled_check(rt, alloc, columns, &whole[..columns.len()], text)
 }
 
 /// A row's amounts, or changes of them.
@@ -228,6 +253,136 @@ fn greatest_forms(rt: HostRuntime) {
     assert_eq!(rt; parts(&check, breach), Some((Side::High, 3 * MOST, 20)));
     let breach = check.breach(low.as_slice(), low.as_slice(), &spread);
     assert_eq!(rt; parts(&check, breach), Some((Side::Low, -3 * MOST, -10)));
+}
+
+/// The scales of the columns A, B and C.
+const SCALES: [u8; 3] = [2, 0, 4];
+
+/// A check over columns of several scales: its scale, its coefficients and its limits in units of that
+/// scale, and its coefficients as they are written.
+struct Shared {
+    text: &'static str,
+    scale: u8,
+    coeffs: [i64; 3],
+    limits: (Option<i128>, Option<i128>),
+    written: [i64; 3],
+}
+
+/// Checks over these columns. The scale is the largest among the columns that count, and `<` and `>` move
+/// a limit by one unit of it.
+const SHARED: [Shared; 6] = [
+    Shared {
+        text: "CREATE TABLE T (CHECK (A + 2*B >= 1.5))",
+        scale: 2,
+        coeffs: [1, 200, 0],
+        limits: (Some(150), None),
+        written: [1, 2, 0],
+    },
+    Shared {
+        text: "CREATE TABLE T (CHECK (A - 3*C < 0.25))",
+        scale: 4,
+        coeffs: [100, 0, -3],
+        limits: (None, Some(2_499)),
+        written: [1, 0, -3],
+    },
+    Shared {
+        text: "CREATE TABLE T (CHECK (B + 0*C BETWEEN -1.0 AND 20))",
+        scale: 0,
+        coeffs: [0, 1, 0],
+        limits: (Some(-1), Some(20)),
+        written: [0, 1, 0],
+    },
+    Shared {
+        text: "CREATE TABLE T (CHECK (A + 0.005 > 0.505 - B))",
+        scale: 2,
+        coeffs: [1, 100, 0],
+        limits: (Some(51), None),
+        written: [1, 1, 0],
+    },
+    Shared {
+        text: "CREATE TABLE T (CHECK (1000000*B + C = -0.0001))",
+        scale: 4,
+        coeffs: [0, 10_000_000_000, 1],
+        limits: (Some(-1), Some(-1)),
+        written: [0, 1_000_000, 1],
+    },
+    Shared {
+        text: "CREATE TABLE T (CHECK (C <= 99999999999.9999))",
+        scale: 4,
+        coeffs: [0, 0, 1],
+        limits: (None, Some(999_999_999_999_999)),
+        written: [0, 0, 1],
+    },
+];
+
+/// Checks with a limit that isn't a whole number of units of their scale, or that has more than 15 digits
+/// of them.
+const NOT_WHOLE: [&str; 4] = [
+    "CREATE TABLE T (CHECK (B >= 1.5))",
+    "CREATE TABLE T (CHECK (A BETWEEN 0 AND 0.005))",
+    "CREATE TABLE T (CHECK (A + 0.005 > 0))",
+    "CREATE TABLE T (CHECK (C <= 100000000000))",
+];
+
+/// The scales of the columns.
+fn scales(rt: &impl Abort) -> [Scale; 3] {
+    let mut scales = [Scale::ZERO; 3];
+    for (scale, digits) in scales.iter_mut().zip(SCALES) {
+        *scale = Scale::new(digits).expect(rt, "a scale");
+    }
+    scales
+}
+
+/// Compares coefficients.
+fn expect_coefficients(rt: &impl Abort, found: &Coefficients, want: [i64; 3], text: &str) {
+    assert_eq!(rt; found.as_slice().len(), want.len(), "{text}");
+    for (coefficient, number) in found.as_slice().iter().zip(want) {
+        assert_eq!(rt; coefficient.get(), number, "{text}");
+    }
+}
+
+/// A check over columns of several scales is in units of the largest, and one that would have to round is
+/// refused.
+#[test]
+fn checks_over_several_scales(rt: HostRuntime) {
+    let alloc = rt.alloc();
+    let columns = &columns(&rt)[..3];
+    let scales = scales(&rt);
+    for want in &SHARED {
+        let check = scaled_check(&rt, alloc, columns, &scales, want.text);
+        assert_eq!(rt; check.scale.get(), want.scale, "{}", want.text);
+        expect_coefficients(&rt, &check.coeffs, want.coeffs, want.text);
+        expect_coefficients(&rt, &check.written(&scales), want.written, want.text);
+        let (lo, hi) = (check.span.lo.map(Wide::get), check.span.hi.map(Wide::get));
+        assert_eq!(rt; (lo, hi), want.limits, "{}", want.text);
+    }
+    for text in NOT_WHOLE {
+        let checks = checks_of(&rt, alloc, columns, &scales, text);
+        assert!(rt; matches!(checks, Err(CheckFault::Definition)), "{text}");
+    }
+}
+
+/// What is broken is told in units of the check's scale.
+#[test]
+fn breaches_have_the_scale(rt: HostRuntime) {
+    let alloc = rt.alloc();
+    let columns = &columns(&rt)[..3];
+    let check = scaled_check(&rt, alloc, columns, &scales(&rt), SHARED[0].text);
+    let row = amounts(&rt, alloc, &[50, 1, 0]);
+    let less = amounts(&rt, alloc, &[-1, 0, 0]);
+    assert_eq!(rt; check.form(row.as_slice()).get(), 250);
+    assert!(rt;
+        check
+            .breach(row.as_slice(), less.as_slice(), &Spread::new())
+            .is_none()
+    );
+    let far = amounts(&rt, alloc, &[-101, 0, 0]);
+    let breach = check.breach(row.as_slice(), far.as_slice(), &Spread::new());
+    let breach = breach.expect(&rt, "a breach");
+    assert_eq!(rt; breach.side, Side::Low);
+    assert_eq!(rt; breach.worst.get(), 149);
+    assert_eq!(rt; breach.limit.get(), 150);
+    assert_eq!(rt; breach.scale.get(), 2);
 }
 
 /// Names, and whether a statement can write each: one of 30 bytes and one of 31, and a reserved word.

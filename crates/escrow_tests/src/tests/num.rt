@@ -1,9 +1,9 @@
-//! Amounts, names, sessions, spans, changes, copies and what is printed.
+//! Amounts, decimals, names, sessions, spans, changes, copies and what is printed.
 ghost use Rattle.std.specs.Prelude.{◌≡◌};
 
 use escrow_num::{
-    Amount, Changes, Copied, Name, RowName, Seq, Session, Side, Span, Text, Value, Wide, are_same,
-    copy_all,
+    Amount, Changes, Copied, Decimal, Name, RowName, Scale, Scaled, Seq, Session, Side, Span, Text,
+    Value, Wide, are_same, copy_all,
 };
 use std::process::Abort;
 use std::test::Fail;
@@ -27,6 +27,87 @@ const AMOUNTS: [(&str, Option<i64>); 16] = [
     ("1a", None),
     (" 1", None),
 ];
+
+/// Texts, and the millionths that each spells.
+const DECIMALS: [(&str, Option<i128>); 18] = [
+    ("5", Some(5_000_000)),
+    ("1.5", Some(1_500_000)),
+    ("-0.05", Some(-50_000)),
+    ("+007.500", Some(7_500_000)),
+    ("-0.0", Some(0)),
+    ("0.000001", Some(1)),
+    ("0.0000010", Some(1)),
+    ("0.00000010", None),
+    ("999999999.999999", Some(999_999_999_999_999)),
+    ("999999999999999.0", Some(999_999_999_999_999_000_000)),
+    ("999999999999999.1", None),
+    ("1000000000000000", None),
+    ("5.", None),
+    (".5", None),
+    ("1.2.3", None),
+    ("1.5e3", None),
+    ("1. 5", None),
+    ("", None),
+];
+
+/// Texts of decimals, scales, and the units of each that the decimal is.
+const UNITS: [(&str, u8, Option<i64>); 10] = [
+    ("1.5", 0, None),
+    ("1.5", 1, Some(15)),
+    ("1.5", 6, Some(1_500_000)),
+    ("-0.05", 2, Some(-5)),
+    ("0.005", 2, None),
+    ("7", 0, Some(7)),
+    ("7", 7, None),
+    ("999999999.999999", 6, Some(999_999_999_999_999)),
+    ("9999999999999.99", 2, Some(999_999_999_999_999)),
+    ("10000000000000", 2, None),
+];
+
+/// A decimal is read as it is spelled, and is units of a scale where it is whole ones and an amount.
+#[test]
+fn reads_decimals(rt: HostRuntime) {
+    for (text, want) in DECIMALS {
+        assert_eq!(rt; Decimal::read(text).map(Decimal::get), want, "at {text:?}");
+    }
+    for (text, scale, want) in UNITS {
+        let decimal = Decimal::read(text).expect(&rt, "a decimal");
+        assert_eq!(rt;
+            decimal.at_scale(scale).map(Amount::get),
+            want,
+            "{text} at {scale}"
+        );
+    }
+}
+
+/// Units, a scale, and their text.
+const SCALED: [(i128, u8, &str); 12] = [
+    (0, 0, "0"),
+    (-7, 0, "-7"),
+    (0, 2, "0.00"),
+    (5, 2, "0.05"),
+    (-5, 2, "-0.05"),
+    (-100, 2, "-1.00"),
+    (12_345, 2, "123.45"),
+    (1, 6, "0.000001"),
+    (999_999_999_999_999, 1, "99999999999999.9"),
+    (18_446_744_073_709_551_616, 3, "18446744073709551.616"),
+    (Wide::MAX, 0, "1000000000000000000000000000000000"),
+    (-Wide::MAX, 6, "-1000000000000000000000000000.000000"),
+];
+
+/// The text of units has just as many digits behind the point as the scale, and no point at 0.
+#[test]
+fn prints_units_of_scales(rt: HostRuntime) -> Result<(), Fail> {
+    for (units, digits, want) in SCALED {
+        let scale = Scale::new(digits).expect(&rt, "a scale");
+        let text = Scaled::new(Wide::new(units).expect(&rt, "a wide sum"), scale);
+        assert_eq!(rt; text.as_str(), want);
+        let shown = format!(in rt.alloc(); "{text}")?;
+        assert_eq!(rt; shown.as_str(), want);
+    }
+    Ok(())
+}
 
 /// Texts, and whether each is a name. The longest has 36 bytes.
 const NAMES: [(&str, bool); 12] = [

@@ -1,10 +1,11 @@
-//! Definitions with names that no text has, the longest printed text, rows of values, and the catalog.
+//! Definitions with names that no text has, columns with a scale, the longest printed text, rows of values,
+//! and the catalog.
 ghost use Rattle.std.specs.Prelude.{IfOk};
 ghost use Rattle.escrow_schema.specs.Definition.{IsTable};
 
-use escrow_num::{Copied, Name, Refusal, Row, Seq, Value, are_same};
+use escrow_num::{Copied, Name, Refusal, Row, Scale, Seq, Value, are_same};
 use escrow_schema::{
-    Catalog, TableDef, define, is_value, print_table, row_of, value_of, values_of,
+    Catalog, TableDef, define, fit_row, is_value, print_table, row_of, value_at, values_of,
 };
 use escrow_sql::{
     ColumnText, CreateText, InsertText, Item, Literal, Request, Statement, TypeText, parse,
@@ -187,11 +188,13 @@ const ROWS: [(&str, bool); 6] = [
     ("INSERT INTO GOODS VALUES ('four', 99, 500, 'x', 1)", false),
 ];
 
-/// The values of literals, in order.
+/// The values of literals without digits behind a point, in order.
 fn values_in(alloc: Global, literals: &[Literal]) -> Result<Vec<Value>, AllocError> {
     let mut values = Vec::new(alloc);
     for literal in literals {
-        values.push(value_of(alloc, literal)?)?;
+        if let Some(value) = value_at(alloc, Scale::ZERO, literal)? {
+            values.push(value)?;
+        }
     }
     Ok(values)
 }
@@ -242,8 +245,121 @@ fn tells_values_of_literals(rt: HostRuntime) -> Result<(), Fail> {
     let values = values_in(alloc, literals)?;
     for (i, literal) in literals.iter().enumerate() {
         for (j, value) in values.as_slice().iter().enumerate() {
-            assert_eq!(rt; is_value(literal, value), i == j, "at {i} and {j}");
+            assert_eq!(rt;
+                is_value(Scale::ZERO, literal, value),
+                i == j,
+                "at {i} and {j}"
+            );
         }
+    }
+    Ok(())
+}
+
+/// Types, and the answer to a definition with a RESERVABLE column of each.
+const SIZES: [(&str, u8); 12] = [
+    ("NUMBER(5,2)", 0),
+    ("NUMBER(1,0)", 0),
+    ("NUMBER(1,1)", 0),
+    ("NUMBER(15,6)", 0),
+    ("NUMBER(6,6)", 0),
+    ("NUMBER(5,6)", 22),
+    ("NUMBER(15,7)", 22),
+    ("NUMBER(0,0)", 22),
+    ("NUMBER(16,2)", 22),
+    ("NUMBER(0)", 22),
+    ("NUMBER(16)", 22),
+    ("NUMBER", 0),
+];
+
+/// A scale is 6 at most, and no more than the digits.
+#[test]
+fn keeps_to_sizes_of_numbers(rt: HostRuntime) -> Result<(), Fail> {
+    let alloc = rt.alloc();
+    for (kind, want) in SIZES {
+        let text = format!(in alloc; "CREATE TABLE T (K NUMBER PRIMARY KEY, A {kind} RESERVABLE)")?;
+        let create = create_text(&rt, alloc, text.as_str())?;
+        assert_eq!(rt; number_of(define(alloc, &create)), want, "{kind}");
+    }
+    Ok(())
+}
+
+/// Texts of tables, and the canonical text of each: checks are printed with just as many digits behind the
+/// point as their scale has, and with the coefficients that were written.
+const PRINTED: [(&str, &str); 4] = [
+    (
+        "create table T (K NUMBER(4,1) PRIMARY KEY, A NUMBER(5,2) RESERVABLE, B NUMBER(7,0) RESERVABLE, CHECK (A + 2*B >= 1.5))",
+        "CREATE TABLE T (K NUMBER(4,1) PRIMARY KEY, A NUMBER(5,2) RESERVABLE, B NUMBER(7) RESERVABLE, CONSTRAINT CHECK_1 CHECK (A + 2 * B >= 1.50))",
+    ),
+    (
+        "CREATE TABLE T (K NUMBER PRIMARY KEY, A NUMBER(6,6) RESERVABLE CHECK (A BETWEEN -0.05 AND 0))",
+        "CREATE TABLE T (K NUMBER(15) PRIMARY KEY, A NUMBER(6,6) RESERVABLE, CONSTRAINT CHECK_1 CHECK (A BETWEEN -0.050000 AND 0.000000))",
+    ),
+    (
+        "CREATE TABLE T (K NUMBER PRIMARY KEY, A NUMBER(5,2) RESERVABLE CHECK (A > 1.00 - A))",
+        "CREATE TABLE T (K NUMBER(15) PRIMARY KEY, A NUMBER(5,2) RESERVABLE, CONSTRAINT CHECK_1 CHECK (2 * A >= 1.01))",
+    ),
+    (
+        "CREATE TABLE T (K NUMBER PRIMARY KEY, A NUMBER(3) RESERVABLE CHECK (A = 10.0))",
+        "CREATE TABLE T (K NUMBER(15) PRIMARY KEY, A NUMBER(3) RESERVABLE, CONSTRAINT CHECK_1 CHECK (A = 10))",
+    ),
+];
+
+/// A table is printed with its columns' scales, and read back from that as it was.
+#[test]
+fn prints_scales(rt: HostRuntime) -> Result<(), Fail> {
+    let alloc = rt.alloc();
+    for (text, want) in PRINTED {
+        let first = print_table(alloc, &table(&rt, alloc, text)?)?;
+        assert_eq!(rt; first.as_str(), want);
+        let again = print_table(alloc, &table(&rt, alloc, want)?)?;
+        assert_eq!(rt; again.as_str(), want);
+    }
+    Ok(())
+}
+
+/// A key with one digit behind the point, and an amount with two.
+const PRICES: &str = "CREATE TABLE PRICES (K NUMBER(4,1) PRIMARY KEY, A NUMBER(5,2) RESERVABLE)";
+
+/// Values, and the units of the key and of the amount that they are, where they fit. Nothing is rounded.
+const UNITS: [(&str, Option<(i64, i64)>); 8] = [
+    ("INSERT INTO PRICES VALUES (1, 1)", Some((10, 100))),
+    ("INSERT INTO PRICES VALUES (1.50, -0.05)", Some((15, -5))),
+    (
+        "INSERT INTO PRICES VALUES (-999.9, 999.99)",
+        Some((-9_999, 99_999)),
+    ),
+    (
+        "INSERT INTO PRICES (A, K) VALUES (0.50, -0.0)",
+        Some((0, 50)),
+    ),
+    ("INSERT INTO PRICES VALUES (1.55, 1)", None),
+    ("INSERT INTO PRICES VALUES (1000, 1)", None),
+    ("INSERT INTO PRICES VALUES (1, 0.005)", None),
+    ("INSERT INTO PRICES VALUES (1, 1000.00)", None),
+];
+
+/// A number fits a column where it is units of the column's scale, and no more digits than the column has.
+#[test]
+fn takes_numbers_in_units(rt: HostRuntime) -> Result<(), Fail> {
+    let alloc = rt.alloc();
+    let prices = table(&rt, alloc, PRICES)?;
+    assert_eq!(rt; prices.key_scale().get(), 1);
+    for (text, want) in UNITS {
+        let insert = insert_text(&rt, alloc, text)?;
+        let answer = fit_row(alloc, &prices, &insert);
+        let Some((key, amount)) = want else {
+            assert_eq!(rt; number_of(answer), 23, "{text}");
+            continue;
+        };
+        let row = answer?;
+        assert!(rt;
+            matches!(&row.name.key, Value::Number(units) if units.get() == key),
+            "{text}"
+        );
+        assert!(rt;
+            matches!(row.amounts.as_slice(), [units] if units.get() == amount),
+            "{text}"
+        );
     }
     Ok(())
 }

@@ -1,5 +1,10 @@
-//! Tokens with their places, the leftmost fault of a text, and statements that are copied and told apart.
-use escrow_sql::{Kind, MAX_TEXT, ParseFault, Request, Statement, Symbol, Word, lex, parse};
+//! Tokens with their places, the leftmost fault of a text, numbers with a point, and statements that are
+//! copied and told apart.
+use escrow_num::Amount;
+use escrow_sql::{
+    Assigned, Item, Kind, MAX_TEXT, ParseFault, Request, Statement, Symbol, TypeText, Word, lex,
+    parse,
+};
 use std::alloc::Global;
 use std::test::Fail;
 
@@ -13,7 +18,7 @@ fn column_of<T: Drop>(read: Result<T, ParseFault>) -> Result<u32, ParseFault> {
 }
 
 /// Texts, and the column of what is no token, or 0 where all are tokens.
-const FAULTS: [(&str, u32); 19] = [
+const FAULTS: [(&str, u32); 38] = [
     ("", 0),
     ("5x", 0),
     ("a ? !", 3),
@@ -33,14 +38,70 @@ const FAULTS: [(&str, u32); 19] = [
     ("'é'", 0),
     ("a -- '?\u{1}", 0),
     ("a -- '?\r?\n ?", 12),
+    ("1.5", 0),
+    ("-0.0", 0),
+    ("5.", 2),
+    (".5", 1),
+    ("1.2.3", 4),
+    ("1..2", 2),
+    ("1 . 5", 3),
+    ("1.é", 2),
+    ("a.5", 2),
+    ("1.5e3", 0),
+    ("0.000001", 0),
+    ("0.0000010", 0),
+    ("0.00000010", 1),
+    ("a 1.23456701", 3),
+    ("999999999.999999", 0),
+    ("999999999999999.0", 0),
+    ("999999999999999.1", 1),
+    ("a 1000000000000000.0", 3),
+    ("a -1000000000000000.0", 4),
 ];
 
-/// The leftmost fault is told; and one behind all is what stands past 65,536 bytes, which no line of a script has.
+/// Statements with numbers that have a point, and the column of the fault, or 0 where there is none.
+const POINTS: [(&str, u32); 24] = [
+    ("INSERT INTO T VALUES (1.5, -0.25, +3, 'a')", 0),
+    ("INSERT INTO T VALUES (1.5e3)", 26),
+    ("INSERT INTO T VALUES (1e3)", 24),
+    ("INSERT INTO T VALUES (5.)", 24),
+    ("INSERT INTO T VALUES (.5)", 23),
+    ("INSERT INTO T VALUES (1.2.3)", 26),
+    ("INSERT INTO T VALUES (0.00000010)", 23),
+    ("INSERT INTO T VALUES (1.2 3)", 27),
+    ("UPDATE T SET B = B + 0.5, C = -0.5 WHERE A = 1.0", 0),
+    ("UPDATE T SET B = B 0.5 WHERE A = 1", 20),
+    ("DELETE FROM T WHERE A = -1.50", 0),
+    ("SELECT * FROM T WHERE A = 1.5", 0),
+    ("SHOW BOUNDS T WHERE A = 2.0", 0),
+    (
+        "CREATE TABLE T (A NUMBER(5,2), B NUMBER(5 , 0) PRIMARY KEY, C NUMBER)",
+        0,
+    ),
+    ("CREATE TABLE T (A NUMBER(5.0))", 26),
+    ("CREATE TABLE T (A NUMBER(5,2.0))", 28),
+    ("CREATE TABLE T (A NUMBER(5,))", 28),
+    ("CREATE TABLE T (A NUMBER(5,-1))", 28),
+    ("CREATE TABLE T (A VARCHAR2(5.0))", 28),
+    ("CREATE TABLE T (A VARCHAR2(5,2))", 29),
+    ("CREATE TABLE T (CHECK (1.0 * A > 0))", 28),
+    ("CREATE TABLE T (CHECK (-1.5 A > 0))", 29),
+    (
+        "CREATE TABLE T (CHECK (2 * A + 1.5 <= -0.25 AND A BETWEEN -1.5 AND 1.50))",
+        0,
+    ),
+    ("CREATE TABLE T (CHECK (A BETWEEN 1 AND 2.))", 41),
+];
+
+/// The leftmost fault is told, also of points; and one behind all is what stands past 65,536 bytes, which no line of a script has.
 #[test]
 fn finds_leftmost_fault(rt: HostRuntime) -> Result<(), Fail> {
     let alloc = rt.alloc();
     for (text, column) in FAULTS {
         assert_eq!(rt; column_of(lex(alloc, text))?, column, "in {text}");
+    }
+    for (text, column) in POINTS {
+        assert_eq!(rt; column_of(parse(alloc, text))?, column, "in {text}");
     }
     let mut text = String::from_str(alloc, "COMMIT")?;
     for _ in text.len()..MAX_TEXT {
@@ -72,8 +133,117 @@ fn gives_tokens_with_their_places(rt: HostRuntime) -> Result<(), Fail> {
     Ok(())
 }
 
+/// Numbers with a point, and the millionths that each is.
+const DECIMALS: [(&str, i128); 8] = [
+    ("1.5", 1_500_000),
+    ("1.0", 1_000_000),
+    ("007.500", 7_500_000),
+    ("0.000001", 1),
+    ("0.0000010", 1),
+    ("0.0", 0),
+    ("999999999.999999", 999_999_999_999_999),
+    ("999999999999999.0", 999_999_999_999_999_000_000),
+];
+
+/// Digits, a point and digits are one token.
+#[test]
+fn gives_numbers_with_a_point(rt: HostRuntime) -> Result<(), Fail> {
+    for (text, want) in DECIMALS {
+        let tokens = lex(rt.alloc(), text)?;
+        let [token] = tokens.as_slice() else {
+            assert!(rt; false, "not one token: {text}");
+            return Ok(());
+        };
+        assert!(rt;
+            matches!(&token.kind, Kind::Decimal(number) if number.get() == want),
+            "{text}"
+        );
+        assert_eq!(rt; (token.start, token.end), (0, text.len()), "{text}");
+    }
+    Ok(())
+}
+
+/// Changes of an UPDATE, and the millionths that each is.
+const SIGNED: [(&str, i128); 5] = [
+    ("UPDATE T SET B = B + 0.05 WHERE A = 1", 50_000),
+    ("UPDATE T SET B = B - 0.05 WHERE A = 1", -50_000),
+    ("UPDATE T SET B = B + 1.50 WHERE A = 1", 1_500_000),
+    ("UPDATE T SET B = B - 3 WHERE A = 1", -3_000_000),
+    ("UPDATE T SET B = B - 0.00 WHERE A = 1", 0),
+];
+
+/// Numbers of a statement are taken in millionths, with their sign.
+#[test]
+fn reads_changes_in_millionths(rt: HostRuntime) -> Result<(), Fail> {
+    for (text, want) in SIGNED {
+        let asked = statement(rt.alloc(), text)?;
+        let Statement::Update(update) = &asked else {
+            assert!(rt; false, "no UPDATE: {text}");
+            return Ok(());
+        };
+        let [assign] = update.assigns.as_slice() else {
+            assert!(rt; false, "not one assignment: {text}");
+            return Ok(());
+        };
+        assert!(rt;
+            matches!(&assign.value, Assigned::Change { change, .. } if change.get() == want),
+            "{text}"
+        );
+    }
+    Ok(())
+}
+
+/// Tables of one column, and the digits and the scale that its type writes.
+const SIZES: [(&str, i64, Option<i64>); 4] = [
+    ("CREATE TABLE T (A NUMBER(5))", 5, None),
+    ("CREATE TABLE T (A NUMBER(5,2))", 5, Some(2)),
+    ("CREATE TABLE T (A NUMBER( 7 , 0 ))", 7, Some(0)),
+    ("CREATE TABLE T (A NUMBER(0,99))", 0, Some(99)),
+];
+
+/// A size has the digits and the scale that are written, whatever a table may have.
+#[test]
+fn reads_sizes_of_numbers(rt: HostRuntime) -> Result<(), Fail> {
+    for (text, digits, scale) in SIZES {
+        let asked = statement(rt.alloc(), text)?;
+        let Statement::Create(create) = &asked else {
+            assert!(rt; false, "no CREATE TABLE: {text}");
+            return Ok(());
+        };
+        let [Item::Column(column)] = create.items.as_slice() else {
+            assert!(rt; false, "not one column: {text}");
+            return Ok(());
+        };
+        let TypeText::Number(Some(size)) = column.kind else {
+            assert!(rt; false, "no size: {text}");
+            return Ok(());
+        };
+        assert_eq!(rt; size.digits.get(), digits, "{text}");
+        assert_eq!(rt; size.scale.map(Amount::get), scale, "{text}");
+    }
+    Ok(())
+}
+
+/// Pairs of statements that ask the same: zeros at the ends of a number say nothing.
+const SAME: [(&str, &str); 5] = [
+    ("INSERT INTO T VALUES (1.0)", "INSERT INTO T VALUES (1)"),
+    (
+        "INSERT INTO T VALUES (-1.50)",
+        "INSERT INTO T VALUES (-01.5)",
+    ),
+    (
+        "UPDATE T SET B = B + 2.0 WHERE A = 1",
+        "UPDATE T SET B = B + 2 WHERE A = 1.000",
+    ),
+    (
+        "CREATE TABLE T (CHECK (A + 1.0 < 5))",
+        "CREATE TABLE T (CHECK (A + 1 < 5.0))",
+    ),
+    ("INSERT INTO T VALUES (-0.0)", "INSERT INTO T VALUES (0)"),
+];
+
 /// Pairs of statements that don't ask the same. Statements of each kind stand first in a pair.
-const PAIRS: [(&str, &str); 35] = [
+const PAIRS: [(&str, &str); 42] = [
     ("DROP TABLE T", "SHOW TABLE T"),
     (
         "CREATE TABLE T (A VARCHAR2(9))",
@@ -163,6 +333,28 @@ const PAIRS: [(&str, &str); 35] = [
     ("SHOW BOUNDS T WHERE A = 'a'", "SHOW BOUNDS U WHERE A = 'a'"),
     ("COMMIT", "ROLLBACK"),
     ("SAVEPOINT S", "SAVEPOINT R"),
+    ("INSERT INTO T VALUES (1.5)", "INSERT INTO T VALUES (1.6)"),
+    ("INSERT INTO T VALUES (1.5)", "INSERT INTO T VALUES ('1.5')"),
+    (
+        "UPDATE T SET B = B + 0.5 WHERE A = 1",
+        "UPDATE T SET B = B - 0.5 WHERE A = 1",
+    ),
+    (
+        "CREATE TABLE T (A NUMBER(5,1))",
+        "CREATE TABLE T (A NUMBER(5,2))",
+    ),
+    (
+        "CREATE TABLE T (A NUMBER(5))",
+        "CREATE TABLE T (A NUMBER(5,0))",
+    ),
+    (
+        "CREATE TABLE T (CHECK (A < 0.5))",
+        "CREATE TABLE T (CHECK (A < 0.05))",
+    ),
+    (
+        "CREATE TABLE T (CHECK (A BETWEEN 1 AND 5.5))",
+        "CREATE TABLE T (CHECK (A BETWEEN 1 AND 5.4))",
+    ),
 ];
 
 /// The statement of a text; SHOW STATISTICS, which is none, is taken for a fault.
@@ -190,6 +382,10 @@ fn copies_statements_and_tells_them_apart(rt: HostRuntime) -> Result<(), Fail> {
         let (is_same, is_other) = copied(rt.alloc(), text, other)?;
         assert!(rt; is_same, "at {text}");
         assert!(rt; !is_other, "at {text}");
+    }
+    for (text, other) in SAME {
+        let (is_same, is_other) = copied(rt.alloc(), text, other)?;
+        assert!(rt; is_same && is_other, "at {text}");
     }
     Ok(())
 }

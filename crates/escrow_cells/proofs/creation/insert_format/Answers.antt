@@ -1,6 +1,6 @@
 use Rattle.std.proofs.Common.{[], ap, rules}
 use Rattle.sqlite.specs.Held.{state}
-use Rattle.escrow_cells.proofs.Format.{format_insert, inserts_format}
+use Rattle.escrow_cells.proofs.FormatRow.{format_insert, inserts_format}
 use Rattle.escrow_cells.proofs.Inside.{acts}
 use Rattle.escrow_cells.proofs.creation.insert_format.Goals as goal
 

@@ -19,7 +19,7 @@ returns-in_err-add_checks-clause-definition c = λ refused.
     let at : c.loop-text.text-index < length texts = omega (arith, length-map c.args.texts.now (λ text. text.now)) in
     let is : c.text-item.result.now ≡ get_or texts c.loop-text.text-index c.text-item.result.now = ap (λ r. r.now) c.text-item.is ∙ sym (get_or-map (λ text. text.now) c.args.texts.now c.loop-text.text-index c.text-item.result c.text-item.result.now c.loop-text-test.true) in
     let defined = passed_on c.from_residual.result c.add_checks.result _ c.from_residual.ensures.1 c.in_err-add_checks.was refused in
-    text_none c.args.columns.now texts c.loop-text.text-index c.text-item.result.now c.loop-text.checks at is c.loop-text.invariant.rest (c.add_checks.ensures.definition defined)
+    text_none c.args.columns.now c.args.scales.now texts c.loop-text.text-index c.text-item.result.now c.loop-text.checks at is c.loop-text.invariant.rest (c.add_checks.ensures.definition defined)
 
 pub loop-text-preserved : goal.loop-text-preserved
 loop-text-preserved c =
@@ -30,12 +30,13 @@ loop-text-preserved c =
     record {
       rest =
           c.loop-text.invariant.rest
-          ∙ text_more c.args.columns.now texts c.loop-text.text-index c.text-item.result.now c.loop-text.checks c.add_checks.new.checks at is given.ok given.counted;
+          ∙ text_more c.args.columns.now c.args.scales.now texts c.loop-text.text-index c.text-item.result.now c.loop-text.checks c.add_checks.new.checks at is given.ok given.counted;
       within = given.within;
     }
 
 pub returns-clause-meaning : goal.returns-clause-meaning
 returns-clause-meaning c =
     let columns = c.args.columns.now in
+    let scales = c.args.scales.now in
     let texts : List CheckText = map (λ text. text.now) c.args.texts.now in
-    mean_the_same columns texts c.loop-text.checks (text_all columns texts c.loop-text.text-index c.loop-text.checks (omega (arith, length-map c.args.texts.now (λ text. text.now))) c.loop-text.invariant.within c.loop-text.invariant.rest)
+    mean_the_same columns scales texts c.loop-text.checks (text_all columns scales texts c.loop-text.text-index c.loop-text.checks (omega (arith, length-map c.args.texts.now (λ text. text.now))) c.loop-text.invariant.within c.loop-text.invariant.rest)

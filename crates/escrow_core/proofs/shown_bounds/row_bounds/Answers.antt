@@ -26,7 +26,7 @@ returns c = λ place reservations at counts.
     let names : c.as_slice-4.result.now ≡ names_of (reservables table.columns) =
     c.as_slice-4.ensures.value ∙ c.in_ok-names.ensures ∙ ap (λ (columns : List Column). names_of (reservables columns)) c.as_slice-3.ensures in
     let ranges : c.split_at.result.1.now ≡ drop n (map (check_bounds amounts reservations) table.checks) = c.split_at.ensures.back ∙ ap (drop n) (c.as_slice-2.ensures ∙ is) in
-    let columns : c.in_ok-all_column_bounds.field-0 ≡ map (column_bounds (names_of (reservables table.columns)) amounts reservations) (names_of (reservables table.columns)) =
+    let columns : c.in_ok-all_column_bounds.field-0 ≡ map (column_bounds (names_of (reservables table.columns)) amounts reservations) (reservables table.columns) =
     c.in_ok-all_column_bounds.ensures ∙ columns_same names kept ranges ∙ shown_columns table amounts reservations n of_table.amounts s at_n in
     let checks : c.in_ok-copy_all.field-0 ≡ map (check_bounds amounts reservations) (declared_checks table) =
     c.in_ok-copy_all.ensures ∙ c.split_at.ensures.front ∙ ap (take n) (c.as_slice-2.ensures ∙ is) ∙ shown_checks table amounts reservations n s at_n in

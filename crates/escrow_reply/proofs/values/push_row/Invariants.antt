@@ -1,7 +1,7 @@
-use Rattle.std.proofs.Common.{◌≡◌, ◌++◌, drop, flat_map}
-use Rattle.escrow_num.specs.declared.value.Value.{Value}
-use Rattle.escrow_reply.specs.Text.{bar, value_text}
+use Rattle.std.proofs.Common.{◌≡◌, List, ℕ, ◌++◌, drop, flat_map}
+use Rattle.escrow_reply.specs.Text.{bar, value_texts}
 use Rattle.escrow_reply.proofs.values.push_row.Given as goal
 
-abbrev pub invariant-loop-value : goal.invariant-loop-value
-invariant-loop-value l = l.line.items ++ flat_map (λ (value : Value). bar ++ value_text value) (drop l.value-index l.others) ≡ l.initial.line.items ++ flat_map (λ (value : Value). bar ++ value_text value) l.others
+abbrev pub invariant-loop-place : goal.invariant-loop-place
+invariant-loop-place l = l.line.items ++ flat_map (λ (text : List ℕ). bar ++ text) (value_texts l.headings l.place (drop l.place l.values))
+    ≡ l.initial.line.items ++ flat_map (λ (text : List ℕ). bar ++ text) (value_texts l.headings 1 (drop 1 l.values))

@@ -22,8 +22,8 @@ returns-in_err-check_update-clause-memory c =
     let exit = exit_refused c.from_residual.result c.check_update.result _ _ c.from_residual.ensures.1 c.in_err-check_update.was c.check_update.ensures in
     not_memory c.args.table.now c.args.text.now c.from_residual.result _ exit.0 (refused_by _ _ exit.1)
 
-pub make_plan-requires : goal.make_plan-requires
-make_plan-requires c = planned_by (planned c.args.table.now c.args.text.now) (sym (ap result_err c.in_ok-check_update.was) ∙ c.check_update.ensures)
+pub make_plan-requires-clause-planned : goal.make_plan-requires-clause-planned
+make_plan-requires-clause-planned c = planned_by (planned c.args.table.now c.args.text.now) (sym (ap result_err c.in_ok-check_update.was) ∙ c.check_update.ensures)
 
 pub returns-in_err-make_plan-clause-refused : goal.returns-in_err-make_plan-clause-refused
 returns-in_err-make_plan-clause-refused c =

@@ -1,5 +1,5 @@
-use Rattle.std.proofs.Common.{◌++◌, true, codes, string_bytes}
-use Rattle.escrow_schema.specs.Print.{check_words, form_words, limit_words}
+use Rattle.std.proofs.Common.{◌++◌, codes, string_bytes}
+use Rattle.escrow_schema.specs.Print.{check_words, condition_words}
 use Rattle.escrow_schema.proofs.PrintLemmas.{added, four_texts}
 use Rattle.escrow_schema.proofs.print.push_check.Goals as goal
 
@@ -8,7 +8,7 @@ unfolding check_words
 returns c =
     let check = c.args.check.now in
     let named = codes "CONSTRAINT " ++ check.name in
-    let condition = form_words true c.args.names.now check.coeffs ++ limit_words check.span.lo check.span.hi in
+    let condition = condition_words c.args.names.now c.args.scales.now check in
     let old = string_bytes c.args.text.now in
     let last = string_bytes c.push_condition.new.text in
     added c.push-2.result (string_bytes c.push-2.new.text) last old (codes ")") (named ++ (codes " CHECK (" ++ (condition ++ codes ")"))) c.push-2.ensures

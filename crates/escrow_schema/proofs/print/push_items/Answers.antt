@@ -9,5 +9,5 @@ returns c =
     let table = c.args.table.now in
     let two = (rules_of table c.requires.table).least in
     items_added c.push_checks.result (string_bytes c.push_checks.new.text) (string_bytes c.push_columns.new.text) (string_bytes c.args.text.now) table.columns table.key
-    (map (check_words c.args.names.now) (declared_checks table)) (omega arith)
-    (rw (← c.declared_checks.ensures) c.push_checks.ensures) (rw (← c.as_slice.ensures) c.in_ok-push_columns.ensures)
+    (map (check_words c.args.names.now c.args.scales.now) (declared_checks table)) (omega arith)
+    (rw (← c.declared_checks-checks.ensures) c.push_checks.ensures) (rw (← c.as_slice.ensures) c.in_ok-push_columns.ensures)

@@ -11,7 +11,7 @@ returns-clause-help g c =
     elim c.match-fault.branch [
       | in-Help w ↦
           let text : w.as_str.result.now ≡ help_of c.args.fault.now = w.as_str.ensures.value ∙ sym (ap help_of w.in-Help.is) in
-          let printed = subst (λ (t : List ℕ). WritesFront old (contents w.print_help.new.output) t) text w.print_help.ensures in
+          let printed = subst (λ (t : List ℕ). WritesFront old (contents w.print.new.output) t) text w.print.ensures in
           subst (λ o. WritesFront old (contents o) (help_of c.args.fault.now)) (sym w.output-is) printed
       | in-Wrong w ↦ subst (λ o. WritesFront old (contents o) (help_of c.args.fault.now)) (sym w.output-is) (0, appends_none old)
       | in-Memory w ↦ subst (λ o. WritesFront old (contents o) (help_of c.args.fault.now)) (sym w.output-is) (0, appends_none old)

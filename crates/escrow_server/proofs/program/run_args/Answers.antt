@@ -1,9 +1,10 @@
+use Rattle.escrow_server.specs.Opened.{IsOpened}
 use Rattle.escrow_server.specs.Output.{states_of}
-use Rattle.escrow_server.specs.Program.{AreFound}
-use Rattle.escrow_cells.specs.Tables.{no_schema}
-use Rattle.std.proofs.Common.{◌≡◌}
-use Rattle.escrow_server.proofs.FoundLemmas.{found_empty}
-use Rattle.escrow_server.proofs.ProgramLemmas.{ends_in_memory}
+use Rattle.escrow_memory.specs.Store.{over_blocks}
+use Rattle.std.proofs.Common.{◌≡◌, List, ℕ, Option, Some, inl, subst, sym}
+use Rattle.escrow_server.specs.Program.{TellsOfMigrated}
+use Rattle.escrow_server.proofs.FoundLemmas.{opened_empty}
+use Rattle.escrow_server.proofs.ProgramLemmas.{ends_in_memory, is_quiet, says_why}
 use Rattle.escrow_memory.proofs.Clean.{memory_is_clean}
 use Rattle.escrow_server.proofs.CleanDisks.{memory_are_clean}
 use Rattle.escrow_server.proofs.program.run_args.Goals as goal
@@ -11,9 +12,39 @@ use Rattle.escrow_server.proofs.program.run_args.Goals as goal
 pub returns-in-None-clause-memory : goal.returns-in-None-clause-memory
 returns-in-None-clause-memory g c = λ none.
     let count = c.args.args.now.databases in
-    let new = c.serve_stores-served.new.databases.items in
-    let served = c.serve_stores-served.ensures in
-    ends_in_memory c.args.args.now.mode c.serve_stores-served.result c.status_in_memory.result count (AreFound (λ _ db. db.schema ≡ no_schema) count) (states_of new)
-    (g.R.Read.remaining c.args.input.now) (g.R.Read.remaining c.serve_stores-served.new.input) (g.W.Write.contents c.args.output.now) (g.W.Write.contents c.serve_stores-served.new.output)
-    (found_empty count) c.status_in_memory.ensures.ok c.status_in_memory.ensures.err
+    let opened = c.open_databases-opened.result in
+    let old = c.open_databases-opened.new.databases.items in
+    let new = c.serve_opened-served.new.databases.items in
+    let served = c.serve_opened-served.ensures in
+    ends_in_memory c.args.args.now.mode c.serve_opened-served.result c.status_in_memory.result count (IsOpened over_blocks opened old) (states_of new)
+    (g.R.Read.remaining c.args.input.now) (g.R.Read.remaining c.serve_opened-served.new.input) (g.W.Write.contents c.args.output.now) (g.W.Write.contents c.serve_opened-served.new.output)
+    (opened_empty over_blocks opened old count c.open_databases-opened.ensures.found) c.status_in_memory.ensures.ok c.status_in_memory.ensures.err
     (λ run. served.served run (memory_are_clean new)) (λ run. served.stopped run (memory_are_clean new)) (λ free. served.free free memory_is_clean) served.unopened
+
+-- in memory no store was written before
+pub returns-in-None-clause-quiet : goal.returns-in-None-clause-quiet
+returns-in-None-clause-quiet g c = λ ended.
+    is_quiet c.args.args.now.path (g.F.Write.contents c.args.errors.now) (g.F.Write.contents c.status_in_memory.new.errors) (inl (c.status_in_memory.ensures.silent ended))
+
+pub returns-in-None-clause-said : goal.returns-in-None-clause-said
+returns-in-None-clause-said g c = λ failed.
+    says_why c.args.args.now.path (g.F.Write.contents c.args.errors.now) (g.F.Write.contents c.status_in_memory.new.errors) (c.status_in_memory.ensures.said failed)
+
+-- in files the lines of those that were migrated stand in front
+pub returns-clause-quiet : goal.returns-clause-quiet
+returns-clause-quiet g c = λ ended.
+    let old = g.F.Write.contents c.args.errors.now in
+    let told = g.F.Write.contents c.tell_migrated.new.errors in
+    let is = c.in-Some.is in
+    let value = c.as_str-path.ensures.value in
+    let path : c.args.args.now.path ≡ Some c.as_str-path.result.now = cc in
+    (told, subst (λ (p : Option (List ℕ)). TellsOfMigrated p old told) (sym path) c.tell_migrated.ensures, c.status_over_files.ensures.quiet ended)
+
+pub returns-clause-said : goal.returns-clause-said
+returns-clause-said g c = λ failed.
+    let old = g.F.Write.contents c.args.errors.now in
+    let told = g.F.Write.contents c.tell_migrated.new.errors in
+    let is = c.in-Some.is in
+    let value = c.as_str-path.ensures.value in
+    let path : c.args.args.now.path ≡ Some c.as_str-path.result.now = cc in
+    (told, subst (λ (p : Option (List ℕ)). TellsOfMigrated p old told) (sym path) c.tell_migrated.ensures, c.status_over_files.ensures.said failed)

@@ -1,6 +1,7 @@
-use Rattle.std.proofs.Common.{rules, ◌≡◌, pos, sym, ap, ◌∙◌, w64, to_z, of_z}
+use Rattle.std.proofs.Common.{rules, ◌≡◌, sym, ap, ◌∙◌, w64, to_z, of_z}
 use Rattle.std.proofs.lemmas.Int.{to_z-of_z}
 use Rattle.sqlite.specs.Held.{state}
+use Rattle.escrow_cells.specs.Formats.{format_number}
 use Rattle.escrow_verify.specs.declared.format.Meta.TheVariants.{Format}
 use Rattle.escrow_verify.proofs.Metas.{format_told, none_told, other_format}
 use Rattle.escrow_verify.proofs.format.check_meta.Goals as goal
@@ -9,20 +10,21 @@ pub returns-in_default : goal.returns-in_default
 returns-in_default g c = record {
   known = λ clean. tt;
   foreign = λ usable same has is.
-      c.in_default.not-Format (pos 1) (none_told (state g.S.Store c.args.store.now).now (pos 1) c.metas.new.sink ((c.in_ok-metas.ensures.rows usable.0).1 has) is);
+      c.in_default.not-Format (format_number c.args.known) (none_told (state g.S.Store c.args.store.now).now (format_number c.args.known) c.metas.new.sink ((c.in_ok-metas.ensures.rows usable.0).1 has) is);
   other = λ usable same is.
-      c.in_default.not-Format is.number (none_told (state g.S.Store c.args.store.now).now is.number c.metas.new.sink ((c.in_ok-metas.ensures.rows usable.0).1 is.schema.tables) is.format_is);
+      c.in_default.not-Format is.number (none_told (state g.S.Store c.args.store.now).now is.number c.metas.new.sink ((c.in_ok-metas.ensures.rows usable.0).1 is.has.schema.tables) is.has.format_is);
   version = λ usable same. absurd (cc);
   looks = c.metas.ensures.looks;
 }
 
-pub returns-then-number-eq-KNOWN-clause-known : goal.returns-then-number-eq-KNOWN-clause-known
-returns-then-number-eq-KNOWN-clause-known g c = λ clean.
+pub returns-then-number-wanted-clause-known : goal.returns-then-number-wanted-clause-known
+returns-then-number-wanted-clause-known g c = λ clean.
     let read = c.in_ok-metas.ensures.rows clean in
-    let number : c.in-Format.number ≡ pos 1 = sym (to_z-of_z w64 c.in-Format.number (search rules)) ∙ ap (to_z w64) c.if-number-eq-KNOWN.true in
-    (read.0, λ has. format_told (state g.S.Store c.args.store.now).now (pos 1) c.metas.new.sink (c.in-Format.is ∙ ap Format number) (read.1 has))
+    let number : c.in-Format.number ≡ format_number c.args.known =
+    sym (to_z-of_z w64 c.in-Format.number (search rules)) ∙ ap (to_z w64) c.if-number-wanted.true ∙ to_z-of_z w64 c.number-wanted.result (search rules) ∙ c.number-wanted.ensures in
+    (read.0, λ has. format_told (state g.S.Store c.args.store.now).now (format_number c.args.known) c.metas.new.sink (c.in-Format.is ∙ ap Format number) (read.1 has))
 
-pub returns-else-number-eq-KNOWN-clause-version : goal.returns-else-number-eq-KNOWN-clause-version
-returns-else-number-eq-KNOWN-clause-version g c = λ usable same has.
+pub returns-else-number-wanted-clause-version : goal.returns-else-number-wanted-clause-version
+returns-else-number-wanted-clause-version g c = λ usable same has.
     let db = (state g.S.Store c.args.store.now).now in
-    other_format db c.in-Format.number has (λ number. c.if-number-eq-KNOWN.false (ap (of_z w64) number)) (format_told db c.in-Format.number c.metas.new.sink c.in-Format.is ((c.in_ok-metas.ensures.rows usable.0).1 has.tables))
+    other_format db c.in-Format.number (format_number c.args.known) has (λ number. c.if-number-wanted.false (ap (of_z w64) (number ∙ sym c.number-wanted.ensures))) (format_told db c.in-Format.number c.metas.new.sink c.in-Format.is ((c.in_ok-metas.ensures.rows usable.0).1 has.tables))

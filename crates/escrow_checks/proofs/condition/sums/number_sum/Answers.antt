@@ -1,17 +1,10 @@
-use Rattle.std.proofs.Common.{◌≡◌, ◌+ℤ◌, to_z, arith}
-use Rattle.std.specs.Int.{w128}
+use Rattle.std.proofs.Common.{arith}
 use Rattle.std.proofs.lemmas.Int.{ints}
-use Rattle.escrow_num.specs.Amount.{IsAmount}
-use Rattle.escrow_checks.specs.Checks.{number_in}
-use Rattle.escrow_checks.specs.Contribution.{IsTermSum}
-use Rattle.escrow_checks.proofs.TermLemmas.{sum_next}
+use Rattle.escrow_checks.proofs.PartsLemmas.{in_128, total-joined}
 use Rattle.escrow_checks.proofs.condition.sums.number_sum.Goals as goal
 
-pub loop-term-preserved : goal.loop-term-preserved
-loop-term-preserved c =
-    let before = c.loop-term.invariant in
-    let within : IsAmount c.number_in.result = (omega (arith, ints, c.number_in.type_inv), omega (arith, ints, c.number_in.type_inv)) in
-    let small : IsTermSum c.loop-term.sum = (omega (arith, ints), omega (arith, ints)) in
-    let adds : c.plus-sum.result ≡ c.loop-term.sum +ℤ c.number_in.result = omega (arith, ints, c.plus-sum.ensures, c.loop-term.sum-is) in
-    let after = sum_next number_in c.args.terms.now c.loop-term.term-index c.term-item.result (to_z w128 c.loop-term.sum-bits) c.loop-term.sum c.number_in.result c.plus-sum.result c.loop-term-test.true c.term-item.is c.number_in.ensures within c.loop-term.sum-is small adds before.rest before.low before.high in
-    record { rest = after.0; low = after.1; high = after.2 }
+pub returns-clause-value : goal.returns-clause-value
+returns-clause-value c =
+    let whole = in_128 c.wholes_sum.result (omega (arith, ints, c.wholes_sum.ensures.within), omega (arith, ints, c.wholes_sum.ensures.within)) in
+    let rest = in_128 c.rest_sum.result (omega (arith, ints, c.rest_sum.ensures.within), omega (arith, ints, c.rest_sum.ensures.within)) in
+    rw (whole, rest, c.wholes_sum.ensures.value, c.rest_sum.ensures.value) (total-joined c.args.terms.now)

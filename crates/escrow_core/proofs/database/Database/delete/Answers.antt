@@ -4,7 +4,7 @@ use Rattle.sqlite.specs.State.{HasCleanDisk}
 use Rattle.escrow_num.specs.declared.refusal.Refusal.TheVariants as refusal
 use Rattle.escrow_sql.specs.declared.statement.Statement.TheVariants as statement
 use Rattle.escrow_machine.specs.declared.reply.Reply.TheVariants as reply
-use Rattle.escrow_machine.specs.Asked.{named_by, row_name}
+use Rattle.escrow_machine.specs.Asked.{named_by}
 use Rattle.escrow_schema.specs.Rows.{row_named, without_row}
 use Rattle.escrow_machine.specs.State.{State}
 use Rattle.escrow_machine.proofs.Refusals.{none_there}
@@ -23,11 +23,10 @@ pub returns-then-not-branch : goal.returns-then-not-branch
 returns-then-not-branch g c =
     let d = c.args.self.now in
     let text = c.args.text.now in
-    let name = row_name text.table c.in_ok-value_of.field-0 in
-    let named : name ≡ named_by text.table text.row = ap (row_name text.table) c.in_ok-value_of.ensures in
+    let name = c.in_ok-name.name in
     let early = sym c.in_ok-place.ensures.early in
     look_refused g.S.Store c.args.session (statement.Delete text) d c.stands.new.self refusal.NoSuchRow c.in_ok-stands.ensures.looks refl early
-    (λ u. delete_lack d.state c.args.session text name named early (sym (none_there (row_named d.state.rows name) (sym (c.in_ok-stands.ensures.told u) ∙ c.if-not-branch.true))))
+    (λ u. delete_lack d.state c.args.session text name c.in_ok-name.ensures early (sym (none_there (row_named d.state.rows name) (sym (c.in_ok-stands.ensures.told u) ∙ c.if-not-branch.true))))
 
 -- the row was looked for
 looked : (g : given.Over) (c : After-is_reserved g) → HasLooked g.S.Store c.args.session (statement.Delete c.args.text.now) c.args.self.now (seen_of c.self.inside.tables c.self.inside.reserved.txns)
@@ -38,12 +37,13 @@ looked g c = record {
   early = sym c.in_ok-place.ensures.early;
 }
 
-named : (g : given.Over) (c : After-is_reserved g) → row_name c.args.text.now.table c.in_ok-value_of.field-0 ≡ named_by c.args.text.now.table c.args.text.now.row
-named g c = ap (row_name c.args.text.now.table) c.in_ok-value_of.ensures
+-- its name is the one that the WHERE names
+named : (g : given.Over) (c : After-is_reserved g) → c.in_ok-name.name ≡ named_by c.self.inside.tables.catalog c.args.text.now.table c.args.text.now.row
+named g c = subst (λ (s : State). c.in_ok-name.name ≡ named_by s.catalog c.args.text.now.table c.args.text.now.row) (sym (looked g c).looks.same) c.in_ok-name.ensures
 
-stands : (g : given.Over) (c : After-is_reserved g) → HasCleanDisk (state g.S.Store c.self.inside.tables.store) → IsSome (row_named c.self.inside.tables.rows (row_name c.args.text.now.table c.in_ok-value_of.field-0))
+stands : (g : given.Over) (c : After-is_reserved g) → HasCleanDisk (state g.S.Store c.self.inside.tables.store) → IsSome (row_named c.self.inside.tables.rows c.in_ok-name.name)
 stands g c u =
-    let name = row_name c.args.text.now.table c.in_ok-value_of.field-0 in
+    let name = c.in_ok-name.name in
     subst (λ (s : State). IsSome (row_named s.rows name)) (sym (looked g c).looks.same) (sym ((rw (← c.self.view_is) at c.in_ok-stands.ensures.told) u) ∙ c.if-not-branch.false)
 
 pub returns-then-is_reserved : goal.returns-then-is_reserved
@@ -56,16 +56,16 @@ returns-then-is_reserved g c =
     rw (← c.self.view_is)
     (since_look g.S.Store c.args.session asked c.args.self.now d (looked g at) d (reply.Refused refusal.RowReserved)
     (late_refused g.S.Store c.args.session asked d refusal.RowReserved refl early
-    (λ u. delete_reserved d.state c.args.session text (row_name text.table c.in_ok-value_of.field-0) (named g at) early (stands g at u) (sym c.is_reserved.ensures ∙ c.if-is_reserved.true))))
+    (λ u. delete_reserved d.state c.args.session text c.in_ok-name.name (named g at) early (stands g at u) (sym c.is_reserved.ensures ∙ c.if-is_reserved.true))))
 
 -- nothing refuses it, where it isn't reserved
 may : (g : given.Over) (c : After-is_reserved g) → c.is_reserved.result ≡ false
     → MayWrite g.S.Store c.args.session (statement.Delete c.args.text.now) (seen_of c.self.inside.tables c.self.inside.reserved.txns) reply.Deleted
-    (record (seen_of c.self.inside.tables c.self.inside.reserved.txns).state { rows = without_row (row_name c.args.text.now.table c.in_ok-value_of.field-0) c.self.inside.tables.rows })
+    (record (seen_of c.self.inside.tables c.self.inside.reserved.txns).state { rows = without_row c.in_ok-name.name c.self.inside.tables.rows })
 may g c free =
     let d = seen_of c.self.inside.tables c.self.inside.reserved.txns in
     let text = c.args.text.now in
-    may_delete g.S.Store c.args.session text (row_name text.table c.in_ok-value_of.field-0) d (named g c) (early_since g.S.Store c.args.session (statement.Delete text) c.args.self.now d (looked g c)) (stands g c)
+    may_delete g.S.Store c.args.session text c.in_ok-name.name d (named g c) (early_since g.S.Store c.args.session (statement.Delete text) c.args.self.now d (looked g c)) (stands g c)
     (sym c.is_reserved.ensures ∙ free)
 
 pub returns-in_err-delete : goal.returns-in_err-delete

@@ -7,5 +7,5 @@ pub returns-clause-told : goal.returns-clause-told
 returns-clause-told g c = λ u.
     let text = c.args.text.now in
     let s = c.args.self.now.state in
-    let told = rw c.in_ok-value_of.ensures at c.in_ok-found.ensures.told u in
-    rw c.in_ok-listed.ensures (one_shown (table_named s.catalog text.table) s.rows (named_by text.table c.args.row.now) c.in_ok-found.found (c.in_ok-found.ensures.order u) told)
+    let told = rw c.in_ok-name.ensures at c.in_ok-found.ensures.told u in
+    rw c.in_ok-listed.ensures (one_shown (table_named s.catalog text.table) s.rows (named_by s.catalog text.table c.args.row.now) c.in_ok-found.found (c.in_ok-found.ensures.order u) told)
