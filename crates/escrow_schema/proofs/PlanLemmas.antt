@@ -1,6 +1,6 @@
 -- What an UPDATE's plan is, and why it has none.
-use Rattle.std.proofs.Common.{◌≡◌, ◌⊎◌, ℕ, Bool, true, false, cond, not, Option, Some, None, option_map, option_and_then, Result, Ok, Err, List, [], ◌∷◌, length, sym, subst, ap, ap₂, ◌∙◌, refl, inl, inr}
-use Rattle.std.specs.Prelude.{ℤ, IfSome, IsSome, IsTrue, is_some}
+use Rattle.std.proofs.Common.{◌≡◌, ◌⊎◌, ℕ, suc, Bool, true, false, cond, not, Option, Some, None, option_map, option_and_then, Result, Ok, Err, List, [], ◌∷◌, length, sym, subst, ap, ap₂, ◌∙◌, refl, inl, inr}
+use Rattle.std.specs.Prelude.{ℤ, IfOk, IfSome, IsSome, IsTrue, is_some}
 use Rattle.std.proofs.lemmas.Bool.{false≢true}
 use Rattle.std.specs.List.{AllZip}
 use Rattle.std.specs.Option.{ok_or}
@@ -21,7 +21,7 @@ use Rattle.escrow_schema.specs.declared.column.ColumnType.{ColumnType}
 use Rattle.escrow_schema.specs.declared.plan.Plan.{Plan}
 use Rattle.escrow_schema.specs.declared.plan.Plan.TheVariants.{Reserve, Plain}
 use Rattle.escrow_schema.specs.declared.table.TableDef.{TableDef}
-use Rattle.escrow_schema.specs.Assigned.{change_assigned, changes_assigned, values_assigned}
+use Rattle.escrow_schema.specs.Assigned.{IsAnswer, IsChangesFault, values_assigned}
 use Rattle.escrow_schema.specs.Column.{fits, reservables, scale_of, value_at, value_in, truncated_value}
 use Rattle.escrow_schema.specs.Definition.{key_scale}
 use Rattle.escrow_schema.specs.Fit.{plains}
@@ -37,36 +37,6 @@ plan_by a b k changes values =
     cond a (for_key (λ key. ok_or (option_map (λ cs. Reserve key cs) changes) refusal.BadValue) k)
     (cond b (for_key (λ key. ok_or (option_map (λ vs. Plain key vs) values) refusal.BadValue) k) (Err refusal.BadAssignment))
 
--- why assignments of one kind are refused: as their WHERE is, and then where one isn't good
-abbrev pub row_refusal : Result Value Refusal → Bool → Option Refusal
-row_refusal k good = first_refusal (result_err k ∷ refuse_if (not good) refusal.BadValue ∷ [])
-
-by_changes : (b : Bool) (k : Result Value Refusal) (changes : Option (List (Option ℤ))) (values : Option (List (Option Value)))
-    → row_refusal k (is_some changes) ≡ result_err (plan_by true b k changes values)
-by_changes b (Ok key) None values = refl
-by_changes b (Ok key) (Some cs) values = refl
-by_changes b (Err r) changes values = refl
-
-by_values : (k : Result Value Refusal) (changes : Option (List (Option ℤ))) (values : Option (List (Option Value)))
-    → row_refusal k (is_some values) ≡ result_err (plan_by false true k changes values)
-by_values (Ok key) changes None = refl
-by_values (Ok key) changes (Some vs) = refl
-by_values (Err r) changes values = refl
-
-pub why_of_changes : (table : TableDef) (text : UpdateText) (why : Option Refusal) (good : Bool)
-    → are_changes table.columns text.assigns ≡ true → good ≡ is_some (changes_of table.columns text.assigns)
-    → why ≡ row_refusal (key_named table text.row) good → why ≡ result_err (planned table text)
-why_of_changes table text why good e whole h =
-    h ∙ ap (row_refusal (key_named table text.row)) whole
-    ∙ rw e (by_changes (are_replacements table text.assigns) (key_named table text.row) (changes_of table.columns text.assigns) (new_values table text.assigns))
-
-pub why_of_values : (table : TableDef) (text : UpdateText) (why : Option Refusal) (good : Bool)
-    → are_changes table.columns text.assigns ≡ false → are_replacements table text.assigns ≡ true → good ≡ is_some (new_values table text.assigns)
-    → why ≡ row_refusal (key_named table text.row) good → why ≡ result_err (planned table text)
-why_of_values table text why good e r fit h =
-    h ∙ ap (row_refusal (key_named table text.row)) fit
-    ∙ rw (e, r) (by_values (key_named table text.row) (changes_of table.columns text.assigns) (new_values table text.assigns))
-
 -- assignments of neither kind are refused
 pub why_of_neither : (table : TableDef) (text : UpdateText)
     → are_changes table.columns text.assigns ≡ false → are_replacements table text.assigns ≡ false → Some refusal.BadAssignment ≡ result_err (planned table text)
@@ -77,24 +47,18 @@ pub refused_by : (p : Result Plan Refusal) (r : Refusal) → Some r ≡ result_e
 refused_by (Ok plan) r e = absurd (none-some r (sym e))
 refused_by (Err q) r e = ap Err (same_Some q r (sym e))
 
-pub planned_by : (p : Result Plan Refusal) → None ≡ result_err p → IsOk p
-planned_by (Ok plan) e = refl
-planned_by (Err q) e = absurd (none-some q e)
+-- the plan of what is good
+pub not_refused : {A : Type 0} (r : Result A Refusal) → None ≡ result_err r → (v : A) × (r ≡ Ok v)
+not_refused (Ok v) e = (v, refl)
+not_refused (Err q) e = absurd (none-some q e)
 
--- the change that a column of a scale is assigned, where it is a whole number of units
-assigned_change : (scale : ℕ) (o : Option ℤ) (c : Option ℤ) → change_at scale o ≡ Some c → c ≡ option_and_then (units_at scale) o
-assigned_change scale None c e = sym (same_Some None c e)
-assigned_change scale (Some z) c e = mapped_some (λ u. Some u) (units_at scale z) c e (λ u at same. sym same ∙ sym at)
-
--- the changes are those that are assigned
-pub new_changes : (columns : List Column) (assigns : List Assign) (changes : List (Option ℤ)) → changes_for columns assigns ≡ Some changes
-    → changes ≡ changes_assigned columns assigns
-new_changes [] assigns changes e = sym (same_Some [] changes e)
-new_changes (column ∷ columns) assigns changes e =
-    let change : Option ℤ = option_and_then change_in (assigned_to assigns column.name) in
-    option_and_then_some (λ c. option_map (λ cs. c ∷ cs) (changes_for columns assigns)) (change_at (scale_of column.kind) change) changes e
+-- there is a change, or none, for each column
+as_many : (columns : List Column) (assigns : List Assign) (changes : List (Option ℤ)) → changes_for columns assigns ≡ Some changes → length changes ≡ length columns
+as_many [] assigns changes e = ap length (sym (same_Some [] changes e))
+as_many (column ∷ columns) assigns changes e =
+    option_and_then_some (λ c. option_map (λ cs. c ∷ cs) (changes_for columns assigns)) (change_at (scale_of column.kind) (option_and_then change_in (assigned_to assigns column.name))) changes e
     (λ c one more. mapped_some (λ cs. c ∷ cs) (changes_for columns assigns) changes more
-    (λ cs others whole. sym whole ∙ ap₂ (λ (x : Option ℤ) (xs : List (Option ℤ)). x ∷ xs) (assigned_change (scale_of column.kind) change c one) (new_changes columns assigns cs others)))
+    (λ cs others whole. ap length (sym whole) ∙ ap (λ n. suc n) (as_many columns assigns cs others)))
 
 -- the value that a column of a type is assigned, where it fits
 assigned_value : (kind : ColumnType) (o : Option Literal) (v : Option Value) → new_value kind o ≡ Some v
@@ -208,10 +172,6 @@ refusals_of_plans table text r e =
 pub never_memory : (table : TableDef) (text : UpdateText) → planned table text ≡ Err refusal.Memory → ⊥
 never_memory table text e = elim (refusals_of_plans table text refusal.Memory e) [ inl bad ↦ cc | inr other ↦ elim other [ inl bad ↦ cc | inr bad ↦ cc ] ]
 
-pub not_memory : {X : Type 0} (table : TableDef) (text : UpdateText) (r : Result X Refusal) (why : Refusal)
-    → r ≡ Err why → planned table text ≡ Err why → IsErrOf r refusal.Memory → IsOk (planned table text)
-not_memory table text r why returned e memory = let same : why ≡ refusal.Memory = cc in absurd (never_memory table text (e ∙ ap Err same))
-
 -- a plan's key is that of the WHERE's literal
 pub keys_of_plans : KeysOfPlans
 keys_of_plans table text plan e =
@@ -220,59 +180,115 @@ keys_of_plans table text plan e =
 
 -- a plan of changes has one, or none, for each RESERVABLE column
 pub plans_of_whole_row : PlansOfWholeRow
-plans_of_whole_row table text key changes e =
-    ap length (new_changes (reservables table.columns) text.assigns changes (planned_changes_of table text key changes e)) ∙ length-map (reservables table.columns) (change_assigned text.assigns)
+plans_of_whole_row table text key changes e = as_many (reservables table.columns) text.assigns changes (planned_changes_of table text key changes e)
 
 -- a plan of new values has one that fits, or none, for each plain column
 pub plain_plans_fit : PlainPlansFit
 plain_plans_fit table text key values e = (new_ones (plains table.columns 0 table.key) text.assigns values (planned_values_of table text key values e)).1
 
--- a plan that isn't refused
-pub unrefused : (p : Result Plan Refusal) (Q : Refusal → Type 0) → None ≡ result_err p → IfErr p Q
-unrefused (Ok plan) Q e = tt
-unrefused (Err q) Q e = absurd (none-some q e)
+-- what the answer to an UPDATE says
+pub answer_plan : (planned answer : Result Plan Refusal) → IsAnswer planned answer → IfOk answer (λ plan. planned ≡ Ok plan)
+answer_plan planned (Ok plan) is = is
+answer_plan planned (Err e) is = tt
 
--- an UPDATE that can be planned names a key
-key_planned : (a b : Bool) (k : Result Value Refusal) (changes : Option (List (Option ℤ))) (values : Option (List (Option Value))) → IsOk (plan_by a b k changes values) → IsOk k
-key_planned a b (Ok key) changes values e = refl
-key_planned true b (Err r) changes values e = absurd (false≢true e)
-key_planned false true (Err r) changes values e = absurd (false≢true e)
-key_planned false false (Err r) changes values e = absurd (false≢true e)
+pub answer_refused : (planned answer : Result Plan Refusal) → IsAnswer planned answer → IfErr planned (λ e. answer ≡ Err e)
+answer_refused (Ok plan) answer is = tt
+answer_refused (Err q) (Ok plan) is = absurd (cc)
+answer_refused (Err q) (Err e) is = elim is [ inl same ↦ sym same | inr memory ↦ absurd (false≢true memory.1) ]
 
-pub planned_key : (table : TableDef) (text : UpdateText) → IsOk (planned table text) → IsSome (value_at (key_scale table) text.row.literal)
-planned_key table text can =
-    named_there table text.row
-    (key_planned (are_changes table.columns text.assigns) (are_replacements table text.assigns) (key_named table text.row) (changes_of table.columns text.assigns) (new_values table text.assigns) can)
+pub answer_only : (planned answer : Result Plan Refusal) → IsAnswer planned answer → IfErr answer (λ e. (planned ≡ Err e) ⊎ (e ≡ refusal.Memory))
+answer_only planned (Ok plan) is = tt
+answer_only planned (Err e) is = elim is [ inl same ↦ inl same | inr memory ↦ inr memory.0 ]
 
--- one whose assignments are changes has a plan of them
-changes_made : (b : Bool) (k : Result Value Refusal) (made : Option (List (Option ℤ))) (values : Option (List (Option Value))) (key : Value) (changes : List (Option ℤ))
-    → IsOk (plan_by true b k made values) → ((v : Value) → k ≡ Ok v → v ≡ key) → ((cs : List (Option ℤ)) → made ≡ Some cs → cs ≡ changes)
-    → plan_by true b k made values ≡ Ok (Reserve key changes)
-changes_made b (Ok v) None values key changes e same fit = absurd (false≢true e)
-changes_made b (Ok v) (Some cs) values key changes e same fit = ap₂ (λ (x : Value) (xs : List (Option ℤ)). Ok (Reserve x xs)) (same v refl) (fit cs refl)
-changes_made b (Err r) made values key changes e same fit = absurd (false≢true e)
+pub answer_memory : (table : TableDef) (text : UpdateText) (answer : Result Plan Refusal) → IsAnswer (planned table text) answer → IsErrOf answer refusal.Memory
+    → IsOk (planned table text)
+answer_memory table text (Ok plan) is memory = absurd (cc)
+answer_memory table text (Err e) is memory = elim is [ inl same ↦ absurd (never_memory table text (same ∙ memory)) | inr other ↦ other.1 ]
 
-pub planned_changes : (table : TableDef) (text : UpdateText) (key : Value) (changes : List (Option ℤ))
-    → are_changes table.columns text.assigns ≡ true → IsOk (planned table text) → key ≡ truncated_value (key_scale table) text.row.literal
-    → changes ≡ changes_assigned (reservables table.columns) text.assigns → planned table text ≡ Ok (Reserve key changes)
-planned_changes table text key changes e can same fit =
-    rw e (changes_made (are_replacements table text.assigns) (key_named table text.row) (changes_of table.columns text.assigns) (new_values table text.assigns) key changes
-    (rw e at can) (λ v at. named_key table text.row v at ∙ sym same)
-    (λ cs at. new_changes (reservables table.columns) text.assigns cs at ∙ sym fit))
+-- want of memory is answered where there is a plan
+pub memory_exit : (planned answer : Result Plan Refusal) → IsErrAnd answer (λ e. e ≡ refusal.Memory) → IsOk planned → IsAnswer planned answer
+memory_exit planned (Ok plan) is can = absurd is
+memory_exit planned (Err e) is can = inr (is, can)
 
--- and one whose assignments aren't has a plan of new values
-values_made : (b : Bool) (k : Result Value Refusal) (changes : Option (List (Option ℤ))) (made : Option (List (Option Value))) (key : Value) (values : List (Option Value))
-    → IsOk (plan_by false b k changes made) → ((v : Value) → k ≡ Ok v → v ≡ key) → ((vs : List (Option Value)) → made ≡ Some vs → vs ≡ values)
-    → plan_by false b k changes made ≡ Ok (Plain key values)
-values_made true (Ok v) changes None key values e same fit = absurd (false≢true e)
-values_made true (Ok v) changes (Some vs) key values e same fit = ap₂ (λ (x : Value) (xs : List (Option Value)). Ok (Plain x xs)) (same v refl) (fit vs refl)
-values_made true (Err r) changes made key values e same fit = absurd (false≢true e)
-values_made false k changes made key values e same fit = absurd (false≢true e)
+-- what is answered where the WHERE names no key
+key_first : (b : Bool) (why : Refusal) (k : Result Value Refusal) (changes : Option (List (Option ℤ))) (values : Option (List (Option Value)))
+    → Some why ≡ result_err k → plan_by true b k changes values ≡ Err why
+key_first b why (Ok v) changes values e = absurd (none-some why (sym e))
+key_first b why (Err q) changes values e = ap Err (same_Some q why (sym e))
 
-pub planned_values : (table : TableDef) (text : UpdateText) (key : Value) (values : List (Option Value))
-    → are_changes table.columns text.assigns ≡ false → IsOk (planned table text) → key ≡ truncated_value (key_scale table) text.row.literal
+pub changes_unkeyed : (table : TableDef) (text : UpdateText) (why : Refusal) → are_changes table.columns text.assigns ≡ true
+    → Some why ≡ result_err (key_named table text.row) → IsAnswer (planned table text) (Err why)
+changes_unkeyed table text why a e =
+    inl (rw a (key_first (are_replacements table text.assigns) why (key_named table text.row) (changes_of table.columns text.assigns) (new_values table text.assigns) e))
+
+key_first_of_values : (why : Refusal) (k : Result Value Refusal) (changes : Option (List (Option ℤ))) (values : Option (List (Option Value)))
+    → Some why ≡ result_err k → plan_by false true k changes values ≡ Err why
+key_first_of_values why (Ok v) changes values e = absurd (none-some why (sym e))
+key_first_of_values why (Err q) changes values e = ap Err (same_Some q why (sym e))
+
+pub values_unkeyed : (table : TableDef) (text : UpdateText) (why : Refusal) → are_changes table.columns text.assigns ≡ false → are_replacements table text.assigns ≡ true
+    → Some why ≡ result_err (key_named table text.row) → IsAnswer (planned table text) (Err why)
+values_unkeyed table text why a b e =
+    inl (rw (a, b) (key_first_of_values why (key_named table text.row) (changes_of table.columns text.assigns) (new_values table text.assigns) e))
+
+-- what is answered where it names one and the changes aren't made
+changes_faulty : (b : Bool) (why : Refusal) (key : Value) (changes : Option (List (Option ℤ))) (values : Option (List (Option Value)))
+    → ((why ≡ refusal.BadValue) × (changes ≡ None)) ⊎ ((why ≡ refusal.Memory) × IsSome changes) → IsAnswer (plan_by true b (Ok key) changes values) (Err why)
+changes_faulty b why key None values fault = elim fault [ inl bad ↦ inl (ap Err (sym bad.0)) | inr memory ↦ absurd (false≢true memory.1) ]
+changes_faulty b why key (Some cs) values fault = elim fault [ inl bad ↦ absurd (cc) | inr memory ↦ inr (memory.0, refl) ]
+
+pub changes_unmade : (table : TableDef) (text : UpdateText) (why : Refusal) → are_changes table.columns text.assigns ≡ true → None ≡ result_err (key_named table text.row)
+    → IsChangesFault table.columns text.assigns why → IsAnswer (planned table text) (Err why)
+changes_unmade table text why a named fault =
+    let key = not_refused (key_named table text.row) named in
+    rw (a, key.1) (changes_faulty (are_replacements table text.assigns) why key.0 (changes_of table.columns text.assigns) (new_values table text.assigns) fault)
+
+-- and where they are made
+pub changes_planned : (table : TableDef) (text : UpdateText) (key : Value) (changes : List (Option ℤ))
+    → are_changes table.columns text.assigns ≡ true → None ≡ result_err (key_named table text.row) → key ≡ truncated_value (key_scale table) text.row.literal
+    → changes_of table.columns text.assigns ≡ Some changes → planned table text ≡ Ok (Reserve key changes)
+changes_planned table text key changes a named same made =
+    let known = not_refused (key_named table text.row) named in
+    rw (a, known.1, made) (ap (λ (v : Value). Ok (Reserve v changes)) (named_key table text.row known.0 known.1 ∙ sym same))
+
+pub changes_want_memory : (table : TableDef) (text : UpdateText) (changes : List (Option ℤ)) → are_changes table.columns text.assigns ≡ true
+    → None ≡ result_err (key_named table text.row) → changes_of table.columns text.assigns ≡ Some changes → IsOk (planned table text)
+changes_want_memory table text changes a named made =
+    let known = not_refused (key_named table text.row) named in
+    rw (a, known.1, made) refl
+
+-- what is answered where a new value doesn't fit, and where all do
+pub values_bad : (table : TableDef) (text : UpdateText) → are_changes table.columns text.assigns ≡ false → are_replacements table text.assigns ≡ true
+    → None ≡ result_err (key_named table text.row) → is_some (new_values table text.assigns) ≡ false → planned table text ≡ Err refusal.BadValue
+values_bad table text a b named unfit =
+    let known = not_refused (key_named table text.row) named in
+    rw (a, b, known.1) (badly known.0 (new_values table text.assigns) unfit)
+  where
+    badly : (key : Value) (made : Option (List (Option Value))) → is_some made ≡ false → ok_or (option_map (λ vs. Plain key vs) made) refusal.BadValue ≡ Err refusal.BadValue
+    badly key None e = refl
+    badly key (Some vs) e = absurd (false≢true (sym e))
+
+pub values_want_memory : (table : TableDef) (text : UpdateText) → are_changes table.columns text.assigns ≡ false → are_replacements table text.assigns ≡ true
+    → None ≡ result_err (key_named table text.row) → is_some (new_values table text.assigns) ≡ true → IsOk (planned table text)
+values_want_memory table text a b named fit =
+    let known = not_refused (key_named table text.row) named in
+    rw (a, b, known.1) (well known.0 (new_values table text.assigns) fit)
+  where
+    well : (key : Value) (made : Option (List (Option Value))) → is_some made ≡ true → IsOk (ok_or (option_map (λ vs. Plain key vs) made) refusal.BadValue)
+    well key None e = absurd (false≢true e)
+    well key (Some vs) e = refl
+
+pub values_planned : (table : TableDef) (text : UpdateText) (key : Value) (values : List (Option Value))
+    → are_changes table.columns text.assigns ≡ false → are_replacements table text.assigns ≡ true → None ≡ result_err (key_named table text.row)
+    → is_some (new_values table text.assigns) ≡ true → key ≡ truncated_value (key_scale table) text.row.literal
     → values ≡ values_assigned (plains table.columns 0 table.key) text.assigns → planned table text ≡ Ok (Plain key values)
-planned_values table text key values e can same fit =
-    rw e (values_made (are_replacements table text.assigns) (key_named table text.row) (changes_of table.columns text.assigns) (new_values table text.assigns) key values
-    (rw e at can) (λ v at. named_key table text.row v at ∙ sym same)
-    (λ vs at. (new_ones (plains table.columns 0 table.key) text.assigns vs at).0 ∙ sym fit))
+values_planned table text key values a b named fit same are =
+    let known = not_refused (key_named table text.row) named in
+    let made = some_made (new_values table text.assigns) fit in
+    rw (a, b, known.1, made.1)
+    (ap₂ (λ (v : Value) (vs : List (Option Value)). Ok (Plain v vs)) (named_key table text.row known.0 known.1 ∙ sym same)
+    ((new_ones (plains table.columns 0 table.key) text.assigns made.0 made.1).0 ∙ sym are))
+  where
+    some_made : (made : Option (List (Option Value))) → is_some made ≡ true → (vs : List (Option Value)) × (made ≡ Some vs)
+    some_made None e = absurd (false≢true e)
+    some_made (Some vs) e = (vs, refl)

@@ -1,11 +1,13 @@
--- Helps: what private contracts say of assignments. Nothing that callers see rests on it.
-use Rattle.std.specs.Prelude.{ℤ, Option, option_and_then, List, map}
-use Rattle.escrow_num.specs.Decimal.{units_at}
+-- Helps: what private contracts say of assignments and plans. Nothing that callers see rests on it.
+use Rattle.std.specs.Prelude.{◌≡◌, ◌⊎◌, Option, None, IsSome, option_and_then, Result, Ok, Err, IsOk, List, map}
+use Rattle.escrow_num.specs.declared.refusal.Refusal.{Refusal}
+use Rattle.escrow_num.specs.declared.refusal.Refusal.TheVariants as refusal
 use Rattle.escrow_num.specs.declared.value.Value.{Value}
 use Rattle.escrow_sql.specs.declared.statement.Assign.{Assign}
 use Rattle.escrow_schema.specs.declared.column.Column.{Column}
+use Rattle.escrow_schema.specs.declared.plan.Plan.{Plan}
 use Rattle.escrow_schema.specs.Column.{scale_of, value_at}
-use Rattle.escrow_schema.specs.Plan.{assigned_to, change_in, literal_in}
+use Rattle.escrow_schema.specs.Plan.{assigned_to, changes_of, literal_in}
 
 -- the value that is assigned to a column, if a literal is that is one at its scale, whether the value
 -- fits the column's type or not
@@ -16,11 +18,12 @@ value_assigned assigns column = option_and_then (value_at (scale_of column.kind)
 abbrev pub values_assigned : List Column → List Assign → List (Option Value)
 values_assigned columns assigns = map (value_assigned assigns) columns
 
--- the change that is assigned to a column, in units of its scale, if one is that is a whole number of
--- them and an amount
-abbrev pub change_assigned : List Assign → Column → Option ℤ
-change_assigned assigns column = option_and_then (units_at (scale_of column.kind)) (option_and_then change_in (assigned_to assigns column.name))
+-- what is answered where something is planned: the plan, or why there is none, or want of memory where there is one
+abbrev pub IsAnswer : Result Plan Refusal → Result Plan Refusal → Type 0
+IsAnswer planned (Ok plan) = planned ≡ Ok plan
+IsAnswer planned (Err e) = (planned ≡ Err e) ⊎ ((e ≡ refusal.Memory) × IsOk planned)
 
--- the change, or none, that is assigned to each of some columns
-abbrev pub changes_assigned : List Column → List Assign → List (Option ℤ)
-changes_assigned columns assigns = map (change_assigned assigns) columns
+-- why changes aren't made: one is bad, or none is and memory is wanted
+abbrev pub IsChangesFault : List Column → List Assign → Refusal → Type 0
+IsChangesFault columns assigns e =
+    ((e ≡ refusal.BadValue) × (changes_of columns assigns ≡ None)) ⊎ ((e ≡ refusal.Memory) × IsSome (changes_of columns assigns))

@@ -114,7 +114,10 @@ impl ColumnType {
         ensures { result ≡ fits self.now (value.Number number) }
     {
         match self {
-            ColumnType::Number { .. } => -self.top() <= number.get() && number.get() <= self.top(),
+            ColumnType::Number { .. } => {
+                let top = self.top();
+                -top <= number.get() && number.get() <= top
+            }
             ColumnType::Varchar2 { .. } => false,
         }
     }

@@ -38,8 +38,11 @@ pub fn truncated_value(alloc: Global, scale: Scale, literal: &Literal) -> Result
     requires { IsSome (value_at scale literal.now) }
     ensures { IfOk result (λ v. v ≡ truncated_value scale literal.now) }
 {
-    match value_at(alloc, scale, literal)? {
-        Some(value) => Ok(value),
-        None => unreachable!(),
+    match literal {
+        Literal::Number(number) => match number.at_scale(scale.get()) {
+            Some(units) => Ok(Value::Number(units)),
+            None => unreachable!(),
+        },
+        Literal::Text(text) => Ok(Value::Text(text.copy(alloc)?)),
     }
 }

@@ -1,9 +1,8 @@
 //! What an UPDATE asks of a row: changes of RESERVABLE columns, or new values of plain ones.
-ghost use Rattle.std.specs.Prelude.{◌≡◌, ◌⊎◌, [], ◌∷◌, Ok, Err, IfOk, IfErr, IsErrOf, IsOk, not};
-ghost use Rattle.std.specs.Result.{result_err};
-ghost use Rattle.escrow_num.specs.Refusal.{first_refusal, refuse_if};
+ghost use Rattle.std.specs.Prelude.{◌≡◌, ◌⊎◌, Ok, Err, IfOk, IfErr, IsErrOf, IsOk, false, true};
+ghost use Rattle.escrow_schema.specs.Assigned.{IsAnswer};
 ghost use Rattle.escrow_schema.specs.Definition.{IsTable};
-ghost use Rattle.escrow_schema.specs.Plan.{key_named, planned};
+ghost use Rattle.escrow_schema.specs.Plan.{are_changes, are_replacements, planned};
 
 mod assigned;
 mod changes;
@@ -12,10 +11,10 @@ mod values;
 use crate::key::check_key;
 use crate::literal::truncated_value;
 use crate::table::TableDef;
-use changes::{are_changes, are_whole, changes_of};
+use changes::{are_changes, whole_changes};
 use escrow_num::{Changes, Refusal, Seq, Value};
-use escrow_sql::{UpdateText, WhereText};
-use std::alloc::{AllocError, Global};
+use escrow_sql::UpdateText;
+use std::alloc::Global;
 use values::{all_fit, are_replacements, new_values};
 
 /// What an UPDATE asks of a row.
@@ -49,53 +48,42 @@ pub fn plan_update(alloc: Global, table: &TableDef, text: &UpdateText) -> Result
     ensures only { IfErr result (λ e. (planned table.now text.now ≡ Err e) ⊎ (e ≡ Refusal.Memory)) }
     ensures memory { IsErrOf result Refusal.Memory → IsOk (planned table.now text.now) }
 {
-    check_update(table, text)?;
-    Ok(make_plan(alloc, table, text)?)
+    let assigns = text.assigns.as_slice();
+    if are_changes(table.columns.as_slice(), assigns) {
+        return plan_changes(alloc, table, text);
+    }
+    if are_replacements(table, assigns) {
+        return plan_values(alloc, table, text);
+    }
+    Err(Refusal::BadAssignment)
 }
 
-/// Why an UPDATE can't be planned, if it can't. Takes no memory.
-fn check_update(table: &TableDef, text: &UpdateText) -> Result<(), Refusal>
-    requires { IsTable table.now }
-    ensures { result_err result ≡ result_err (planned table.now text.now) }
+/// The plan of an UPDATE whose assignments change RESERVABLE columns, or why it has none.
+fn plan_changes(alloc: Global, table: &TableDef, text: &UpdateText) -> Result<Plan, Refusal>
+    requires table { IsTable table.now }
+    requires changes { are_changes table.now.columns text.now.assigns ≡ true }
+    ensures { IsAnswer (planned table.now text.now) result }
+{
+    check_key(table, &text.row)?;
+    let changes = whole_changes(alloc, table.columns.as_slice(), text.assigns.as_slice())?;
+    let key = truncated_value(alloc, table.key_scale(), &text.row.literal)?;
+    Ok(Plan::Reserve { key, changes })
+}
+
+/// The plan of an UPDATE whose assignments replace plain values, or why it has none.
+fn plan_values(alloc: Global, table: &TableDef, text: &UpdateText) -> Result<Plan, Refusal>
+    requires table { IsTable table.now }
+    requires values { are_changes table.now.columns text.now.assigns ≡ false }
+    requires replace { are_replacements table.now text.now.assigns ≡ true }
+    ensures { IsAnswer (planned table.now text.now) result }
 {
     let columns = table.typed_columns();
     let assigns = text.assigns.as_slice();
-    if are_changes(columns, assigns) {
-        return check_row(table, &text.row, are_whole(columns, assigns));
-    }
-    if !are_replacements(table, assigns) {
-        return Err(Refusal::BadAssignment);
-    }
-    check_row(table, &text.row, all_fit(columns, table.key, assigns))
-}
-
-/// Why an UPDATE whose assignments are of one kind can't be planned, if it can't: its WHERE, and then
-/// that not every number and text that it assigns is good.
-fn check_row(table: &TableDef, row: &WhereText, are_good: bool) -> Result<(), Refusal>
-    requires { IsTable table.now }
-    ensures { result_err result ≡ first_refusal (result_err (key_named table.now row.now) ∷ refuse_if (not are_good) Refusal.BadValue ∷ []) }
-{
-    check_key(table, row)?;
-    if !are_good {
+    check_key(table, &text.row)?;
+    if !all_fit(columns, table.key, assigns) {
         return Err(Refusal::BadValue);
     }
-    Ok(())
-}
-
-/// The plan of an UPDATE that can be planned.
-fn make_plan(alloc: Global, table: &TableDef, text: &UpdateText) -> Result<Plan, AllocError>
-    requires table { IsTable table.now }
-    requires planned { IsOk (planned table.now text.now) }
-    ensures { IfOk result (λ plan. planned table.now text.now ≡ Ok plan) }
-{
-    let columns = table.columns.as_slice();
-    let assigns = text.assigns.as_slice();
     let key = truncated_value(alloc, table.key_scale(), &text.row.literal)?;
-    if are_changes(columns, assigns) {
-        let changes = changes_of(alloc, columns, assigns)?;
-        Ok(Plan::Reserve { key, changes })
-    } else {
-        let values = Seq::from_vec(new_values(alloc, columns, table.key, assigns)?);
-        Ok(Plan::Plain { key, values })
-    }
+    let values = Seq::from_vec(new_values(alloc, columns, table.key, assigns)?);
+    Ok(Plan::Plain { key, values })
 }

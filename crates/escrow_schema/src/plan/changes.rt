@@ -1,14 +1,14 @@
 //! Changes of RESERVABLE columns.
-ghost use Rattle.std.specs.Prelude.{◌≡◌, ◌&&◌, IfOk, bytes_eq, is_some};
+ghost use Rattle.std.specs.Prelude.{◌≡◌, ◌&&◌, IfErr, IfOk, Some, bytes_eq, is_some};
 ghost use Rattle.std.specs.List.{list_any, list_all};
 ghost use Rattle.std.specs.Option.{option_and_then};
-ghost use Rattle.escrow_schema.specs.Assigned.{change_assigned, changes_assigned};
-ghost use Rattle.escrow_schema.specs.Column.{reservables, scale_of};
+ghost use Rattle.escrow_schema.specs.Assigned.{IsChangesFault};
+ghost use Rattle.escrow_schema.specs.Column.{scale_of};
 ghost use Rattle.escrow_schema.specs.Plan.{are_changes, assigned_to, change_at, change_in, changes_of, is_change, is_itself};
 
 use super::assigned::{are_apart, change_to};
 use crate::column::Column;
-use escrow_num::{Amount, Changes, Name};
+use escrow_num::{Amount, Changes, Name, Refusal};
 use escrow_sql::{Assign, Assigned};
 use std::alloc::{AllocError, Global};
 
@@ -52,52 +52,66 @@ fn is_itself(column: Name, value: &Assigned) -> bool
     }
 }
 
+/// The change of each RESERVABLE column, in units of its scale and in column order: `None` where it
+/// isn't assigned. A bad value where one isn't a whole number of units, or these are no amount; want
+/// of memory only where none is.
+pub(crate) fn whole_changes(
+    alloc: Global,
+    columns: &[Column],
+    assigns: &[Assign],
+) -> Result<Changes, Refusal>
+    ensures made { IfOk result (λ changes. changes_of columns.now assigns.now ≡ Some changes) }
+    ensures refused { IfErr result (IsChangesFault columns.now assigns.now) }
+{
+    match changes_of(alloc, columns, assigns) {
+        Ok(Some(changes)) => Ok(changes),
+        Ok(None) => Err(Refusal::BadValue),
+        Err(_) if are_whole(columns, assigns) => Err(Refusal::Memory),
+        Err(_) => Err(Refusal::BadValue),
+    }
+}
+
+/// The change of each RESERVABLE column, or `None` where one isn't a whole number of its column's
+/// units, or these are no amount.
+fn changes_of(
+    alloc: Global,
+    columns: &[Column],
+    assigns: &[Assign],
+) -> Result<Option<Changes>, AllocError>
+    ensures { IfOk result (λ changes. changes ≡ changes_of columns.now assigns.now) }
+{
+    let mut changes = Changes::new(alloc);
+    for column in columns {
+        if column.reservable {
+            let Some(change) = change_of(column, assigns) else {
+                return Ok(None);
+            };
+            changes.push(change)?;
+        }
+    }
+    Ok(Some(changes))
+}
+
 /// Whether each change that is assigned to a RESERVABLE column is a whole number of the column's
-/// units, and these are an amount.
-pub(crate) fn are_whole(columns: &[Column], assigns: &[Assign]) -> bool
+/// units, and these are an amount. Takes no memory.
+fn are_whole(columns: &[Column], assigns: &[Assign]) -> bool
     ensures { result ≡ is_some (changes_of columns.now assigns.now) }
 {
     for column in columns {
-        if column.reservable && !is_whole(column, assigns) {
+        if column.reservable && change_of(column, assigns).is_none() {
             return false;
         }
     }
     true
 }
 
-/// Whether the change that is assigned to a column, if one is, is a whole number of its units, and
-/// these are an amount.
-fn is_whole(column: &Column, assigns: &[Assign]) -> bool
-    ensures { result ≡ is_some (change_at (scale_of column.now.kind) (option_and_then change_in (assigned_to assigns.now column.now.name))) }
+/// The change of a column, in units of its scale: `Some(None)` where none is assigned to it, and
+/// `None` where that isn't a whole number of units, or these are no amount.
+fn change_of(column: &Column, assigns: &[Assign]) -> Option<Option<Amount>>
+    ensures { result ≡ change_at (scale_of column.now.kind) (option_and_then change_in (assigned_to assigns.now column.now.name)) }
 {
     match change_to(assigns, column.name) {
-        Some(change) => change.at_scale(column.scale().get()).is_some(),
-        None => true,
+        Some(change) => Some(Some(change.at_scale(column.scale().get())?)),
+        None => Some(None),
     }
-}
-
-/// The change of each RESERVABLE column, in units of its scale and in column order: `None` where it
-/// isn't assigned.
-pub(crate) fn changes_of(
-    alloc: Global,
-    columns: &[Column],
-    assigns: &[Assign],
-) -> Result<Changes, AllocError>
-    ensures { IfOk result (λ changes. changes ≡ changes_assigned (reservables columns.now) assigns.now) }
-{
-    let mut changes = Changes::new(alloc);
-    for column in columns {
-        if column.reservable {
-            changes.push(change_of(column, assigns))?;
-        }
-    }
-    Ok(changes)
-}
-
-/// The change that is assigned to a column, in units of its scale: `None` where none is, or it isn't
-/// a whole number of them.
-fn change_of(column: &Column, assigns: &[Assign]) -> Option<Amount>
-    ensures { result ≡ change_assigned assigns.now column.now }
-{
-    change_to(assigns, column.name)?.at_scale(column.scale().get())
 }

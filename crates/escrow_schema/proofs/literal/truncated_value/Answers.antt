@@ -1,6 +1,12 @@
-use Rattle.std.proofs.Common.{◌∙◌, sym}
+use Rattle.std.proofs.Common.{ℕ, ap, ◌∙◌, sym}
+use Rattle.std.specs.Prelude.{option_map}
+use Rattle.escrow_num.specs.Decimal.{units_at}
+use Rattle.escrow_num.specs.declared.value.Value.TheVariants as value
+use Rattle.escrow_schema.specs.Column.{value_at}
 use Rattle.escrow_schema.proofs.KeyValues.{value_exact}
 use Rattle.escrow_schema.proofs.literal.truncated_value.Goals as goal
 
-pub returns : goal.returns
-returns c = value_exact c.args.scale c.args.literal.now c.in-Some.value (sym c.in_ok-value.ensures ∙ c.in-Some.is)
+pub returns-in-Some : goal.returns-in-Some
+returns-in-Some c =
+    let units = ap (λ (s : ℕ). units_at s c.in-Number.number) (sym c.get.ensures.value) ∙ (sym c.at_scale.ensures ∙ c.in-Some.is) in
+    value_exact c.args.scale c.args.literal.now (value.Number c.in-Some.units) (ap (value_at c.args.scale) c.in-Number.is ∙ ap (option_map value.Number) units)
