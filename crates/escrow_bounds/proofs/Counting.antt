@@ -28,7 +28,7 @@ any_has {X} test (y ∷ ys) is =
     let later = any_has test ys (subst (λ (b : Bool). (b || list_any test ys) ≡ true) fails is) in
     (later.0, inr later.1, later.2))
 
-has_any : {X : Type 0} (test : X → Bool) (xs : List X) (x : X) → Has xs x → test x ≡ true → list_any test xs ≡ true
+pub has_any : {X : Type 0} (test : X → Bool) (xs : List X) (x : X) → Has xs x → test x ≡ true → list_any test xs ≡ true
 has_any test [] x has passes = absurd has
 has_any test (y ∷ ys) x (inl is) passes = or_left (test y) (list_any test ys) (ap test is ∙ passes)
 has_any test (y ∷ ys) x (inr has) passes = or_right (test y) (list_any test ys) (has_any test ys x has passes)

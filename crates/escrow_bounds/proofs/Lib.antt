@@ -1,5 +1,7 @@
+pub mod Altering
 pub mod Counting
 pub mod Ending
+pub mod Filling
 pub mod Forms
 pub mod Kept
 pub mod LawLemmas

@@ -1,5 +1,5 @@
 -- Believed: the statements of the laws in src/laws.rt.
-use Rattle.std.specs.Prelude.{◌≡◌, ℤ, Bool, true, false, not, Some, None, IsSome, List, [], ◌∷◌, ◌++◌, map, filter}
+use Rattle.std.specs.Prelude.{◌≡◌, ℕ, ℤ, Bool, true, false, not, Some, None, IsSome, List, [], ◌∷◌, ◌++◌, map, filter}
 use Rattle.std.specs.List.{AllByRecursion}
 use Rattle.escrow_num.specs.declared.reservation.Reservation.{Reservation}
 use Rattle.escrow_num.specs.declared.session.End.{End}
@@ -9,8 +9,9 @@ use Rattle.escrow_checks.specs.declared.check.Check.{Check}
 use Rattle.escrow_checks.specs.Extremes.{least, greatest}
 use Rattle.escrow_checks.specs.Form.{IsCovered}
 use Rattle.escrow_checks.specs.Grant.{broken}
+use Rattle.escrow_bounds.specs.Altered.{TableGoes, IsOver, IsWithout, ArePrepared, Adopts}
 use Rattle.escrow_bounds.specs.Counts.{is_counting, IsNew, TakesIn, GivesBack}
-use Rattle.escrow_bounds.specs.Held.{of_row, CountsAll}
+use Rattle.escrow_bounds.specs.Held.{of_row, CountsAll, AllCount}
 use Rattle.escrow_bounds.specs.Kept.{Kept}
 use Rattle.escrow_bounds.specs.Places.{Places, place_at, OthersStay, Becomes}
 
@@ -64,6 +65,22 @@ ReleaseCounts =
     → (is_counting (place_at old row) ≡ false → place_at new row ≡ None)
     → (is_counting (place_at old row) ≡ true → new ≡ old)
     → OthersStay row old new → CountsAll new held
+
+-- ---- a table's checks are altered
+
+-- `adopt` leaves what is counted, and so does the addition: after it the table's places are over its checks
+abbrev pub AdoptCounts : Type 0
+AdoptCounts =
+    (table : List ℕ) (checks : List Check) (held : List Reservation) (old addition new : Places) → CountsAll old held → AllCount old
+    → ArePrepared table checks held old addition → Adopts addition old new
+    → CountsAll new held × AllCount new × TableGoes table (λ row. IsOver checks (of_row row held)) old new
+
+-- `drop_check` leaves what is counted
+abbrev pub DropCheckCounts : Type 0
+DropCheckCounts =
+    (table : List ℕ) (index : ℕ) (held : List Reservation) (old new : Places) → CountsAll old held → AllCount old
+    → TableGoes table (λ row. IsWithout index) old new
+    → CountsAll new held × AllCount new
 
 -- ---- the order in which reservations are counted
 

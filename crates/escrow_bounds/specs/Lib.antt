@@ -1,6 +1,8 @@
+pub mod Altered
 pub mod Columns
 pub mod Counts
 pub mod Ended
+pub mod Filling
 pub mod Held
 pub mod Inside
 pub mod Kept

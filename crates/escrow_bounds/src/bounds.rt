@@ -14,8 +14,12 @@ ghost use Rattle.escrow_bounds.specs.Kept.{Kept, checks_of};
 ghost use Rattle.escrow_bounds.specs.Places.{place_at, OthersStay, Becomes};
 ghost use Rattle.escrow_bounds.specs.declared.tracked.Tracked.{Tracked};
 
+mod addition;
+mod altered;
+
 use crate::changes::deltas;
 use crate::place::Place;
+pub use addition::Addition;
 use escrow_checks::Check;
 use escrow_num::{Amount, Breach, End, Name, Reservation, RowName, Wide};
 use indexmap::IndexMap;
@@ -25,7 +29,8 @@ use std::marker::Model;
 /// Places of rows, each with the row's committed amounts, the number of its open reservations, and
 /// their worst-case sums under each check and each RESERVABLE column: sums and a number, no list.
 /// A place counts a list of reservations, in any order, where its sums and its number are theirs.
-/// A row without an open reservation needs no place. Only [`Bounds::reserve`] takes memory.
+/// A row without an open reservation needs no place. Only [`Bounds::reserve`] and
+/// [`Bounds::prepare`] take memory.
 #[derive(Debug)]
 pub struct Bounds {
     places: IndexMap<RowName, Place>,

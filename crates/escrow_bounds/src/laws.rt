@@ -2,7 +2,7 @@
 //! Those on calls speak by the clauses that the calls promise, so that whatever list of calls is made,
 //! each place counts just the open reservations of its row.
 
-ghost use Rattle.escrow_bounds.specs.Laws.{SameGrantRule, SameExtremes, NothingCounts, ReserveCounts, AddCounts, RemoveCounts, ReleaseCounts, PartsCount};
+ghost use Rattle.escrow_bounds.specs.Laws.{SameGrantRule, SameExtremes, NothingCounts, ReserveCounts, AddCounts, RemoveCounts, ReleaseCounts, AdoptCounts, DropCheckCounts, PartsCount};
 
 /// The grant rule over all open reservations is that over those of the row, which its place counts.
 pub fn same_grant_rule()
@@ -37,6 +37,16 @@ pub fn remove_counts()
 /// `Bounds::release` leaves what is counted.
 pub fn release_counts()
     ensures { ReleaseCounts }
+{}
+
+/// `Bounds::adopt` leaves what is counted, over the checks that `Bounds::prepare` was given.
+pub fn adopt_counts()
+    ensures { AdoptCounts }
+{}
+
+/// `Bounds::drop_check` leaves what is counted.
+pub fn drop_check_counts()
+    ensures { DropCheckCounts }
 {}
 
 /// The order in which reservations are counted doesn't matter: those that pass a test may come

@@ -11,6 +11,6 @@ pub mod laws;
 mod place;
 mod tracked;
 
-pub use bounds::Bounds;
+pub use bounds::{Addition, Bounds};
 pub use changes::deltas;
 pub use place::commit_amounts;

@@ -1,10 +1,11 @@
-ghost use Rattle.std.specs.Prelude.{◌≡◌, ℤ, List, [], ◌∷◌, ◌++◌, ◌<◌, ◌≤◌, IfOk, OnOk, Some, length, pos, slice_get, slice_index_or};
+ghost use Rattle.std.specs.Prelude.{◌≡◌, ℤ, List, [], ◌∷◌, ◌++◌, ◌+◌, ◌<◌, ◌≤◌, IfOk, OnOk, Some, length, take, drop, pos, slice_get, slice_index_or};
 ghost use Rattle.std.specs.List.{AllByRecursion};
 ghost use Rattle.escrow_checks.specs.Extremes.{least, greatest};
 ghost use Rattle.escrow_checks.specs.Form.{IsCovered};
 ghost use Rattle.escrow_checks.specs.Grant.{broken};
 ghost use Rattle.escrow_checks.specs.declared.coefficients.TheConstants.Coefficients.{MAX_LEN};
 ghost use Rattle.escrow_checks.specs.declared.spread.TheConstants.Spread.{MAX_OPEN};
+ghost use Rattle.escrow_bounds.specs.Altered.{IsWithout};
 ghost use Rattle.escrow_bounds.specs.Columns.{unit_form, column_check, column_checks};
 ghost use Rattle.escrow_bounds.specs.Counts.{HaveSums, Counts, IsNew, TakesIn, GivesBack};
 ghost use Rattle.escrow_bounds.specs.Held.{of_row};
@@ -112,6 +113,25 @@ impl Place {
             → result ≡ broken (checks_of self.now.checks) self.now.amounts changes.now reservations }
     {
         first_breach(&self.checks, &self.amounts, changes)
+    }
+
+    /// What the reservations that are counted could break of the first check that they can break,
+    /// among some that stand one behind another, or `None`.
+    pub(crate) fn breach(&self, first: usize, count: usize) -> Option<Breach>
+        requires { first + count ≤ length self.now.checks }
+        ensures { (reservations : List (List ℤ)) → Counts self.now reservations
+            → result ≡ broken (take count (drop first (checks_of self.now.checks))) self.now.amounts [] reservations }
+    {
+        first_breach(&self.checks[first..first + count], &self.amounts, &[])
+    }
+
+    /// Takes out the check at an index. Where there is none, all stays.
+    pub(crate) fn drop_check(&mut self, index: usize)
+        ensures { IsWithout index self.old self.new }
+    {
+        if index < self.checks.len() {
+            self.checks.remove(index);
+        }
     }
 
     /// Counts one more reservation.

@@ -25,10 +25,11 @@ use Rattle.escrow_checks.specs.declared.condition.TheConstants.{MAX_CHECKS}
 use Rattle.escrow_checks.specs.Form.{form}
 use Rattle.escrow_checks.specs.Grant.{Meets}
 use Rattle.escrow_checks.specs.Condition.{total, sum_at, Compares, Passes, MeetsCondition}
-use Rattle.escrow_checks.specs.Checks.{coefficient_of, right_of, number_in, is_whole, units_in, span_of, limits_of, has_whole_limits, condition_limits, names_columns, are_good_coefficients, is_good_span, has_good_limits, check_name, check_of, checks_of_conditions, checks_from, checks_of}
+use Rattle.escrow_checks.specs.Checks.{coefficient_of, right_of, number_in, is_whole, units_in, span_of, limits_of, has_whole_limits, condition_limits, names_columns, are_good_coefficients, is_good_span, has_good_limits, check_name, check_of, checks_of_conditions, checks_from, checks_behind, checks_of}
 use Rattle.escrow_checks.specs.DeclaredCheck.{IsDeclared}
 use Rattle.escrow_checks.specs.WrittenName.{is_written_name}
 use Rattle.escrow_checks.specs.Meaning.{MeanTheSame}
+use Rattle.escrow_checks.specs.Laws.{StandBehind}
 use Rattle.escrow_checks.specs.Scales.{AreScales, form_scale, in_millionths, scaled_coeffs, written_coeffs}
 use Rattle.escrow_checks.proofs.LinearLemmas.{condition-form}
 use Rattle.escrow_checks.proofs.Quotients.{Ordered, made_up, ordered}
@@ -229,16 +230,24 @@ each_from columns scales P each (text ∷ texts) n checks e =
       All-append P parts.0 parts.1 first.1 rest.1,
     )
 
--- what is within the number of checks
+-- what stands behind declared checks is within the number of checks
+pub within_behind : (columns : List (List ℕ)) (scales : List ℕ) (declared : List Check) (texts : List CheckText) (checks : List Check) → checks_behind columns scales declared texts ≡ Some checks
+    → (more : List Check) × (checks_from columns scales texts (length declared + 1) ≡ Some more) × (declared ++ more ≡ checks) × (length checks ≤ MAX_CHECKS)
+within_behind columns scales declared texts checks e = go (checks_from columns scales texts (length declared + 1)) e
+  where
+    go : (o : Option (List Check)) → option_and_then (λ more. cond (nat_le (length (declared ++ more)) MAX_CHECKS) (Some (declared ++ more)) None) o ≡ Some checks
+        → (more : List Check) × (o ≡ Some more) × (declared ++ more ≡ checks) × (length checks ≤ MAX_CHECKS)
+    go None e = absurd cc
+    go (Some more) e =
+        let known = cond_some (nat_le (length (declared ++ more)) MAX_CHECKS) (declared ++ more) checks e in
+        (more, refl, known.1, subst (λ (cs : List Check). length cs ≤ MAX_CHECKS) known.1 (grind (arith, nat_tests, known.0)))
+
+-- and so is what stands behind none
 pub within_most : (columns : List (List ℕ)) (scales : List ℕ) (texts : List CheckText) (checks : List Check) → checks_of columns scales texts ≡ Some checks
     → (length checks ≤ MAX_CHECKS) × (checks_from columns scales texts 1 ≡ Some checks)
-within_most columns scales texts checks e = go (checks_from columns scales texts 1) e
-  where
-    go : (o : Option (List Check)) → option_and_then (λ all. cond (nat_le (length all) MAX_CHECKS) (Some all) None) o ≡ Some checks → (length checks ≤ MAX_CHECKS) × (o ≡ Some checks)
-    go None e = absurd cc
-    go (Some all) e =
-        let known = cond_some (nat_le (length all) MAX_CHECKS) all checks e in
-        (subst (λ (cs : List Check). length cs ≤ MAX_CHECKS) known.1 (grind (arith, nat_tests, known.0)), ap (λ (cs : List Check). Some cs) known.1)
+within_most columns scales texts checks e =
+    let known = within_behind columns scales [] texts checks e in
+    (known.3, known.1 ∙ ap (λ (cs : List Check). Some cs) known.2)
 
 pub checks_whole : (columns : List (List ℕ)) (scales : List ℕ) (texts : List CheckText) (checks : List Check) → checks_of columns scales texts ≡ Some checks
     → (length checks ≡ length (flat_map (λ text. text.conditions) texts)) × (length checks ≤ MAX_CHECKS) × All (λ check. length check.coeffs ≡ length columns) checks
@@ -306,8 +315,26 @@ texts_mean columns scales P Q one (text ∷ texts) n checks e =
       λ h. All-append P first more (these.1 (All-head (InText Q) text texts h)) (others.1 (All-tail (InText Q) text texts h)),
     )
 
-pub mean_the_same : (columns : List (List ℕ)) (scales : List ℕ) (texts : List CheckText) (checks : List Check) → checks_of columns scales texts ≡ Some checks → MeanTheSame columns scales texts checks
-mean_the_same columns scales texts checks given = λ distinct are amounts same.
+mean_from : (columns : List (List ℕ)) (scales : List ℕ) (texts : List CheckText) (n : ℕ) (checks : List Check) → checks_from columns scales texts n ≡ Some checks → MeanTheSame columns scales texts checks
+mean_from columns scales texts n checks given = λ distinct are amounts same.
     texts_mean columns scales (λ check. Meets check amounts) (MeetsCondition columns (in_millionths scales amounts))
     (λ name condition check e. check_means columns scales amounts name condition check distinct are e)
-    texts 1 checks (within_most columns scales texts checks given).1
+    texts n checks given
+
+pub mean_the_same : (columns : List (List ℕ)) (scales : List ℕ) (texts : List CheckText) (checks : List Check) → checks_of columns scales texts ≡ Some checks → MeanTheSame columns scales texts checks
+mean_the_same columns scales texts checks given = mean_from columns scales texts 1 checks (within_most columns scales texts checks given).1
+
+-- what CHECKs add behind declared checks
+pub stand_behind : (columns : List (List ℕ)) (scales : List ℕ) (declared : List Check) (texts : List CheckText) (checks : List Check) → checks_behind columns scales declared texts ≡ Some checks
+    → StandBehind columns scales declared texts checks
+stand_behind columns scales declared texts checks e =
+    let known = within_behind columns scales declared texts checks e in
+    let each = each_from columns scales (λ check. IsDeclared columns scales check) (check_declared columns scales) texts (length declared + 1) known.0 known.1 in
+    record {
+      more = known.0;
+      behind = sym known.2;
+      few = known.3;
+      whole = each.0;
+      good = each.1;
+      means = mean_from columns scales texts (length declared + 1) known.0 known.1;
+    }

@@ -7,7 +7,7 @@ use Rattle.escrow_sql.specs.declared.statement.CheckText.{CheckText}
 use Rattle.escrow_sql.specs.declared.statement.Condition.{Condition}
 use Rattle.escrow_checks.specs.declared.check.Check.{Check}
 use Rattle.escrow_checks.specs.declared.condition.TheConstants.{MAX_CHECKS}
-use Rattle.escrow_checks.specs.Checks.{check_name, check_of, checks_of_conditions, checks_from, checks_of}
+use Rattle.escrow_checks.specs.Checks.{check_name, check_of, checks_of_conditions, checks_from, checks_behind}
 use Rattle.escrow_checks.specs.Found.{followed_by, found, few}
 
 -- ---- condition by condition
@@ -129,20 +129,36 @@ text_more columns scales texts i text checks after within is step counted =
     ∙ step (checks_from columns scales (drop (i + 1) texts) (length checks + 1 + length text.conditions))
     ∙ ap (λ n. followed_by after (checks_from columns scales (drop (i + 1) texts) n)) place
 
-pub text_none : (columns : List (List ℕ)) (scales : List ℕ) (texts : List CheckText) (i : ℕ) (text : CheckText) (checks : List Check) → i < length texts → text ≡ get_or texts i text
-    → checks_from columns scales texts 1 ≡ followed_by checks (from_text columns scales texts i checks)
+-- what stands behind declared checks, those of the CHECKs in front of a place being found
+abbrev pub IsFound : List (List ℕ) → List ℕ → List Check → List CheckText → ℕ → List Check → Type 0
+IsFound columns scales declared texts i checks =
+    followed_by declared (checks_from columns scales texts (length declared + 1)) ≡ followed_by checks (from_text columns scales texts i checks)
+
+-- what stands behind declared checks is found behind them, where it isn't too much
+behind_few : (columns : List (List ℕ)) (scales : List ℕ) (declared : List Check) (texts : List CheckText)
+    → checks_behind columns scales declared texts ≡ few (followed_by declared (checks_from columns scales texts (length declared + 1)))
+behind_few columns scales declared texts = go (checks_from columns scales texts (length declared + 1))
+  where
+    go : (o : Option (List Check))
+        → option_and_then (λ more. cond (nat_le (length (declared ++ more)) MAX_CHECKS) (Some (declared ++ more)) None) o ≡ few (followed_by declared o)
+    go None = refl
+    go (Some more) = refl
+
+pub text_none : (columns : List (List ℕ)) (scales : List ℕ) (declared : List Check) (texts : List CheckText) (i : ℕ) (text : CheckText) (checks : List Check) → i < length texts → text ≡ get_or texts i text
+    → IsFound columns scales declared texts i checks
     → ((others : Option (List Check)) → few (found checks (checks_of_conditions columns scales text.name 1 (length checks + 1) text.conditions) others) ≡ None)
-    → checks_of columns scales texts ≡ None
-text_none columns scales texts i text checks within is before none =
-    ap few (before ∙ text_first columns scales texts i text checks within is)
+    → checks_behind columns scales declared texts ≡ None
+text_none columns scales declared texts i text checks within is before none =
+    behind_few columns scales declared texts
+    ∙ ap few (before ∙ text_first columns scales texts i text checks within is)
     ∙ none (checks_from columns scales (drop (i + 1) texts) (length checks + 1 + length text.conditions))
 
 -- no CHECK is left
-pub text_all : (columns : List (List ℕ)) (scales : List ℕ) (texts : List CheckText) (i : ℕ) (checks : List Check) → length texts ≤ i → length checks ≤ MAX_CHECKS
-    → checks_from columns scales texts 1 ≡ followed_by checks (from_text columns scales texts i checks)
-    → checks_of columns scales texts ≡ Some checks
-text_all columns scales texts i checks past within before =
+pub text_all : (columns : List (List ℕ)) (scales : List ℕ) (declared : List Check) (texts : List CheckText) (i : ℕ) (checks : List Check) → length texts ≤ i → length checks ≤ MAX_CHECKS
+    → IsFound columns scales declared texts i checks
+    → checks_behind columns scales declared texts ≡ Some checks
+text_all columns scales declared texts i checks past within before =
     let F : List CheckText → Option (List Check) = λ ts. followed_by checks (checks_from columns scales ts (length checks + 1)) in
-    let all : checks_from columns scales texts 1 ≡ Some checks = before ∙ at_drop_all F texts i past ∙ ap (λ (zs : List Check). Some zs) (append-nil checks) in
+    let all : followed_by declared (checks_from columns scales texts (length declared + 1)) ≡ Some checks = before ∙ at_drop_all F texts i past ∙ ap (λ (zs : List Check). Some zs) (append-nil checks) in
     let enough : nat_le (length checks) MAX_CHECKS ≡ true = grind (arith, nat_tests) in
-    ap few all ∙ ap (λ b. cond b (Some checks) None) enough
+    behind_few columns scales declared texts ∙ ap few all ∙ ap (λ b. cond b (Some checks) None) enough

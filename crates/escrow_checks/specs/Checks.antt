@@ -154,7 +154,12 @@ checks_from columns scales (text ∷ texts) n =
     option_and_then (λ first. option_map (λ others. first ++ others) (checks_from columns scales texts (n + length text.conditions)))
     (checks_of_conditions columns scales text.name 1 n text.conditions)
 
--- the checks that the CHECKs of a table declare, in order: at most 32
+-- declared checks of a table, and behind them those that CHECKs declare, in order: at most 32 in all
+abbrev pub checks_behind : List (List ℕ) → List ℕ → List Check → List CheckText → Option (List Check)
+checks_behind columns scales declared texts =
+    option_and_then (λ more. let checks = declared ++ more in if nat_le (length checks) MAX_CHECKS then Some checks else None)
+    (checks_from columns scales texts (length declared + 1))
+
+-- the checks that the CHECKs of a table declare, in order: those behind none
 abbrev pub checks_of : List (List ℕ) → List ℕ → List CheckText → Option (List Check)
-checks_of columns scales texts =
-    option_and_then (λ checks. if nat_le (length checks) MAX_CHECKS then Some checks else None) (checks_from columns scales texts 1)
+checks_of columns scales texts = checks_behind columns scales [] texts

@@ -16,7 +16,7 @@ use Rattle.escrow_checks.specs.declared.check.Check.{Check}
 use Rattle.escrow_checks.specs.declared.coefficients.TheConstants.Coefficients.{MAX, MAX_LEN}
 use Rattle.escrow_checks.specs.declared.condition.TheConstants.{MAX_CHECKS, MAX_COEFFICIENT}
 use Rattle.escrow_checks.specs.declared.spread.TheConstants.Spread.{MAX_OPEN}
-use Rattle.escrow_checks.specs.Checks.{checks_of, is_whole, unit_of, units_in}
+use Rattle.escrow_checks.specs.Checks.{checks_behind, checks_of, is_whole, unit_of, units_in}
 use Rattle.escrow_checks.specs.Coefficients.{AreCoefficients}
 use Rattle.escrow_checks.specs.Condition.{amount_of}
 use Rattle.escrow_checks.specs.DeclaredCheck.{IsDeclared}
@@ -38,6 +38,22 @@ ChecksMeanTheirTexts = (columns : List (List ℕ)) (scales : List ℕ) (texts : 
 abbrev pub ChecksAreWhole : Type 0
 ChecksAreWhole = (columns : List (List ℕ)) (scales : List ℕ) (texts : List CheckText) (checks : List Check) → checks_of columns scales texts ≡ Some checks
     → (length checks ≡ length (flat_map (λ text. text.conditions) texts)) × (length checks ≤ MAX_CHECKS) × All (λ check. length check.coeffs ≡ length columns) checks
+
+-- declared checks of a table, and behind them those that CHECKs add
+pub record StandBehind (columns : List (List ℕ)) (scales : List ℕ) (declared : List Check) (texts : List CheckText) (checks : List Check) : Type 0 where
+  -- the declared ones stay, and the new ones stand behind them; at most 32 in all
+  pub more : List Check
+  pub behind : checks ≡ declared ++ more
+  pub few : length checks ≤ MAX_CHECKS
+  -- there is a new one for each condition, as the rules of CHECKs ask, and they mean what the CHECKs say
+  pub whole : length more ≡ length (flat_map (λ text. text.conditions) texts)
+  pub good : All (λ check. IsDeclared columns scales check) more
+  pub means : MeanTheSame columns scales texts more
+
+-- so it is of the checks that CHECKs declare behind those of a table
+abbrev pub ChecksStandBehind : Type 0
+ChecksStandBehind = (columns : List (List ℕ)) (scales : List ℕ) (declared : List Check) (texts : List CheckText) (checks : List Check)
+    → checks_behind columns scales declared texts ≡ Some checks → StandBehind columns scales declared texts checks
 
 -- the coefficients, the scale, the limits and the name of each are as the rules of CHECKs ask
 abbrev pub ChecksAreDeclared : Type 0

@@ -1,7 +1,7 @@
 ghost use Rattle.std.specs.Prelude.{◌≡◌, ◌≤◌, ◌+◌, ◌&&◌, if◌then◌else◌, length, map, List, Option, Some, None, IfOk, IsErr, IsErrOf, OnOk, bytes_eq};
 ghost use Rattle.std.specs.List.{list_all, list_any, flat_map};
 ghost use Rattle.escrow_checks.specs.declared.check.Check.{Check};
-ghost use Rattle.escrow_checks.specs.Checks.{check_name, check_of, checks_of, checks_of_conditions, columns_in, names_columns};
+ghost use Rattle.escrow_checks.specs.Checks.{check_name, check_of, checks_behind, checks_of, checks_of_conditions, columns_in, names_columns};
 ghost use Rattle.escrow_checks.specs.Found.{found, followed_by, few};
 ghost use Rattle.escrow_checks.specs.Meaning.{MeanTheSame};
 
@@ -13,7 +13,7 @@ pub(crate) mod sums;
 use crate::check::Check;
 use crate::coefficients::Coefficients;
 use crate::fault::CheckFault;
-use escrow_num::{Name, Scale, Seq};
+use escrow_num::{Name, Scale, Seq, copy_all};
 use escrow_sql::{CheckText, Condition, Term};
 use limits::limits_of;
 pub use names::is_written_name;
@@ -49,7 +49,28 @@ pub fn normalise(
     ensures definition { IsErrOf result CheckFault.Definition → checks_of columns.now scales.now (map (λ text. text.now) texts.now) ≡ None }
     ensures broken { checks_of columns.now scales.now (map (λ text. text.now) texts.now) ≡ None → IsErr result }
 {
-    let mut checks = Seq::new(alloc);
+    normalise_behind(alloc, &[], texts, columns, scales)
+}
+
+/// Declared checks of a table, and behind them those of further CHECKs, as [`normalise`] gives them:
+/// the place of a condition is that among all these checks, of which there are at most
+/// [`MAX_CHECKS`]. The declared ones stay as they are. [`CheckFault::Definition`] where there would be
+/// more, or a condition breaks a rule.
+pub fn normalise_behind(
+    alloc: Global,
+    declared: &[Check],
+    texts: &[&CheckText],
+    columns: &[Name],
+    scales: &[Scale],
+) -> Result<Seq<Check>, CheckFault>
+    requires declared { length declared.now ≤ MAX_CHECKS }
+    requires few { length columns.now ≤ Coefficients.MAX_LEN }
+    requires scales { length scales.now ≡ length columns.now }
+    ensures ok { IfOk result (λ checks. checks_behind columns.now scales.now declared.now (map (λ text. text.now) texts.now) ≡ Some checks) }
+    ensures definition { IsErrOf result CheckFault.Definition → checks_behind columns.now scales.now declared.now (map (λ text. text.now) texts.now) ≡ None }
+    ensures broken { checks_behind columns.now scales.now declared.now (map (λ text. text.now) texts.now) ≡ None → IsErr result }
+{
+    let mut checks = copy_all(alloc, declared)?;
     for text in texts {
         add_checks(&mut checks, text, columns, scales)?;
     }

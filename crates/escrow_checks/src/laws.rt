@@ -1,7 +1,7 @@
 //! Laws of checks and of the grant rule: facts about their definitions, each the contract of a
 //! function that does nothing. What keeps a database's state valid stands on them.
 
-ghost use Rattle.escrow_checks.specs.Laws.{ChecksMeanTheirTexts, ChecksAreWhole, ChecksAreDeclared, ChecksAreNamed, UnitGivesTheAmount, ExtremesAreReached, GrantedWhereAlwaysMet, GrantedWhereAllAlwaysMet, BoundsDecide, GrantedStaysSafe, RefusedNamesAChoice, AnyChoiceCanCommit, AnyChoiceCanRollBack, ChangesKeepTheNumber, OtherRowsStaySafe, NewRowIsSafe, WrittenAreGivenBack, UnitsAreWhole, SumsAreWide, Limits};
+ghost use Rattle.escrow_checks.specs.Laws.{ChecksMeanTheirTexts, ChecksAreWhole, ChecksStandBehind, ChecksAreDeclared, ChecksAreNamed, UnitGivesTheAmount, ExtremesAreReached, GrantedWhereAlwaysMet, GrantedWhereAllAlwaysMet, BoundsDecide, GrantedStaysSafe, RefusedNamesAChoice, AnyChoiceCanCommit, AnyChoiceCanRollBack, ChangesKeepTheNumber, OtherRowsStaySafe, NewRowIsSafe, WrittenAreGivenBack, UnitsAreWhole, SumsAreWide, Limits};
 ghost use Rattle.escrow_checks.specs.Spread.{OtherRowsAddNothing};
 
 /// A row meets all the checks that CHECKs declare exactly where its amounts, in millionths, meet all
@@ -14,6 +14,12 @@ pub fn checks_mean_their_texts()
 /// column.
 pub fn checks_are_whole()
     ensures { ChecksAreWhole }
+{}
+
+/// CHECKs behind declared checks leave these as they are, and add one check for each condition, which
+/// means what the CHECK says.
+pub fn checks_stand_behind()
+    ensures { ChecksStandBehind }
 {}
 
 /// The coefficients, the scale, the limits and the name of each declared check are as the rules ask.

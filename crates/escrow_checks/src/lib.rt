@@ -14,6 +14,6 @@ mod spread;
 
 pub use check::Check;
 pub use coefficients::Coefficients;
-pub use condition::{MAX_CHECKS, MAX_COEFFICIENT, is_written_name, normalise};
+pub use condition::{MAX_CHECKS, MAX_COEFFICIENT, is_written_name, normalise, normalise_behind};
 pub use fault::CheckFault;
 pub use spread::Spread;

@@ -1,3 +1,4 @@
+pub mod Altering
 pub mod Breaches
 pub mod Committing
 pub mod Counting

@@ -1,8 +1,8 @@
 -- The places of the rows that are reserved, as the state of a database changes.
-use Rattle.std.specs.Prelude.{◌≡◌, ◌==◌, ◌+ℤ◌, ◌||◌, ℕ, ℤ, neg_ℤ, int_le, Bool, true, false, Option, Some, None, is_some, option_map, IsSome, IsSomeAnd, List, [], ◌∷◌, ◌++◌, length, map}
+use Rattle.std.specs.Prelude.{◌≡◌, ◌==◌, ◌+ℤ◌, ◌||◌, ℕ, ℤ, neg_ℤ, int_le, Bool, true, false, Option, Some, None, is_some, option_map, IsSome, IsSomeAnd, List, [], ◌∷◌, ◌++◌, length, map, bytes_eq}
 use Rattle.std.specs.List.{AllByRecursion, list_any}
 use Rattle.std.proofs.Common.{inl, inr, refl, sym, ap, ap₂, subst, ◌∙◌, cond, append-nil, append_assoc}
-use Rattle.std.proofs.lemmas.Bool.{and_from, cases_Bool, cond-true, or_cases, or_left, or_right}
+use Rattle.std.proofs.lemmas.Bool.{and_from, cases_Bool, cond-false, cond-true, or_cases, or_left, or_right}
 use Rattle.std.proofs.lemmas.List.{map_push}
 use Rattle.std.proofs.lemmas.List.Folds.{list_any-append}
 use Rattle.escrow_num.specs.Amount.{IsAmount, is_amount}
@@ -15,21 +15,23 @@ use Rattle.escrow_num.specs.declared.value.RowName.{RowName}
 use Rattle.escrow_num.specs.Order.{same_row}
 use Rattle.escrow_num.specs.Reservation.{deltas, changes_at}
 use Rattle.escrow_num.proofs.Items.{Has, all_has, find_has}
-use Rattle.escrow_num.proofs.Orders.{row_same, same_row_itself}
+use Rattle.escrow_num.proofs.Orders.{name_same, row_same, same_name, same_row_itself}
 use Rattle.escrow_checks.specs.declared.check.Check.{Check}
 use Rattle.escrow_checks.specs.Form.{changed, all_changed}
 use Rattle.escrow_checks.specs.Grant.{Meets}
 use Rattle.escrow_checks.proofs.FormLemmas.{length-all_changed}
 use Rattle.escrow_schema.specs.declared.table.TableDef.{TableDef}
+use Rattle.escrow_schema.specs.Altered.{with_altered}
 use Rattle.escrow_schema.specs.Catalog.{table_named}
 use Rattle.escrow_schema.specs.Column.{reservables}
 use Rattle.escrow_schema.specs.Fit.{IsRowOf}
 use Rattle.escrow_schema.proofs.LawLemmas.{checks_keep_amounts}
 use Rattle.escrow_schema.proofs.RangeLemmas.{int_le_from}
+use Rattle.escrow_bounds.specs.Altered.{Goes, TableGoes}
 use Rattle.escrow_bounds.specs.Counts.{IsNew, TakesIn}
 use Rattle.escrow_bounds.specs.Ended.{AreEnded, HasEnded}
 use Rattle.escrow_bounds.specs.Held.{of_row}
-use Rattle.escrow_bounds.specs.Kept.{Kept}
+use Rattle.escrow_bounds.specs.Kept.{Kept, checks_of}
 use Rattle.escrow_bounds.specs.Moved.{all_moved, amounts_after_all}
 use Rattle.escrow_bounds.specs.Places.{Places, place_at, Becomes, OthersStay}
 use Rattle.escrow_journal.specs.Open.{Open, granted}
@@ -43,6 +45,7 @@ use Rattle.escrow_machine.proofs.Choices.{IsChoice, choice_none, choice_filter}
 use Rattle.escrow_machine.proofs.Lengths.{find_map}
 use Rattle.escrow_machine.proofs.Safe.{safe_row, some_at, some_from, some_weaker}
 use Rattle.escrow_machine.proofs.Shapes.{is_table_found}
+use Rattle.escrow_machine.proofs.ValidAlter.{altered_named, in_place, name_found}
 use Rattle.escrow_core.specs.Inside.{amounts_named, AreOfTables, HaveAmounts, IsOfTable}
 use Rattle.escrow_machine.proofs.Refusals.{none_there}
 use Rattle.escrow_core.specs.Reserved.{ArePlaced, Releases}
@@ -305,3 +308,73 @@ granted_placed session row changes o old new before there others =
     (λ other differs.
     ap (λ (p : Option Kept). is_some p) (others other differs) ∙ before other differs
     ∙ sym (list_any-append (λ (x : Reservation). same_row x.row other) o.reservations (r ∷ []) ∙ failed_one (list_any (λ x. same_row x.row other) o.reservations) (same_row row other) differs))
+
+-- ALTER TABLE: the places of a table come of the old ones
+
+goes_some : (Step : Kept → Kept → Type 0) (before after : Option Kept) → Goes Step before after → is_some after ≡ is_some before
+goes_some Step None after none = ap (λ (p : Option Kept). is_some p) none
+goes_some Step (Some old) after goes = ap (λ (p : Option Kept). is_some p) goes.1
+
+goes_of : {C : Type 0} (Step : Kept → Kept → Type 0) (before after : Option Kept) (place : Kept) → Goes Step before after → after ≡ Some place
+    → ((old : Kept) → before ≡ Some old → Step old place → C) → C
+goes_of Step None after place none at then = absurd (cc)
+goes_of Step (Some old) after place goes at then = then old refl (subst (Step old) (some_same (sym goes.1 ∙ at)) goes.2)
+
+-- the altered table is found under its name, and each other table as before
+altered_here : (catalog : List TableDef) (was made : TableDef) (name : List ℕ) → table_named catalog name ≡ Some was → bytes_eq was.name made.name ≡ true
+    → table_named (with_altered made catalog) name ≡ Some made
+altered_here catalog was made name named same =
+    altered_named made catalog name ∙ ap (option_map (in_place made)) named ∙ ap (λ (t : TableDef). Some t) (cond-true (bytes_eq was.name made.name) made was same)
+
+other_stays : (made : TableDef) (name : List ℕ) (o : Option TableDef) → bytes_eq name made.name ≡ false → ((t : TableDef) → o ≡ Some t → t.name ≡ name) → option_map (in_place made) o ≡ o
+other_stays made name None differs called = refl
+other_stays made name (Some t) differs called =
+    ap (λ (x : TableDef). Some x) (cond-false (bytes_eq t.name made.name) made t (ap (λ (n : List ℕ). bytes_eq n made.name) (called t refl) ∙ differs))
+
+altered_other : (catalog : List TableDef) (made : TableDef) (name : List ℕ) → bytes_eq name made.name ≡ false → table_named (with_altered made catalog) name ≡ table_named catalog name
+altered_other catalog made name differs =
+    altered_named made catalog name ∙ other_stays made name (table_named catalog name) differs (λ t named. name_found catalog name t named)
+
+module _ (table : List ℕ) (Step : RowName → Kept → Kept → Type 0) (old new : Places) (goes : TableGoes table Step old new) where
+  -- the same rows have places
+  pub gone_placed : (reservations : List Reservation) → ArePlaced reservations old → ArePlaced reservations new
+  gone_placed reservations placed = λ row.
+      elim (cases_Bool (bytes_eq row.table table)) [
+        | inl here ↦ goes_some (Step row) (place_at old row) (place_at new row) (goes.own row here) ∙ placed row
+        | inr differs ↦ ap (λ (p : Option Kept). is_some p) (goes.others row differs) ∙ placed row
+      ]
+
+  -- a place comes of one of the table, or is one of another
+  came_of : {C : Type 0} (row : RowName) (place : Kept) → place_at new row ≡ Some place
+      → (bytes_eq row.table table ≡ true → (before : Kept) → place_at old row ≡ Some before → Step row before place → C)
+      → (bytes_eq row.table table ≡ false → place_at old row ≡ Some place → C) → C
+  came_of row place at own other =
+      elim (cases_Bool (bytes_eq row.table table)) [
+        | inl here ↦ goes_of (Step row) (place_at old row) (place_at new row) place (goes.own row here) at (own here)
+        | inr differs ↦ other differs (sym (goes.others row differs) ∙ at)
+      ]
+
+  module _ (same : (row : RowName) (before after : Kept) → Step row before after → after.amounts ≡ before.amounts) where
+    -- they have their rows' amounts
+    pub gone_amounts : (rows : List Row) → HaveAmounts rows old → HaveAmounts rows new
+    gone_amounts rows have = λ row place at.
+        came_of row place at (λ _ before was step. have row before was ∙ ap Some (sym (same row before place step))) (λ _ was. have row place was)
+
+    -- and are of their tables, one of which is altered
+    pub gone_tables : (catalog : List TableDef) (was made : TableDef) → table_named catalog table ≡ Some was → made ≡ record was { checks = made.checks }
+        → ((row : RowName) (before after : Kept) → Step row before after → checks_of before.checks ≡ was.checks → checks_of after.checks ≡ made.checks)
+        → AreOfTables catalog old → AreOfTables (with_altered made catalog) new
+    gone_tables catalog was made named alike checks of_tables = λ row place at.
+        let called : made.name ≡ was.name = ap (λ (t : TableDef). t.name) alike in
+        let of_name : was.name ≡ table = name_found catalog table was named in
+        let itself : bytes_eq was.name made.name ≡ true = subst (λ (n : List ℕ). bytes_eq was.name n ≡ true) (sym called) (same_name was.name) in
+        let columns : length (reservables was.columns) ≡ length (reservables made.columns) = ap (λ (t : TableDef). length (reservables t.columns)) (sym alike) in
+        came_of row place at
+        (λ here before was_at step.
+        let named_row : table_named catalog row.table ≡ Some was = ap (table_named catalog) (name_same row.table table here) ∙ named in
+        let of : IsOfTable was before = some_at (λ (t : TableDef). IsOfTable t before) (table_named catalog row.table) was named_row (of_tables row before was_at) in
+        some_from (λ (t : TableDef). IsOfTable t place) (table_named (with_altered made catalog) row.table) made (altered_here catalog was made row.table named_row itself)
+        (record { checks = checks row before place step of.checks; amounts = ap length (same row before place step) ∙ of.amounts ∙ columns }))
+        (λ differs was_at.
+        let other : bytes_eq row.table made.name ≡ false = subst (λ (n : List ℕ). bytes_eq row.table n ≡ false) (sym (called ∙ of_name)) differs in
+        subst (λ (o : Option TableDef). IsSomeAnd o (λ t. IsOfTable t place)) (sym (altered_other catalog made row.table other)) (of_tables row place was_at))

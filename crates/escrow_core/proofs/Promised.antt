@@ -64,6 +64,7 @@ takes_nothing s session asked failure.Store none =
 reads_nothing : (s : State) (session : ℕ) (asked : Statement) → needs_nothing s session asked ≡ true → reads_rows s session asked ≡ false
 reads_nothing s session (statement.Create text) none = absurd (cc)
 reads_nothing s session (statement.Drop name) none = absurd (cc)
+reads_nothing s session (statement.Alter text) none = absurd (cc)
 reads_nothing s session (statement.Insert text) none = absurd (cc)
 reads_nothing s session (statement.Update text) none = absurd (cc)
 reads_nothing s session (statement.Delete text) none = absurd (cc)

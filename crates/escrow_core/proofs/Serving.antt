@@ -139,6 +139,7 @@ apart_keeps g d next kept orderly valid = record {
 asking_reads : (s : State) (session : ℕ) (asked : Statement) → asks_store s session asked ≡ true → reads_rows s session asked ≡ true
 asking_reads s session (statement.Create text) asks = asks
 asking_reads s session (statement.Drop name) asks = asks
+asking_reads s session (statement.Alter text) asks = asks
 asking_reads s session (statement.Insert text) asks = asks
 asking_reads s session (statement.Update text) asks = refl
 asking_reads s session (statement.Delete text) asks = asks

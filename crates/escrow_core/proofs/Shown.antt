@@ -68,7 +68,7 @@ first_same is = cc
 rest_same : {A : Type 0} {x y : A} {xs ys : List A} → x ∷ xs ≡ y ∷ ys → xs ≡ ys
 rest_same is = cc
 
-all_take : {A : Type 0} (P : A → Type 0) (n : ℕ) (xs : List A) → AllByRecursion P xs → AllByRecursion P (take n xs)
+pub all_take : {A : Type 0} (P : A → Type 0) (n : ℕ) (xs : List A) → AllByRecursion P xs → AllByRecursion P (take n xs)
 all_take P zero xs all = tt
 all_take P (suc n) [] all = tt
 all_take P (suc n) (x ∷ xs) all = (all.0, all_take P n xs all.1)
@@ -122,7 +122,7 @@ bounds_same table amounts row held is_table many =
     sym (ap₂ (λ (columns : List ColumnBounds) (checks : List CheckBounds). reply.Bounds columns checks) (column_same names amounts row held (reservables table.columns) few) (check_same amounts row held (declared_checks table) declared))
 
 -- and those of a row that isn't reserved are those over none
-free_list : (row : RowName) (held : List Reservation) → list_any (λ r. same_row r.row row) held ≡ false → of_row row held ≡ []
+pub free_list : (row : RowName) (held : List Reservation) → list_any (λ r. same_row r.row row) held ≡ false → of_row row held ≡ []
 free_list row [] free = refl
 free_list row (r ∷ held) free =
     let tests = or_parts (same_row r.row row) (list_any (λ x. same_row x.row row) held) free in

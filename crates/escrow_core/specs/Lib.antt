@@ -1,3 +1,4 @@
+pub mod Altering
 pub mod Inside
 pub mod Reserved
 pub mod Seen

@@ -1,3 +1,5 @@
+mod added;
+mod alter;
 mod bounds;
 mod create;
 mod delete;
@@ -188,6 +190,7 @@ impl<S: Alter> Database<S> {
         match statement {
             Statement::Create(text) => self.create(alloc, session, text),
             Statement::Drop(name) => self.drop_table(session, *name),
+            Statement::Alter(text) => self.alter(alloc, session, text),
             Statement::Insert(text) => self.insert(alloc, session, text),
             Statement::Update(text) => self.update(alloc, session, text),
             Statement::Delete(text) => self.delete(alloc, session, text),

@@ -1,16 +1,19 @@
-ghost use Rattle.std.specs.Prelude.{◌≡◌, ◌++◌, ◌∷◌, [], true, false, Some, None, List, length, map, option_copied, option_map};
+ghost use Rattle.std.specs.Prelude.{◌≡◌, ◌++◌, ◌∷◌, [], ℕ, true, false, Some, None, List, length, map, option_copied, option_map};
 ghost use Rattle.std.specs.List.{AllByRecursion};
 ghost use Rattle.escrow_num.specs.declared.reservation.Reservation.{Reservation as Held};
 ghost use Rattle.escrow_num.specs.declared.session.End.TheVariants.{Rollback};
+ghost use Rattle.escrow_num.specs.declared.value.RowName.{RowName as Row};
+ghost use Rattle.escrow_checks.specs.declared.check.Check.{Check as Form};
+ghost use Rattle.escrow_bounds.specs.Altered.{TableGoes, IsOver, IsWithout, ArePrepared};
 ghost use Rattle.escrow_bounds.specs.Counts.{is_counting};
 ghost use Rattle.escrow_bounds.specs.Ended.{AreEnded};
-ghost use Rattle.escrow_bounds.specs.Held.{AllCount, CountsAll};
+ghost use Rattle.escrow_bounds.specs.Held.{of_row, AllCount, CountsAll};
 ghost use Rattle.escrow_bounds.specs.Places.{place_at, OthersStay};
 ghost use Rattle.escrow_journal.specs.Open.{cut_back};
 ghost use Rattle.escrow_journal.specs.Reservations.{own};
 ghost use Rattle.escrow_machine.specs.Walked.{IsShort};
 
-use escrow_bounds::{Bounds, deltas};
+use escrow_bounds::{Addition, Bounds, deltas};
 use escrow_checks::Check;
 use escrow_num::{Amount, Changes, End, Name, Refusal, Reservation, RowName, Session};
 use escrow_txn::TxnTable;
@@ -235,6 +238,46 @@ impl Reserved {
         ensures only { IfErr result (λ e. (savepoint_refusal session name self.old.txns ≡ Some e) ⊎ (e ≡ Refusal.Memory)) }
     {
         self.txns.mark(session, name)
+    }
+
+    /// Makes places of the rows of a table that are reserved, over all checks that it is to have,
+    /// beside those that there are. Want of memory is the only error.
+    pub(crate) fn prepare(
+        &self,
+        alloc: Global,
+        table: Name,
+        checks: &[Check],
+    ) -> Result<Addition, AllocError>
+        requires placed { ArePlaced self.now.txns.reservations self.now.places }
+        requires many { length self.now.txns.reservations ≤ MAX_OPEN }
+        requires few { (row : Row) (place : Kept) → bytes_eq row.table table ≡ true → place_at self.now.places row ≡ Some place
+            → length place.amounts ≤ MAX_LEN }
+        requires covered { (row : Row) (place : Kept) → bytes_eq row.table table ≡ true → place_at self.now.places row ≡ Some place
+            → AllByRecursion (λ check. IsCovered check.coeffs place.amounts) checks.now }
+        ensures { IfOk result (λ addition. ArePrepared table checks.now self.now.txns.reservations self.now.places addition) }
+    {
+        let reservations = self.txns.all_in_order(alloc)?;
+        self.bounds.prepare(table, checks, &reservations)
+    }
+
+    /// Puts the places of an addition in those of their rows. Takes no memory.
+    pub(crate) fn adopt(&mut self, addition: Addition)
+        requires placed { ArePlaced self.old.txns.reservations self.old.places }
+        requires prepared { (table : List ℕ) × (checks : List Form) × ArePrepared table checks self.old.txns.reservations self.old.places addition }
+        ensures txns { self.new.txns ≡ self.old.txns }
+        ensures places { (table : List ℕ) (checks : List Form) → ArePrepared table checks self.old.txns.reservations self.old.places addition
+            → TableGoes table (λ row. IsOver checks (of_row row self.old.txns.reservations)) self.old.places self.new.places }
+    {
+        self.bounds.adopt(addition);
+    }
+
+    /// Takes the check at an index out of each place of a table. Takes no memory.
+    pub(crate) fn drop_check(&mut self, table: Name, index: usize)
+        requires placed { ArePlaced self.old.txns.reservations self.old.places }
+        ensures txns { self.new.txns ≡ self.old.txns }
+        ensures places { TableGoes table (λ row. IsWithout index) self.old.places self.new.places }
+    {
+        self.bounds.drop_check(table, index);
     }
 
     /// Drops all that is open; the next id is 1. Takes no memory.

@@ -9,10 +9,13 @@ use Rattle.escrow_num.specs.declared.refusal.Refusal.TheVariants as refusal
 use Rattle.escrow_num.specs.Refusal.{refuse_if}
 use Rattle.escrow_sql.specs.declared.statement.Statement.{Statement}
 use Rattle.escrow_sql.specs.declared.statement.Statement.TheVariants as statement
+use Rattle.escrow_sql.specs.declared.statement.AlterText.{AlterText}
 use Rattle.escrow_sql.specs.declared.statement.CreateText.{CreateText}
 use Rattle.escrow_sql.specs.declared.statement.InsertText.{InsertText}
 use Rattle.escrow_sql.specs.declared.statement.RowText.{RowText}
 use Rattle.escrow_sql.specs.declared.statement.SelectText.{SelectText}
+use Rattle.escrow_sql.specs.declared.statement.TableChange.{TableChange}
+use Rattle.escrow_sql.specs.declared.statement.TableChange.TheVariants as change
 use Rattle.escrow_sql.specs.declared.statement.UpdateText.{UpdateText}
 use Rattle.escrow_schema.specs.declared.plan.Plan.{Plan}
 use Rattle.escrow_schema.specs.declared.plan.Plan.TheVariants as plan
@@ -20,11 +23,12 @@ use Rattle.escrow_schema.specs.Catalog.{table_named}
 use Rattle.escrow_journal.proofs.Free.{grant_among}
 use Rattle.escrow_machine.specs.declared.reply.Reply.{Reply}
 use Rattle.escrow_machine.specs.declared.reply.Reply.TheVariants as reply
+use Rattle.escrow_machine.specs.Altered.{added_breach, drop_refusal_of}
 use Rattle.escrow_machine.specs.Asked.{breach_of, insert_breach, plan_of, reservation_from, row_name}
 use Rattle.escrow_machine.specs.Reply.{failure_of}
 use Rattle.escrow_machine.specs.State.{State, open_in}
 use Rattle.escrow_machine.specs.Step.{IsStep, refusals, step}
-use Rattle.escrow_machine.specs.Turn.{Turn, turn_of, update_refusals}
+use Rattle.escrow_machine.specs.Turn.{Turn, turn_of, alter_refusals, update_refusals}
 use Rattle.escrow_machine.proofs.LawsSteps.{step_has}
 use Rattle.escrow_machine.proofs.Plans.{key_among, plan_among, select_among}
 use Rattle.escrow_machine.proofs.Refusals.{check_among, first_among, if_among}
@@ -56,6 +60,19 @@ create_room s session text = (if_among HasRoom _ _ refl, (if_among HasRoom _ _ r
 drop_room : (s : State) (session : ℕ) (name : List ℕ) → AllHaveRoom (turn_of s session (statement.Drop name))
 unfolding turn_of
 drop_room s session name = (if_among HasRoom _ _ refl, (if_among HasRoom _ _ refl, (if_among HasRoom _ _ refl, tt)))
+
+-- the refusals of an ALTER TABLE are those of its change
+lacking_room : (s : State) (name : List ℕ) (asked : TableChange) → IfSome (drop_refusal_of s name asked) HasRoom
+lacking_room s name (change.Add text) = tt
+lacking_room s name (change.Drop check) = if_among HasRoom _ _ refl
+
+change_room : (s : State) (name : List ℕ) (asked : TableChange) → AllByRecursion (λ (o : Option Refusal). IfSome o HasRoom) (alter_refusals s name asked)
+change_room s name (change.Add text) = (if_among HasRoom _ _ refl, (check_among HasRoom (added_breach s name text) (λ _. refl), tt))
+change_room s name (change.Drop check) = tt
+
+alter_room : (s : State) (session : ℕ) (text : AlterText) → AllHaveRoom (turn_of s session (statement.Alter text))
+unfolding turn_of
+alter_room s session text = (if_among HasRoom _ _ refl, (if_among HasRoom _ _ refl, (lacking_room s text.table text.change, change_room s text.table text.change)))
 
 insert_room : (s : State) (session : ℕ) (text : InsertText) → AllHaveRoom (turn_of s session (statement.Insert text))
 unfolding turn_of
@@ -133,6 +150,7 @@ rollback_room s session = tt
 has_room : (s : State) (session : ℕ) (asked : Statement) → AllHaveRoom (turn_of s session asked)
 has_room s session (statement.Create text) = create_room s session text
 has_room s session (statement.Drop name) = drop_room s session name
+has_room s session (statement.Alter text) = alter_room s session text
 has_room s session (statement.Insert text) = insert_room s session text
 has_room s session (statement.Update text) = update_room s session text
 has_room s session (statement.Delete text) = delete_room s session text

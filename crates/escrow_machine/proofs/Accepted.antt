@@ -9,11 +9,15 @@ use Rattle.escrow_num.specs.declared.row.Row.{Row}
 use Rattle.escrow_num.specs.declared.value.Value.{Value}
 use Rattle.escrow_num.specs.Refusal.{refuse_if, first_refusal}
 use Rattle.escrow_num.specs.Reservation.{deltas}
+use Rattle.escrow_sql.specs.declared.statement.CheckText.{CheckText}
 use Rattle.escrow_sql.specs.declared.statement.CreateText.{CreateText}
+use Rattle.escrow_sql.specs.declared.statement.AlterText.{AlterText}
 use Rattle.escrow_sql.specs.declared.statement.RowText.{RowText}
 use Rattle.escrow_sql.specs.declared.statement.InsertText.{InsertText}
 use Rattle.escrow_sql.specs.declared.statement.UpdateText.{UpdateText}
 use Rattle.escrow_sql.specs.declared.statement.Statement.TheVariants as statement
+use Rattle.escrow_sql.specs.declared.statement.TableChange.{TableChange}
+use Rattle.escrow_sql.specs.declared.statement.TableChange.TheVariants as change
 use Rattle.escrow_checks.specs.Grant.{broken}
 use Rattle.escrow_schema.specs.declared.plan.Plan.{Plan}
 use Rattle.escrow_schema.specs.declared.plan.Plan.TheVariants as plan
@@ -31,7 +35,8 @@ use Rattle.escrow_journal.specs.Savepoints.{without_savepoint}
 use Rattle.escrow_machine.specs.Accepted.{IsAccepted}
 use Rattle.escrow_machine.specs.State.{State, open_in, is_open, is_reserved, is_table_reserved}
 use Rattle.escrow_schema.specs.Rows.{row_named, rows_of, changes_to}
-use Rattle.escrow_machine.specs.Turn.{turn_of, update_refusals}
+use Rattle.escrow_machine.specs.Turn.{turn_of, alter_refusals, update_refusals}
+use Rattle.escrow_machine.specs.Altered.{table_with_check, table_without_check, added_breach, drop_refusal_of, table_altered}
 use Rattle.escrow_machine.specs.Asked.{new_row, insert_breach, plan_of, plan_refusal_of, row_name, reservation_from, breach_of, named_by, key_refusal_of}
 use Rattle.escrow_journal.proofs.Free.{IsFree, is_free}
 use Rattle.escrow_machine.proofs.Refusals.{passed, failed, unbroken, none_there, some_there, below}
@@ -132,6 +137,44 @@ drop_stands s session name accepted =
     let free = passed reserved [] known.others in
     let table = some_there (table_named s.catalog name) (failed (is_none (table_named s.catalog name)) refusal.NoSuchTable known.first) in
     record { table = table.0; named = table.1; free = failed (is_table_reserved s name) refusal.TableReserved free.first }
+
+-- a table that is altered
+pub record AlterStands (s : State) (text : AlterText) : Type 0 where
+  pub table : TableDef
+  pub named : table_named s.catalog text.table ≡ Some table
+  pub made : TableDef
+  pub makes : table_altered s text.table text.change ≡ Some made
+  pub safe : first_refusal (alter_refusals s text.table text.change) ≡ None
+
+alter_makes : (s : State) (name : List ℕ) (asked : TableChange) → drop_refusal_of s name asked ≡ None → first_refusal (alter_refusals s name asked) ≡ None
+    → (made : TableDef) × (table_altered s name asked ≡ Some made)
+alter_makes s name (change.Add text) early late =
+    let bad = refuse_if (is_none (table_with_check s name text)) refusal.BadDefinition in
+    let good = passed bad (option_map refusal.Check (added_breach s name text) ∷ []) late in
+    some_there (table_with_check s name text) (failed (is_none (table_with_check s name text)) refusal.BadDefinition good.first)
+alter_makes s name (change.Drop check) early late =
+    some_there (table_without_check s name check) (failed (is_none (table_without_check s name check)) refusal.NoSuchConstraint early)
+
+pub alter_stands : (s : State) (session : ℕ) (text : AlterText) → IsAccepted s session (statement.Alter text) → AlterStands s text
+unfolding turn_of
+alter_stands s session text accepted =
+    let is_open = refuse_if (is_open session s) refusal.TransactionOpen in
+    let unknown = refuse_if (is_none (table_named s.catalog text.table)) refusal.NoSuchTable in
+    let lacking = drop_refusal_of s text.table text.change in
+    let late = alter_refusals s text.table text.change in
+    let closed = passed is_open (unknown ∷ lacking ∷ late) accepted in
+    let known = passed unknown (lacking ∷ late) closed.others in
+    let whole = passed lacking late known.others in
+    let table = some_there (table_named s.catalog text.table) (failed (is_none (table_named s.catalog text.table)) refusal.NoSuchTable known.first) in
+    let made = alter_makes s text.table text.change whole.first whole.others in
+    record { table = table.0; named = table.1; made = made.0; makes = made.1; safe = whole.others }
+
+-- what is added breaks nothing
+pub add_unbroken : (s : State) (name : List ℕ) (text : CheckText) → first_refusal (alter_refusals s name (change.Add text)) ≡ None → added_breach s name text ≡ None
+add_unbroken s name text late =
+    let bad = refuse_if (is_none (table_with_check s name text)) refusal.BadDefinition in
+    let breach = option_map refusal.Check (added_breach s name text) in
+    unbroken (added_breach s name text) (passed breach [] (passed bad (breach ∷ []) late).others).first
 
 -- a row that is deleted
 pub record DeleteStands (s : State) (text : RowText) : Type 0 where

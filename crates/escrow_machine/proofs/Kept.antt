@@ -66,14 +66,18 @@ kept_safe s keep catalog valid found kept =
       safe = choices_all Safe s.reservations (λ c h. safe_rows catalog rows c (met c h));
     }
 
--- what is in order is so beside other tables, among which the table of each open reservation is found as before
+-- a reservation may have a change for each RESERVABLE column of its table
+abbrev pub HasChanges : List TableDef → Reservation → Type 0
+HasChanges catalog r = IsSomeAnd (table_named catalog r.row.table) (λ table. length r.changes ≡ length (reservables table.columns))
+
+-- what is in order is so beside other tables, among which each open reservation has its table as before
 pub over_catalog : (s : State) (catalog : List TableDef) → IsOrderly s.catalog s.reservations s.savepoints s.next_id → IsCatalog catalog
-    → ((P : TableDef → Type 0) (r : Reservation) → Has s.reservations r → IsSomeAnd (table_named s.catalog r.row.table) P → IsSomeAnd (table_named catalog r.row.table) P)
+    → ((r : Reservation) → Has s.reservations r → HasChanges s.catalog r → HasChanges catalog r)
     → IsOrderly catalog s.reservations s.savepoints s.next_id
 over_catalog s catalog orderly tables found =
     let still_in : (r : Reservation) → Has s.reservations r → IsReservationIn catalog s.next_id r = λ r h.
     let was = all_has (IsReservationIn s.catalog s.next_id) s.reservations orderly.reservations_in r h in
-    record { session = was.session; first = was.first; below = was.below; changes = found (λ table. length r.changes ≡ length (reservables table.columns)) r h was.changes } in
+    record { session = was.session; first = was.first; below = was.below; changes = found r h was.changes } in
     record {
       tables = tables;
       reservations_in = has_all (IsReservationIn catalog s.next_id) s.reservations still_in;

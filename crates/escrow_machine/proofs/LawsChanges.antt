@@ -1,39 +1,45 @@
--- What DROP TABLE, DELETE and an UPDATE of plain values change, and that no reservation loses its row.
-use Rattle.std.specs.Prelude.{◌≡◌, ℕ, ℤ, Bool, false, not, unwrap_or, option_map, Option, Some, None, List, [], ◌∷◌, length, filter, bytes_eq, IsSome, IsSomeAnd, Ok}
+-- What DROP TABLE, ALTER TABLE, DELETE and an UPDATE of plain values change, and that no reservation loses its row.
+use Rattle.std.specs.Prelude.{◌≡◌, ℕ, ℤ, Bool, false, not, unwrap_or, option_map, option_and_then, true, IfSome, Option, Some, None, List, [], ◌∷◌, length, filter, bytes_eq, IsSome, IsSomeAnd, Ok}
 use Rattle.std.proofs.Common.{refl, sym, ap, ap₂, subst, ◌∙◌}
-use Rattle.std.proofs.lemmas.Bool.{not-true, false_from_ne_true}
+use Rattle.std.proofs.lemmas.Bool.{cond-false, cond-true, not-true, false_from_ne_true}
 use Rattle.escrow_num.specs.declared.reservation.Reservation.{Reservation}
 use Rattle.escrow_num.specs.declared.row.Row.{Row}
 use Rattle.escrow_num.specs.declared.value.RowName.{RowName}
 use Rattle.escrow_num.specs.declared.value.Value.{Value}
 use Rattle.escrow_num.specs.Order.{same_row}
 use Rattle.escrow_num.proofs.Items.{Has, all_has, has_all, has_filter, find_has}
-use Rattle.escrow_num.proofs.Orders.{name_same, row_same}
+use Rattle.escrow_num.proofs.Orders.{name_same, row_same, same_name}
+use Rattle.escrow_sql.specs.declared.statement.AlterText.{AlterText}
 use Rattle.escrow_sql.specs.declared.statement.Statement.TheVariants as statement
+use Rattle.escrow_sql.specs.declared.statement.TableChange.{TableChange}
+use Rattle.escrow_sql.specs.declared.statement.TableChange.TheVariants as change
 use Rattle.escrow_sql.specs.declared.statement.UpdateText.{UpdateText}
 use Rattle.escrow_schema.specs.declared.plan.Plan.{Plan}
 use Rattle.escrow_schema.specs.declared.plan.Plan.TheVariants as plan
 use Rattle.escrow_schema.specs.declared.table.TableDef.{TableDef}
+use Rattle.escrow_schema.specs.Altered.{declared_place, with_check, without_check_at, without_check}
 use Rattle.escrow_schema.specs.Catalog.{table_named, without_table}
 use Rattle.escrow_schema.specs.Column.{reservables}
 use Rattle.escrow_schema.specs.Plan.{planned}
 use Rattle.escrow_schema.proofs.PlanLemmas.{keys_of_plans}
 use Rattle.escrow_machine.specs.declared.reply.Reply.{Reply}
 use Rattle.escrow_machine.specs.declared.reply.Reply.TheVariants as reply
+use Rattle.escrow_machine.specs.Altered.{table_altered, after_alter}
 use Rattle.escrow_machine.specs.Asked.{row_name, named_by}
-use Rattle.escrow_machine.specs.Laws.{DropsOneTable, DeletesOneRow, PlainUpdatesKeepAmounts, ReservationsKeepRows, names_and_amounts}
+use Rattle.escrow_machine.specs.Laws.{DropsOneTable, AltersOneTable, DeletesOneRow, PlainUpdatesKeepAmounts, ReservationsKeepRows, names_and_amounts}
 use Rattle.escrow_machine.specs.Accepted.{IsAccepted}
 use Rattle.escrow_machine.specs.State.{State}
 use Rattle.escrow_schema.specs.Rows.{row_named, rows_of, without_row, without_rows_of, with_values, with_plain}
 use Rattle.escrow_machine.specs.Step.{step}
 use Rattle.escrow_machine.specs.Turn.{turn_of, after_drop, update_reply, after_update}
 use Rattle.escrow_machine.specs.Valid.{IsReservationIn, HasRow}
-use Rattle.escrow_machine.proofs.Accepted.{delete_stands, update_plan}
+use Rattle.escrow_machine.proofs.Accepted.{AlterStands, alter_stands, delete_stands, update_plan}
 use Rattle.escrow_machine.proofs.Filters.{filter_within, filter_none, none_found}
 use Rattle.escrow_machine.proofs.Kept.{find_filter}
 use Rattle.escrow_machine.proofs.Keys.{named_in}
 use Rattle.escrow_machine.proofs.LawsSteps.{step_has, step_keeps_valid}
 use Rattle.escrow_machine.proofs.Lengths.{find_map}
+use Rattle.escrow_machine.proofs.ValidAlter.{altered_named, image_of, in_place, is_added, name_found}
 use Rattle.escrow_machine.proofs.ValidDrop.{other_table}
 use Rattle.escrow_machine.proofs.ValidPlain.{values_both, same_test}
 
@@ -70,6 +76,61 @@ unfolding turn_of
 drops_one_table s session name =
     step_has (λ (p : Reply × State). p.0 ≡ reply.Dropped name → Dropped s name p.1) s session (statement.Drop name)
     (λ _ _ e. absurd (cc)) (λ _ _. dropped s name)
+
+-- ALTER TABLE
+abbrev Altered : State → List ℕ → State → Type 0
+Altered s name new =
+    (new ≡ record s { catalog = new.catalog })
+    × ((old made : TableDef) × (table_named s.catalog name ≡ Some old) × (table_named new.catalog name ≡ Some made) × (made ≡ record old { checks = made.checks }))
+    × ((other : List ℕ) → ¬ (other ≡ name) → table_named new.catalog other ≡ table_named s.catalog other)
+
+-- a change makes a table that differs in its checks alone
+differs_in_checks : (s : State) (name : List ℕ) (asked : TableChange) (table made : TableDef) → table_named s.catalog name ≡ Some table → table_altered s name asked ≡ Some made
+    → made ≡ record table { checks = made.checks }
+differs_in_checks s name (change.Add text) table made named makes =
+    (is_added table text made (ap (option_and_then (λ (t : TableDef). with_check t text)) (sym named) ∙ makes)).alike
+differs_in_checks s name (change.Drop check) table made named makes =
+    let at = image_of (without_check_at table) (declared_place table check) made (ap (option_and_then (λ (t : TableDef). without_check t check)) (sym named) ∙ makes) in
+    sym at.2 ∙ ap (λ (t : TableDef). record table { checks = t.checks }) at.2
+
+-- a table of another name stays as it is
+other_in_place : (made : TableDef) (name : List ℕ) (o : Option TableDef) → bytes_eq name made.name ≡ false → IfSome o (λ (t : TableDef). t.name ≡ name)
+    → option_map (in_place made) o ≡ o
+other_in_place made name None differs is = refl
+other_in_place made name (Some t) differs is =
+    ap (λ (x : TableDef). Some x) (cond-false (bytes_eq t.name made.name) made t (ap (λ (n : List ℕ). bytes_eq n made.name) is ∙ differs))
+
+found_name : (catalog : List TableDef) (name : List ℕ) (o : Option TableDef) → table_named catalog name ≡ o → IfSome o (λ (t : TableDef). t.name ≡ name)
+found_name catalog name None is = tt
+found_name catalog name (Some t) is = name_found catalog name t is
+
+altered : (s : State) (text : AlterText) → AlterStands s text → Altered s text.table (after_alter s (table_altered s text.table text.change))
+altered s text stands =
+    let alike = differs_in_checks s text.table text.change stands.table stands.made stands.named stands.makes in
+    let called : stands.made.name ≡ text.table = ap (λ (t : TableDef). t.name) alike ∙ name_found s.catalog text.table stands.table stands.named in
+    let here : bytes_eq stands.table.name stands.made.name ≡ true =
+    subst (λ (n : List ℕ). bytes_eq n stands.made.name ≡ true) (ap (λ (t : TableDef). t.name) alike) (same_name stands.made.name) in
+    subst (λ (o : Option TableDef). Altered s text.table (after_alter s o)) (sym stands.makes) (
+      refl,
+      (
+        stands.table,
+        stands.made,
+        stands.named,
+        altered_named stands.made s.catalog text.table ∙ ap (option_map (in_place stands.made)) stands.named
+            ∙ ap (λ (t : TableDef). Some t) (cond-true (bytes_eq stands.table.name stands.made.name) stands.made stands.table here),
+        alike,
+      ),
+      λ other differ. altered_named stands.made s.catalog other
+          ∙ other_in_place stands.made other (table_named s.catalog other)
+          (names_differ other stands.made.name (λ e. differ (e ∙ called)))
+          (found_name s.catalog other (table_named s.catalog other) refl),
+    )
+
+pub alters_one_table : AltersOneTable
+unfolding turn_of
+alters_one_table s session text =
+    step_has (λ (p : Reply × State). p.0 ≡ reply.Altered text.table → Altered s text.table p.1) s session (statement.Alter text)
+    (λ _ _ e. absurd (cc)) (λ accepted _. altered s text (alter_stands s session text accepted))
 
 -- DELETE
 rows_differ : (other name : RowName) → ¬ (other ≡ name) → same_row other name ≡ false

@@ -27,6 +27,7 @@ turn_stays : (s : State) (session : ℕ) (asked : Statement) → holds_memory (t
 unfolding turn_of
 turn_stays s session (statement.Create text) holds = absurd (false≢true holds)
 turn_stays s session (statement.Drop name) holds = absurd (false≢true holds)
+turn_stays s session (statement.Alter text) holds = absurd (false≢true holds)
 turn_stays s session (statement.Insert text) holds = absurd (false≢true holds)
 turn_stays s session (statement.Update text) holds = absurd (update_holds_none s (plan_of s text) holds)
 turn_stays s session (statement.Delete text) holds = absurd (false≢true holds)

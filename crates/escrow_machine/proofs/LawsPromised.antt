@@ -19,6 +19,7 @@ turn_holds_none : (s : State) (session : ℕ) (asked : Statement) → needs_noth
 unfolding turn_of
 turn_holds_none s session (statement.Create text) none = absurd (cc)
 turn_holds_none s session (statement.Drop name) none = absurd (cc)
+turn_holds_none s session (statement.Alter text) none = absurd (cc)
 turn_holds_none s session (statement.Insert text) none = absurd (cc)
 turn_holds_none s session (statement.Update text) none = absurd (cc)
 turn_holds_none s session (statement.Delete text) none = absurd (cc)

@@ -179,6 +179,7 @@ kept_by_turn : (p : Savepoint) (s : State) (session : ℕ) (asked : Statement) �
 unfolding turn_of
 kept_by_turn p s session (statement.Create text) valid other = inr (refl, λ _. refl)
 kept_by_turn p s session (statement.Drop name) valid other = inr (refl, λ _. refl)
+kept_by_turn p s session (statement.Alter text) valid other = inr (refl, λ _. refl)
 kept_by_turn p s session (statement.Insert text) valid other = inr (refl, λ _. refl)
 kept_by_turn p s session (statement.Update text) valid other = kept_by_update p s session text (plan_of s text) valid
 kept_by_turn p s session (statement.Delete text) valid other = inr (refl, λ _. refl)

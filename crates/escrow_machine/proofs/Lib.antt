@@ -34,6 +34,7 @@ pub mod TurnSavepoints
 pub mod TurnUpdate
 pub mod TurnWords
 pub mod Turns
+pub mod ValidAlter
 pub mod ValidCreate
 pub mod ValidDelete
 pub mod ValidDrop

@@ -1,23 +1,28 @@
 -- What each statement's turn is like, one lemma a statement: what the laws of steps rest on.
-use Rattle.std.specs.Prelude.{◌≡◌, ℕ, ◌<◌, bytes_eq, is_none, unwrap_or, option_map, option_and_then, IfSome, Option, Some, None, List, [], length}
-use Rattle.std.proofs.Common.{refl, sym, subst, le_refl, ◌∙◌}
+use Rattle.std.specs.Prelude.{◌≡◌, ℕ, ◌<◌, is_none, unwrap_or, option_map, option_and_then, IfSome, Option, Some, None, List, [], length}
+use Rattle.std.specs.List.{AllByRecursion}
+use Rattle.std.proofs.Common.{refl, sym, ap, subst, le_refl, ◌∙◌}
+use Rattle.escrow_num.specs.declared.refusal.Breach.{Breach}
 use Rattle.escrow_num.specs.declared.refusal.Refusal.{Refusal}
 use Rattle.escrow_num.specs.declared.refusal.Refusal.TheVariants as refusal
 use Rattle.escrow_num.specs.declared.row.Row.{Row}
-use Rattle.escrow_num.specs.Refusal.{refuse_if}
-use Rattle.escrow_num.proofs.Items.{find_has}
-use Rattle.escrow_num.proofs.Orders.{name_same}
+use Rattle.escrow_num.specs.Refusal.{refuse_if, first_refusal}
 use Rattle.escrow_sql.specs.declared.statement.Statement.{Statement}
 use Rattle.escrow_sql.specs.declared.statement.Statement.TheVariants as statement
+use Rattle.escrow_sql.specs.declared.statement.AlterText.{AlterText}
 use Rattle.escrow_sql.specs.declared.statement.CreateText.{CreateText}
 use Rattle.escrow_sql.specs.declared.statement.InsertText.{InsertText}
 use Rattle.escrow_sql.specs.declared.statement.RowText.{RowText}
 use Rattle.escrow_sql.specs.declared.statement.SelectText.{SelectText}
+use Rattle.escrow_sql.specs.declared.statement.TableChange.{TableChange}
+use Rattle.escrow_sql.specs.declared.statement.TableChange.TheVariants as change
 use Rattle.escrow_schema.specs.declared.table.TableDef.{TableDef}
+use Rattle.escrow_schema.specs.Altered.{with_check, without_check, with_altered}
 use Rattle.escrow_schema.specs.Catalog.{table_named, with_table, without_table}
 use Rattle.escrow_schema.specs.declared.table.TheConstants.TableDef.{MAX_ROWS}
 use Rattle.escrow_machine.specs.declared.reply.Reply.{Reply}
 use Rattle.escrow_machine.specs.declared.reply.Reply.TheVariants as reply
+use Rattle.escrow_machine.specs.Altered.{added_breach, drop_refusal_of, table_altered, after_alter}
 use Rattle.escrow_machine.specs.Asked.{new_row, insert_breach, named_by, select_reply, show_reply}
 use Rattle.escrow_machine.specs.Bounds.{bounds_in, bounds_reply}
 use Rattle.escrow_machine.specs.Reply.{failure_of}
@@ -25,12 +30,13 @@ use Rattle.escrow_machine.specs.Accepted.{IsAccepted}
 use Rattle.escrow_journal.specs.Reservations.{own}
 use Rattle.escrow_machine.specs.State.{State}
 use Rattle.escrow_schema.specs.Rows.{row_named, rows_of, applied, with_row, without_row, without_rows_of}
-use Rattle.escrow_machine.specs.Turn.{turn_of, after_create, after_drop, after_insert, after_delete, after_commit, after_rollback}
+use Rattle.escrow_machine.specs.Turn.{turn_of, alter_refusals, after_create, after_drop, after_insert, after_delete, after_commit, after_rollback}
 use Rattle.escrow_machine.specs.Valid.{IsValid}
-use Rattle.escrow_machine.proofs.Accepted.{create_stands, insert_stands, drop_stands, delete_stands}
+use Rattle.escrow_machine.proofs.Accepted.{create_stands, insert_stands, drop_stands, alter_stands, add_unbroken, delete_stands}
 use Rattle.escrow_machine.proofs.Plans.{key_among, select_among}
 use Rattle.escrow_machine.proofs.Queries.{shows_just}
 use Rattle.escrow_machine.proofs.Refusals.{if_among, check_among}
+use Rattle.escrow_machine.proofs.ValidAlter.{name_found, add_check_valid, drop_check_valid}
 use Rattle.escrow_machine.proofs.ValidCreate.{create_valid}
 use Rattle.escrow_machine.proofs.ValidDelete.{delete_valid}
 use Rattle.escrow_machine.proofs.ValidDrop.{drop_valid}
@@ -39,10 +45,6 @@ use Rattle.escrow_machine.proofs.ValidInsert.{insert_valid}
 use Rattle.escrow_machine.proofs.TurnSavepoints.{savepoint_turn, back_turn}
 use Rattle.escrow_machine.proofs.TurnWords.{IsJudged, NeedsMore, IsTurn}
 use Rattle.escrow_machine.proofs.TurnUpdate.{update_turn}
-
--- a table that is found has the name that was looked for
-name_found : (catalog : List TableDef) (name : List ℕ) (table : TableDef) → table_named catalog name ≡ Some table → table.name ≡ name
-name_found catalog name table named = name_same table.name name (find_has (λ (t : TableDef). bytes_eq t.name name) catalog table named).1
 
 create_turn : (s : State) (session : ℕ) (text : CreateText) → IsTurn s session (statement.Create text) (turn_of s session (statement.Create text))
 unfolding turn_of
@@ -72,6 +74,52 @@ drop_turn s session name = record {
   ids = λ _. le_refl _;
   next = λ _ id e. absurd (cc);
   valid = λ accepted valid _. drop_valid s name valid (drop_stands s session name accepted).free;
+}
+
+-- the refusals of an ALTER TABLE, by its change
+lacking_among : (P : Refusal → Type 0) (s : State) (name : List ℕ) (asked : TableChange) → P refusal.NoSuchConstraint → IfSome (drop_refusal_of s name asked) P
+lacking_among P s name (change.Add text) lacking = tt
+lacking_among P s name (change.Drop check) lacking = if_among P _ _ lacking
+
+alter_among : (P : Refusal → Type 0) (s : State) (name : List ℕ) (asked : TableChange) → P refusal.BadDefinition → ((breach : Breach) → P (refusal.Check breach))
+    → AllByRecursion (λ o. IfSome o P) (alter_refusals s name asked)
+alter_among P s name (change.Add text) bad breaks = (if_among P _ _ bad, (check_among P (added_breach s name text) breaks, tt))
+alter_among P s name (change.Drop check) bad breaks = tt
+
+-- a table that is altered leaves the state valid
+altered_valid : (s : State) (name : List ℕ) (asked : TableChange) (table made : TableDef) → IsValid s → table_named s.catalog name ≡ Some table
+    → table_altered s name asked ≡ Some made → first_refusal (alter_refusals s name asked) ≡ None → IsValid (record s { catalog = with_altered made s.catalog })
+altered_valid s name (change.Add text) table made valid named makes safe =
+    add_check_valid s name text table made valid named (ap (option_and_then (λ (t : TableDef). with_check t text)) (sym named) ∙ makes) (add_unbroken s name text safe)
+altered_valid s name (change.Drop check) table made valid named makes safe =
+    drop_check_valid s name check table made valid named (ap (option_and_then (λ (t : TableDef). without_check t check)) (sym named) ∙ makes)
+
+alter_turn : (s : State) (session : ℕ) (text : AlterText) → IsTurn s session (statement.Alter text) (turn_of s session (statement.Alter text))
+unfolding turn_of
+alter_turn s session text = record {
+  answers = λ r e. absurd (cc);
+  succeeds = refl;
+  judged = (
+    if_among IsJudged _ _ refl,
+    (
+      if_among IsJudged _ _ refl,
+      (lacking_among IsJudged s text.table text.change refl, alter_among IsJudged s text.table text.change refl (λ _. refl)),
+    ),
+  );
+  late = alter_among (NeedsMore (statement.Alter text)) s text.table text.change refl (λ _. refl);
+  seen = λ accepted.
+      let stands = alter_stands s session text accepted in (
+        stands.made,
+        stands.makes,
+        shows_just (after_alter s (table_altered s text.table text.change)) (with_altered stands.made s.catalog) s.rows
+            (ap (λ (o : Option TableDef). (after_alter s o).catalog) stands.makes) refl,
+      );
+  ids = λ _. le_refl _;
+  next = λ _ id e. absurd (cc);
+  valid = λ accepted valid _.
+      let stands = alter_stands s session text accepted in
+      subst (λ (o : Option TableDef). IsValid (after_alter s o)) (sym stands.makes)
+      (altered_valid s text.table text.change stands.table stands.made valid stands.named stands.makes stands.safe);
 }
 
 some_same : {A : Type 0} {x y : A} → Some x ≡ Some y → x ≡ y
@@ -265,6 +313,7 @@ rollback_turn s session = record {
 pub is_turn : (s : State) (session : ℕ) (asked : Statement) → IsTurn s session asked (turn_of s session asked)
 is_turn s session (statement.Create text) = create_turn s session text
 is_turn s session (statement.Drop name) = drop_turn s session name
+is_turn s session (statement.Alter text) = alter_turn s session text
 is_turn s session (statement.Insert text) = insert_turn s session text
 is_turn s session (statement.Update text) = update_turn s session text
 is_turn s session (statement.Delete text) = delete_turn s session text

@@ -13,6 +13,7 @@ use Rattle.escrow_checks.specs.Grant.{Meets}
 use Rattle.escrow_schema.specs.declared.catalog.TheConstants.Catalog.{MAX_TABLES}
 use Rattle.escrow_schema.specs.declared.table.TableDef.{TableDef}
 use Rattle.escrow_schema.specs.Catalog.{table_before, table_named, with_table}
+use Rattle.escrow_schema.specs.Column.{reservables}
 use Rattle.escrow_schema.specs.Definition.{definition_of}
 use Rattle.escrow_schema.specs.Fit.{IsRowOf}
 use Rattle.escrow_machine.specs.State.{State}
@@ -45,7 +46,7 @@ pub create_orderly : (s : State) (text : CreateText) (table : TableDef) → IsOr
 create_orderly s text table orderly made new room =
     let free = free_name s.catalog text table made new in
     over_catalog s (with_table table s.catalog) orderly (with_new s.catalog table orderly.tables (text, made) free room)
-    (λ P r _. still_named s.catalog table r.row.table P free)
+    (λ r _. still_named s.catalog table r.row.table (λ t. length r.changes ≡ length (reservables t.columns)) free)
 
 -- and a valid state valid
 pub create_valid : (s : State) (text : CreateText) (table : TableDef) → IsValid s → definition_of text ≡ Some table

@@ -1,5 +1,5 @@
 -- DROP TABLE: no open reservation is of a row of the table that is taken out.
-use Rattle.std.specs.Prelude.{◌≡◌, ℕ, false, not, Option, List, bytes_eq, IsSomeAnd}
+use Rattle.std.specs.Prelude.{◌≡◌, ℕ, false, not, Option, List, bytes_eq, length, IsSomeAnd}
 use Rattle.std.proofs.Common.{sym, ap, ◌∙◌, subst}
 use Rattle.std.proofs.lemmas.Bool.{not-true}
 use Rattle.escrow_num.specs.declared.reservation.Reservation.{Reservation}
@@ -8,6 +8,7 @@ use Rattle.escrow_num.proofs.Items.{Has}
 use Rattle.escrow_num.proofs.Orders.{row_same, name_same}
 use Rattle.escrow_schema.specs.declared.table.TableDef.{TableDef}
 use Rattle.escrow_schema.specs.Catalog.{table_named, without_table}
+use Rattle.escrow_schema.specs.Column.{reservables}
 use Rattle.escrow_machine.specs.State.{State, is_table_reserved}
 use Rattle.escrow_machine.specs.Turn.{after_drop}
 use Rattle.escrow_machine.specs.Valid.{IsValid, IsOrderly}
@@ -29,7 +30,7 @@ pub drop_orderly : (s : State) (name : List ℕ) → IsOrderly s.catalog s.reser
     → IsOrderly (without_table name s.catalog) s.reservations s.savepoints s.next_id
 drop_orderly s name orderly free =
     over_catalog s (without_table name s.catalog) orderly (without_one s.catalog name orderly.tables)
-    (λ P r h. subst (λ (o : Option TableDef). IsSomeAnd o P) (sym (other_table s.catalog name r.row.table (other_tables s name free r h))))
+    (λ r h. subst (λ (o : Option TableDef). IsSomeAnd o (λ t. length r.changes ≡ length (reservables t.columns))) (sym (other_table s.catalog name r.row.table (other_tables s name free r h))))
 
 -- and a valid state valid
 pub drop_valid : (s : State) (name : List ℕ) → IsValid s → is_table_reserved s name ≡ false → IsValid (after_drop s name)

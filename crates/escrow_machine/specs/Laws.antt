@@ -17,6 +17,7 @@ use Rattle.escrow_num.specs.Session.{IsSession}
 use Rattle.escrow_num.specs.Span.{Holds}
 use Rattle.escrow_sql.specs.declared.statement.Statement.{Statement}
 use Rattle.escrow_sql.specs.declared.statement.Statement.TheVariants as statement
+use Rattle.escrow_sql.specs.declared.statement.AlterText.{AlterText}
 use Rattle.escrow_sql.specs.declared.statement.UpdateText.{UpdateText}
 use Rattle.escrow_sql.specs.declared.statement.RowText.{RowText}
 use Rattle.escrow_sql.specs.declared.statement.SelectText.{SelectText}
@@ -32,6 +33,7 @@ use Rattle.escrow_schema.specs.declared.column.Column.{Column}
 use Rattle.escrow_schema.specs.declared.table.TableDef.{TableDef}
 use Rattle.escrow_schema.specs.declared.plan.Plan.{Plan}
 use Rattle.escrow_schema.specs.declared.plan.Plan.TheVariants as plan
+use Rattle.escrow_schema.specs.Altered.{with_altered}
 use Rattle.escrow_schema.specs.Catalog.{table_named, with_table, without_table}
 use Rattle.escrow_schema.specs.Column.{names_of, reservables, scale_of}
 use Rattle.escrow_schema.specs.Definition.{definition_of}
@@ -51,6 +53,7 @@ use Rattle.escrow_machine.specs.Reply.{failure_of, holds_memory, is_refused}
 use Rattle.escrow_journal.specs.Reservations.{own, others, own_savepoints}
 use Rattle.escrow_journal.specs.Savepoints.{savepoint_of, without_savepoint}
 use Rattle.escrow_machine.specs.Journal.{entry_of}
+use Rattle.escrow_machine.specs.Altered.{table_altered}
 use Rattle.escrow_machine.specs.Asked.{new_row, plan_of, row_name, named_by, reservation_of, heading_of}
 use Rattle.escrow_machine.specs.Settle.{end_of, settled, after_end, after_ends}
 use Rattle.escrow_machine.specs.State.{State, empty, opened}
@@ -133,13 +136,16 @@ ShowsPlanned s table (plan.Reserve key changes) new = ShowsJust new s.catalog s.
 ShowsPlanned s table (plan.Plain key values) new = ShowsJust new s.catalog (with_plain (row_name table key) values s.rows)
 
 -- what a state shows after a statement that is accepted: one table more after a CREATE TABLE, neither the
--- table nor its rows after a DROP TABLE, the row of an INSERT among the others, no longer that of a DELETE;
+-- table nor its rows after a DROP TABLE, the altered table after an ALTER TABLE, the row of an INSERT among the
+-- others, no longer that of a DELETE;
 -- after a COMMIT the changes of its session's reservations, added; and after anything else, as a ROLLBACK,
 -- what it showed before. ROLLBACK leaves open the reservations of the other sessions alone, so that no COMMIT
 -- adds what it dropped
 abbrev pub ShowsAfter : State → ℕ → Statement → State → Type 0
 ShowsAfter s session (statement.Create text) new = (table : TableDef) × (definition_of text ≡ Some table) × ShowsJust new (with_table table s.catalog) s.rows
 ShowsAfter s session (statement.Drop name) new = ShowsJust new (without_table name s.catalog) (without_rows_of name s.rows)
+ShowsAfter s session (statement.Alter text) new =
+    (table : TableDef) × (table_altered s text.table text.change ≡ Some table) × ShowsJust new (with_altered table s.catalog) s.rows
 ShowsAfter s session (statement.Insert text) new = (row : Row) × (new_row s text ≡ Some row) × ShowsJust new s.catalog (with_row row s.rows)
 ShowsAfter s session (statement.Update text) new = (asked : Plan) × (plan_of s text ≡ Some asked) × ShowsPlanned s text.table asked new
 ShowsAfter s session (statement.Delete text) new = ShowsJust new s.catalog (without_row (named_by s.catalog text.table text.row) s.rows)
@@ -198,6 +204,14 @@ DropsOneTable = (s : State) (session : ℕ) (name : List ℕ) → let after = st
     × (table_named after.1.catalog name ≡ None) × (rows_of after.1.rows name ≡ [])
     × ((other : List ℕ) → ¬ (other ≡ name)
     → (table_named after.1.catalog other ≡ table_named s.catalog other) × (rows_of after.1.rows other ≡ rows_of s.rows other))
+
+-- an accepted ALTER TABLE changes just the checks of the table that it names; what else there is stays
+abbrev pub AltersOneTable : Type 0
+AltersOneTable = (s : State) (session : ℕ) (text : AlterText) → let after = step s session (statement.Alter text) in after.0 ≡ reply.Altered text.table
+    → (after.1 ≡ record s { catalog = after.1.catalog })
+    × ((old new : TableDef) × (table_named s.catalog text.table ≡ Some old) × (table_named after.1.catalog text.table ≡ Some new)
+    × (new ≡ record old { checks = new.checks }))
+    × ((other : List ℕ) → ¬ (other ≡ text.table) → table_named after.1.catalog other ≡ table_named s.catalog other)
 
 -- an accepted DELETE takes out just the row that it names
 abbrev pub DeletesOneRow : Type 0

@@ -1,4 +1,5 @@
 pub mod Accepted
+pub mod Altered
 pub mod Asked
 pub mod Bounds
 pub mod Event

@@ -23,10 +23,11 @@ reads_rows s session asked = asks_store s session asked
 abbrev pub needs_nothing : State → ℕ → Statement → Bool
 needs_nothing s session asked = not (fails_for s session asked failure.Memory) && not (asks_store s session asked)
 
--- a refusal that needs neither: 20, 21, 33, 43 and 44, and 26 unless an UPDATE is refused so
+-- a refusal that needs neither: 20, 21, 27, 33, 43 and 44, and 26 unless an UPDATE is refused so
 abbrev pub is_plain_refusal : Statement → Reply → Bool
 is_plain_refusal asked (reply.Refused refusal.TableExists) = true
 is_plain_refusal asked (reply.Refused refusal.NoSuchTable) = true
+is_plain_refusal asked (reply.Refused refusal.NoSuchConstraint) = true
 is_plain_refusal asked (reply.Refused refusal.TableReserved) = true
 is_plain_refusal asked (reply.Refused refusal.NoSuchSavepoint) = true
 is_plain_refusal asked (reply.Refused refusal.TooManySavepoints) = true

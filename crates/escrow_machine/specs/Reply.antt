@@ -36,6 +36,7 @@ is_refused _ = false
 abbrev pub tells_write : Reply → Bool
 tells_write (reply.Created name) = true
 tells_write (reply.Dropped name) = true
+tells_write (reply.Altered name) = true
 tells_write reply.Inserted = true
 tells_write reply.Deleted = true
 tells_write reply.Updated = true

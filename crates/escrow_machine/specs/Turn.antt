@@ -8,6 +8,8 @@ use Rattle.escrow_sql.specs.declared.statement.Statement.TheVariants as statemen
 use Rattle.escrow_sql.specs.declared.statement.CreateText.{CreateText}
 use Rattle.escrow_sql.specs.declared.statement.InsertText.{InsertText}
 use Rattle.escrow_sql.specs.declared.statement.RowText.{RowText}
+use Rattle.escrow_sql.specs.declared.statement.TableChange.{TableChange}
+use Rattle.escrow_sql.specs.declared.statement.TableChange.TheVariants as change
 use Rattle.escrow_journal.specs.Open.{grant_refusal, granted, savepoint_refusal, saved, released, cut_back, ended}
 use Rattle.escrow_journal.specs.Reservations.{own}
 use Rattle.escrow_journal.specs.Savepoints.{savepoint_of}
@@ -19,6 +21,7 @@ use Rattle.escrow_schema.specs.Definition.{definition_of}
 use Rattle.escrow_schema.specs.declared.table.TheConstants.TableDef.{MAX_ROWS}
 use Rattle.escrow_machine.specs.declared.reply.Reply.{Reply}
 use Rattle.escrow_machine.specs.declared.reply.Reply.TheVariants as reply
+use Rattle.escrow_machine.specs.Altered.{table_with_check, added_breach, drop_refusal_of, table_altered, after_alter}
 use Rattle.escrow_machine.specs.Asked.{new_row, insert_breach, plan_of, plan_refusal_of, row_name, reservation_from, breach_of, named_by, key_refusal_of, select_refusal_of, select_reply, show_reply}
 use Rattle.escrow_machine.specs.Bounds.{bounds_reply}
 use Rattle.escrow_machine.specs.Journal.{journal_reply}
@@ -48,6 +51,14 @@ after_insert s text = record s { rows = unwrap_or (option_map (λ row. with_row 
 -- the state without the row that a DELETE names
 abbrev pub after_delete : State → RowText → State
 after_delete s text = record s { rows = without_row (named_by s.catalog text.table text.row) s.rows }
+
+-- the late refusals of an ALTER TABLE, by its change: to add checks, or to drop one
+abbrev pub alter_refusals : State → List ℕ → TableChange → List (Option Refusal)
+alter_refusals s table (change.Add text) =
+    refuse_if (is_none (table_with_check s table text)) refusal.BadDefinition
+    ∷ option_map refusal.Check (added_breach s table text)
+    ∷ []
+alter_refusals s table (change.Drop check) = []
 
 -- the late refusals of an UPDATE, by its plan: to reserve changes, or to replace plain values
 abbrev pub update_refusals : State → ℕ → List ℕ → Plan → List (Option Refusal)
@@ -107,6 +118,15 @@ turn_of s session (statement.Drop name) = record {
   late = [];
   reply = reply.Dropped name;
   next = after_drop s name;
+}
+turn_of s session (statement.Alter text) = record {
+  early = refuse_if (is_open session s) refusal.TransactionOpen
+      ∷ refuse_if (is_none (table_named s.catalog text.table)) refusal.NoSuchTable
+      ∷ drop_refusal_of s text.table text.change
+      ∷ [];
+  late = alter_refusals s text.table text.change;
+  reply = reply.Altered text.table;
+  next = after_alter s (table_altered s text.table text.change);
 }
 turn_of s session (statement.Insert text) = record {
   early = refuse_if (is_open session s) refusal.TransactionOpen

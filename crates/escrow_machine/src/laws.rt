@@ -1,7 +1,7 @@
 //! Laws of the machine: facts about its definitions, each the contract of a function that does
 //! nothing. They say of its steps what O'Neil's escrow method (1986) promises of transactions.
 
-ghost use Rattle.escrow_machine.specs.Laws.{StepKeepsValid, RunKeepsValid, CommittedRowsMeetChecks, CommittedValuesFit, EveryRunIsSafe, RefusedChangesNothing, MachineNeverFails, EarlyRefusalsStand, CommitIsNeverRefused, RollbackIsNeverRefused, QueriesSeeCommitsAlone, ReservedTakesTheNextId, IdsNeverFall, IdsAreUsedOnce, IdsTellTheOrder, TransactionsCommute, AnyOrderOfEnds, SettledIsTheRun, SettledStaysValid, SettledInAnyOrder, DropsOneTable, DeletesOneRow, PlainUpdatesKeepAmounts, ReservationsKeepRows, SelectsShowRows, ShowsTheTable, QueriesIgnoreWhatIsOpen, QueriesIgnoreWhoAsks, ShownStays, ShowsTheJournal, BoundsAreReached, SavepointsStandAsMade, BackDropsWhatCameAfter, BackAtOnceChangesNothing, BackLeavesWhatWas, BackRefusesNothing, GrantedInEveryChoice, OwnIncrementNotSpent, RefusedByAChoice, BoundsDecideGrants};
+ghost use Rattle.escrow_machine.specs.Laws.{StepKeepsValid, RunKeepsValid, CommittedRowsMeetChecks, CommittedValuesFit, EveryRunIsSafe, RefusedChangesNothing, MachineNeverFails, EarlyRefusalsStand, CommitIsNeverRefused, RollbackIsNeverRefused, QueriesSeeCommitsAlone, ReservedTakesTheNextId, IdsNeverFall, IdsAreUsedOnce, IdsTellTheOrder, TransactionsCommute, AnyOrderOfEnds, SettledIsTheRun, SettledStaysValid, SettledInAnyOrder, DropsOneTable, AltersOneTable, DeletesOneRow, PlainUpdatesKeepAmounts, ReservationsKeepRows, SelectsShowRows, ShowsTheTable, QueriesIgnoreWhatIsOpen, QueriesIgnoreWhoAsks, ShownStays, ShowsTheJournal, BoundsAreReached, SavepointsStandAsMade, BackDropsWhatCameAfter, BackAtOnceChangesNothing, BackLeavesWhatWas, BackRefusesNothing, GrantedInEveryChoice, OwnIncrementNotSpent, RefusedByAChoice, BoundsDecideGrants};
 
 /// Whatever a session asks in a valid state, the state after it is valid: whichever of the open
 /// reservations are applied, each row meets each check of its table.
@@ -26,9 +26,9 @@ pub fn machine_never_fails()
 {}
 
 /// A refusal that needs neither memory nor the store is answered whatever there is of both: an open
-/// transaction, a table that is there or isn't, a bad value of an INSERT, what an UPDATE asks that it
-/// can't, a WHERE that names no key, and each refusal of DROP TABLE, SELECT, SHOW TABLE, SHOW JOURNAL,
-/// SAVEPOINT and ROLLBACK TO.
+/// transaction, a table that is there or isn't, a constraint that isn't there to be dropped, a bad
+/// value of an INSERT, what an UPDATE asks that it can't, a WHERE that names no key, and each refusal
+/// of DROP TABLE, SELECT, SHOW TABLE, SHOW JOURNAL, SAVEPOINT and ROLLBACK TO.
 pub fn early_refusals_stand()
     ensures { EarlyRefusalsStand }
 {}
@@ -46,7 +46,7 @@ pub fn rollback_is_never_refused()
 
 /// What a query shows is what was committed: a reservation shows in no row, not even to its own
 /// session, until its COMMIT adds its changes, and a ROLLBACK leaves no trace of it. INSERT, DELETE,
-/// CREATE and DROP TABLE and UPDATE of plain values commit what they change at once.
+/// CREATE, ALTER and DROP TABLE and UPDATE of plain values commit what they change at once.
 pub fn queries_see_commits_alone()
     ensures { QueriesSeeCommitsAlone }
 {}
@@ -76,6 +76,11 @@ pub fn ids_tell_the_order()
 /// DROP TABLE takes out just the table and its rows.
 pub fn drops_one_table()
     ensures { DropsOneTable }
+{}
+
+/// ALTER TABLE changes just the checks of the table that it names, whatever is open.
+pub fn alters_one_table()
+    ensures { AltersOneTable }
 {}
 
 /// DELETE takes out just the row that it names.

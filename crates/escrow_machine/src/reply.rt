@@ -15,6 +15,8 @@ pub enum Reply {
     Created(Name),
     /// A table was dropped, of this name.
     Dropped(Name),
+    /// A table was altered, of this name.
+    Altered(Name),
     /// A row was inserted.
     Inserted,
     /// A row was deleted.
@@ -166,6 +168,7 @@ impl Reply {
             Reply::Refused(refusal) => Reply::Refused(*refusal),
             Reply::Created(name) => Reply::Created(*name),
             Reply::Dropped(name) => Reply::Dropped(*name),
+            Reply::Altered(name) => Reply::Altered(*name),
             Reply::Inserted => Reply::Inserted,
             Reply::Deleted => Reply::Deleted,
             Reply::Updated => Reply::Updated,
@@ -199,6 +202,7 @@ impl Reply {
             (Reply::Refused(a), Reply::Refused(b)) => a.is_same(b),
             (Reply::Created(a), Reply::Created(b)) => *a == *b,
             (Reply::Dropped(a), Reply::Dropped(b)) => *a == *b,
+            (Reply::Altered(a), Reply::Altered(b)) => *a == *b,
             (Reply::Inserted, Reply::Inserted) => true,
             (Reply::Deleted, Reply::Deleted) => true,
             (Reply::Updated, Reply::Updated) => true,

@@ -17,6 +17,7 @@ number_of refusal.BadValue = 23
 number_of refusal.BadAssignment = 24
 number_of refusal.NotTheKey = 25
 number_of refusal.TransactionOpen = 26
+number_of refusal.NoSuchConstraint = 27
 number_of refusal.RowExists = 30
 number_of refusal.NoSuchRow = 31
 number_of refusal.RowReserved = 32

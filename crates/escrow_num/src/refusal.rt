@@ -58,6 +58,8 @@ pub enum Refusal {
     NotTheKey,
     /// 26: the session's transaction is open.
     TransactionOpen,
+    /// 27: the table declares no check of that name.
+    NoSuchConstraint,
     /// 30: a row of that key stands.
     RowExists,
     /// 31: no row of that key stands.
@@ -107,6 +109,7 @@ impl Refusal {
             Refusal::BadAssignment => 24,
             Refusal::NotTheKey => 25,
             Refusal::TransactionOpen => 26,
+            Refusal::NoSuchConstraint => 27,
             Refusal::RowExists => 30,
             Refusal::NoSuchRow => 31,
             Refusal::RowReserved => 32,

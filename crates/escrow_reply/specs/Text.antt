@@ -75,6 +75,7 @@ refusal_text refusal.BadValue = codes "bad value"
 refusal_text refusal.BadAssignment = codes "bad assignment"
 refusal_text refusal.NotTheKey = codes "not the key"
 refusal_text refusal.TransactionOpen = codes "transaction open"
+refusal_text refusal.NoSuchConstraint = codes "no such constraint"
 refusal_text refusal.RowExists = codes "row exists"
 refusal_text refusal.NoSuchRow = codes "no such row"
 refusal_text refusal.RowReserved = codes "row reserved"
@@ -134,6 +135,7 @@ abbrev pub reply_text : Reply → List ℕ
 reply_text (reply.Refused r) = codes "ERR " ++ decimal (number_of r) ++ codes " " ++ refusal_text r
 reply_text (reply.Created name) = codes "OK created " ++ name
 reply_text (reply.Dropped name) = codes "OK dropped " ++ name
+reply_text (reply.Altered name) = codes "OK altered " ++ name
 reply_text reply.Inserted = codes "OK inserted"
 reply_text reply.Deleted = codes "OK deleted"
 reply_text reply.Updated = codes "OK updated"

@@ -41,7 +41,7 @@ pub is_of_cell : (id other : ℤ) (key mine : Value) (cell : SqlRow) → IsCell 
 is_of_cell id other key mine cell h =
     ap₂ ◌&&◌ (is_in_cell id other mine cell h) (ap (λ v. same v (stored key)) h.1 ∙ same_stored mine key)
 
-never_apart : (b : Bool) → b ≡ true → not b ≡ true → ⊥
+pub never_apart : (b : Bool) → b ≡ true → not b ≡ true → ⊥
 never_apart b t n = both_ways b (not-true b n) t
 
 -- tables of one number are one, and so are tables of one name

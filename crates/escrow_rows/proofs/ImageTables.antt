@@ -96,7 +96,7 @@ cells_left tables rows s are of has =
     (all_weaker (IsOfTables tables) _ (λ row k. all_weaker _ _ (λ cell e. ap not e) (cells_of tables row) (is_in_row tables s row are has k)) rows of.of_tables)
 
 -- the rows of TAB that haven't a number are those of the other tables
-tabs_left : (tables : List StoredTable) (s : StoredTable) → AreTables tables → Has tables s
+pub tabs_left : (tables : List StoredTable) (s : StoredTable) → AreTables tables → Has tables s
     → filter (λ tab. not (same (column tab 0) (sql.Int s.id))) (map tab_row tables) ≡ map tab_row (without_stored s.table.name tables)
 tabs_left tables s are has =
     filter-map (λ tab. not (same (column tab 0) (sql.Int s.id))) tab_row tables

@@ -4,6 +4,7 @@ pub mod Found
 pub mod Gathering
 pub mod ImageDelete
 pub mod ImageInsert
+pub mod ImageRedefine
 pub mod ImageSet
 pub mod ImageTables
 pub mod Images

@@ -6,6 +6,7 @@ use Rattle.escrow_num.specs.declared.row.Row.{Row}
 use Rattle.escrow_num.specs.declared.value.RowName.{RowName}
 use Rattle.escrow_num.specs.declared.value.Value.{Value}
 use Rattle.escrow_num.specs.Order.{same_row}
+use Rattle.escrow_checks.specs.declared.check.Check.{Check}
 use Rattle.escrow_schema.specs.Rows.{with_row, without_row, without_rows_of, replaced, with_plain}
 use Rattle.escrow_rows.specs.declared.stored.StoredTable.{StoredTable}
 use Rattle.escrow_rows.specs.declared.amounts.NewAmounts.{NewAmounts}
@@ -75,3 +76,17 @@ abbrev pub Drops : StoredTable → Database → Database → Type 0
 Drops s old new =
     (tables : List StoredTable) (rows : List Row) → AreTables tables → AreRows tables rows → Stands tables s
     → IsImage tables rows old → IsImage (without_stored s.table.name tables) (without_rows_of s.table.name rows) new
+
+-- a stored table over other checks
+abbrev pub with_checks : List Check → StoredTable → StoredTable
+with_checks checks s = record s { table = record s.table { checks = checks } }
+
+-- the tables, the one of a name over other checks
+abbrev pub with_redefined : List ℕ → List Check → List StoredTable → List StoredTable
+with_redefined name checks tables = map (λ s. if bytes_eq s.table.name name then with_checks checks s else s) tables
+
+-- ALTER TABLE: a table is over other checks, and keeps its place, its number and its rows
+abbrev pub Redefines : StoredTable → List Check → Database → Database → Type 0
+Redefines s checks old new =
+    (tables : List StoredTable) (rows : List Row) → AreTables tables → AreRows tables rows → Stands tables s
+    → IsImage tables rows old → IsImage (with_redefined s.table.name checks tables) rows new

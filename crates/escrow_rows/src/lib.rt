@@ -19,6 +19,7 @@ mod migration;
 mod plain;
 mod read;
 mod reader;
+mod redefine;
 mod store;
 mod stored;
 mod tables;

@@ -1,6 +1,6 @@
--- The tables of a catalog: one that is put in its order, and one that is taken out.
+-- The tables of a catalog: one that is put in its order, one that is put over another, and one that is taken out.
 use Rattle.std.specs.Borrow.{Bor}
-use Rattle.std.specs.Prelude.{IfSome, option_copied, ◌≡◌, ◌<◌, ◌≤◌, ◌+◌, ℕ, Bool, true, false, cond, not, nat_lt, is_some, List, [], ◌∷◌, Option, Some, None, length, filter, find, position, remove, bytes_eq, IsTrue}
+use Rattle.std.specs.Prelude.{IfSome, option_copied, ◌≡◌, ◌<◌, ◌≤◌, ◌+◌, ℕ, Bool, true, false, cond, not, nat_lt, is_some, List, [], ◌∷◌, Option, Some, None, length, map, filter, find, position, remove, slice_set, bytes_eq, IsTrue}
 use Rattle.std.specs.List.{AllByRecursion, position_or_len}
 use Rattle.std.specs.Cmp.{IsTotalOrder}
 use Rattle.std.specs.Cmp.Lexicographic.{slice_cmp}
@@ -9,8 +9,9 @@ use Rattle.std.specs.declared.cmp.Ordering.{Ordering}
 use Rattle.std.specs.declared.cmp.Ordering.TheVariants.{Equal}
 use Rattle.std.proofs.Common.{inl, inr, get_or, sym, ap, ◌∙◌, subst, refl, arith}
 use Rattle.std.proofs.Math.Numerals.{one-add}
-use Rattle.std.proofs.lemmas.Bool.{cases_Bool, false≢true, ltb-false, ltb-true}
+use Rattle.std.proofs.lemmas.Bool.{cases_Bool, cond_both, false≢true, ltb-false, ltb-true}
 use Rattle.std.proofs.lemmas.Cmp.{nat_list_cmp_total, on_total}
+use Rattle.std.proofs.lemmas.List.{length-map}
 use Rattle.std.proofs.lemmas.Option.{cond_some, none-some}
 use Rattle.escrow_num.specs.Ascending.{IsAscending}
 use Rattle.escrow_num.proofs.Ascending.{ascending_filter}
@@ -19,6 +20,7 @@ use Rattle.escrow_num.proofs.Orders.{before_itself, before_trans, list_tied, nam
 use Rattle.escrow_num.proofs.Put.{has_put, length-put, put, put_ascending}
 use Rattle.escrow_schema.specs.declared.table.TableDef.{TableDef}
 use Rattle.escrow_schema.specs.declared.catalog.TheConstants.Catalog.{MAX_TABLES}
+use Rattle.escrow_schema.specs.Altered.{with_altered}
 use Rattle.escrow_schema.specs.Catalog.{IsCatalog, table_before, table_named, with_table, without_table}
 use Rattle.escrow_schema.specs.Definition.{IsTable}
 
@@ -132,6 +134,63 @@ not_there p xs e =
       | inl t ↦ absurd (none-some (position_or_len p xs) (sym (subst (λ b. cond b (Some (position_or_len p xs)) None ≡ None) t e)))
       | inr f ↦ none_passes p xs (omega (arith, ltb-false (position_or_len p xs) (length xs) f))
     ]
+
+-- nothing is put over items of which none passes
+none_over : {A : Type 0} (p : A → Bool) (y : A) (xs : List A) → AllByRecursion (λ x. p x ≡ false) xs → map (λ x. cond (p x) y x) xs ≡ xs
+none_over p y [] h = refl
+none_over p y (x ∷ xs) h = rw h.0 (ap (λ ys. x ∷ ys) (none_over p y xs h.1))
+
+over_first : {A : Type 0} (p : A → Bool) (y : A) (xs : List A) → Once p xs → position_or_len p xs < length xs
+    → slice_set xs (position_or_len p xs) y ≡ map (λ x. cond (p x) y x) xs
+over_first p y [] once h = absurd (omega arith)
+over_first p y (x ∷ xs) once h =
+    elim (cases_Bool (p x)) [
+      | inl t ↦ rw t (ap (λ ys. y ∷ ys) (sym (none_over p y xs (once.0 t))))
+      | inr f ↦ (let shorter : position_or_len p xs < length xs = (let k : 1 + position_or_len p xs < length (x ∷ xs) = rw f at h in omega arith) in
+          rw (f, one-add) (ap (λ ys. x ∷ ys) (over_first p y xs once.1 shorter)))
+    ]
+
+-- an item put over the one at the first place that passes
+pub put_over : {A : Type 0} (p : A → Bool) (y : A) (xs : List A) (i : ℕ) → Once p xs → position p xs ≡ Some i
+    → (i < length xs) × (slice_set xs i y ≡ map (λ x. cond (p x) y x) xs)
+put_over p y xs i once e =
+    let at = cond_some (nat_lt (position_or_len p xs) (length xs)) (position_or_len p xs) i e in
+    let within = ltb-true (position_or_len p xs) (length xs) at.0 in
+    subst (λ n. (n < length xs) × (slice_set xs n y ≡ map (λ x. cond (p x) y x) xs)) at.1 (within, over_first p y xs once within)
+
+-- a table in the place of the one of its name, if another is of that name
+abbrev one_altered : TableDef → TableDef → TableDef
+one_altered table other = cond (bytes_eq other.name table.name) table other
+
+keeps_name : (table other : TableDef) → (one_altered table other).name ≡ other.name
+keeps_name table other =
+    cond_both (bytes_eq other.name table.name) table other (λ (t : TableDef). t.name ≡ other.name) (λ same. sym (name_same other.name table.name same)) (λ _. refl)
+
+each_altered : (table : TableDef) (catalog : List TableDef) → IsTable table → AllByRecursion IsTable catalog → AllByRecursion IsTable (with_altered table catalog)
+each_altered table [] is_table h = tt
+each_altered table (other ∷ rest) is_table h =
+    (cond_both (bytes_eq other.name table.name) table other IsTable (λ _. is_table) (λ _. h.0), each_altered table rest is_table h.1)
+
+before_altered : (table x y : TableDef) (rest : List TableDef) → y.name ≡ x.name → AllByRecursion (λ z. IsTrue (table_before x z)) rest
+    → AllByRecursion (λ z. IsTrue (table_before y z)) (with_altered table rest)
+before_altered table x y [] same h = tt
+before_altered table x y (z ∷ rest) same h = (
+  subst (λ n. is_lt (slice_cmp nat_cmp n (one_altered table z).name) ≡ true) (sym same)
+      (subst (λ n. is_lt (slice_cmp nat_cmp x.name n) ≡ true) (sym (keeps_name table z)) h.0),
+  before_altered table x y rest same h.1,
+)
+
+order_altered : (table : TableDef) (catalog : List TableDef) → IsAscending table_before catalog → IsAscending table_before (with_altered table catalog)
+order_altered table [] h = tt
+order_altered table (other ∷ rest) h = (before_altered table other (one_altered table other) rest (keeps_name table other) h.0, order_altered table rest h.1)
+
+-- a catalog with a table in the place of the one of its name
+pub with_one_altered : (catalog : List TableDef) (table : TableDef) → IsCatalog catalog → IsTable table → IsCatalog (with_altered table catalog)
+with_one_altered catalog table h is_table = record {
+  tables = each_altered table catalog is_table h.tables;
+  order = order_altered table catalog h.order;
+  few = omega (arith, h.few, length-map catalog (one_altered table));
+}
 
 -- no two tables of a catalog have one name
 pub once_named : (catalog : List TableDef) (name : List ℕ) → IsAscending table_before catalog → Once (λ t. bytes_eq t.name name) catalog

@@ -1,3 +1,4 @@
+pub mod AlteredLemmas
 pub mod AskedLemmas
 pub mod AssignedLemmas
 pub mod BackLemmas

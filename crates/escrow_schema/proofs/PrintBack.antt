@@ -1,7 +1,7 @@
 -- The canonical text of a table is read back as that table.
 use Rattle.std.proofs.Common.{◌≡◌, ℕ, ◌-◌, ◌≤◌, true, List, [], ◌∷◌, ◌++◌, Option, Some, None, option_and_then, length, map, take, refl, sym, ap, ◌∙◌, subst, arith, length-append}
-use Rattle.std.specs.Prelude.{All, cond, nat_le}
-use Rattle.std.specs.List.{AllByRecursion, list_all}
+use Rattle.std.specs.Prelude.{All, bytes_eq, cond, nat_le}
+use Rattle.std.specs.List.{AllByRecursion, IsDistinct, list_all}
 use Rattle.std.proofs.Math.Seq.{take-append_seam}
 use Rattle.std.proofs.lemmas.Bool.{cond-true, le-leb}
 use Rattle.std.proofs.lemmas.List.{length-map}
@@ -22,7 +22,7 @@ use Rattle.escrow_checks.specs.WrittenName.{is_written_name}
 use Rattle.escrow_schema.specs.declared.column.Column.{Column}
 use Rattle.escrow_schema.specs.declared.table.TableDef.{TableDef}
 use Rattle.escrow_schema.specs.Column.{names_of, reservables, scales_of}
-use Rattle.escrow_schema.specs.Definition.{IsTable, are_distinct, definition_of, range_check, range_checks}
+use Rattle.escrow_schema.specs.Definition.{IsTable, are_distinct, check_names, definition_of, range_check, range_checks}
 use Rattle.escrow_schema.specs.ReadBack.{ReadsBack}
 use Rattle.escrow_schema.specs.Print.{canonical, check_words, columns_words, declared_checks}
 use Rattle.escrow_schema.specs.Rules.{FollowsRules}
@@ -91,33 +91,65 @@ checks_again : (names : List (List ℕ)) (scales : List ℕ) (checks : List Chec
 checks_again names scales checks apart few all =
     ap (option_and_then at_most) (all_again names scales checks 1 apart all) ∙ cond-true (nat_le (length checks) MAX_CHECKS) (Some checks) None (le-leb (length checks) MAX_CHECKS few)
 
--- the tree and the table follow the rules of definitions
-follows_tree : (text : CreateText) (table : TableDef) → Sound table → FollowsRules text table → FollowsRules (tree_of table) table
-follows_tree text table s h =
+-- the tree of a table with other checks, and that table, follow the rules of definitions
+follows_tree : (text : CreateText) (table : TableDef) (checks : List Check) → Sound (record table { checks = checks }) → IsDistinct bytes_eq (check_names checks) → FollowsRules text table
+    → FollowsRules (tree_of (record table { checks = checks })) (record table { checks = checks })
+follows_tree text table checks s apart h =
     let names = names_of (reservables table.columns) in
     let scales = scales_of (reservables table.columns) in
-    let checks = declared_checks table in
+    let declared : List Check = declared_checks (record table { checks = checks }) in
     record {
       name = refl;
-      columns = columns_back table.columns 0 table.key names scales checks s.types (plain_found table.columns 0 table.key table.key h.key (omega arith) h.key_there h.plain_key);
+      columns = columns_back table.columns 0 table.key names scales declared s.types (plain_found table.columns 0 table.key table.key h.key (omega arith) h.key_there h.plain_key);
       enough_columns = h.enough_columns;
       few_columns = h.few_columns;
       written_names = h.written_names;
       distinct_columns = h.distinct_columns;
       key = h.key;
       key_there = h.key_there;
-      one_key = keys_back table.columns 0 table.key table.key h.key names scales checks (omega arith) h.key_there;
+      one_key = keys_back table.columns 0 table.key table.key h.key names scales declared (omega arith) h.key_there;
       plain_key = h.plain_key;
       some_reservable = h.some_reservable;
       few_reservable = h.few_reservable;
       number_reservable = h.number_reservable;
-      declared = checks;
-      of_text = ap (checks_of names scales) (checks_back table.columns 0 table.key names scales checks) ∙ checks_again names scales checks (reservables_distinct table.columns s.distinct) s.few s.declared;
+      declared = declared;
+      of_text = ap (checks_of names scales) (checks_back table.columns 0 table.key names scales declared) ∙ checks_again names scales declared (reservables_distinct table.columns s.distinct) s.few s.declared;
       few_declared = s.few;
       good_declared = s.declared;
       checks = s.checks;
-      distinct_checks = h.distinct_checks;
+      distinct_checks = apart;
     }
+
+-- a table with other declared checks, before those of its ranges
+abbrev pub over : TableDef → List Check → TableDef
+over table declared = record table { checks = declared ++ range_checks table.columns }
+
+sound_over : (table : TableDef) (declared : List Check) → Sound table → length declared ≤ MAX_CHECKS
+    → AllByRecursion (IsDeclared (names_of (reservables table.columns)) (scales_of (reservables table.columns))) declared → Sound (over table declared)
+sound_over table declared s few good =
+    let same = declared_first (over table declared) declared refl in
+    record {
+      name = s.name;
+      names = s.names;
+      distinct = s.distinct;
+      types = s.types;
+      some = s.some;
+      columns = s.columns;
+      reserved = s.reserved;
+      few = subst (λ (checks : List Check). length checks ≤ MAX_CHECKS) (sym same) few;
+      declared = subst (AllByRecursion (IsDeclared (names_of (reservables table.columns)) (scales_of (reservables table.columns)))) (sym same) good;
+      checks = ap (λ (checks : List Check). checks ++ range_checks table.columns) (sym same);
+    }
+
+-- it is a table where these are few, each as CHECKs may declare it, and no two of all its checks have one name
+pub over_is_table : (table : TableDef) (declared : List Check) → IsTable table → length declared ≤ MAX_CHECKS
+    → AllByRecursion (IsDeclared (names_of (reservables table.columns)) (scales_of (reservables table.columns))) declared
+    → IsDistinct bytes_eq (check_names (declared ++ range_checks table.columns)) → IsTable (over table declared)
+over_is_table table declared (text, e) few good apart =
+    let h = follows_rules text table e in
+    let s = sound_over table declared (sound text table e h) few good in
+    let other : TableDef = over table declared in
+    (tree_of other, defined (tree_of other) other (follows_tree text table (declared ++ range_checks table.columns) s apart h))
 
 -- there is an item where there is a column
 some_item : (columns : List Column) (key : ℕ) (rest : List Item) → 1 ≤ length columns → 1 ≤ length (columns_tree columns 0 key ++ rest)
@@ -147,4 +179,4 @@ pub read_back : (table : TableDef) → IsTable table → ReadsBack table (canoni
 read_back table (text, e) =
     let h = follows_rules text table e in
     let s = sound text table e h in
-    (tree_of table, asks_tree table s, defined (tree_of table) table (follows_tree text table s h))
+    (tree_of table, asks_tree table s, defined (tree_of table) table (follows_tree text table table.checks s h.distinct_checks h))

@@ -93,6 +93,11 @@ can_range columns reserved key follow types same =
     subst CanRange (sym same)
     (rules.few_reservable, reservables_distinct columns rules.distinct, reservables_written columns rules.written_names, All-filter (λ column. column.reservable) HasType columns types)
 
+-- and so can those of a table
+pub table_can_range : (table : TableDef) (reserved : List Column) → IsTable table → reserved ≡ reservables table.columns → CanRange reserved
+table_can_range table reserved is_table same =
+    can_range table.columns reserved table.key (parts is_table.0 table is_table.1).follow (typed_columns table is_table table.columns refl) same
+
 -- columns that items write are typed
 pub written_typed : (items : List Item) (columns : List Column) → columns_of (column_texts items) ≡ Some columns → TypedColumns columns
 written_typed items columns e = All-from_recursion HasType columns (written_columns (column_texts items) columns e)

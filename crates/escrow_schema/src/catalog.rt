@@ -1,9 +1,10 @@
-ghost use Rattle.std.specs.Prelude.{◌≡◌, ◌⊎◌, ◌↔◌, ◌≤◌, None, Some, Ok, Err, OnOk, OnErr, IfOk, IfErr, IfSome, IsErr, IsErrOf, length, insert, position, remove, option_copied};
+ghost use Rattle.std.specs.Prelude.{◌≡◌, ◌⊎◌, ◌↔◌, ◌≤◌, ◌<◌, None, Some, Ok, Err, OnOk, OnErr, IfOk, IfErr, IfSome, IsErr, IsErrOf, is_some, length, insert, position, remove, option_copied, slice_set, true};
 ghost use Rattle.std.specs.Ordering.{nat_cmp, is_lt};
 ghost use Rattle.std.specs.Cmp.Lexicographic.{slice_cmp};
 ghost use Rattle.escrow_schema.specs.declared.table.TableDef.{TableDef};
 ghost use Rattle.escrow_schema.specs.Catalog.{place_named, table_named, with_table};
 
+use crate::by_name::{find_by_name, place_by_name, place_in_order};
 use crate::table::TableDef;
 use escrow_num::{Name, Refusal};
 use std::alloc::Global;
@@ -38,6 +39,7 @@ impl Model for Catalog {
 impl Catalog {
     ghost use Rattle.std.specs.Prelude.{[]};
     ghost use Rattle.escrow_schema.specs.Catalog.{IsCatalog, add_refusal, table_named, with_table, without_table};
+    ghost use Rattle.escrow_schema.specs.Altered.{with_altered};
     ghost use Rattle.escrow_schema.specs.Definition.{IsTable};
 
     /// The most tables.
@@ -65,7 +67,7 @@ impl Catalog {
         ensures found { option_copied result ≡ table_named self.now name }
         ensures table { IfSome result (λ table. IsTable table.now) }
     {
-        find_table(self.tables(), name)
+        find_by_name(self.tables(), name)
     }
 
     /// Adds a table, in order of name. Refused where a table of its name stands, and then where as
@@ -92,6 +94,18 @@ impl Catalog {
         }
     }
 
+    /// Puts a table in the place of the one of its name. Takes no memory.
+    pub fn replace(&mut self, table: TableDef)
+        requires table { IsTable table }
+        requires there { is_some (table_named self.old table.name) ≡ true }
+        ensures { self.new ≡ with_altered table self.old }
+    {
+        match place_by_name(&self.tables, table.name) {
+            Some(place) => put_over(&mut self.tables, place, table),
+            None => {}
+        }
+    }
+
     /// Takes the table of a name out, and hands it back. Refused exactly where there is none, and
     /// then the catalog stays. Takes no memory.
     pub fn remove(&mut self, name: Name) -> Result<TableDef, Refusal>
@@ -101,39 +115,19 @@ impl Catalog {
         ensures refused { IsErr result ↔ (table_named self.old name ≡ None) }
         ensures only { IfErr result (λ e. e ≡ Refusal.NoSuchTable) }
     {
-        match place_named(&self.tables, name) {
+        match place_by_name(&self.tables, name) {
             Some(place) => Ok(self.tables.remove(place)),
             None => Err(Refusal::NoSuchTable),
         }
     }
 }
 
-/// The table of a name.
-fn find_table(catalog: &[TableDef], name: Name) -> Option<&TableDef>
-    ensures { option_copied result ≡ table_named catalog.now name }
+/// Puts a table over the one at a place.
+fn put_over(catalog: &mut Vec<TableDef>, place: usize, table: TableDef)
+    requires { place < length catalog.old.items }
+    ensures { catalog.new.items ≡ slice_set catalog.old.items place table }
 {
-    catalog.iter().find(|table| table.name == name)
-}
-
-/// The place of the table of a name.
-fn place_named(catalog: &[TableDef], name: Name) -> Option<usize>
-    ensures { result ≡ place_named catalog.now name }
-{
-    catalog.iter().position(|table| table.name == name)
-}
-
-/// Whether a name stands before a table's in the order of names.
-fn is_before(name: Name, table: &TableDef) -> bool
-    ensures { result ≡ is_lt (slice_cmp nat_cmp name table.now.name) }
-{
-    name.cmp(&table.name).is_lt()
-}
-
-/// The place of the first table whose name is greater than this one.
-fn first_after(catalog: &[TableDef], name: Name) -> Option<usize>
-    ensures { result ≡ position (λ other. is_lt (slice_cmp nat_cmp name other.name)) catalog.now }
-{
-    catalog.iter().position(|other| is_before(name, other))
+    catalog[place] = table;
 }
 
 /// The place at which a table of this name stands in order.
@@ -141,5 +135,5 @@ fn table_place(catalog: &[TableDef], name: Name) -> usize
     ensures within { result ≤ length catalog.now }
     ensures place { (table : TableDef) → table.name ≡ name → insert catalog.now result table ≡ with_table table catalog.now }
 {
-    first_after(catalog, name).unwrap_or(catalog.len())
+    place_in_order(catalog, name)
 }

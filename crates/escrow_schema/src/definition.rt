@@ -1,5 +1,6 @@
-ghost use Rattle.std.specs.Prelude.{◌≡◌, ◌++◌, ◌⊎◌, None, Some, IfOk, IfErr, IsErr, IsErrOf, map};
-ghost use Rattle.escrow_checks.specs.Checks.{checks_of};
+ghost use Rattle.std.specs.Prelude.{◌≡◌, ◌++◌, ◌≤◌, ◌⊎◌, None, Some, IfOk, IfErr, IsErr, IsErrOf, length, map};
+ghost use Rattle.escrow_checks.specs.Checks.{checks_behind, checks_of};
+ghost use Rattle.escrow_checks.specs.declared.condition.TheConstants.{MAX_CHECKS};
 ghost use Rattle.escrow_schema.specs.Column.{reservables, names_of, scales_of};
 ghost use Rattle.escrow_schema.specs.Definition.{checks_in, definition_of, key_place, range_check, table_of, table_with};
 ghost use Rattle.escrow_schema.specs.Typed.{CanRange, TypedColumns};
@@ -11,9 +12,9 @@ use crate::rules::{
     are_columns, are_distinct, check_names, names_of, place_of_column, reservables, scales_of,
 };
 use crate::table::TableDef;
-use escrow_checks::{Check, CheckFault, is_written_name, normalise};
+use escrow_checks::{Check, CheckFault, is_written_name, normalise_behind};
 use escrow_num::{Name, Refusal, Seq};
-use escrow_sql::{CreateText, Item};
+use escrow_sql::{CheckText, CreateText, Item};
 use std::alloc::{AllocError, Global};
 
 /// The table that a text defines. Refused as a bad definition only where a rule of definitions is
@@ -92,9 +93,23 @@ fn declared_checks(
     ensures { IfOk result (λ checks. checks ≡ checks_of (names_of columns.now) (scales_of columns.now) (checks_in items.now)) }
 {
     let texts = checks_in(alloc, items)?;
+    checks_behind(alloc, &[], texts.as_slice(), columns)
+}
+
+/// Declared checks, and behind them those of further CHECKs, or `None` where one breaks a rule.
+pub(crate) fn checks_behind(
+    alloc: Global,
+    declared: &[Check],
+    texts: &[&CheckText],
+    columns: &[Column],
+) -> Result<Option<Seq<Check>>, AllocError>
+    requires declared { length declared.now ≤ MAX_CHECKS }
+    requires range { CanRange columns.now }
+    ensures { IfOk result (λ checks. checks ≡ checks_behind (names_of columns.now) (scales_of columns.now) declared.now (map (λ text. text.now) texts.now)) }
+{
     let names = names_of(alloc, columns)?;
     let scales = scales_of(alloc, columns)?;
-    match normalise(alloc, texts.as_slice(), names.as_slice(), scales.as_slice()) {
+    match normalise_behind(alloc, declared, texts, names.as_slice(), scales.as_slice()) {
         Ok(checks) => Ok(Some(checks)),
         Err(CheckFault::Definition) => Ok(None),
         Err(CheckFault::Memory) => Err(AllocError),
@@ -103,7 +118,7 @@ fn declared_checks(
 
 /// The table of these columns, of this key and with these declared checks, or `None` where two of
 /// all its checks have one name.
-fn table_with(
+pub(crate) fn table_with(
     alloc: Global,
     name: Name,
     columns: Seq<Column>,

@@ -3,14 +3,17 @@
 //! table.
 //!
 //! [`define`] gives the table that a text defines, and refuses exactly where a rule of definitions
-//! is broken. [`Catalog`] keeps such tables in order of name. [`fit_row`] and [`plan_update`] refuse
-//! exactly what doesn't fit the table, before they take memory. [`values_of`] and [`row_of`] turn a row
-//! into its values and back. [`print_table`]'s text is read back as the same table.
+//! is broken; [`alter`] adds checks to such a table and drops one, by the same rules. [`Catalog`]
+//! keeps such tables in order of name. [`fit_row`] and [`plan_update`] refuse exactly what doesn't fit
+//! the table, before they take memory. [`values_of`] and [`row_of`] turn a row into its values and
+//! back. [`print_table`]'s text is read back as the same table.
 //!
 //! A number of a column is a whole number of units of 10^-scale, where the scale is that of the
 //! column's type; a literal that isn't one is refused, and nothing is rounded.
 #![tactic(auto)]
 
+mod altered;
+mod by_name;
 mod catalog;
 mod column;
 mod copies;
@@ -29,6 +32,8 @@ mod rules;
 mod table;
 mod values;
 
+pub use altered::{alter, declared_place, with_check, without_check_at};
+pub use by_name::{HasTable, find_by_name, place_by_name, place_in_order};
 pub use catalog::Catalog;
 pub use column::{Column, ColumnType};
 pub use definition::define;

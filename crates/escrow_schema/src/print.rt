@@ -1,8 +1,7 @@
 //! The canonical text of a table: a CREATE TABLE that is read back as the same table.
-ghost use Rattle.std.specs.Prelude.{◌≡◌, ◌++◌, ◌-◌, ◌==◌, [], IfOk, OnOk, codes, decimal, if◌then◌else◌, length, map, string_bytes, true};
+ghost use Rattle.std.specs.Prelude.{◌≡◌, ◌++◌, ◌==◌, [], IfOk, OnOk, codes, decimal, if◌then◌else◌, map, string_bytes, true};
 ghost use Rattle.std.specs.List.{flat_map};
 ghost use Rattle.escrow_sql.specs.Joined.{joined};
-ghost use Rattle.escrow_schema.specs.Column.{reservables, names_of, scales_of};
 ghost use Rattle.escrow_schema.specs.Definition.{IsTable};
 ghost use Rattle.escrow_schema.specs.ReadBack.{ReadsBack};
 ghost use Rattle.escrow_schema.specs.Print.{canonical, check_words, column_words, columns_words, condition_words, declared_checks, marks_words, scale_words, table_words, type_words};
@@ -11,7 +10,7 @@ mod words;
 
 use crate::column::{Column, ColumnType};
 use crate::print::words::{push, push_form, push_limits, push_named, push_number};
-use crate::rules::{reservable_names, reservable_scales};
+use crate::rules::{declared_checks, reservable_names, reservable_scales};
 use crate::table::TableDef;
 use escrow_checks::Check;
 use escrow_num::{Name, Scale, Text};
@@ -52,23 +51,12 @@ fn push_items(
     names: &[Name],
     scales: &[Scale],
 ) -> Result<(), AllocError>
-    requires table { IsTable table.now }
-    requires names { names.now ≡ names_of (reservables table.now.columns) }
+    requires { IsTable table.now }
     ensures { OnOk result (string_bytes text.new ≡ string_bytes text.old
         ++ joined (columns_words table.now.columns 0 table.now.key ++ map (check_words names.now scales.now) (declared_checks table.now))) }
 {
     push_columns(alloc, text, table.columns.as_slice(), table.key)?;
-    let checks = declared_checks(table, names.len());
-    push_checks(alloc, text, names, scales, checks)
-}
-
-/// The declared checks of a table with so many RESERVABLE columns: those before the ranges.
-fn declared_checks(table: &TableDef, reservable: usize) -> &[Check]
-    requires { reservable ≡ length (reservables table.now.columns) }
-    ensures { result.now ≡ declared_checks table.now }
-{
-    let checks = table.checks.as_slice();
-    &checks[..checks.len().saturating_sub(reservable)]
+    push_checks(alloc, text, names, scales, declared_checks(table))
 }
 
 /// Adds columns, of which the key stands at a place.

@@ -1,9 +1,10 @@
 //! The rules that a table's columns and names have to follow.
-ghost use Rattle.std.specs.Prelude.{◌≡◌, ◌&&◌, IfOk, bytes_eq, position};
+ghost use Rattle.std.specs.Prelude.{◌≡◌, ◌&&◌, IfOk, bytes_eq, length, position};
 ghost use Rattle.std.specs.List.{list_any, list_all};
 ghost use Rattle.escrow_checks.specs.WrittenName.{is_written_name};
 ghost use Rattle.escrow_schema.specs.Column.{is_numeric, reservables, names_of, scales_of};
 ghost use Rattle.escrow_schema.specs.Definition.{are_columns, are_distinct, check_names, is_plain_at, place_of_column};
+ghost use Rattle.escrow_schema.specs.Print.{declared_checks};
 
 use crate::column::Column;
 use crate::table::TableDef;
@@ -100,6 +101,22 @@ pub fn reservables(alloc: Global, columns: &[Column]) -> Result<Vec<Column>, All
         .copied()
         .filter(|column| column.reservable)
         .collect(alloc)
+}
+
+/// How many of columns are RESERVABLE. Takes no memory.
+fn count_reservable(columns: &[Column]) -> usize
+    ensures { result ≡ length (reservables columns.now) }
+{
+    columns.iter().filter(|column| column.reservable).count()
+}
+
+/// The declared checks of a table, in order: those before the ranges. Takes no memory.
+pub(crate) fn declared_checks(table: &TableDef) -> &[Check]
+    ensures { result.now ≡ declared_checks table.now }
+{
+    let ranges = count_reservable(table.columns.as_slice());
+    let checks = table.checks.as_slice();
+    &checks[..checks.len().saturating_sub(ranges)]
 }
 
 /// The names of columns, in order. Want of memory is the only error.

@@ -8,6 +8,7 @@ use Rattle.escrow_sql.specs.declared.token.Kind.{Kind}
 use Rattle.escrow_sql.specs.declared.token.Kind.TheVariants as kind
 use Rattle.escrow_sql.specs.declared.word.Word.{Word}
 use Rattle.escrow_sql.specs.declared.word.Word.TheVariants as words
+use Rattle.escrow_sql.specs.declared.statement.AlterText.{AlterText}
 use Rattle.escrow_sql.specs.declared.statement.Assign.{Assign}
 use Rattle.escrow_sql.specs.declared.statement.Assigned.{Assigned}
 use Rattle.escrow_sql.specs.declared.statement.Assigned.TheVariants as assigned_values
@@ -31,6 +32,8 @@ use Rattle.escrow_sql.specs.declared.statement.RowText.{RowText}
 use Rattle.escrow_sql.specs.declared.statement.SelectText.{SelectText}
 use Rattle.escrow_sql.specs.declared.statement.Statement.{Statement}
 use Rattle.escrow_sql.specs.declared.statement.Statement.TheVariants as statements
+use Rattle.escrow_sql.specs.declared.statement.TableChange.{TableChange}
+use Rattle.escrow_sql.specs.declared.statement.TableChange.TheVariants as table_changes
 use Rattle.escrow_sql.specs.declared.statement.Term.{Term}
 use Rattle.escrow_sql.specs.declared.statement.Term.TheVariants as terms
 use Rattle.escrow_sql.specs.declared.statement.Test.{Test}
@@ -273,9 +276,22 @@ create = word words.Create then word words.Table then sequence name (in_parenthe
 unfoldable pub drop : Grammar (List ℕ)
 drop = word words.Drop then word words.Table then name
 
--- table_statement = create | drop
+-- table_change = ADD check | DROP CONSTRAINT name
+unfoldable pub table_change : Grammar TableChange
+table_change =
+    meaning table_changes.Add (word words.Add then check)
+    or meaning table_changes.Drop (word words.Drop then word words.Constraint then name)
+
+-- alter = ALTER TABLE name table_change
+unfoldable pub alter : Grammar AlterText
+alter = word words.Alter then word words.Table then sequence name table_change (λ t c. record { table = t; change = c })
+
+-- table_statement = create | drop | alter
 unfoldable pub table_statement : Grammar Statement
-table_statement = meaning statements.Create create or meaning statements.Drop drop
+table_statement =
+    meaning statements.Create create
+    or meaning statements.Drop drop
+    or meaning statements.Alter alter
 
 -- row_statement = insert | update | delete | select
 unfoldable pub row_statement : Grammar Statement

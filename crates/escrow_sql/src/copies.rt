@@ -1,11 +1,11 @@
 ghost use Rattle.std.specs.Prelude.{◌≡◌, ◌↔◌, IsTrue, IsOk, IfOk, false};
-ghost use Rattle.escrow_sql.specs.Copies.{holds_memory, literal_holds_memory, row_holds_memory};
+ghost use Rattle.escrow_sql.specs.Copies.{change_holds_memory, holds_memory, literal_holds_memory, row_holds_memory};
 
 mod check;
 
 use crate::statement::{
-    Assign, Assigned, ColumnMark, ColumnText, CreateText, InsertText, Item, Literal, RowText,
-    SelectText, Statement, UpdateText, WhereText,
+    AlterText, Assign, Assigned, ColumnMark, ColumnText, CreateText, InsertText, Item, Literal,
+    RowText, SelectText, Statement, TableChange, UpdateText, WhereText,
 };
 use escrow_num::{Copied, Name, Seq, are_same, copy_all};
 use std::alloc::{AllocError, Global};
@@ -103,6 +103,50 @@ impl Copied for CreateText {
 
     fn is_same(&self, other: &CreateText) -> bool {
         self.table == other.table && are_same(self.items.as_slice(), other.items.as_slice())
+    }
+}
+
+impl TableChange {
+    /// A copy of the change. Only a CHECK takes memory.
+    fn copy(&self, alloc: Global) -> Result<TableChange, AllocError>
+        ensures same { IfOk result (λ t. t ≡ self.now) }
+        ensures succeeds { change_holds_memory self.now ≡ false → IsOk result }
+    {
+        match self {
+            TableChange::Add(check) => Ok(TableChange::Add(check.copy(alloc)?)),
+            TableChange::Drop(check) => Ok(TableChange::Drop(*check)),
+        }
+    }
+
+    /// Whether two changes are the same.
+    fn is_same(&self, other: &TableChange) -> bool
+        ensures { IsTrue result ↔ (self.now ≡ other.now) }
+    {
+        match (self, other) {
+            (TableChange::Add(a), TableChange::Add(b)) => a.is_same(b),
+            (TableChange::Drop(a), TableChange::Drop(b)) => *a == *b,
+            _ => false,
+        }
+    }
+}
+
+impl AlterText {
+    /// A copy of the ALTER TABLE. Only a CHECK takes memory.
+    fn copy(&self, alloc: Global) -> Result<AlterText, AllocError>
+        ensures same { IfOk result (λ t. t ≡ self.now) }
+        ensures succeeds { change_holds_memory self.now.change ≡ false → IsOk result }
+    {
+        Ok(AlterText {
+            table: self.table,
+            change: self.change.copy(alloc)?,
+        })
+    }
+
+    /// Whether two ALTER TABLEs are the same.
+    fn is_same(&self, other: &AlterText) -> bool
+        ensures { IsTrue result ↔ (self.now ≡ other.now) }
+    {
+        self.table == other.table && self.change.is_same(&other.change)
     }
 }
 
@@ -279,6 +323,7 @@ impl Statement {
         match self {
             Statement::Create(text) => Ok(Statement::Create(text.copy(alloc)?)),
             Statement::Drop(table) => Ok(Statement::Drop(*table)),
+            Statement::Alter(text) => Ok(Statement::Alter(text.copy(alloc)?)),
             Statement::Insert(text) => Ok(Statement::Insert(text.copy(alloc)?)),
             Statement::Update(text) => Ok(Statement::Update(text.copy(alloc)?)),
             Statement::Delete(text) => Ok(Statement::Delete(text.copy(alloc)?)),
@@ -301,6 +346,7 @@ impl Statement {
         match (self, other) {
             (Statement::Create(a), Statement::Create(b)) => a.is_same(b),
             (Statement::Drop(a), Statement::Drop(b)) => *a == *b,
+            (Statement::Alter(a), Statement::Alter(b)) => a.is_same(b),
             (Statement::Insert(a), Statement::Insert(b)) => a.is_same(b),
             (Statement::Update(a), Statement::Update(b)) => a.is_same(b),
             (Statement::Delete(a), Statement::Delete(b)) => a.is_same(b),

@@ -19,9 +19,9 @@ pub use fault::ParseFault;
 pub use lexer::{MAX_TEXT, lex};
 pub use parser::parse;
 pub use statement::{
-    Assign, Assigned, CheckText, ColumnMark, ColumnText, Comparison, Condition, CreateText,
-    InsertText, Item, Literal, NumberSize, Request, RowText, SelectText, Statement, Term, Test,
-    TypeText, UpdateText, WhereText,
+    AlterText, Assign, Assigned, CheckText, ColumnMark, ColumnText, Comparison, Condition,
+    CreateText, InsertText, Item, Literal, NumberSize, Request, RowText, SelectText, Statement,
+    TableChange, Term, Test, TypeText, UpdateText, WhereText,
 };
 pub use token::{Kind, Symbol, Token};
 pub use word::Word;

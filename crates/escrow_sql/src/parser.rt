@@ -10,6 +10,7 @@ ghost use Rattle.escrow_sql.specs.declared.statement.Request.{Request};
 ghost use Rattle.escrow_sql.specs.declared.word.Word.TheVariants as words;
 ghost use Rattle.escrow_sql.specs.declared.fault.ParseFault.TheVariants.{Memory};
 
+mod alter;
 mod change;
 mod check;
 mod create;
@@ -48,23 +49,26 @@ impl Cursor<'_> {
         Ok(Some(name))
     }
 
-    /// `create | drop`
-    #[tactic(auto, unfolding(crate::specs::Statement::table_statement, crate::specs::Statement::create))]
+    /// `create | drop | alter`
+    #[tactic(auto, unfolding(crate::specs::Statement::table_statement, crate::specs::Statement::create, crate::specs::Statement::drop))]
     fn table_statement(&mut self, alloc: Global) -> Result<Statement, Halt>
         ensures { Advances self.new.tokens.now result (run table_statement self.old.tokens.now) }
     {
         if self.is_at_word(Word::Create) {
             return Ok(Statement::Create(self.create(alloc)?));
         }
-        Ok(Statement::Drop(self.drop_table()?))
+        if self.is_at_word(Word::Drop) {
+            return Ok(Statement::Drop(self.drop_table()?));
+        }
+        Ok(Statement::Alter(self.alter(alloc)?))
     }
 
     /// Whether a statement of a whole table comes next.
-    #[tactic(auto, unfolding(crate::specs::Statement::table_statement, crate::specs::Statement::create, crate::specs::Statement::drop))]
+    #[tactic(auto, unfolding(crate::specs::Statement::table_statement, crate::specs::Statement::create, crate::specs::Statement::drop, crate::specs::Statement::alter))]
     fn is_at_table_statement(&self) -> bool
         ensures { result ≡ starts (first table_statement) self.now.tokens.now }
     {
-        self.is_at_word(Word::Create) || self.is_at_word(Word::Drop)
+        self.is_at_word(Word::Create) || self.is_at_word(Word::Drop) || self.is_at_word(Word::Alter)
     }
 
     /// `insert | update | delete | select`

@@ -16,6 +16,8 @@ pub enum Statement {
     Create(CreateText),
     /// `DROP TABLE name`, with the table's name.
     Drop(Name),
+    /// `ALTER TABLE name ..`
+    Alter(AlterText),
     /// `INSERT INTO name [(..)] VALUES (..)`
     Insert(InsertText),
     /// `UPDATE name SET .. WHERE ..`
@@ -45,6 +47,7 @@ impl Drop for Statement {
     fn drop(self) {
         match self {
             Statement::Create(_) => {}
+            Statement::Alter(_) => {}
             Statement::Insert(_) => {}
             Statement::Update(_) => {}
             Statement::Delete(_) | Statement::ShowBounds(_) => {}
@@ -85,6 +88,24 @@ pub struct ColumnText {
     pub kind: TypeText,
     /// What stands behind its type, in order.
     pub marks: Seq<ColumnMark>,
+}
+
+/// The text of an ALTER TABLE.
+#[derive(Debug, Drop)]
+pub struct AlterText {
+    /// The table's name.
+    pub table: Name,
+    /// What is changed of it.
+    pub change: TableChange,
+}
+
+/// What an ALTER TABLE changes of its table.
+#[derive(Debug, Drop)]
+pub enum TableChange {
+    /// `ADD [CONSTRAINT name] CHECK (..)`
+    Add(CheckText),
+    /// `DROP CONSTRAINT name`, with the check's name.
+    Drop(Name),
 }
 
 /// The type of a column, as written.

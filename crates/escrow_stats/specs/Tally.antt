@@ -23,6 +23,7 @@ abbrev pub kind_of : Reply → Kind
 kind_of (reply.Refused r) = kind_of_refusal r
 kind_of (reply.Created name) = kind.ServedAlone
 kind_of (reply.Dropped name) = kind.ServedAlone
+kind_of (reply.Altered name) = kind.ServedAlone
 kind_of (reply.Savepoint name) = kind.ServedAlone
 kind_of reply.Restarted = kind.ServedAlone
 kind_of (reply.Reserved id) = kind.Granted

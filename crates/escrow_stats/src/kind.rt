@@ -10,7 +10,7 @@ pub enum Kind {
     /// None: nothing was served, for want of memory (51), of room in the transcript (52), or by the
     /// store (60).
     Unserved,
-    /// Served alone: a table was created or dropped, or a savepoint made.
+    /// Served alone: a table was created, dropped or altered, or a savepoint made.
     ServedAlone,
     /// Served and granted: a reservation was granted.
     Granted,
@@ -35,7 +35,7 @@ impl Kind {
     {
         match reply {
             Reply::Refused(refusal) => Kind::of_refusal(refusal),
-            Reply::Created(_) | Reply::Dropped(_) => Kind::ServedAlone,
+            Reply::Created(_) | Reply::Dropped(_) | Reply::Altered(_) => Kind::ServedAlone,
             Reply::Savepoint(_) | Reply::Restarted => Kind::ServedAlone,
             Reply::Reserved { .. } => Kind::Granted,
             Reply::Committed { .. } => Kind::Commit,

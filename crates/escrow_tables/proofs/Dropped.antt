@@ -42,7 +42,7 @@ stored_without : (name : List ℕ) (tables : List CountedTable) → stored_of (w
 stored_without name tables = sym (filter-map (λ (s : StoredTable). not (bytes_eq s.table.name name)) (λ (c : CountedTable). c.stored) tables)
 
 -- where one item at most is of a test, so is one at most that maps to it
-once_through : {A B : Type 0} (p : B → Bool) (f : A → B) (xs : List A) → Once p (map f xs) → Once (λ x. p (f x)) xs
+pub once_through : {A B : Type 0} (p : B → Bool) (f : A → B) (xs : List A) → Once p (map f xs) → Once (λ x. p (f x)) xs
 once_through p f [] h = tt
 once_through p f (x ∷ xs) h = ((λ e. all_from_map (λ y. p y ≡ false) f xs (h.0 e)), once_through p f xs h.1)
 

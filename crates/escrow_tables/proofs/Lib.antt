@@ -6,6 +6,7 @@ pub mod Committing
 pub mod Created
 pub mod Dropped
 pub mod Held
+pub mod JudgedRows
 pub mod Migrating
 pub mod Named
 pub mod NewRows
@@ -16,6 +17,7 @@ pub mod Placed
 pub mod Puts
 pub mod Putting
 pub mod Reading
+pub mod Redefined
 pub mod RowWrites
 pub mod Verifying
 pub mod WholeReads

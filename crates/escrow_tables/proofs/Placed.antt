@@ -51,7 +51,7 @@ first_through : {A B : Type 0} (p : B → Bool) (f : A → B) (xs : List A) → 
 first_through p f [] = refl
 first_through p f (x ∷ xs) = elim (cases_Bool (p (f x))) [ inl t ↦ rw t refl | inr fails ↦ rw fails (ap (λ n. 1 + n) (first_through p f xs)) ]
 
-position_through : {A B : Type 0} (p : B → Bool) (f : A → B) (xs : List A) → position p (map f xs) ≡ position (λ x. p (f x)) xs
+pub position_through : {A B : Type 0} (p : B → Bool) (f : A → B) (xs : List A) → position p (map f xs) ≡ position (λ x. p (f x)) xs
 position_through p f xs = ap₂ (λ n l. cond (nat_lt n l) (Some n) None) (first_through p f xs) (length-map xs f)
 
 -- one more on each side changes no comparison

@@ -73,7 +73,7 @@ at_place (u ∷ catalog) (suc place) order within =
 
 -- ---- the rows of its values
 
-rows_back : (table : TableDef) (rows : List Row) → IsTable table → AllByRecursion (IsRowOf table) rows → rows_with table (map (values_of table) rows) ≡ rows
+pub rows_back : (table : TableDef) (rows : List Row) → IsTable table → AllByRecursion (IsRowOf table) rows → rows_with table (map (values_of table) rows) ≡ rows
 rows_back table [] is_table of = refl
 rows_back table (r ∷ rows) is_table of =
     ap₂ (λ (xs ys : List Row). xs ++ ys) (ap option_to_list (row_with_values_of table r is_table of.0)) (rows_back table rows is_table of.1)

@@ -10,9 +10,10 @@ ghost use Rattle.escrow_tables.specs.Calls.{AreGiven};
 ghost use Rattle.escrow_tables.specs.Inside.{stored_of};
 ghost use Rattle.escrow_tables.specs.Puts.{ArePuts, TellsPut, changed_by, row_put};
 
-use crate::tables::{Tables, find_counted};
+use crate::tables::Tables;
 use escrow_num::{Amount, Changes, Failure, Reservation, RowName, Seq};
 use escrow_rows::NewAmounts;
+use escrow_schema::find_by_name;
 use escrow_verify::CountedTable;
 use sqlite::Alter;
 use std::alloc::{AllocError, Global};
@@ -80,7 +81,7 @@ fn new_of<'a>(
     ensures row { IfOk result (λ new. row_put new ≡ name.now) }
     ensures amounts { IfOk result (λ new. replaced new.amounts before.now ≡ changed_by reservations.now name.now before.now) }
 {
-    let Some(counted) = find_counted(tables, name.table) else {
+    let Some(counted) = find_by_name(tables, name.table) else {
         return Err(Failure::Store);
     };
     Ok(NewAmounts {

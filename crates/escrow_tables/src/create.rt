@@ -1,14 +1,13 @@
-ghost use Rattle.std.specs.Prelude.{◌≡◌, ◌≢◌, ◌≤◌, ◌<◌, pos, length, position, unwrap_or, insert, IfSome, int_le, IsTrue};
+ghost use Rattle.std.specs.Prelude.{◌≡◌, ◌≢◌, ◌≤◌, ◌<◌, pos, length, insert, IfSome, int_le, IsTrue};
 ghost use Rattle.std.specs.List.{AllByRecursion, list_any};
 ghost use Rattle.std.specs.Vec.{vec_len, vec_capacity};
-ghost use Rattle.std.specs.Ordering.{int_eq, is_lt, nat_cmp};
-ghost use Rattle.std.specs.Cmp.Lexicographic.{slice_cmp};
+ghost use Rattle.std.specs.Ordering.{int_eq};
 ghost use Rattle.escrow_verify.specs.declared.counted_table.CountedTable.{CountedTable as Kept};
 
 use crate::tables::Tables;
-use escrow_num::{Failure, Name};
+use escrow_num::Failure;
 use escrow_rows::StoredTable;
-use escrow_schema::TableDef;
+use escrow_schema::{TableDef, place_in_order};
 use escrow_verify::CountedTable;
 use sqlite::Alter;
 use std::alloc::Global;
@@ -33,7 +32,7 @@ impl<S: Alter> Tables<S> {
         let Some(id) = free_number(&self.tables) else {
             return Err(Failure::Store);
         };
-        let place = place_before(&self.tables, table.name);
+        let place = place_in_order(&self.tables, table.name);
         let stored = StoredTable { id, table };
         self.store.create_table(alloc, &stored)?;
         put(&mut self.tables, place, CountedTable { stored, rows: 0 });
@@ -75,14 +74,4 @@ fn has_number(tables: &[CountedTable], id: i64) -> bool
     ensures { result ≡ list_any (λ (c : Kept). int_eq c.stored.id id) tables.now }
 {
     tables.iter().any(|counted| counted.stored.id == id)
-}
-
-/// The place at which a table of this name stands in order.
-fn place_before(tables: &[CountedTable], name: Name) -> usize
-    ensures { result ≡ unwrap_or (position (λ (c : Kept). is_lt (slice_cmp nat_cmp name c.stored.table.name)) tables.now) (length tables.now) }
-{
-    tables
-        .iter()
-        .position(|other| name.cmp(&other.stored.table.name).is_lt())
-        .unwrap_or(tables.len())
 }

@@ -9,10 +9,13 @@
 mod apply;
 mod bare;
 mod create;
+mod judge;
+mod judged;
 pub mod laws;
 mod migration;
 mod open;
 mod read;
+mod redefine;
 mod tables;
 mod verified;
 mod whole;
@@ -20,6 +23,7 @@ mod write;
 
 pub use escrow_rows::StoredTable;
 pub use escrow_verify::Unverified;
+pub use judge::RowJudge;
 pub use migration::{Opened, migrate};
 pub use open::{StoreFault, open_store};
 pub use tables::Tables;

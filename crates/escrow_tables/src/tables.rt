@@ -1,9 +1,6 @@
-ghost use Rattle.std.specs.Prelude.{◌≡◌, option_copied, find, bytes_eq, position};
-ghost use Rattle.escrow_verify.specs.declared.counted_table.CountedTable.{CountedTable as Kept};
-
 use escrow_num::Name;
 use escrow_rows::RowStore;
-use escrow_schema::TableDef;
+use escrow_schema::{TableDef, find_by_name, place_by_name};
 use escrow_verify::CountedTable;
 use sqlite::{Alter, Connection};
 use std::alloc::Global;
@@ -96,7 +93,7 @@ impl<S: Alter> Tables<S> {
         ensures place { result ≡ place_named self.now.catalog name }
         ensures there { is_some result ≡ is_some (table_named self.now.catalog name) }
     {
-        place_named(&self.tables, name)
+        place_by_name(&self.tables, name)
     }
 
     /// The table at a place. Makes no store call.
@@ -113,7 +110,7 @@ impl<S: Alter> Tables<S> {
         ensures found { option_copied result ≡ table_named self.now.catalog name }
         ensures table { IfSome result (λ table. IsTable table.now) }
     {
-        let counted = find_counted(&self.tables, name)?;
+        let counted = find_by_name(&self.tables, name)?;
         Some(&counted.stored.table)
     }
 
@@ -134,22 +131,4 @@ impl<S: Alter> Tables<S> {
     {
         self.store.set_step_limit(limit);
     }
-}
-
-/// The table of a name.
-pub(crate) fn find_counted(tables: &[CountedTable], name: Name) -> Option<&CountedTable>
-    ensures { option_copied result ≡ find (λ (c : Kept). bytes_eq c.stored.table.name name) tables.now }
-{
-    tables
-        .iter()
-        .find(|counted| counted.stored.table.name == name)
-}
-
-/// The place of the table of a name.
-pub(crate) fn place_named(tables: &[CountedTable], name: Name) -> Option<usize>
-    ensures { result ≡ position (λ (c : Kept). bytes_eq c.stored.table.name name) tables.now }
-{
-    tables
-        .iter()
-        .position(|counted| counted.stored.table.name == name)
 }

@@ -1,6 +1,6 @@
 ghost use Rattle.std.specs.Prelude.{◌≡◌, ◌++◌, map, IfOk, OnOk, Some};
 ghost use Rattle.escrow_schema.specs.Definition.{IsTable};
-ghost use Rattle.escrow_schema.specs.Fit.{row_with};
+ghost use Rattle.escrow_schema.specs.Fit.{IsRowOf, row_with};
 ghost use Rattle.escrow_tables.specs.Inside.{catalog_of};
 ghost use Rattle.escrow_tables.specs.Whole.{rows_with};
 
@@ -80,9 +80,10 @@ fn push_rows(
 }
 
 /// The row that values make. Values that make no row of the table are refused.
-fn made_row(alloc: Global, table: &TableDef, values: &[Value]) -> Result<Row, Failure>
+pub(crate) fn made_row(alloc: Global, table: &TableDef, values: &[Value]) -> Result<Row, Failure>
     requires { IsTable table.now }
-    ensures { IfOk result (λ row. row_with table.now values.now ≡ Some row) }
+    ensures made { IfOk result (λ row. row_with table.now values.now ≡ Some row) }
+    ensures fits { IfOk result (λ row. IsRowOf table.now row) }
 {
     row_of(alloc, table, values)?.ok_or(Failure::Store)
 }

@@ -1,1 +1,2 @@
+mod Altered
 mod Placed

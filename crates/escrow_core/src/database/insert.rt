@@ -90,7 +90,7 @@ fn row_refusal(table: &TableDef, count: usize, row: &Row) -> Option<Refusal>
 }
 
 /// What amounts break of the first check that they don't meet, or `None`.
-fn first_breach(checks: &[Check], amounts: &[Amount]) -> Option<Breach>
+pub(super) fn first_breach(checks: &[Check], amounts: &[Amount]) -> Option<Breach>
     requires { AllByRecursion (λ check. IsCovered check.coeffs amounts.now) checks.now }
     ensures { result ≡ broken checks.now amounts.now [] [] }
 {

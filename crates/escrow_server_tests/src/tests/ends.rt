@@ -100,7 +100,7 @@ const PLANS: [Plan; 7] = [
 
 /// Statements of a list, of which one without a session is a restart, and their replies: some of each
 /// kind, of which some are the same, and some differ by a number alone.
-const LISTED: [Served; 24] = [
+const LISTED: [Served; 26] = [
     (
         1,
         "UPDATE ACCOUNT SET BALANCE = BALANCE + 100 WHERE ID = 1",
@@ -149,8 +149,18 @@ const LISTED: [Served; 24] = [
         "SHOW TABLE ACCOUNT",
         "CREATE TABLE ACCOUNT (ID NUMBER(15) PRIMARY KEY, BALANCE NUMBER(15) RESERVABLE, CONSTRAINT MINIMUM_BALANCE CHECK (BALANCE >= 50))\nOK table\n",
     ),
+    (
+        3,
+        "ALTER TABLE ACCOUNT DROP CONSTRAINT MINIMUM_BALANCE",
+        "OK altered ACCOUNT\n",
+    ),
+    (
+        3,
+        "ALTER TABLE ACCOUNT DROP CONSTRAINT MINIMUM_BALANCE",
+        "ERR 27 no such constraint\n",
+    ),
     (3, "DELETE FROM ACCOUNT WHERE ID = 1", "OK deleted\n"),
-    (3, "INSERT INTO ACCOUNT VALUES (7, 50)", "OK inserted\n"),
+    (3, "INSERT INTO ACCOUNT VALUES (7, 49)", "OK inserted\n"),
     (3, "DROP TABLE ACCOUNT", "OK dropped ACCOUNT\n"),
     (3, SHOW_ROWS, "ERR 21 no such table\n"),
 ];

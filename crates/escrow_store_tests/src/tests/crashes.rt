@@ -209,16 +209,22 @@ pub(super) fn stop_at_each<R: Abort + AllocGlobal>(
     panic!(rt; "never served")
 }
 
+/// The table of an account.
+const CREATE: (&str, &str) = (
+    "CREATE TABLE ACCOUNT (ID INTEGER PRIMARY KEY, BALANCE INTEGER RESERVABLE CONSTRAINT MINIMUM_BALANCE CHECK (BALANCE >= 50))",
+    "bank.1> OK created ACCOUNT\n",
+);
+
+/// The account.
+const INSERT: (&str, &str) = (
+    "INSERT INTO ACCOUNT VALUES (1, 100)",
+    "bank.1> OK inserted\n",
+);
+
 /// An account, a reservation and its COMMIT.
 const ACCOUNT: [(&str, &str); 5] = [
-    (
-        "CREATE TABLE ACCOUNT (ID INTEGER PRIMARY KEY, BALANCE INTEGER RESERVABLE CONSTRAINT MINIMUM_BALANCE CHECK (BALANCE >= 50))",
-        "bank.1> OK created ACCOUNT\n",
-    ),
-    (
-        "INSERT INTO ACCOUNT VALUES (1, 100)",
-        "bank.1> OK inserted\n",
-    ),
+    CREATE,
+    INSERT,
     (
         "UPDATE ACCOUNT SET BALANCE = BALANCE - 30 WHERE ID = 1",
         "bank.1> OK reserved 1\n",
@@ -245,23 +251,80 @@ const LESS: &str = "bank.1> ID | BALANCE\nbank.1> 1 | 70\nbank.1> OK rows 1\n";
 /// What is found of the account.
 const FOUND: [&str; 8] = [NONE, NONE, EMPTY, FULL, FULL, LESS, EMPTY, EMPTY];
 
-/// Whichever call of the log or of the database file is the last one, what is then opened has the rows from before
-/// the statement that was stopped, or with what it makes: so it is where the log is copied at each commit, and
-/// where it is copied when the store is closed, at each call of that too.
-#[test]
-fn stopped_at_each_call(rt: HostRuntime) -> Result<(), Fail> {
+/// Does a plan on an empty file over files of which one stops at each of its calls in turn: where the log is copied
+/// at each commit, and where it is copied when the store is closed, at each call of that too.
+fn stop_everywhere<'a, R: Abort + AllocGlobal>(
+    rt: &R,
+    asked: &'a [(&'a str, &'a str)],
+    queries: &'a [&'a str],
+    found: &'a [&'a str],
+) -> Result<(), Fail> {
     for frames in [1, 1000] {
         let plan = Plan {
             file: &[],
             frames,
-            asked: &ACCOUNT,
-            queries: &SHOW_ACCOUNT,
-            found: &FOUND,
+            asked,
+            queries,
+            found,
         };
         for stops_log in [true, false] {
-            let calls = stop_at_each(&rt, plan, stops_log)?;
+            let calls = stop_at_each(rt, plan, stops_log)?;
             assert!(rt; calls > 5, "{calls}");
         }
     }
     Ok(())
+}
+
+/// Whichever call of the log or of the database file is the last one, what is then opened has the rows from before
+/// the statement that was stopped, or with what it makes.
+#[test]
+fn stopped_at_each_call(rt: HostRuntime) -> Result<(), Fail> {
+    stop_everywhere(&rt, &ACCOUNT, &SHOW_ACCOUNT, &FOUND)
+}
+
+/// An account whose table is altered twice.
+const ALTERED: [(&str, &str); 4] = [
+    CREATE,
+    INSERT,
+    (
+        "ALTER TABLE ACCOUNT ADD CONSTRAINT CAP CHECK (BALANCE <= 100)",
+        "bank.1> OK altered ACCOUNT\n",
+    ),
+    (
+        "ALTER TABLE ACCOUNT DROP CONSTRAINT MINIMUM_BALANCE",
+        "bank.1> OK altered ACCOUNT\n",
+    ),
+];
+
+/// What shows the table and its row.
+const SHOW_TABLE: [&str; 2] = ["SHOW TABLE ACCOUNT", "SELECT * FROM ACCOUNT"];
+
+/// No table.
+const NO_TABLE: &str = "bank.1> ERR 21 no such table\nbank.1> ERR 21 no such table\n";
+
+/// The table as it was created, without a row.
+const CREATED: &str =
+    "bank.1> CREATE TABLE ACCOUNT (ID NUMBER(15) PRIMARY KEY, BALANCE NUMBER(15) RESERVABLE, CONSTRAINT MINIMUM_BALANCE CHECK (BALANCE >= 50))\nbank.1> OK table\nbank.1> ID | BALANCE\nbank.1> OK rows 0\n";
+
+/// The table as it was created, with the row.
+const ONE_CHECK: &str =
+    "bank.1> CREATE TABLE ACCOUNT (ID NUMBER(15) PRIMARY KEY, BALANCE NUMBER(15) RESERVABLE, CONSTRAINT MINIMUM_BALANCE CHECK (BALANCE >= 50))\nbank.1> OK table\nbank.1> ID | BALANCE\nbank.1> 1 | 100\nbank.1> OK rows 1\n";
+
+/// The table with one check more, and the row.
+const TWO_CHECKS: &str =
+    "bank.1> CREATE TABLE ACCOUNT (ID NUMBER(15) PRIMARY KEY, BALANCE NUMBER(15) RESERVABLE, CONSTRAINT MINIMUM_BALANCE CHECK (BALANCE >= 50), CONSTRAINT CAP CHECK (BALANCE <= 100))\nbank.1> OK table\nbank.1> ID | BALANCE\nbank.1> 1 | 100\nbank.1> OK rows 1\n";
+
+/// The table with that check alone, and the row.
+const NEW_CHECK: &str =
+    "bank.1> CREATE TABLE ACCOUNT (ID NUMBER(15) PRIMARY KEY, BALANCE NUMBER(15) RESERVABLE, CONSTRAINT CAP CHECK (BALANCE <= 100))\nbank.1> OK table\nbank.1> ID | BALANCE\nbank.1> 1 | 100\nbank.1> OK rows 1\n";
+
+/// What is found of the table.
+const FOUND_TABLE: [&str; 7] = [
+    NO_TABLE, NO_TABLE, CREATED, ONE_CHECK, TWO_CHECKS, NEW_CHECK, NEW_CHECK,
+];
+
+/// An ALTER TABLE that is stopped leaves the table as it was before it, or as it makes it, and its row.
+#[test]
+fn alter_stopped_at_each_call(rt: HostRuntime) -> Result<(), Fail> {
+    stop_everywhere(&rt, &ALTERED, &SHOW_TABLE, &FOUND_TABLE)
 }

@@ -140,17 +140,94 @@ const CREATED: &str = "bank.1> OK created B\n";
 /// The second table, by a SELECT of session 9.
 const EMPTY: (&str, &str) = ("SELECT * FROM B", "bank.9> ID | N\nbank.9> OK rows 0\n");
 
+/// A reservation of session 2, under which the table is altered.
+const TAKEN: Asked = &[(
+    "UPDATE ACCOUNT SET BALANCE = BALANCE - 30 WHERE ID = 1",
+    "bank.2> OK reserved 1\n",
+)];
+
+/// The reservation, by a SHOW JOURNAL of session 9.
+const OPEN: (&str, &str) = (
+    "SHOW JOURNAL",
+    "bank.9> 1 session 2 ACCOUNT 1 BALANCE -30\nbank.9> OK reservations 1\n",
+);
+
+/// The bounds of its row, over the one check of its table.
+const BOUNDS: (&str, &str) = (
+    "SHOW BOUNDS ACCOUNT WHERE ID = 1",
+    "bank.9> BALANCE value 100 inf 70 sup 100\nbank.9> CHECK MINIMUM_BALANCE least 70 greatest 100 low 50 high none\nbank.9> OK bounds\n",
+);
+
+/// The table with that check.
+const CHECKED: (&str, &str) = (
+    "SHOW TABLE ACCOUNT",
+    "bank.9> CREATE TABLE ACCOUNT (ID NUMBER(15) PRIMARY KEY, OWNER VARCHAR2(20), BALANCE NUMBER(15) RESERVABLE, CONSTRAINT MINIMUM_BALANCE CHECK (BALANCE >= 50))\nbank.9> OK table\n",
+);
+
+/// What alters the table under the reservation.
+const ALTERS: [Write; 2] = [
+    // an ALTER TABLE that adds a check
+    Write {
+        set_up: &[],
+        statement: "ALTER TABLE ACCOUNT ADD CONSTRAINT CAP CHECK (BALANCE <= 100)",
+        reply: "bank.1> OK altered ACCOUNT\n",
+        is_refused: true,
+        before: &[OPEN, BOUNDS, CHECKED, STANDS],
+        after: &[
+            OPEN,
+            (
+                "SHOW BOUNDS ACCOUNT WHERE ID = 1",
+                "bank.9> BALANCE value 100 inf 70 sup 100\nbank.9> CHECK MINIMUM_BALANCE least 70 greatest 100 low 50 high none\nbank.9> CHECK CAP least 70 greatest 100 low none high 100\nbank.9> OK bounds\n",
+            ),
+            (
+                "SHOW TABLE ACCOUNT",
+                "bank.9> CREATE TABLE ACCOUNT (ID NUMBER(15) PRIMARY KEY, OWNER VARCHAR2(20), BALANCE NUMBER(15) RESERVABLE, CONSTRAINT MINIMUM_BALANCE CHECK (BALANCE >= 50), CONSTRAINT CAP CHECK (BALANCE <= 100))\nbank.9> OK table\n",
+            ),
+            STANDS,
+        ],
+    },
+    // an ALTER TABLE that drops one
+    Write {
+        set_up: &[],
+        statement: "ALTER TABLE ACCOUNT DROP CONSTRAINT MINIMUM_BALANCE",
+        reply: "bank.1> OK altered ACCOUNT\n",
+        is_refused: true,
+        before: &[OPEN, BOUNDS, CHECKED, STANDS],
+        after: &[
+            OPEN,
+            (
+                "SHOW BOUNDS ACCOUNT WHERE ID = 1",
+                "bank.9> BALANCE value 100 inf 70 sup 100\nbank.9> OK bounds\n",
+            ),
+            (
+                "SHOW TABLE ACCOUNT",
+                "bank.9> CREATE TABLE ACCOUNT (ID NUMBER(15) PRIMARY KEY, OWNER VARCHAR2(20), BALANCE NUMBER(15) RESERVABLE)\nbank.9> OK table\n",
+            ),
+            STANDS,
+        ],
+    },
+];
+
 /// Asks a statement behind an account under each limit of steps of SQLite from 1 on until it is served. After
 /// each refusal what shows that nothing changed is asked without a limit.
 fn refuse_at_each_limit<R: Abort + AllocGlobal>(rt: &R, write: &Write) -> Result<(), Fail> {
     let mut database = account(rt)?;
     ask_all(rt, &mut database, 1, write.set_up)?;
+    refuse_until_served(rt, &mut database, write)
+}
+
+/// Asks it of a database that has what comes before it.
+fn refuse_until_served<R: Abort + AllocGlobal>(
+    rt: &R,
+    database: &mut Database<BlockStore>,
+    write: &Write,
+) -> Result<(), Fail> {
     for limit in 1..1000u64 {
-        if is_served(rt, &mut database, write, limit)? {
+        if is_served(rt, database, write, limit)? {
             assert_eq!(rt; limit > 1, write.is_refused, "{}", write.statement);
-            return ask_all(rt, &mut database, 9, write.after);
+            return ask_all(rt, database, 9, write.after);
         }
-        ask_all(rt, &mut database, 9, write.before)?;
+        ask_all(rt, database, 9, write.before)?;
     }
     panic!(rt; "never served")
 }
@@ -186,6 +263,18 @@ fn writes_refused_by_store(rt: HostRuntime) -> Result<(), Fail> {
     Ok(())
 }
 
+/// An ALTER TABLE that the store refuses leaves the table's checks, its rows' bounds and what is open, whichever
+/// limit refuses it.
+#[test]
+fn alters_refused_by_store(rt: HostRuntime) -> Result<(), Fail> {
+    for write in ALTERS {
+        let mut database = account(&rt)?;
+        ask_all(&rt, &mut database, 2, TAKEN)?;
+        refuse_until_served(&rt, &mut database, &write)?;
+    }
+    Ok(())
+}
+
 /// A reservation.
 const TAKE: Asked = &[(
     "UPDATE ACCOUNT SET BALANCE = BALANCE - 1 WHERE ID = 1",
@@ -206,6 +295,10 @@ const UNREFUSED: Asked = &[
     ("ROLLBACK", "bank.1> OK rolled back 1\n"),
     ("COMMIT", "bank.1> OK committed 0\n"),
     ("DROP TABLE B", "bank.1> ERR 21 no such table\n"),
+    (
+        "ALTER TABLE ACCOUNT DROP CONSTRAINT B",
+        "bank.1> ERR 27 no such constraint\n",
+    ),
     (
         "DELETE FROM ACCOUNT WHERE ID = 'A'",
         "bank.1> ERR 23 bad value\n",

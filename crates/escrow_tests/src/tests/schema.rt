@@ -5,7 +5,7 @@ ghost use Rattle.escrow_schema.specs.Definition.{IsTable};
 
 use escrow_num::{Copied, Name, Refusal, Row, Scale, Seq, Value, are_same};
 use escrow_schema::{
-    Catalog, TableDef, define, fit_row, is_value, print_table, row_of, value_at, values_of,
+    Catalog, TableDef, alter, define, fit_row, is_value, print_table, row_of, value_at, values_of,
 };
 use escrow_sql::{
     ColumnText, CreateText, InsertText, Item, Literal, Request, Statement, TypeText, parse,
@@ -464,5 +464,99 @@ fn keeps_tables_in_order(rt: HostRuntime) -> Result<(), Fail> {
         assert_eq!(rt; answer, want, "{text}");
     }
     assert_eq!(rt; catalog.tables().len(), 32);
+    Ok(())
+}
+
+/// A table that is altered, with a check of its own name and one without.
+const ALTERED: &str =
+    "CREATE TABLE C (K NUMBER PRIMARY KEY, A NUMBER(5,2) RESERVABLE CHECK (A >= 0), CONSTRAINT CAP CHECK (A <= 9))";
+
+/// Changes of it, each with the answer, and the names of the checks that it then has: those of its texts, and behind them
+/// that of the range. A check without a name is called by its place among them.
+const ALTERS: [(&str, u8, &[&str]); 9] = [
+    (
+        "ALTER TABLE C ADD CONSTRAINT CAP CHECK (A <= 8)",
+        22,
+        &["CHECK_1", "CAP", "RANGE_A"],
+    ),
+    (
+        "ALTER TABLE C ADD CHECK (A <= 8.005)",
+        22,
+        &["CHECK_1", "CAP", "RANGE_A"],
+    ),
+    (
+        "ALTER TABLE C ADD CHECK (A <= 8.5 AND A >= 0.5)",
+        0,
+        &["CHECK_1", "CAP", "CHECK_3", "CHECK_4", "RANGE_A"],
+    ),
+    (
+        "ALTER TABLE C DROP CONSTRAINT CHECK_1",
+        0,
+        &["CAP", "CHECK_3", "CHECK_4", "RANGE_A"],
+    ),
+    (
+        "ALTER TABLE C ADD CHECK (A <= 8)",
+        22,
+        &["CAP", "CHECK_3", "CHECK_4", "RANGE_A"],
+    ),
+    (
+        "ALTER TABLE C DROP CONSTRAINT CHECK_1",
+        27,
+        &["CAP", "CHECK_3", "CHECK_4", "RANGE_A"],
+    ),
+    (
+        "ALTER TABLE C DROP CONSTRAINT RANGE_A",
+        27,
+        &["CAP", "CHECK_3", "CHECK_4", "RANGE_A"],
+    ),
+    (
+        "ALTER TABLE C DROP CONSTRAINT CAP",
+        0,
+        &["CHECK_3", "CHECK_4", "RANGE_A"],
+    ),
+    (
+        "ALTER TABLE C ADD CONSTRAINT CAP CHECK (A <= 8)",
+        0,
+        &["CHECK_3", "CHECK_4", "CAP", "RANGE_A"],
+    ),
+];
+
+/// The answer to an ALTER TABLE. The table that it makes takes the place of the one that it alters.
+fn answer(rt: &impl Abort, alloc: Global, catalog: &mut Catalog, text: &str) -> Result<u8, Fail> {
+    let request = parse(alloc, text)?;
+    let Request::Statement(Statement::Alter(asked)) = &request else {
+        panic!(rt; "no ALTER TABLE: {text}");
+    };
+    let table = catalog.find(asked.table).expect(rt, "a table");
+    match alter(alloc, table, &asked.change) {
+        Ok(made) => {
+            assert!(rt; catalog.find(made.name).is_some());
+            catalog.replace(made);
+            Ok(0)
+        }
+        Err(refusal) => Ok(refusal.number()),
+    }
+}
+
+/// A table has the checks that its ALTER TABLEs leave it, and the tables beside it stay.
+#[test]
+fn alters_tables(rt: HostRuntime) -> Result<(), Fail> {
+    let alloc = rt.alloc();
+    let mut catalog = Catalog::new(alloc);
+    catalog.add(table_named(&rt, alloc, name(&rt, "B"))?)?;
+    catalog.add(table(&rt, alloc, ALTERED)?)?;
+    catalog.add(table_named(&rt, alloc, name(&rt, "D"))?)?;
+    for (text, want, names) in ALTERS {
+        assert_eq!(rt; answer(&rt, alloc, &mut catalog, text)?, want, "{text}");
+        let [first, altered, last] = catalog.tables() else {
+            panic!(rt; "not three tables: {text}");
+        };
+        assert_eq!(rt; first.name.as_str(), "B", "{text}");
+        assert_eq!(rt; last.name.as_str(), "D", "{text}");
+        assert_eq!(rt; altered.checks.as_slice().len(), names.len(), "{text}");
+        for (check, want) in altered.checks.as_slice().iter().zip(names) {
+            assert_eq!(rt; check.name.as_str(), *want, "{text}");
+        }
+    }
     Ok(())
 }

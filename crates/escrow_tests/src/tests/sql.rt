@@ -225,7 +225,7 @@ fn reads_sizes_of_numbers(rt: HostRuntime) -> Result<(), Fail> {
 }
 
 /// Pairs of statements that ask the same: zeros at the ends of a number say nothing.
-const SAME: [(&str, &str); 5] = [
+const SAME: [(&str, &str); 6] = [
     ("INSERT INTO T VALUES (1.0)", "INSERT INTO T VALUES (1)"),
     (
         "INSERT INTO T VALUES (-1.50)",
@@ -240,10 +240,14 @@ const SAME: [(&str, &str); 5] = [
         "CREATE TABLE T (CHECK (A + 1 < 5.0))",
     ),
     ("INSERT INTO T VALUES (-0.0)", "INSERT INTO T VALUES (0)"),
+    (
+        "ALTER TABLE T ADD CHECK (A < 5.0)",
+        "alter table T add check (A < 5);",
+    ),
 ];
 
 /// Pairs of statements that don't ask the same. Statements of each kind stand first in a pair.
-const PAIRS: [(&str, &str); 42] = [
+const PAIRS: [(&str, &str); 49] = [
     ("DROP TABLE T", "SHOW TABLE T"),
     (
         "CREATE TABLE T (A VARCHAR2(9))",
@@ -355,6 +359,31 @@ const PAIRS: [(&str, &str); 42] = [
         "CREATE TABLE T (CHECK (A BETWEEN 1 AND 5.5))",
         "CREATE TABLE T (CHECK (A BETWEEN 1 AND 5.4))",
     ),
+    (
+        "ALTER TABLE T ADD CHECK (A < 5)",
+        "ALTER TABLE U ADD CHECK (A < 5)",
+    ),
+    (
+        "ALTER TABLE T ADD CHECK (A < 5)",
+        "ALTER TABLE T ADD CHECK (A < 6)",
+    ),
+    (
+        "ALTER TABLE T ADD CONSTRAINT C CHECK (A < 5)",
+        "ALTER TABLE T ADD CHECK (A < 5)",
+    ),
+    (
+        "ALTER TABLE T ADD CONSTRAINT C CHECK (A < 5)",
+        "ALTER TABLE T DROP CONSTRAINT C",
+    ),
+    (
+        "ALTER TABLE T DROP CONSTRAINT C",
+        "ALTER TABLE T DROP CONSTRAINT D",
+    ),
+    (
+        "ALTER TABLE T DROP CONSTRAINT C",
+        "ALTER TABLE U DROP CONSTRAINT C",
+    ),
+    ("ALTER TABLE T DROP CONSTRAINT C", "DROP TABLE T"),
 ];
 
 /// The statement of a text; SHOW STATISTICS, which is none, is taken for a fault.

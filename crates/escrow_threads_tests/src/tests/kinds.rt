@@ -17,7 +17,7 @@ const SHOP: &str =
     "CREATE TABLE SHOP (CODE VARCHAR2(8) PRIMARY KEY, TITLE VARCHAR2(20), STOCK NUMBER(4) RESERVABLE CONSTRAINT IN_STOCK CHECK (STOCK >= 0))";
 
 /// What is asked, in order. Nothing is open behind it.
-const ASKED: [Asked; 45] = [
+const ASKED: [Asked; 49] = [
     (1, CREATE, "bank.1> OK created ACCOUNT\n"),
     (1, INSERT, "bank.1> OK inserted\n"),
     (
@@ -130,6 +130,26 @@ const ASKED: [Asked; 45] = [
     (5, "DROP TABLE ACCOUNT", "bank.5> ERR 33 table reserved\n"),
     (5, "DROP TABLE SHOP", "bank.5> OK dropped SHOP\n"),
     (5, "DROP TABLE SHOP", "bank.5> ERR 21 no such table\n"),
+    (
+        5,
+        "ALTER TABLE ACCOUNT ADD CONSTRAINT CAP CHECK (BALANCE <= 104)",
+        "bank.5> ERR 41 CAP high 105 limit 104\n",
+    ),
+    (
+        5,
+        "ALTER TABLE ACCOUNT ADD CONSTRAINT CAP CHECK (BALANCE <= 105)",
+        "bank.5> OK altered ACCOUNT\n",
+    ),
+    (
+        5,
+        "ALTER TABLE ACCOUNT DROP CONSTRAINT CUP",
+        "bank.5> ERR 27 no such constraint\n",
+    ),
+    (
+        5,
+        "ALTER TABLE ACCOUNT DROP CONSTRAINT CAP",
+        "bank.5> OK altered ACCOUNT\n",
+    ),
     (1, "SAVEPOINT A", "bank.1> OK savepoint A\n"),
     (
         1,

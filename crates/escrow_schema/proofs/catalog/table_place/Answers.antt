@@ -7,5 +7,5 @@ use Rattle.escrow_schema.proofs.catalog.table_place.Goals as goal
 
 pub returns-clause-place : goal.returns-clause-place
 returns-clause-place c = λ table named.
-    rw (c.unwrap_or.ensures, c.first_after.ensures, ← named)
+    rw (c.place_in_order.ensures, ← named)
     (put_at_place (λ other. is_lt (slice_cmp nat_cmp table.name other.name)) table (with_table table) refl (λ y ys. refl) c.args.catalog.now)

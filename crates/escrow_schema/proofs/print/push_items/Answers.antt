@@ -7,7 +7,7 @@ use Rattle.escrow_schema.proofs.print.push_items.Goals as goal
 pub returns : goal.returns
 returns c =
     let table = c.args.table.now in
-    let two = (rules_of table c.requires.table).least in
+    let two = (rules_of table c.requires).least in
     items_added c.push_checks.result (string_bytes c.push_checks.new.text) (string_bytes c.push_columns.new.text) (string_bytes c.args.text.now) table.columns table.key
     (map (check_words c.args.names.now c.args.scales.now) (declared_checks table)) (omega arith)
-    (rw (← c.declared_checks-checks.ensures) c.push_checks.ensures) (rw (← c.as_slice.ensures) c.in_ok-push_columns.ensures)
+    (rw (← c.declared_checks.ensures) c.push_checks.ensures) (rw (← c.as_slice.ensures) c.in_ok-push_columns.ensures)

@@ -6,5 +6,5 @@ use Rattle.escrow_schema.proofs.catalog.Catalog.find.Goals as goal
 
 pub returns-clause-table : goal.returns-clause-table
 returns-clause-table c =
-    found_each c.args.self.now c.args.name c.find_table.result c.tables.ensures.catalog
-    (subst (λ tables. option_copied c.find_table.result ≡ table_named tables c.args.name) c.tables.ensures.value c.find_table.ensures)
+    found_each c.args.self.now c.args.name c.find_by_name.result c.tables.ensures.catalog
+    (subst (λ tables. option_copied c.find_by_name.result ≡ table_named tables c.args.name) c.tables.ensures.value c.find_by_name.ensures)

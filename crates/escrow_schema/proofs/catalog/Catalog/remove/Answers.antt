@@ -11,7 +11,7 @@ taken : (c : goal.After-remove) → (table_named c.self.inside.tables.items c.ar
 taken c =
     let tables = c.self.inside.tables.items in
     let p = λ (t : TableDef). bytes_eq t.name c.args.name in
-    let at : position p tables ≡ Some c.in-Some.place = subst (λ ts. position p ts ≡ Some c.in-Some.place) c.deref.ensures.value (sym c.place_named.ensures ∙ c.in-Some.is) in
+    let at : position p tables ≡ Some c.in-Some.place = subst (λ ts. position p ts ≡ Some c.in-Some.place) c.deref.ensures.value (sym c.place_by_name.ensures ∙ c.in-Some.is) in
     let out = taken_out p tables c.in-Some.place c.remove.result (once_named tables c.args.name c.self.invariant.order) at in
     (out.0 ∙ ap Some (sym c.remove.ensures.value), c.remove.ensures.items ∙ out.1)
 
@@ -34,5 +34,5 @@ pub returns-in-None-clause-refused : goal.returns-in-None-clause-refused
 returns-in-None-clause-refused c =
     let tables = c.self.inside.tables.items in
     let p = λ (t : TableDef). bytes_eq t.name c.args.name in
-    let at : position p tables ≡ None = subst (λ ts. position p ts ≡ None) c.deref.ensures.value (sym c.place_named.ensures ∙ c.in-None.is) in
+    let at : position p tables ≡ None = subst (λ ts. position p ts ≡ None) c.deref.ensures.value (sym c.place_by_name.ensures ∙ c.in-None.is) in
     (λ _. subst (λ ts. table_named ts c.args.name ≡ None) c.self.view_is (not_there p tables at), λ _. cc)

@@ -47,8 +47,8 @@ written g c is_done fields later ok if_done if_not =
 
 there : (g : given.Over) (c : goal.After-drop-self-inside g) → c.put.new.tables.items ≡ with_counted (empty c.in-Some.id c.args.table) c.self.inside.tables.items
 there g c =
-    put_there c.self.inside.tables.items c.reserve.new.self.items c.deref-2.result.now c.put.new.tables.items c.place_before-place.result (empty c.in-Some.id c.args.table)
-    c.reserve.ensures.items c.deref-2.ensures.value c.place_before-place.ensures c.put.ensures
+    put_there c.self.inside.tables.items c.reserve.new.self.items c.deref-2.result.now c.put.new.tables.items c.place_in_order-place.result (empty c.in-Some.id c.args.table)
+    c.reserve.ensures.items c.deref-2.ensures.value c.place_in_order-place.ensures c.put.ensures
 
 pub invariant_of-self-in_err-create_table : goal.invariant_of-self-in_err-create_table
 invariant_of-self-in_err-create_table g c =

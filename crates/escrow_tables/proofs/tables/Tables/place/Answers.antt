@@ -7,10 +7,10 @@ use Rattle.escrow_verify.specs.declared.counted_table.CountedTable.{CountedTable
 use Rattle.escrow_tables.proofs.Placed.{has_place, kept_place}
 use Rattle.escrow_tables.proofs.tables.Tables.place.Goals as goal
 
-found : (g : _) (c : goal.After-place_named g) → c.place_named.result ≡ place_named (catalog_of c.self.inside.tables.items) c.args.name
+found : (g : _) (c : goal.After-place_by_name g) → c.place_by_name.result ≡ place_named (catalog_of c.self.inside.tables.items) c.args.name
 found g c =
     let name = c.args.name in
-    let kept = subst (λ (ts : List CountedTable). c.place_named.result ≡ position (λ (k : CountedTable). bytes_eq k.stored.table.name name) ts) c.deref.ensures.value c.place_named.ensures in
+    let kept = subst (λ (ts : List CountedTable). c.place_by_name.result ≡ position (λ (k : CountedTable). bytes_eq k.stored.table.name name) ts) c.deref.ensures.value c.place_by_name.ensures in
     kept ∙ sym (kept_place c.self.inside.tables.items name)
 
 pub returns-clause-place : goal.returns-clause-place

@@ -1,0 +1,303 @@
+-- Places of a table whose checks are altered.
+use Rattle.std.specs.Prelude.{ℤ, Bool, true, false, Option, Some, None, option_map, option_to_list, List, [], ◌∷◌, ◌++◌, length, take, drop, remove, slice_get, bytes_eq}
+use Rattle.std.specs.List.{AllByRecursion}
+use Rattle.std.proofs.Common.{◌≡◌, ◌∙◌, ℕ, zero, suc, ◌<◌, ◌≤◌, cond, refl, sym, ap, subst, set, get_or, ◌+◌, ◌-◌, arith}
+use Rattle.indexmap.specs.IndexMap.{set_value_at}
+use Rattle.escrow_num.specs.declared.refusal.Breach.{Breach}
+use Rattle.escrow_num.specs.declared.reservation.Reservation.{Reservation}
+use Rattle.escrow_num.specs.declared.value.RowName.{RowName}
+use Rattle.escrow_num.specs.Order.{same_row}
+use Rattle.escrow_num.proofs.Orders.{row_same, same_row_itself}
+use Rattle.escrow_checks.specs.declared.check.Check.{Check}
+use Rattle.escrow_checks.specs.Form.{IsCovered}
+use Rattle.escrow_checks.specs.Grant.{broken}
+use Rattle.escrow_checks.specs.Spread.{IsSpread}
+use Rattle.escrow_bounds.specs.declared.tracked.Tracked.{Tracked}
+use Rattle.escrow_bounds.specs.Altered.{Goes, TableGoes, IsWithout, IsOver, ArePrepared, adopted, Adopts}
+use Rattle.escrow_bounds.specs.Columns.{column_checks}
+use Rattle.escrow_bounds.specs.Counts.{HaveSums, Counts}
+use Rattle.escrow_bounds.specs.Held.{of_row, CountsJust, CountsAll, AllCount}
+use Rattle.escrow_bounds.specs.Inside.{IsPlace}
+use Rattle.escrow_bounds.specs.Kept.{Kept, checks_of}
+use Rattle.escrow_bounds.specs.Places.{Places, place_at, OthersStay}
+use Rattle.escrow_bounds.proofs.LawLemmas.{split, each_row, other_way}
+use Rattle.escrow_bounds.proofs.Steps.{AllStepped, Stepped, stepped_more}
+
+-- ---- lists without an item, and some of their items
+
+pub all_without : {X : Type 0} (P : X → Type 0) (xs : List X) (i : ℕ) → AllByRecursion P xs → AllByRecursion P (remove xs i)
+all_without P [] zero all = tt
+all_without P [] (suc i) all = tt
+all_without P (x ∷ xs) zero all = all.1
+all_without P (x ∷ xs) (suc i) all = (all.0, all_without P xs i all.1)
+
+pub remove_past : {X : Type 0} (xs : List X) (i : ℕ) → length xs ≤ i → remove xs i ≡ xs
+remove_past [] zero past = refl
+remove_past [] (suc i) past = refl
+remove_past (x ∷ xs) zero past = absurd (omega (arith, past))
+remove_past {X} (x ∷ xs) (suc i) past = ap (λ (ys : List X). x ∷ ys) (remove_past xs i (omega (arith, past)))
+
+checks_without : (forms : List Tracked) (i : ℕ) → checks_of (remove forms i) ≡ remove (checks_of forms) i
+checks_without [] zero = refl
+checks_without [] (suc i) = refl
+checks_without (form ∷ forms) zero = refl
+checks_without (form ∷ forms) (suc i) = ap (λ (checks : List Check). form.check ∷ checks) (checks_without forms i)
+
+all_taken : {X : Type 0} (P : X → Type 0) (n : ℕ) (xs : List X) → AllByRecursion P xs → AllByRecursion P (take n xs)
+all_taken P zero xs all = tt
+all_taken P (suc n) [] all = tt
+all_taken P (suc n) (x ∷ xs) all = (all.0, all_taken P n xs all.1)
+
+all_dropped : {X : Type 0} (P : X → Type 0) (n : ℕ) (xs : List X) → AllByRecursion P xs → AllByRecursion P (drop n xs)
+all_dropped P zero xs all = all
+all_dropped P (suc n) [] all = tt
+all_dropped P (suc n) (x ∷ xs) all = all_dropped P n xs all.1
+
+checks_taken : (n : ℕ) (forms : List Tracked) → checks_of (take n forms) ≡ take n (checks_of forms)
+checks_taken zero forms = refl
+checks_taken (suc n) [] = refl
+checks_taken (suc n) (form ∷ forms) = ap (λ (checks : List Check). form.check ∷ checks) (checks_taken n forms)
+
+checks_dropped : (n : ℕ) (forms : List Tracked) → checks_of (drop n forms) ≡ drop n (checks_of forms)
+checks_dropped zero forms = refl
+checks_dropped (suc n) [] = refl
+checks_dropped (suc n) (form ∷ forms) = checks_dropped n forms
+
+-- ---- some of a place's checks
+
+-- the forms of some checks that stand one behind another
+abbrev pub some_of : List Tracked → ℕ → ℕ → List Tracked
+some_of forms first count = take count (drop first forms)
+
+pub some_checks : (forms : List Tracked) (first count : ℕ) → checks_of (some_of forms first count) ≡ take count (drop first (checks_of forms))
+some_checks forms first count = checks_taken count (drop first forms) ∙ ap (λ (checks : List Check). take count checks) (checks_dropped first forms)
+
+pub some_covered : (forms : List Tracked) (amounts : List ℤ) (first count : ℕ) → AllByRecursion (λ (check : Check). IsCovered check.coeffs amounts) (checks_of forms)
+    → AllByRecursion (λ (check : Check). IsCovered check.coeffs amounts) (checks_of (some_of forms first count))
+some_covered forms amounts first count all =
+    let P : Check → Type 0 = λ check. IsCovered check.coeffs amounts in
+    subst (λ (checks : List Check). AllByRecursion P checks) (sym (some_checks forms first count)) (all_taken P count (drop first (checks_of forms)) (all_dropped P first (checks_of forms) all))
+
+pub some_sums : (forms : List Tracked) (reservations : List (List ℤ)) (first count : ℕ) → HaveSums forms reservations → HaveSums (some_of forms first count) reservations
+some_sums forms reservations first count sums =
+    let P : Tracked → Type 0 = λ form. IsSpread form.check.coeffs reservations form.spread in
+    all_taken P count (drop first forms) (all_dropped P first forms sums)
+
+-- ---- a place without one of its checks
+
+without_counts : (index : ℕ) (old new : Kept) → new.count ≡ old.count → new.checks ≡ remove old.checks index → new.columns ≡ old.columns → (reservations : List (List ℤ)) → Counts old reservations → Counts new reservations
+without_counts index old new count checks columns reservations known = (
+  count ∙ known.0,
+  subst (λ (forms : List Tracked). HaveSums forms reservations) (sym checks) (all_without (λ (form : Tracked). IsSpread form.check.coeffs reservations form.spread) old.checks index known.1),
+  subst (λ (forms : List Tracked). HaveSums forms reservations) (sym columns) known.2,
+)
+
+pub is_without : (index : ℕ) (old new : Kept) → new.amounts ≡ old.amounts → new.count ≡ old.count → new.checks ≡ remove old.checks index → new.columns ≡ old.columns → IsWithout index old new
+is_without index old new amounts count checks columns = record {
+  amounts = amounts;
+  checks = ap checks_of checks ∙ checks_without old.checks index;
+  counts = without_counts index old new count checks columns;
+}
+
+pub place_without : (index : ℕ) (old new : Kept) → IsPlace old → new.amounts ≡ old.amounts → new.count ≡ old.count → new.checks ≡ remove old.checks index → new.columns ≡ old.columns → IsPlace new
+place_without index old new place amounts count checks columns =
+    let P : List ℤ → Check → Type 0 = λ held check. IsCovered check.coeffs held in
+    record {
+      covered = subst (λ (held : List ℤ). AllByRecursion (P held) (checks_of new.checks)) (sym amounts)
+          (subst (λ (cs : List Check). AllByRecursion (P old.amounts) cs) (sym (ap checks_of checks ∙ checks_without old.checks index)) (all_without (P old.amounts) (checks_of old.checks) index place.covered));
+      columns = ap checks_of columns ∙ place.columns ∙ ap (λ (held : List ℤ). column_checks (length held) (length held)) (sym amounts);
+      reservations = place.reservations;
+      counts = without_counts index old new count checks columns place.reservations place.counts;
+    }
+
+-- ---- the places of a table, one after another
+
+-- an entry's place has lost the check at an index, where its row is of a table, and else it stays
+abbrev pub EntryStep : List ℕ → ℕ → RowName × Kept → RowName × Kept → Type 0
+EntryStep table index old new =
+    (new.0 ≡ old.0) × (bytes_eq old.0.table table ≡ true → IsWithout index old.1 new.1) × (bytes_eq old.0.table table ≡ false → new.1 ≡ old.1)
+
+-- a value that is written at a place of a map
+put_at : (places : Places) (i : ℕ) (row : RowName) (old new : Kept) → slice_get places i ≡ Some (row, old) → set_value_at places i new ≡ set places i (row, new)
+put_at [] i row old new at = absurd (cc)
+put_at (entry ∷ places) zero row old new at =
+    let is : entry ≡ (row, old) = cc in
+    ap (λ (e : RowName × Kept). (e.0, new) ∷ places) is
+put_at (entry ∷ places) (suc i) row old new at = ap (λ (rest : Places). entry ∷ rest) (put_at places i row old new at)
+
+pub length-set_value_at : (places : Places) (i : ℕ) (new : Kept) → length (set_value_at places i new) ≡ length places
+length-set_value_at [] i new = refl
+length-set_value_at (entry ∷ places) zero new = refl
+length-set_value_at (entry ∷ places) (suc i) new = ap suc (length-set_value_at places i new)
+
+slice_below : (places : Places) (i : ℕ) (entry : RowName × Kept) → slice_get places i ≡ Some entry → i < length places
+slice_below [] i entry at = absurd (cc)
+slice_below (first ∷ places) zero entry at = omega arith
+slice_below (first ∷ places) (suc i) entry at = let below = slice_below places i entry at in omega (arith, below)
+
+slice_is : (places : Places) (i : ℕ) (entry : RowName × Kept) → slice_get places i ≡ Some entry → entry ≡ get_or places i entry
+slice_is [] i entry at = refl
+slice_is (first ∷ places) zero entry at = let is : first ≡ entry = cc in sym is
+slice_is (first ∷ places) (suc i) entry at = slice_is places i entry at
+
+pub entry_stepped : (table : List ℕ) (index i : ℕ) (old now : Places) (row : RowName) (was new : Kept) → Stepped (EntryStep table index) i old now → slice_get now i ≡ Some (row, was)
+    → (bytes_eq row.table table ≡ true → IsWithout index was new) → (bytes_eq row.table table ≡ false → new ≡ was)
+    → Stepped (EntryStep table index) (i + 1) old (set_value_at now i new)
+entry_stepped table index i old now row was new are at own others =
+    subst (λ (places : Places). Stepped (EntryStep table index) (i + 1) old places) (sym (put_at now i row was new at))
+    (stepped_more (EntryStep table index) i old now (row, was) (row, new) (slice_below now i (row, was) at) are (slice_is now i (row, was) at) (refl, own, others))
+
+goes_one : (Step : Kept → Kept → Type 0) (is : Bool) (old new : Kept) (before after : Option Kept) → (is ≡ true → Step old new) → Goes Step before after → Goes Step (cond is (Some old) before) (cond is (Some new) after)
+goes_one Step true old new before after step rest = (new, refl, step refl)
+goes_one Step false old new before after step rest = rest
+
+stays_one : (is : Bool) (old new : Kept) (before after : Option Kept) → (is ≡ true → new ≡ old) → after ≡ before → cond is (Some new) after ≡ cond is (Some old) before
+stays_one true old new before after same rest = ap Some (same refl)
+stays_one false old new before after same rest = rest
+
+stepped_own : (table : List ℕ) (index : ℕ) (row : RowName) → bytes_eq row.table table ≡ true → (old new : Places) → AllStepped (EntryStep table index) old new → Goes (IsWithout index) (place_at old row) (place_at new row)
+stepped_own table index row within [] [] all = refl
+stepped_own table index row within [] (y ∷ ys) all = absurd all
+stepped_own table index row within (x ∷ xs) [] all = absurd all
+stepped_own table index row within (x ∷ xs) (y ∷ ys) all =
+    subst (λ (key : RowName). Goes (IsWithout index) (place_at (x ∷ xs) row) (cond (same_row row key) (Some y.1) (place_at ys row))) (sym all.0.0)
+    (goes_one (IsWithout index) (same_row row x.0) x.1 y.1 (place_at xs row) (place_at ys row)
+    (λ same. all.0.1 (ap (λ (key : RowName). bytes_eq key.table table) (sym (row_same row x.0 same)) ∙ within))
+    (stepped_own table index row within xs ys all.1))
+
+stepped_others : (table : List ℕ) (index : ℕ) (row : RowName) → bytes_eq row.table table ≡ false → (old new : Places) → AllStepped (EntryStep table index) old new → place_at new row ≡ place_at old row
+stepped_others table index row apart [] [] all = refl
+stepped_others table index row apart [] (y ∷ ys) all = absurd all
+stepped_others table index row apart (x ∷ xs) [] all = absurd all
+stepped_others table index row apart (x ∷ xs) (y ∷ ys) all =
+    subst (λ (key : RowName). cond (same_row row key) (Some y.1) (place_at ys row) ≡ place_at (x ∷ xs) row) (sym all.0.0)
+    (stays_one (same_row row x.0) x.1 y.1 (place_at xs row) (place_at ys row)
+    (λ same. all.0.2 (ap (λ (key : RowName). bytes_eq key.table table) (sym (row_same row x.0 same)) ∙ apart))
+    (stepped_others table index row apart xs ys all.1))
+
+-- all entries have been gone through
+pub table_stepped : (table : List ℕ) (index : ℕ) (old new : Places) → AllStepped (EntryStep table index) old new → TableGoes table (λ row. IsWithout index) old new
+table_stepped table index old new all = record {
+  own = λ row within. stepped_own table index row within old new all;
+  others = λ row apart. stepped_others table index row apart old new all;
+}
+
+-- ---- an addition's places, put one after another
+
+-- a place, or the last one where there is none
+abbrev or_last : Option Kept → Option Kept → Option Kept
+or_last None last = last
+or_last (Some place) last = Some place
+
+or_none : (place : Option Kept) → or_last place None ≡ place
+or_none None = refl
+or_none (Some place) = refl
+
+last_one : (is : Bool) (place : Kept) (all some last : Option Kept) → all ≡ or_last some last → cond is (Some place) all ≡ or_last (cond is (Some place) some) last
+last_one true place all some last same = refl
+last_one false place all some last same = same
+
+-- what is found where one more entry stands last
+found_last : (row : RowName) (places : Places) (last : RowName × Kept) → place_at (places ++ last ∷ []) row ≡ or_last (place_at places row) (cond (same_row row last.0) (Some last.1) None)
+found_last row [] last = refl
+found_last row (entry ∷ places) last =
+    last_one (same_row row entry.0) entry.1 (place_at (places ++ last ∷ []) row) (place_at places row) (cond (same_row row last.0) (Some last.1) None) (found_last row places last)
+
+put_own : (place : Kept) (left now : Option Kept) → adopted left (option_map (λ (old : Kept). place) now) ≡ adopted (or_last left (Some place)) now
+put_own place None None = refl
+put_own place None (Some old) = refl
+put_own place (Some first) None = refl
+put_own place (Some first) (Some old) = refl
+
+-- the last one is put, and the others are left
+pub adopted_next : (all left now mid : Places) (row : RowName) (place : Kept) → all ≡ left ++ (row, place) ∷ []
+    → place_at mid row ≡ option_map (λ (old : Kept). place) (place_at now row) → OthersStay row now mid
+    → (other : RowName) → adopted (place_at left other) (place_at mid other) ≡ adopted (place_at all other) (place_at now other)
+adopted_next all left now mid row place is own others =
+    each_row (λ (other : RowName). adopted (place_at left other) (place_at mid other) ≡ adopted (place_at all other) (place_at now other)) row
+    (ap (λ (p : Option Kept). adopted (place_at left row) p) own
+    ∙ put_own place (place_at left row) (place_at now row)
+    ∙ ap (λ (p : Option Kept). adopted p (place_at now row)) (sym here))
+    (λ other apart.
+    ap (λ (p : Option Kept). adopted (place_at left other) p) (others other apart)
+    ∙ ap (λ (p : Option Kept). adopted p (place_at now other)) (sym (there other (other_way row other apart))))
+  where
+    here : place_at all row ≡ or_last (place_at left row) (Some place)
+    here = ap (λ (places : Places). place_at places row) is ∙ found_last row left (row, place)
+        ∙ ap (λ (b : Bool). or_last (place_at left row) (cond b (Some place) None)) (same_row_itself row)
+
+    there : (other : RowName) → same_row other row ≡ false → place_at all other ≡ place_at left other
+    there other apart = ap (λ (places : Places). place_at places other) is ∙ found_last other left (row, place)
+        ∙ ap (λ (b : Bool). or_last (place_at left other) (cond b (Some place) None)) apart ∙ or_none (place_at left other)
+
+-- the last one, as `pop` gives it
+pub popped : (all left : Places) (last : Option (RowName × Kept)) (row : RowName) (place : Kept) → all ≡ left ++ option_to_list last → last ≡ Some (row, place) → all ≡ left ++ (row, place) ∷ []
+popped all left last row place ends is = ends ∙ ap (λ (o : Option (RowName × Kept)). left ++ option_to_list o) is
+
+-- ---- what is counted
+
+goes_counts : (Step : Kept → Kept → Type 0) (reservations : List (List ℤ)) (was after : Option Kept) → ((old new : Kept) → Step old new → Counts old reservations → Counts new reservations)
+    → Goes Step was after → CountsJust was reservations → CountsJust after reservations
+goes_counts Step reservations None after keeps goes counts = subst (λ (p : Option Kept). CountsJust p reservations) (sym goes) counts
+goes_counts Step reservations (Some old) after keeps goes counts = subst (λ (p : Option Kept). CountsJust p reservations) (sym goes.1) (keeps old goes.0 goes.2 counts)
+
+goes_counting : (Step : Kept → Kept → Type 0) (reservations : List (List ℤ)) (was after : Option Kept) (place : Kept) → ((old new : Kept) → Step old new → Counts old reservations → Counts new reservations)
+    → Goes Step was after → CountsJust was reservations → ((kept : Kept) → was ≡ Some kept → 0 < kept.count) → after ≡ Some place → 0 < place.count
+goes_counting Step reservations None after place keeps goes counts counting at = absurd (cc (goes, at))
+goes_counting Step reservations (Some old) after place keeps goes counts counting at =
+    let same : goes.0 ≡ place = cc (goes.1, at) in
+    let known = keeps old goes.0 goes.2 counts in
+    let above = counting old refl in
+    subst (λ (p : Kept). 0 < p.count) same (omega (arith, above, counts.0, known.0))
+
+table_counts : (table : List ℕ) (Step : RowName → Kept → Kept → Type 0) (held : List Reservation) (old new : Places)
+    → ((row : RowName) (was after : Kept) → Step row was after → Counts was (of_row row held) → Counts after (of_row row held))
+    → CountsAll old held → AllCount old → TableGoes table Step old new → CountsAll new held × AllCount new
+table_counts table Step held old new keeps counts counting goes = (
+  λ row. split (bytes_eq row.table table)
+      (λ within. goes_counts (Step row) (of_row row held) (place_at old row) (place_at new row) (keeps row) (goes.own row within) (counts row))
+      (λ apart. subst (λ (p : Option Kept). CountsJust p (of_row row held)) (sym (goes.others row apart)) (counts row)),
+  λ row place at. split (bytes_eq row.table table)
+      (λ within. goes_counting (Step row) (of_row row held) (place_at old row) (place_at new row) place (keeps row) (goes.own row within) (counts row) (counting row) at)
+      (λ apart. counting row place (sym (goes.others row apart) ∙ at)),
+)
+
+pub drop_check_counts : (table : List ℕ) (index : ℕ) (held : List Reservation) (old new : Places) → CountsAll old held → AllCount old
+    → TableGoes table (λ row. IsWithout index) old new → CountsAll new held × AllCount new
+drop_check_counts table index held old new counts counting goes =
+    table_counts table (λ (row : RowName). IsWithout index) held old new (λ row was after step. step.counts (of_row row held)) counts counting goes
+
+goes_adopted : (Step : Kept → Kept → Type 0) (was added after : Option Kept) → Goes Step was added → after ≡ adopted added was → Goes Step was after
+goes_adopted Step None None after goes is = is
+goes_adopted Step None (Some place) after goes is = is
+goes_adopted Step (Some old) added after goes is = (goes.0, is ∙ ap (λ (p : Option Kept). adopted p (Some old)) goes.1, goes.2)
+
+pub adopt_counts : (table : List ℕ) (checks : List Check) (held : List Reservation) (old addition new : Places) → CountsAll old held → AllCount old
+    → ArePrepared table checks held old addition → Adopts addition old new
+    → CountsAll new held × AllCount new × TableGoes table (λ row. IsOver checks (of_row row held)) old new
+adopt_counts table checks held old addition new counts counting prepared adopts =
+    let Step : RowName → Kept → Kept → Type 0 = λ row. IsOver checks (of_row row held) in
+    let goes : TableGoes table Step old new = record {
+      own = λ row within. goes_adopted (Step row) (place_at old row) (place_at addition row) (place_at new row) (prepared.own row within) (adopts row);
+      others = λ row apart. adopts row ∙ ap (λ (p : Option Kept). adopted p (place_at old row)) (prepared.others row apart);
+    } in
+    let known = table_counts table Step held old new (λ row was after step _. step.counts) counts counting goes in
+    (known.0, known.1, goes)
+
+-- ---- what some of a place's checks allow
+
+pub covered_there : (place : Kept) (first count : ℕ) (forms : List Tracked) (amounts : List ℤ) → IsPlace place → forms ≡ place.checks → amounts ≡ place.amounts
+    → AllByRecursion (λ (check : Check). IsCovered check.coeffs amounts) (checks_of (take (first + count - first) (drop first forms)))
+covered_there place first count forms amounts is checks shown =
+    let n : first + count - first ≡ count = omega arith in
+    rw (n, checks, shown) (some_covered place.checks place.amounts first count is.covered)
+
+pub broken_there : (place : Kept) (first count : ℕ) (forms : List Tracked) (amounts : List ℤ) (reservations : List (List ℤ)) (breach : Option Breach) → forms ≡ place.checks → amounts ≡ place.amounts → Counts place reservations
+    → ((rs : List (List ℤ)) → HaveSums (take (first + count - first) (drop first forms)) rs → breach ≡ broken (checks_of (take (first + count - first) (drop first forms))) amounts [] rs)
+    → breach ≡ broken (take count (drop first (checks_of place.checks))) place.amounts [] reservations
+broken_there place first count forms amounts reservations breach checks shown counts is =
+    let n : first + count - first ≡ count = omega arith in
+    let some : take (first + count - first) (drop first forms) ≡ some_of place.checks first count = rw (n, checks) refl in
+    is reservations (subst (λ (fs : List Tracked). HaveSums fs reservations) (sym some) (some_sums place.checks reservations first count counts.1))
+    ∙ ap (λ (held : List ℤ). broken (checks_of (take (first + count - first) (drop first forms))) held [] reservations) shown
+    ∙ ap (λ (cs : List Check). broken cs place.amounts [] reservations) (ap checks_of some ∙ some_checks place.checks first count)

@@ -1,0 +1,23 @@
+use Rattle.std.proofs.Common.{refl, sym, subst, arith}
+use Rattle.escrow_bounds.specs.Altered.{IsWithout}
+use Rattle.escrow_bounds.specs.Inside.{kept_of}
+use Rattle.escrow_bounds.specs.Kept.{Kept}
+use Rattle.escrow_bounds.proofs.Altering.{is_without, place_without, remove_past}
+use Rattle.escrow_bounds.proofs.place.Place.drop_check.Goals as goal
+
+pub invariant_of-self : goal.invariant_of-self
+invariant_of-self c =
+    let old = kept_of c.self.inside in
+    place_without c.args.index old (record old { checks = c.remove.new.self.items }) c.self.invariant refl refl c.remove.ensures.items refl
+
+pub returns-then-index-len : goal.returns-then-index-len
+returns-then-index-len c =
+    let old = kept_of c.self.inside in
+    let new : Kept = record old { checks = c.remove.new.self.items } in
+    subst (λ (kept : Kept). IsWithout c.args.index kept new) c.self.view_is (is_without c.args.index old new refl refl c.remove.ensures.items refl)
+
+pub returns-else-index-len : goal.returns-else-index-len
+returns-else-index-len c =
+    let old = kept_of c.self.inside in
+    subst (λ (kept : Kept). IsWithout c.args.index kept kept) c.self.view_is
+    (is_without c.args.index old old refl refl (sym (remove_past old.checks c.args.index (omega (arith, c.if-index-len.false, c.len.ensures)))) refl)

@@ -1,0 +1,108 @@
+//! What the rows of a table could break of checks that are added to it.
+ghost use Rattle.std.specs.Prelude.{◌≡◌, ◌+◌, ◌≤◌, length};
+ghost use Rattle.escrow_schema.specs.Column.{reservables};
+ghost use Rattle.escrow_schema.specs.Definition.{IsTable};
+ghost use Rattle.escrow_schema.specs.Print.{declared_checks};
+
+use crate::database::insert::first_breach;
+use crate::reserved::Reserved;
+use escrow_bounds::Addition;
+use escrow_num::{Breach, Row};
+use escrow_schema::{Column, TableDef};
+use escrow_tables::RowJudge;
+use std::marker::Model;
+
+/// A table with the checks of one more CHECK, which stand one behind another.
+#[derive(Debug, Drop)]
+pub(crate) struct AddedChecks {
+    /// The table with them.
+    pub(crate) table: TableDef,
+    /// The index of the first of them among its checks.
+    pub(crate) first: usize,
+    /// Their number.
+    pub(crate) count: usize,
+}
+
+impl AddedChecks {
+    /// The checks that a table has besides those of an old one: they stand behind its declared
+    /// ones.
+    pub(crate) fn new(old: &TableDef, table: TableDef) -> Self
+        requires old { IsTable old.now }
+        requires more { length old.now.checks ≤ length table.checks }
+        ensures table { result.table ≡ table }
+        ensures first { result.first ≡ length (declared_checks old.now) }
+        ensures count { length old.now.checks + result.count ≡ length table.checks }
+    {
+        let first = old.checks.len() - count_reservable(old.columns.as_slice());
+        let count = table.checks.len() - old.checks.len();
+        AddedChecks {
+            table,
+            first,
+            count,
+        }
+    }
+}
+
+/// How many of columns are RESERVABLE.
+fn count_reservable(columns: &[Column]) -> usize
+    ensures { result ≡ length (reservables columns.now) }
+{
+    columns.iter().filter(|column| column.reservable).count()
+}
+
+/// Judges the rows of a table by checks that are added to it, over every choice of the open
+/// reservations.
+#[derive(Drop)]
+pub(crate) struct AddedJudge<'a> {
+    added: &'a AddedChecks,
+    reserved: &'a Reserved,
+    addition: &'a Addition,
+}
+
+impl<'a> Model for AddedJudge<'a> {
+    ghost use Rattle.escrow_core.specs.Altering.{Judge, CanJudge};
+
+    ghost Value = { Judge };
+
+    ghost view = { λ j. record { added = j.added.now; reservations = j.reserved.now.txns.reservations; addition = j.addition.now } };
+
+    ghost invariant = { λ j. CanJudge j.added.now j.reserved.now j.addition.now };
+}
+
+impl<'a> AddedJudge<'a> {
+    ghost use Rattle.escrow_core.specs.Altering.{CanJudge};
+
+    /// The judge by these checks, where an addition was prepared over all checks of their table.
+    pub(crate) fn new(
+        added: &'a AddedChecks,
+        reserved: &'a Reserved,
+        addition: &'a Addition,
+    ) -> Self
+        requires { CanJudge added.now reserved.now addition.now }
+        ensures { result ≡ record { added = added.now; reservations = reserved.now.txns.reservations; addition = addition.now } }
+    {
+        AddedJudge {
+            added,
+            reserved,
+            addition,
+        }
+    }
+}
+
+impl RowJudge for AddedJudge<'_> {
+    ghost use Rattle.escrow_core.specs.Altering.{table_without, breach_by};
+
+    ghost table = { λ judge. table_without judge.added };
+
+    ghost breach = { breach_by };
+
+    fn breach(&self, row: &Row) -> Option<Breach> {
+        let first = self.added.first;
+        let count = self.added.count;
+        if self.reserved.is_reserved(&row.name) {
+            return self.addition.breach(&row.name, first, count);
+        }
+        let checks = self.added.table.checks.as_slice();
+        first_breach(&checks[first..first + count], row.amounts.as_slice())
+    }
+}

@@ -1,0 +1,138 @@
+use crate::database::Database;
+use crate::database::added::{AddedChecks, AddedJudge};
+use escrow_machine::Reply;
+use escrow_num::{Name, Refusal, Session};
+use escrow_schema::{declared_place, with_check, without_check_at};
+use escrow_sql::{AlterText, CheckText, Statement, TableChange};
+use sqlite::Alter;
+use std::alloc::Global;
+
+impl<S: Alter> Database<S> {
+    ghost use Rattle.std.specs.Prelude.{◌≡◌, Some, IfOk, IfErr, IsSomeAnd, OnOk};
+    ghost use Rattle.std.specs.Result.{result_err};
+    ghost use Rattle.escrow_num.specs.Refusal.{first_refusal};
+    ghost use Rattle.escrow_schema.specs.Altered.{declared_place};
+    ghost use Rattle.escrow_schema.specs.Catalog.{place_named, table_named};
+    ghost use Rattle.escrow_core.specs.Altering.{adds, alter_refusal, drops, Adds};
+    ghost use Rattle.escrow_core.specs.Serves.{Serves};
+    ghost use Rattle.escrow_core.specs.Serving.{answer_of};
+    ghost use Rattle.escrow_machine.specs.Accepted.{IsRefusal, PassesEarly};
+    ghost use Rattle.escrow_machine.specs.Turn.{turn_of};
+
+    /// ALTER TABLE: checks are added to a table, or one is taken out of it, whatever is open of its
+    /// rows.
+    pub(crate) fn alter(
+        &mut self,
+        alloc: Global,
+        session: Session,
+        text: &AlterText,
+    ) -> Result<Reply, Refusal>
+        ensures { Serves S.Store session (Statement.Alter text.now) self.old (answer_of result) self.new }
+    {
+        match &text.change {
+            TableChange::Add(check) => self.add_check(alloc, session, text.table, check),
+            TableChange::Drop(name) => self.drop_check(alloc, session, text.table, *name),
+        }
+    }
+
+    /// ADD: a table gets the checks of one more CHECK, unless some choice of the open reservations
+    /// would break one in a row of it. The places of its rows are made, and its rows are judged,
+    /// before the store is written; nothing fails behind the write.
+    fn add_check(
+        &mut self,
+        alloc: Global,
+        session: Session,
+        table: Name,
+        text: &CheckText,
+    ) -> Result<Reply, Refusal>
+        ensures { Serves S.Store session (adds table text.now) self.old (answer_of result) self.new }
+    {
+        let (place, added) = self.plan_add(alloc, session, table, text)?;
+        let addition = self
+            .reserved
+            .prepare(alloc, table, added.table.checks.as_slice())?;
+        let judge = AddedJudge::new(&added, &self.reserved, &addition);
+        if let Some(breach) = self.tables.first_breach(alloc, place, table, &judge)? {
+            return Err(Refusal::Check(breach));
+        }
+        self.recent.forget();
+        self.tables.redefine(alloc, place, added.table)?;
+        self.reserved.adopt(addition);
+        Ok(Reply::Altered(table))
+    }
+
+    /// DROP CONSTRAINT: a declared check is taken out of a table, and out of the places of its
+    /// rows.
+    fn drop_check(
+        &mut self,
+        alloc: Global,
+        session: Session,
+        table: Name,
+        name: Name,
+    ) -> Result<Reply, Refusal>
+        ensures { Serves S.Store session (drops table name) self.old (answer_of result) self.new }
+    {
+        let (place, index) = self.plan_drop(session, table, name)?;
+        let altered = without_check_at(alloc, self.tables.table(place), index)?;
+        self.recent.forget();
+        self.tables.redefine(alloc, place, altered)?;
+        self.reserved.drop_check(table, index);
+        Ok(Reply::Altered(table))
+    }
+
+    /// The place of the table of an ADD, and the table with its checks; or why there is none.
+    #[tactic(auto, unfolding(escrow_machine::specs::Turn::turn_of))]
+    fn plan_add(
+        &self,
+        alloc: Global,
+        session: Session,
+        table: Name,
+        text: &CheckText,
+    ) -> Result<(usize, AddedChecks), Refusal>
+        ensures place { IfOk result (λ planned. place_named self.now.state.catalog table ≡ Some planned.0) }
+        ensures added { IfOk result (λ planned. IsSomeAnd (table_named self.now.state.catalog table) (λ old. Adds old text.now planned.1)) }
+        ensures early { OnOk result (PassesEarly self.now.state session (adds table text.now)) }
+        ensures refused { IfErr result (IsRefusal self.now.state session (adds table text.now)) }
+    {
+        let place = self.check_alter(session, table)?;
+        let old = self.tables.table(place);
+        match with_check(alloc, old, text)? {
+            Some(made) => Ok((place, AddedChecks::new(old, made))),
+            None => Err(Refusal::BadDefinition),
+        }
+    }
+
+    /// The place of the table of a DROP CONSTRAINT, and that of the check among the table's; or why
+    /// it is refused.
+    #[tactic(auto, unfolding(escrow_machine::specs::Turn::turn_of))]
+    fn plan_drop(
+        &self,
+        session: Session,
+        table: Name,
+        name: Name,
+    ) -> Result<(usize, usize), Refusal>
+        ensures place { IfOk result (λ planned. place_named self.now.state.catalog table ≡ Some planned.0) }
+        ensures index { IfOk result (λ planned. IsSomeAnd (table_named self.now.state.catalog table) (λ old. declared_place old name ≡ Some planned.1)) }
+        ensures early { result_err result ≡ first_refusal (turn_of self.now.state session (drops table name)).early }
+    {
+        let place = self.check_alter(session, table)?;
+        match declared_place(self.tables.table(place), name) {
+            Some(index) => Ok((place, index)),
+            None => Err(Refusal::NoSuchConstraint),
+        }
+    }
+
+    /// The place of the table of an ALTER TABLE, or why it is refused whatever it asks.
+    fn check_alter(&self, session: Session, table: Name) -> Result<usize, Refusal>
+        ensures place { IfOk result (λ place. place_named self.now.state.catalog table ≡ Some place) }
+        ensures early { result_err result ≡ alter_refusal session table self.now.state }
+    {
+        if self.is_open(session) {
+            return Err(Refusal::TransactionOpen);
+        }
+        match self.tables.place(table) {
+            Some(place) => Ok(place),
+            None => Err(Refusal::NoSuchTable),
+        }
+    }
+}

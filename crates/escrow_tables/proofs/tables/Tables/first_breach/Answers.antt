@@ -1,0 +1,48 @@
+use Rattle.std.proofs.Common.{◌≡◌, Option, None, Result, Ok, ap, sym, ◌∙◌, refl}
+use Rattle.std.proofs.lemmas.Option.{same_Some}
+use Rattle.sqlite.specs.Held.{state}
+use Rattle.escrow_num.specs.declared.failure.Failure.{Failure}
+use Rattle.escrow_num.specs.declared.refusal.Breach.{Breach}
+use Rattle.escrow_tables.specs.Judged.{first_breach}
+use Rattle.escrow_tables.specs.declared.judged.RowsJudged.{RowsJudged}
+use Rattle.escrow_tables.proofs.AtPlace.{named_at, rows_told}
+use Rattle.escrow_tables.proofs.JudgedRows.{judged_told}
+use Rattle.escrow_tables.proofs.Named.{IsNamed, named_is_table}
+use Rattle.escrow_tables.proofs.tables.Tables.first_breach.Given as given
+use Rattle.escrow_tables.proofs.tables.Tables.first_breach.Goals as goal
+use Rattle.escrow_tables.proofs.tables.Tables.first_breach.Goals.{After-index}
+
+-- what stands at the place is the table of the name
+named : (g : given.Over) (c : After-index g) → IsNamed c.self.inside.tables.items c.args.name c.index.result.now
+named g c = named_at c.self.inside.tables.items c.args.name c.args.place c.index.result.now (rw (← c.self.view_is) at c.requires.place) c.index.ensures
+
+own : (g : given.Over) (c : After-index g) → c.index.result.now.stored.table ≡ g.J.RowJudge.table c.args.judge.now
+own g c = same_Some c.index.result.now.stored.table (g.J.RowJudge.table c.args.judge.now) (sym (named g c).in_catalog ∙ rw (← c.self.view_is) at c.requires.table)
+
+pub new-requires-clause-defined : goal.new-requires-clause-defined
+new-requires-clause-defined g c =
+    let after = (goal.at.new-requires-clause-defined g c).After-index in named_is_table c.self.inside.tables.items c.args.name c.index.result.now c.self.invariant.is_catalog (named g after)
+
+pub new-requires-clause-own : goal.new-requires-clause-own
+new-requires-clause-own g c = own g (goal.at.new-requires-clause-own g c).After-index
+
+pub read_rows-requires : goal.read_rows-requires
+read_rows-requires g c =
+    let after = (goal.at.read_rows-requires g c).After-index in named_is_table c.self.inside.tables.items c.args.name c.index.result.now c.self.invariant.is_catalog (named g after)
+
+pub returns-clause-told : goal.returns-clause-told
+returns-clause-told g c =
+    let after = (goal.at.returns-clause-told g c).After-index in
+    let tables = c.self.inside.tables.items in
+    let counted = c.index.result.now in
+    let table = g.J.RowJudge.table in
+    let breach = g.J.RowJudge.breach in
+    let old = state g.S.Store c.self.inside.store in
+    let is_table = named_is_table tables c.args.name counted c.self.invariant.is_catalog (named g after) in
+    let taker : RowsJudged g.row.J.Denot = record { alloc = c.args.alloc; judged = c.new.result; found = None } in
+    let found : Result (Option Breach) Failure = Ok c.in-Some.taker.found in
+    rw (← c.self.view_is, ← c.new.ensures) (λ clean.
+    let read = rw c.in-Some.is at c.in_ok-taker.ensures.read clean in
+    rows_told tables c.args.name counted (named g after) (first_breach (breach c.new.result)) old (state g.S.Store c.read_rows.new.self) (state g.S.Store c.self.inside.last.value) found
+    c.self.invariant c.read_rows.ensures.looks.usable clean
+    (read.0, judged_told table breach counted.stored old.now taker c.in-Some.taker is_table (own g after ∙ ap table (sym c.new.ensures)) refl read.1))

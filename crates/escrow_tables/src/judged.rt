@@ -1,0 +1,109 @@
+//! What the rows of a table break.
+ghost use Rattle.std.specs.Prelude.{◌≡◌, [], ◌∷◌, IfOk};
+ghost use Rattle.escrow_schema.specs.Definition.{IsTable};
+ghost use Rattle.escrow_tables.specs.Judged.{first_breach};
+ghost use Rattle.escrow_tables.specs.Whole.{rows_with};
+
+use crate::judge::RowJudge;
+use crate::tables::Tables;
+use crate::whole::made_row;
+use escrow_num::{Breach, Failure, Name, Value};
+use escrow_rows::{KeyedRow, RowTaker};
+use escrow_schema::TableDef;
+use sqlite::Alter;
+use std::alloc::Global;
+use std::marker::Model;
+
+impl<S: Alter> Tables<S> {
+    ghost use Rattle.std.specs.Prelude.{◌≡◌, Some, IfOk, OnOk, IsTrue};
+    ghost use Rattle.sqlite.specs.Held.{state};
+    ghost use Rattle.sqlite.specs.State.{HasCleanDisk};
+    ghost use Rattle.escrow_schema.specs.Catalog.{place_named, table_named};
+    ghost use Rattle.escrow_schema.specs.Rows.{rows_of};
+    ghost use Rattle.escrow_tables.specs.Calls.{Reads};
+
+    /// What the rows of the table of a name break, in order of key: what the first that breaks something
+    /// does. The table stands at a place. One row is kept at a time.
+    pub fn first_breach<J: RowJudge>(
+        &mut self,
+        alloc: Global,
+        place: usize,
+        name: Name,
+        judge: &J,
+    ) -> Result<Option<Breach>, Failure>
+        requires place { place_named self.old.catalog name ≡ Some place }
+        requires table { table_named self.old.catalog name ≡ Some (J.table judge.now) }
+        ensures told { HasCleanDisk (state S.Store self.new.store) → IfOk result (λ found. found ≡ first_breach (J.breach judge.now) (rows_of self.old.rows name)) }
+        ensures reads { Reads S.Store self.old self.new }
+        ensures open { HasCleanDisk (state S.Store self.new.store) → OnOk result (IsTrue (state S.Store self.new.store).is_open) }
+    {
+        let stored = &self.tables[place].stored;
+        let taker = RowsJudged {
+            alloc,
+            judged: JudgedTable::new(&stored.table, judge),
+            found: None,
+        };
+        let Some(taker) = self.store.read_rows(alloc, stored, taker)? else {
+            return Err(Failure::Store);
+        };
+        Ok(taker.found)
+    }
+}
+
+/// A table, and what judges its rows.
+#[derive(Drop)]
+struct JudgedTable<'a, J: RowJudge> {
+    table: &'a TableDef,
+    judge: &'a J,
+}
+
+impl<'a, J: RowJudge> Model for JudgedTable<'a, J> {
+    ghost Value = { J };
+
+    ghost coded = { J.code };
+
+    ghost view = { λ t. t.judge.now };
+
+    ghost invariant = { λ t. IsTable t.table.now × (t.table.now ≡ J.table t.judge.now) };
+}
+
+impl<'a, J: RowJudge> JudgedTable<'a, J> {
+    /// A table, and what judges its rows.
+    fn new(table: &'a TableDef, judge: &'a J) -> Self
+        requires defined { IsTable table.now }
+        requires own { table.now ≡ J.table judge.now }
+        ensures { result ≡ judge.now }
+    {
+        JudgedTable { table, judge }
+    }
+
+    /// What the row that values make breaks, if anything. Values that make no row of the table are refused.
+    fn breach(&self, alloc: Global, values: &[Value]) -> Result<Option<Breach>, Failure>
+        ensures { IfOk result (λ found. found ≡ first_breach (J.breach self.now) (rows_with (J.table self.now) (values.now ∷ []))) }
+    {
+        let row = made_row(alloc, self.table, values)?;
+        Ok(self.judge.breach(&row))
+    }
+}
+
+/// Judges the rows of a table as they are read, until one breaks something. It keeps none.
+#[derive(Drop)]
+struct RowsJudged<'a, J: RowJudge> {
+    alloc: Global,
+    judged: JudgedTable<'a, J>,
+    /// What the first row that breaks something does, if one did.
+    found: Option<Breach>,
+}
+
+impl<J: RowJudge> RowTaker for RowsJudged<'_, J> {
+    ghost use Rattle.escrow_tables.specs.Judging.{HasJudged};
+
+    ghost has_taken = { HasJudged J.table J.breach };
+
+    fn take(&mut self, row: KeyedRow) -> Result<(), Failure> {
+        if self.found.is_none() {
+            self.found = self.judged.breach(self.alloc, row.values.as_slice())?;
+        }
+        Ok(())
+    }
+}
