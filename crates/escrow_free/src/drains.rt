@@ -1,6 +1,6 @@
 //! Long histories are handed out in parts.
 use crate::desk::Desk;
-use escrow_shards::{Part, Shared};
+use escrow_shards::{Part, Shared, UnderLock};
 use sqlite::Alter;
 use std::alloc::{AllocError, Global};
 use std::sync::Wait;
@@ -30,11 +30,11 @@ impl<S: Alter + Drop> Drains<S> {
     }
 
     /// Drains each database whose transcript is long, as the receipts at desks tell.
-    pub(crate) fn drain_long<R: Wait>(
+    pub(crate) fn drain_long<L: UnderLock<S>, R: Wait>(
         &mut self,
         rt: &R,
         alloc: Global,
-        shared: &Shared<S>,
+        shared: &Shared<S, L>,
         desks: &[Desk],
     )
         requires { vec_len self.old.last_drained ≡ length shared.now.openings }
@@ -49,11 +49,11 @@ impl<S: Alter + Drop> Drains<S> {
     }
 
     /// Drains a database whose last entry has a number. Where that is refused it is left as it is.
-    fn drain<R: Wait>(
+    fn drain<L: UnderLock<S>, R: Wait>(
         &mut self,
         rt: &R,
         alloc: Global,
-        shared: &Shared<S>,
+        shared: &Shared<S, L>,
         database: usize,
         last: u64,
     )

@@ -1,6 +1,6 @@
 use escrow_num::Refusal;
 use escrow_script::{ReadFault, ServeFault};
-use escrow_shards::Cause;
+use escrow_shards::{Cause, Unshared};
 use std::alloc::AllocError;
 use thiserror::Error;
 
@@ -13,7 +13,7 @@ pub enum FreeFault {
     /// The writer answered an error, or took nothing of what was left to write.
     #[error("a reply can't be written")]
     Write,
-    /// Memory was refused outside a statement.
+    /// Memory was refused outside a statement, or a place at which totals are read.
     #[error("out of memory")]
     Memory,
     /// A store failed when it was read at the beginning.
@@ -37,6 +37,14 @@ impl FreeFault {
             Refusal::TransactionOpen => FreeFault::Open,
             Refusal::Memory => FreeFault::Memory,
             _ => FreeFault::Store,
+        }
+    }
+
+    /// Why databases aren't shared that are to be watched.
+    pub(crate) fn of_watching(cause: Unshared) -> Self {
+        match cause {
+            Unshared::Refused(refusal) => FreeFault::of_sharing(refusal),
+            Unshared::TooManyWatchers | Unshared::NoPlace => FreeFault::Memory,
         }
     }
 

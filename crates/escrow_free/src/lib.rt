@@ -1,9 +1,11 @@
 //! Scripts whose sessions run at the same time, phase by phase.
 //!
 //! Its one contract: what [`serve_free`] writes follows from the script's lines and from the histories
-//! that it hands back, each of them one legal run of the machine.
+//! that it hands back, each of them one legal run of the machine. That of
+//! [`serve_free_watched`] is the same.
 #![tactic(auto)]
 
+mod audience;
 mod desk;
 mod drains;
 mod fault;
@@ -14,6 +16,8 @@ mod plan;
 mod printing;
 mod reading;
 mod serve;
+mod stage;
 
+pub use audience::Audience;
 pub use fault::FreeFault;
-pub use serve::serve_free;
+pub use serve::{serve_free, serve_free_watched};

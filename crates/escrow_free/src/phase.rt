@@ -4,29 +4,62 @@ ghost use Rattle.std.specs.List.{AllByRecursion};
 ghost use Rattle.escrow_shards.specs.Sharing.{HasSeat};
 ghost use Rattle.escrow_free.specs.Desks.{ArePassesServed, AreServed, HasDesk};
 
+use crate::audience::Audience;
 use crate::desk::{Desk, desks_of, served_desks};
 use crate::fault::FreeFault;
 use crate::marks::{marks_of, ranks_of, rename};
 use crate::parting::{merge, part};
 use escrow_sessions::{Cause, NotFed, run_fed};
-use escrow_shards::{Gate, Pass, Shared};
+use escrow_shards::{Gate, Pass, Shared, UnderLock};
 use escrow_sql::Request;
+use escrow_stats::Watcher;
 use sqlite::Alter;
 use std::alloc::Global;
 use std::sync::Wait;
 use std::thread::Threads;
 
 /// Serves the requests of a phase: each by its session, those of one session in order, and the sessions at the same
-/// time. It may wait.
+/// time. While they are served an audience looks. It may wait.
 ///
 /// # Errors
 ///
 /// [`FreeFault::Sessions`] where more sessions are asked than workers may be started, and
 /// [`FreeFault::Memory`].
-pub(crate) fn run_phase<S: Alter + Send, R: Threads + Wait + Sync, G: Gate + Sync>(
+pub(crate) fn run_phase<
+    S: Alter + Send,
+    L: UnderLock<S> + Send,
+    R: Threads + Wait + Sync,
+    G: Gate + Sync,
+    A: Audience<Watcher<S>>,
+>(
     rt: &R,
     alloc: Global,
-    shared: &Shared<S>,
+    shared: &Shared<S, L>,
+    desks: Vec<Desk>,
+    items: Vec<(usize, Request)>,
+    gate: &G,
+    audience: &mut A,
+) -> Result<Vec<Desk>, FreeFault>
+    requires seats { AllByRecursion (HasDesk shared.now) desks.items }
+    requires places { All (λ x. x.0 < length desks.items) items.items }
+    ensures { IfOk result (λ new. AreServed desks.items items.items new.items) }
+{
+    audience.begin();
+    let served = serve_requests(rt, alloc, shared, desks, items, gate);
+    audience.end();
+    served
+}
+
+/// The same, where nobody looks.
+fn serve_requests<
+    S: Alter + Send,
+    L: UnderLock<S> + Send,
+    R: Threads + Wait + Sync,
+    G: Gate + Sync,
+>(
+    rt: &R,
+    alloc: Global,
+    shared: &Shared<S, L>,
     desks: Vec<Desk>,
     mut items: Vec<(usize, Request)>,
     gate: &G,
@@ -49,10 +82,10 @@ pub(crate) fn run_phase<S: Alter + Send, R: Threads + Wait + Sync, G: Gate + Syn
 
 /// Serves items by the workers of the passes that they name by place. Where memory is refused before a worker is
 /// started, nothing is served.
-fn serve_passes<S: Alter + Send, R: Threads + Wait + Sync, G: Gate + Sync>(
+fn serve_passes<S: Alter + Send, L: UnderLock<S> + Send, R: Threads + Wait + Sync, G: Gate + Sync>(
     rt: &R,
     alloc: Global,
-    shared: &Shared<S>,
+    shared: &Shared<S, L>,
     passes: Vec<Pass>,
     items: Vec<(usize, Request)>,
     gate: &G,

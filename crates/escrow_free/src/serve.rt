@@ -1,15 +1,16 @@
-ghost use Rattle.std.specs.Prelude.{◌≡◌, ◌≤◌, [], length, map, replicate, vec_len, IfOk, IfSome, OnOk};
+ghost use Rattle.std.specs.Prelude.{◌≡◌, ◌≤◌, List, [], length, map, replicate, vec_len, IfOk, IfSome, OnOk};
 ghost use Rattle.std.specs.Io.KnownBytes.{IsAtEnd};
 ghost use Rattle.escrow_num.specs.declared.session.TheConstants.Session.{MAX};
+ghost use Rattle.escrow_core.specs.Seen.{Seen};
 ghost use Rattle.escrow_stats.specs.Tally.{tally_of};
 ghost use Rattle.escrow_shards.specs.Opened.{AreRead, seen_at};
 ghost use Rattle.escrow_shards.specs.Seat.{new_seats};
-ghost use Rattle.escrow_shards.specs.Whole.{AreWhole};
 ghost use Rattle.escrow_free.specs.FreeOutput.{ServesFree};
 ghost use Rattle.escrow_free.specs.Histories.{AreHistories, histories};
 ghost use Rattle.escrow_free.specs.Phases.{IsServed};
 ghost use Rattle.escrow_free.specs.Desks.{Fits, HaveSeats};
 
+use crate::audience::{Audience, Nobody};
 use crate::desk::{Desk, desks_of, passes_of};
 use crate::drains::Drains;
 use crate::fault::FreeFault;
@@ -17,11 +18,11 @@ use crate::phase::run_phase;
 use crate::plan::Plan;
 use crate::printing::print_phase;
 use crate::reading::{Phase, read_phase};
+use crate::stage::{Stage, close, share, share_watched};
 use escrow_core::Database;
-use escrow_num::Session;
 use escrow_script::{MAX_DATABASES, Script};
-use escrow_shards::{Audit, Gate, Part, Pass, Shared};
-use escrow_stats::Tally;
+use escrow_shards::{Audit, Gate, Part, Shared, UnderLock};
+use escrow_stats::{Tally, Watcher};
 use sqlite::Alter;
 use std::alloc::{AllocError, Global};
 use std::io::{Read, Write};
@@ -69,43 +70,88 @@ pub fn serve_free<
         ServesFree script (histories audit.parts.items audit.closed.items) (W.contents writer.old) (W.contents writer.new))) }
     ensures end { OnOk result (IfSome (R.remaining reader.old) (λ script. IsAtEnd (R.remaining reader.new))) }
 {
-    let (shared, passes) = share(alloc, databases)?;
-    let desks = desks_of(alloc, passes)?;
-    let served = serve_phases(rt, alloc, &shared, desks, reader, writer, gate)?;
-    let passes = passes_of(alloc, served.desks)?;
-    let audit = close(shared, passes, served.parts)?;
+    let stage = share(alloc, databases)?;
+    let audit = serve_stage(rt, alloc, stage, reader, writer, gate, &mut Nobody)?;
     Ok(audit)
 }
 
-/// Puts databases under locks, and makes a pass for each of their sessions.
-fn share<S: Alter + Drop>(
+/// The same as [`serve_free`], before an audience: it is given a watcher of each database before
+/// the first phase, and looks while the sessions of a phase are served, and not while lines are read
+/// or replies are written. Watchers read totals of what was served so far, and wait for nobody
+/// ([`Watcher::read`]). A statement may wait for a watcher that is reading.
+///
+/// # Errors
+///
+/// Those of [`serve_free`]; [`FreeFault::Memory`] also where a watcher has no place to read at.
+/// Where databases aren't shared the audience doesn't begin to look.
+pub fn serve_free_watched<
+    S: Alter + Drop + Send,
+    T: Threads + Wait + Sync,
+    R: Read,
+    W: Write,
+    G: Gate + Sync,
+    A: Audience<Watcher<S>>,
+>(
+    rt: &T,
     alloc: Global,
     databases: Vec<Database<S>>,
-) -> Result<(Shared<S>, Vec<Pass>), FreeFault>
+    reader: &mut R,
+    writer: &mut W,
+    gate: &G,
+    audience: &mut A,
+) -> Result<Audit<S>, FreeFault>
     requires some { 1 ≤ vec_len databases }
     requires few { vec_len databases ≤ MAX_DATABASES }
-    ensures read { IfOk result (λ r. AreRead S.Store databases.items (map seen_at r.0.openings)) }
-    ensures sessions { IfOk result (λ r. r.0.sessions ≡ MAX) }
-    ensures passes { IfOk result (λ r. r.1.items ≡ new_seats (length databases.items) MAX) }
+    ensures legal { IfOk result (λ audit. AreHistories S.Store databases.items audit.parts.items audit.closed.items) }
+    ensures output { IfOk result (λ audit. IfSome (R.remaining reader.old) (λ script.
+        ServesFree script (histories audit.parts.items audit.closed.items) (W.contents writer.old) (W.contents writer.new))) }
+    ensures end { OnOk result (IfSome (R.remaining reader.old) (λ script. IsAtEnd (R.remaining reader.new))) }
 {
-    match Shared::make(alloc, databases, Session::MAX) {
-        Ok(made) => Ok(made),
-        Err(fault) => Err(FreeFault::of_sharing(fault.cause)),
-    }
+    let stage = share_watched(rt, alloc, databases)?;
+    let audit = serve_stage(rt, alloc, stage, reader, writer, gate, audience)?;
+    Ok(audit)
 }
 
-/// Takes the databases out of their locks, and puts together what was served.
-fn close<S: Alter + Drop>(
-    shared: Shared<S>,
-    passes: Vec<Pass>,
-    parts: Vec<Part<S>>,
+/// Serves a script by databases that are shared, from their passes on, before an audience.
+fn serve_stage<
+    S: Alter + Drop + Send,
+    L: UnderLock<S> + Drop + Send,
+    T: Threads + Wait + Sync,
+    R: Read,
+    W: Write,
+    G: Gate + Sync,
+    A: Audience<Watcher<S>>,
+>(
+    rt: &T,
+    alloc: Global,
+    stage: Stage<S, L>,
+    reader: &mut R,
+    writer: &mut W,
+    gate: &G,
+    audience: &mut A,
 ) -> Result<Audit<S>, FreeFault>
-    ensures { IfOk result (λ audit. AreWhole S.Store shared passes.items audit.parts.items audit.closed.items) }
+    requires few { length stage.shared.openings ≤ MAX_DATABASES }
+    requires sessions { stage.shared.sessions ≡ MAX }
+    requires passes { stage.passes.items ≡ new_seats (length stage.shared.openings) MAX }
+
+    // So it is whichever databases were read where the sharing began.
+    ensures legal { IfOk result (λ audit. (databases : List (Seen S)) → AreRead S.Store databases (map seen_at stage.shared.openings)
+        → AreHistories S.Store databases audit.parts.items audit.closed.items) }
+    ensures output { IfOk result (λ audit. IfSome (R.remaining reader.old) (λ script.
+        ServesFree script (histories audit.parts.items audit.closed.items) (W.contents writer.old) (W.contents writer.new))) }
+    ensures end { OnOk result (IfSome (R.remaining reader.old) (λ script. IsAtEnd (R.remaining reader.new))) }
 {
-    match shared.close(passes, parts) {
-        Ok(audit) => Ok(audit),
-        Err(mismatch) => Err(FreeFault::of_close(mismatch.cause)),
-    }
+    let Stage {
+        shared,
+        passes,
+        watchers,
+    } = stage;
+    let desks = desks_of(alloc, passes)?;
+    audience.watch(alloc, watchers);
+    let served = serve_phases(rt, alloc, &shared, desks, reader, writer, gate, audience)?;
+    let passes = passes_of(alloc, served.desks)?;
+    let audit = close(shared, passes, served.parts)?;
+    Ok(audit)
 }
 
 /// What is left once all phases are served.
@@ -116,21 +162,24 @@ struct Served<S: Alter> {
     parts: Vec<Part<S>>,
 }
 
-/// Serves all phases of a script. It may wait.
+/// Serves all phases of a script, before an audience. It may wait.
 fn serve_phases<
     S: Alter + Drop + Send,
+    L: UnderLock<S> + Send,
     T: Threads + Wait + Sync,
     R: Read,
     W: Write,
     G: Gate + Sync,
+    A: Audience<Watcher<S>>,
 >(
     rt: &T,
     alloc: Global,
-    shared: &Shared<S>,
+    shared: &Shared<S, L>,
     mut desks: Vec<Desk>,
     reader: &mut R,
     writer: &mut W,
     gate: &G,
+    audience: &mut A,
 ) -> Result<Served<S>, FreeFault>
     requires few { length shared.now.openings ≤ MAX_DATABASES }
     requires seats { HaveSeats shared.now desks.items }
@@ -146,7 +195,7 @@ fn serve_phases<
     'phases: loop {
         let Phase { plan, has_more } = read_phase(alloc, databases, &mut script, reader)?;
         let Plan { lines, items } = plan;
-        desks = run_phase(rt, alloc, shared, desks, items, gate)?;
+        desks = run_phase(rt, alloc, shared, desks, items, gate, audience)?;
         print_phase(alloc, &mut desks, &mut totals, lines, writer)?;
         drains.drain_long(rt, alloc, shared, desks.as_slice());
         if !has_more {

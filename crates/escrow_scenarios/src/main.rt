@@ -14,7 +14,7 @@ mod command_line;
 mod part;
 
 use command_line::CommandLine;
-use escrow_server::run_program;
+use escrow_server::{NO_SCREEN, run_program};
 use part::{Part, parts};
 use std::process::ExitCode;
 use std::sync::Wait;
@@ -116,6 +116,7 @@ fn is_served<T: Threads + Wait + Sync>(
         &mut input,
         &mut output,
         &mut said,
+        NO_SCREEN,
     );
     status == ExitCode::SUCCESS && output == replies.text
 }

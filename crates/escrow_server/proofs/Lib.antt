@@ -6,4 +6,5 @@ pub mod ServeLemmas
 pub mod ShownLemmas
 pub mod TotalsLemmas
 pub mod CleanDisks
+pub mod Crossing
 pub mod Runs

@@ -1,4 +1,5 @@
 pub mod Args
+pub mod Drawing
 pub mod Free
 pub mod Opened
 pub mod Output

@@ -1,14 +1,18 @@
 //! Scripts whose sessions run at the same time, in databases that the program opened.
-ghost use Rattle.std.specs.Prelude.{◌≡◌, ◌≤◌, vec_len, OnOk, IfSome};
+ghost use Rattle.std.specs.Prelude.{◌≡◌, ◌≤◌, vec_len, IfOk, OnOk, IfSome};
 ghost use Rattle.std.specs.Vec.{vec_capacity};
 ghost use Rattle.std.specs.Io.KnownBytes.{IsAtEnd};
+ghost use Rattle.escrow_free.specs.FreeOutput.{ServesFree};
+ghost use Rattle.escrow_free.specs.Histories.{AreHistories, histories};
 ghost use Rattle.escrow_server.specs.Free.{HoldCleanDisks, RunsFree};
 ghost use Rattle.escrow_server.specs.Output.{states_of};
 
+use crate::desk::start;
+use crate::screen::Screen;
 use escrow_core::Database;
-use escrow_free::{FreeFault, serve_free};
+use escrow_free::{FreeFault, serve_free, serve_free_watched};
 use escrow_script::MAX_DATABASES;
-use escrow_shards::{Closed, NoGate};
+use escrow_shards::{Audit, Closed, NoGate};
 use sqlite::Alter;
 use std::alloc::Global;
 use std::io::{Read, Write};
@@ -18,12 +22,19 @@ use std::thread::Threads;
 
 /// Serves a script phase by phase, the sessions of a phase at the same time, and leaves the databases as their
 /// histories end. After a fault none is left. It may wait.
-pub(crate) fn serve_phases<S: Alter + Drop + Send, T: Threads + Wait + Sync, R: Read, W: Write>(
+pub(crate) fn serve_phases<
+    S: Alter + Drop + Send + 'static,
+    T: Threads + Wait + Sync,
+    R: Read,
+    W: Write,
+    X: Screen + Send + Drop + 'static,
+>(
     rt: &T,
     alloc: Global,
     databases: &mut Vec<Database<S>>,
     reader: &mut R,
     writer: &mut W,
+    screen: Option<X>,
 ) -> Result<(), FreeFault>
     requires some { 1 ≤ vec_len databases.old }
     requires few { vec_len databases.old ≤ MAX_DATABASES }
@@ -34,9 +45,50 @@ pub(crate) fn serve_phases<S: Alter + Drop + Send, T: Threads + Wait + Sync, R: 
     // What is handed back has to be kept, so room for it is made before.
     let room = Vec::with_capacity(alloc, usize::from(MAX_DATABASES))?;
     let handed = mem::replace(databases, room);
-    let audit = serve_free(rt, alloc, handed, reader, writer, &NoGate)?;
+    let audit = serve_before(rt, alloc, handed, reader, writer, screen)?;
     put_back(databases, audit.closed);
     Ok(())
+}
+
+/// The same, of databases that are handed in, with the histories that are handed back. Nobody watches the databases
+/// where nothing shows how far the script is.
+fn serve_before<
+    S: Alter + Drop + Send + 'static,
+    T: Threads + Wait + Sync,
+    R: Read,
+    W: Write,
+    X: Screen + Send + Drop + 'static,
+>(
+    rt: &T,
+    alloc: Global,
+    databases: Vec<Database<S>>,
+    reader: &mut R,
+    writer: &mut W,
+    screen: Option<X>,
+) -> Result<Audit<S>, FreeFault>
+    requires some { 1 ≤ vec_len databases }
+    requires few { vec_len databases ≤ MAX_DATABASES }
+    ensures legal { IfOk result (λ audit. AreHistories S.Store databases.items audit.parts.items audit.closed.items) }
+    ensures output { IfOk result (λ audit. IfSome (R.remaining reader.old) (λ script.
+        ServesFree script (histories audit.parts.items audit.closed.items) (W.contents writer.old) (W.contents writer.new))) }
+    ensures end { OnOk result (IfSome (R.remaining reader.old) (λ script. IsAtEnd (R.remaining reader.new))) }
+{
+    match start(rt, alloc, screen) {
+        Some(mut shower) => {
+            let audit = serve_free_watched(
+                rt,
+                alloc,
+                databases,
+                reader,
+                writer,
+                &NoGate,
+                &mut shower,
+            );
+            shower.stop();
+            audit
+        }
+        None => serve_free(rt, alloc, databases, reader, writer, &NoGate),
+    }
 }
 
 /// Puts databases that came out of their locks where there is room for them.

@@ -9,18 +9,23 @@
 
 mod args;
 mod databases;
+mod desk;
+mod drawing;
 mod fault;
 mod free;
 mod program;
+mod screen;
 mod serve;
 mod site;
 mod stores;
 mod totals;
 
 pub use args::{ArgFault, Args, Mode, read_args};
+pub use desk::Desk;
 pub use escrow_free::{FreeFault, serve_free};
 pub use escrow_script::{MAX_DATABASES, MAX_LINE, MAX_READS, MAX_SCRIPT, ReadFault, ServeFault};
 pub use program::run_program;
+pub use screen::{NO_SCREEN, NoScreen, Screen, Terminal};
 pub use serve::serve_script;
 pub use site::{Outlook, Site};
 pub use stores::{CloseFault, InFiles, InMemory, OpenFault, OpenStore, Opened};

@@ -13,6 +13,7 @@ use crate::args::{ArgFault, Args, Mode, read_args};
 use crate::databases::{Unclosed, close_databases, open_databases};
 use crate::fault::RunFault;
 use crate::free::serve_phases;
+use crate::screen::Screen;
 use crate::serve::serve_script;
 use crate::site::Site;
 use crate::stores::{CloseFault, InFiles, InMemory, file_of};
@@ -36,17 +37,28 @@ use std::{env, io};
 /// and doesn't change the status. Where sessions at the same time aren't served to the end, the logs of the stores
 /// stay beside them. It may wait.
 ///
+/// While sessions at the same time are served, a screen, if there is one, shows how far they are. Its thread is started
+/// by `threads`, and nothing of what it shows goes to `errors`: the clauses speak of that stream alone.
+///
 /// Exit status: 0 when all was served and written, and for help; 1 when the script can't be read, a
 /// reply can't be written, memory is short, a phase has statements of more than 64 sessions or the histories don't fit;
 /// 2 for wrong arguments, one that isn't UTF-8 among them; 3 when the store of a database can't be opened, before
 /// anything is read.
-pub fn run_program<T: Threads + Wait + Sync, E: Env, R: Read, W: Write, F: Write>(
+pub fn run_program<
+    T: Threads + Wait + Sync,
+    E: Env,
+    R: Read,
+    W: Write,
+    F: Write,
+    X: Screen + Send + Drop + 'static,
+>(
     rt: &HostRuntime,
     threads: &T,
     line: &E,
     input: &mut R,
     output: &mut W,
     errors: &mut F,
+    screen: Option<X>,
 ) -> ExitCode
     // Status 0 comes without a word on `errors`, or with one of the stores of a path that were migrated or can't be
     // closed, and any other with one that says why, as far as it is taken.
@@ -54,7 +66,7 @@ pub fn run_program<T: Threads + Wait + Sync, E: Env, R: Read, W: Write, F: Write
     ensures said { exit_status result ≢ 0 → (path : Option (List ℕ)) × SaysWhy path (F.contents errors.old) (F.contents errors.new) }
 {
     let status = match words(rt.alloc(), line) {
-        Ok(words) => run_words(rt, threads, words.as_slice(), input, output, errors),
+        Ok(words) => run_words(rt, threads, words.as_slice(), input, output, errors, screen),
         Err(error) => without_words(errors, error.kind()),
     };
     ExitCode::from(status)
@@ -85,13 +97,21 @@ fn without_words<F: Write>(errors: &mut F, error: ErrorKind) -> u8
 }
 
 /// Runs the program with the words of its command line, its name first, and answers the exit status.
-fn run_words<T: Threads + Wait + Sync, S: AsStr, R: Read, W: Write, F: Write>(
+fn run_words<
+    T: Threads + Wait + Sync,
+    S: AsStr,
+    R: Read,
+    W: Write,
+    F: Write,
+    X: Screen + Send + Drop + 'static,
+>(
     rt: &HostRuntime,
     threads: &T,
     words: &[S],
     input: &mut R,
     output: &mut W,
     errors: &mut F,
+    screen: Option<X>,
 ) -> u8
     // Words that ask have the script served, in as many databases as they ask, and in their mode: in memory, or in files.
     ensures asked { (args : Args) → asked_by (map S.text words.now) ≡ Some args → args.path ≡ None → IfSome (R.remaining input.old) (λ script.
@@ -111,19 +131,26 @@ fn run_words<T: Threads + Wait + Sync, S: AsStr, R: Read, W: Write, F: Write>(
     ensures said { result ≢ 0 → SaysWhy (asked_path (map S.text words.now)) (F.contents errors.old) (F.contents errors.new) }
 {
     match read_args(rt.alloc(), words) {
-        Ok(args) => run_args(rt, threads, &args, input, output, errors),
+        Ok(args) => run_args(rt, threads, &args, input, output, errors, screen),
         Err(fault) => refuse(output, errors, &fault),
     }
 }
 
 /// Serves the script in the databases that arguments ask, and answers the exit status.
-fn run_args<T: Threads + Wait + Sync, R: Read, W: Write, F: Write>(
+fn run_args<
+    T: Threads + Wait + Sync,
+    R: Read,
+    W: Write,
+    F: Write,
+    X: Screen + Send + Drop + 'static,
+>(
     rt: &HostRuntime,
     threads: &T,
     args: &Args,
     input: &mut R,
     output: &mut W,
     errors: &mut F,
+    screen: Option<X>,
 ) -> u8
     requires least { 1 ≤ args.now.databases }
     requires most { args.now.databases ≤ MAX_DATABASES }
@@ -155,6 +182,7 @@ fn run_args<T: Threads + Wait + Sync, R: Read, W: Write, F: Write>(
                 &mut databases,
                 input,
                 output,
+                screen,
             );
             status_in_memory(alloc, errors, served)
         }
@@ -177,6 +205,7 @@ fn run_args<T: Threads + Wait + Sync, R: Read, W: Write, F: Write>(
                 &mut databases,
                 input,
                 output,
+                screen,
             );
             let unclosed = close_databases(rt, databases, sites.as_slice());
             status_over_files(alloc, errors, path, served, &unclosed)
@@ -185,7 +214,13 @@ fn run_args<T: Threads + Wait + Sync, R: Read, W: Write, F: Write>(
 }
 
 /// Serves the script in databases, where all of their stores were opened. It may wait.
-fn serve_opened<S: Alter + Drop + Send, T: Threads + Wait + Sync, R: Read, W: Write>(
+fn serve_opened<
+    S: Alter + Drop + Send + 'static,
+    T: Threads + Wait + Sync,
+    R: Read,
+    W: Write,
+    X: Screen + Send + Drop + 'static,
+>(
     rt: &T,
     alloc: Global,
     opened: Result<(), RunFault>,
@@ -193,6 +228,7 @@ fn serve_opened<S: Alter + Drop + Send, T: Threads + Wait + Sync, R: Read, W: Wr
     databases: &mut Vec<Database<S>>,
     input: &mut R,
     output: &mut W,
+    screen: Option<X>,
 ) -> Result<(), RunFault>
     requires least { OnOk opened (1 ≤ vec_len databases.old) }
     requires most { OnOk opened (vec_len databases.old ≤ MAX_DATABASES) }
@@ -215,7 +251,7 @@ fn serve_opened<S: Alter + Drop + Send, T: Threads + Wait + Sync, R: Read, W: Wr
     opened?;
     match mode {
         Mode::Run => serve_script(alloc, databases, input, output)?,
-        Mode::Free => serve_phases(rt, alloc, databases, input, output)?,
+        Mode::Free => serve_phases(rt, alloc, databases, input, output, screen)?,
     }
     Ok(())
 }

@@ -5,6 +5,7 @@ mod many;
 mod moved;
 mod program;
 mod replies;
+mod shown;
 mod streams;
 mod unclosed;
 mod words;

@@ -14,7 +14,7 @@ use crate::hall::Hall;
 use crate::not_fed::NotFed;
 use crate::rule::Item;
 use crate::slot::{Slot, start_fed};
-use escrow_shards::{Gate, Pass, Shared};
+use escrow_shards::{Gate, Pass, Shared, UnderLock};
 use escrow_sql::Request;
 use sqlite::Alter;
 use std::alloc::Global;
@@ -36,13 +36,14 @@ use std::thread::{Scope, Threads};
 /// [`Cause::Memory`]. No worker was started then, and passes and items are handed back.
 pub fn run_fed<
     S: Alter + Send,
+    L: UnderLock<S> + Send,
     R: Threads + Wait + Sync,
     G: Gate + Sync,
     I: Iterator<Item = (usize, Request)> + Drop,
 >(
     rt: &R,
     alloc: Global,
-    shared: &Shared<S>,
+    shared: &Shared<S, L>,
     passes: Vec<Pass>,
     items: I,
     gate: &G,

@@ -1,4 +1,4 @@
-use escrow_shards::{Answer, Gate, Pass, Shared};
+use escrow_shards::{Answer, Gate, Pass, Shared, UnderLock};
 use escrow_sql::Statement;
 use sqlite::Alter;
 use std::alloc::Global;
@@ -27,7 +27,7 @@ pub(crate) trait Hall {
         ensures seat { has_seat self.now pass.new };
 }
 
-impl<S: Alter> Hall for Shared<S> {
+impl<S: Alter, L: UnderLock<S>> Hall for Shared<S, L> {
     ghost use Rattle.escrow_shards.specs.Sharing.{HasSeat};
 
     ghost has_seat = { HasSeat };

@@ -10,7 +10,7 @@ use crate::feed::{Cause, Feed, MAX_WORKERS, NotRun};
 use crate::hall::Hall;
 use crate::lists::Listed;
 use crate::team::{Worker, start};
-use escrow_shards::{Gate, Shared};
+use escrow_shards::{Gate, Shared, UnderLock};
 use sqlite::Alter;
 use std::alloc::Global;
 use std::sync::Wait;
@@ -25,10 +25,15 @@ use std::thread::{Scope, Threads};
 ///
 /// [`Cause::TooMany`] where there are more than [`MAX_WORKERS`] feeds, and only there;
 /// [`Cause::Memory`]. No worker was started then, and the feeds are handed back.
-pub fn run_sessions<S: Alter + Send, R: Threads + Wait + Sync, G: Gate + Sync>(
+pub fn run_sessions<
+    S: Alter + Send,
+    L: UnderLock<S> + Send,
+    R: Threads + Wait + Sync,
+    G: Gate + Sync,
+>(
     rt: &R,
     alloc: Global,
-    shared: &Shared<S>,
+    shared: &Shared<S, L>,
     feeds: Vec<Feed>,
     gate: &G,
 ) -> Result<Vec<Done>, NotRun>

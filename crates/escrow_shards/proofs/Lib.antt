@@ -7,5 +7,7 @@ pub mod NewSeats
 pub mod Places
 pub mod Reading
 pub mod Rest
+pub mod Showing
 pub mod UnderLocks
+pub mod Watching
 pub mod Wholes

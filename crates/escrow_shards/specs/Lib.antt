@@ -9,4 +9,6 @@ pub mod Piece
 pub mod Receipts
 pub mod Seat
 pub mod Sharing
+pub mod Shown
+pub mod Watchers
 pub mod Whole

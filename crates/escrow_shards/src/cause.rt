@@ -7,11 +7,22 @@ use sqlite::Alter;
 
 /// Why databases aren't shared. It hands the databases back.
 #[derive(Drop)]
-pub struct MakeFault<S: Alter> {
+pub struct MakeFault<S: Alter, C = Refusal> {
     /// The databases, in their order.
     pub databases: Vec<Database<S>>,
+    /// 26, 51 or 60; of databases that are to be watched an [`Unshared`].
+    pub cause: C,
+}
+
+/// Why databases aren't shared that are to be watched.
+#[derive(Debug, Drop)]
+pub enum Unshared {
     /// 26, 51 or 60.
-    pub cause: Refusal,
+    Refused(Refusal),
+    /// More watchers of each are asked than [`MAX_WATCHERS`](escrow_stats::MAX_WATCHERS).
+    TooManyWatchers,
+    /// A watcher has no place to read at.
+    NoPlace,
 }
 
 /// What a close finds where all fits together.

@@ -1,19 +1,21 @@
 use crate::closed::Closed;
 use crate::opening::Opening;
 use crate::part::Part;
+use crate::under_lock::UnderLock;
 use escrow_history::{Audited, Served, Unserved};
 use escrow_num::{Refusal, Session};
 use escrow_sql::Statement;
 use escrow_transcript::Transcript;
 use sqlite::Alter;
 use std::alloc::Global;
+use std::sync::Wait;
 
 /// What lies under a lock: a database with its transcript, and how many parts of its history were handed
 /// out. Whenever the lock is got, the transcript is legal up to the state found, while the disk has
 /// returned what was written.
 #[derive(Drop)]
-pub(crate) struct Locked<S: Alter> {
-    audited: Audited<S>,
+pub struct Locked<S: Alter> {
+    pub(crate) audited: Audited<S>,
     parts: u64,
 }
 
@@ -44,6 +46,7 @@ impl<S: Alter> Locked<S> {
         ensures unserved { OnErr result (Stays S.Store self.old.audited self.new.audited) }
         ensures full { IsErrOf result Unserved.Full ↔ (length self.old.audited.entries ≡ MAX_ENTRIES) }
         ensures parts { self.new.parts ≡ self.old.parts }
+        ensures clean { HasCleanDisk (state S.Store self.new.audited.store) → HasCleanDisk (state S.Store self.old.audited.store) }
     {
         self.audited.serve(alloc, session, statement)
     }
@@ -52,9 +55,11 @@ impl<S: Alter> Locked<S> {
     pub(crate) fn drain(&mut self, alloc: Global, database: usize) -> Result<Part<S>, Refusal>
         ensures part { IfOk result (λ p. (p.database ≡ database) × ((p.number ≡ self.old.parts + 1) × ((p.base ≡ self.old.audited.base) × (p.entries ≡ self.old.audited.entries)))) }
         ensures begun { IfOk result (λ p. (self.new.audited.base ≡ p.end) × ((self.new.audited.entries ≡ []) × (self.new.parts ≡ p.number))) }
+        ensures counts { IfOk result (λ p. p.end.before ≡ self.old.audited.base.before + length self.old.audited.entries) }
         ensures state { self.new.audited.state ≡ self.old.audited.state }
         ensures refused { OnErr result (Stays S.Store self.old.audited self.new.audited × (self.new.parts ≡ self.old.parts)) }
         ensures only { IfErr result IsNotDrained }
+        ensures clean { HasCleanDisk (state S.Store self.new.audited.store) → HasCleanDisk (state S.Store self.old.audited.store) }
     {
         if self.parts >= Transcript::MAX_NUMBER {
             return Err(Refusal::TranscriptFull);
@@ -69,5 +74,25 @@ impl<S: Alter> Locked<S> {
         ensures { result ≡ record { opening = opening; history = self.audited; parts = self.parts } }
     {
         Closed::new(opening, self.audited, self.parts)
+    }
+}
+
+impl<S: Alter> UnderLock<S> for Locked<S> {
+    fn serve_locked<R: Wait>(
+        &mut self,
+        _rt: &R,
+        alloc: Global,
+        session: Session,
+        statement: &Statement,
+    ) -> Result<Served, Unserved> {
+        self.serve(alloc, session, statement)
+    }
+
+    fn drain_locked(&mut self, alloc: Global, database: usize) -> Result<Part<S>, Refusal> {
+        self.drain(alloc, database)
+    }
+
+    fn into_locked(self) -> Locked<S> {
+        self
     }
 }

@@ -1,8 +1,8 @@
 use crate::closed::Closed;
 use crate::gate::Gate;
-use crate::locked::Locked;
 use crate::opening::Opening;
 use crate::part::Part;
+use crate::under_lock::UnderLock;
 use escrow_history::{Served, Unserved};
 use escrow_num::{Refusal, Session};
 use escrow_sql::Statement;
@@ -13,12 +13,12 @@ use std::sync::{Mutex, Wait};
 
 /// A database under its lock, with its opening beside it. Contracts see the opening alone.
 #[derive(Drop)]
-pub(crate) struct Shard<S: Alter> {
-    lock: Mutex<Locked<S>>,
+pub(crate) struct Shard<S: Alter, L> {
+    lock: Mutex<L>,
     opening: Opening<S>,
 }
 
-impl<S: Alter> Model for Shard<S> {
+impl<S: Alter, L> Model for Shard<S, L> {
     ghost use Rattle.escrow_shards.specs.Begun.{Begun, begun_code};
 
     ghost Value = { Begun S };
@@ -28,13 +28,13 @@ impl<S: Alter> Model for Shard<S> {
     ghost view = { λ s. s.opening };
 }
 
-impl<S: Alter> Shard<S> {
+impl<S: Alter, L: UnderLock<S>> Shard<S, L> {
     ghost use Rattle.std.specs.Prelude.{◌≡◌, None, IfOk, IfErr};
     ghost use Rattle.escrow_history.specs.Calls.{IsNotDrained};
     ghost use Rattle.escrow_machine.specs.Reply.{failure_of};
 
     /// A database that goes under its lock.
-    pub(crate) fn new(locked: Locked<S>, opening: Opening<S>) -> Self
+    pub(crate) fn new(locked: L, opening: Opening<S>) -> Self
         ensures { result ≡ opening }
     {
         Shard {
@@ -59,7 +59,7 @@ impl<S: Alter> Shard<S> {
     {
         let mut locked = self.lock.lock(rt);
         gate.inside(rt, database, session, n);
-        locked.serve(alloc, session, statement)
+        locked.serve_locked(rt, alloc, session, statement)
     }
 
     /// Hands out the next part of the history under the lock. It may wait.
@@ -72,13 +72,13 @@ impl<S: Alter> Shard<S> {
         ensures part { IfOk result (λ p. p.database ≡ database) }
         ensures only { IfErr result IsNotDrained }
     {
-        self.lock.lock(rt).drain(alloc, database)
+        self.lock.lock(rt).drain_locked(alloc, database)
     }
 
     /// The database out of its lock.
     pub(crate) fn close(self) -> Closed<S>
         ensures { result.opening ≡ self }
     {
-        self.lock.into_inner().close(self.opening)
+        self.lock.into_inner().into_locked().close(self.opening)
     }
 }

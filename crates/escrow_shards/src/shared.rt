@@ -1,10 +1,13 @@
 mod call;
 mod close;
 mod make;
+mod watch;
 
+use crate::locked::Locked;
 use crate::pass::Pass;
 use crate::room::Room;
 use crate::shard::Shard;
+use crate::under_lock::UnderLock;
 use sqlite::Alter;
 use std::marker::Model;
 use std::sync::Mutex;
@@ -12,15 +15,18 @@ use std::sync::Mutex;
 /// The most databases that are shared together.
 pub const MAX_DATABASES: usize = 16;
 
-/// Databases that threads share, each under a lock of its own, with its opening beside it.
+/// Databases that threads share, each under a lock of its own, with its opening beside it. Under the locks lie plain
+/// databases, or such as are watched ([`Watched`]).
+///
+/// [`Watched`]: crate::Watched
 #[derive(Drop)]
-pub struct Shared<S: Alter> {
-    shards: Vec<Shard<S>>,
+pub struct Shared<S: Alter, L = Locked<S>> {
+    shards: Vec<Shard<S, L>>,
     sessions: u8,
     room: Mutex<Room<S>>,
 }
 
-impl<S: Alter> Model for Shared<S> {
+impl<S: Alter, L> Model for Shared<S, L> {
     ghost use Rattle.std.specs.Prelude.{◌≤◌, vec_len};
     ghost use Rattle.escrow_shards.specs.declared.shared.TheConstants.{MAX_DATABASES};
     ghost use Rattle.escrow_shards.specs.Sharing.{Sharing, sharing_code};
@@ -34,7 +40,7 @@ impl<S: Alter> Model for Shared<S> {
     ghost invariant = { λ s. vec_len s.shards ≤ MAX_DATABASES };
 }
 
-impl<S: Alter> Shared<S> {
+impl<S: Alter, L: UnderLock<S>> Shared<S, L> {
     ghost use Rattle.std.specs.Prelude.{◌≡◌, ◌↔◌, length, IsTrue};
     ghost use Rattle.escrow_shards.specs.Sharing.{HasSeat};
 

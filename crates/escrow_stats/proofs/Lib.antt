@@ -1,1 +1,4 @@
+pub mod Crossing
+pub mod Posting
+pub mod Rule
 pub mod TallyLemmas

@@ -1,3 +1,6 @@
+pub mod Fronts
 pub mod Laws
+pub mod Next
 pub mod Tally
 pub mod Text
+pub mod Watching

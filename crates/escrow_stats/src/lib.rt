@@ -5,10 +5,18 @@
 //! ([`Tally::with`]); and the lines that show a tally are exact to the byte ([`Tally::render`]).
 #![tactic(auto)]
 
+mod board;
+mod board_fault;
 mod kind;
+mod known;
 pub mod laws;
 mod lines;
+mod shown;
 mod tally;
+mod watcher;
 
+pub use board::{Board, MAX_WATCHERS};
+pub use board_fault::BoardFault;
 pub use kind::Kind;
 pub use tally::Tally;
+pub use watcher::Watcher;

@@ -11,3 +11,4 @@ mod run;
 mod sharing;
 mod small;
 mod threads;
+mod watching;

@@ -1,6 +1,6 @@
 //! Stores in files: what a path gives when it is opened, and opened again, and why one isn't.
-use super::program::{Broken, CommandLine, assert_run};
-use escrow_server::{CloseFault, InFiles, OpenFault, OpenStore, run_program};
+use super::program::{Broken, assert_run, run};
+use escrow_server::{CloseFault, InFiles, OpenFault, OpenStore};
 use sqlite::{Connection, Error, ErrorCode};
 use std::process::{Abort, ExitCode};
 use std::sync::Wait;
@@ -292,10 +292,9 @@ fn one_file_at_rest(rt: HostRuntime) -> Result<(), Fail> {
 
     // A fault closes the store too.
     let words = [b"escrowd".as_slice(), b"run", b"--store", path.as_bytes()];
-    let line = CommandLine { words: &words };
     let mut said = Vec::new(rt.alloc());
     let mut input = b"bank.1: UPDATE T SET N = N + 5 WHERE ID = 1\nbank.1: COMMIT\n".as_slice();
-    let code = run_program(&rt, &rt, &line, &mut input, &mut Broken, &mut said);
+    let code = run(&rt, &rt, &words, &mut input, &mut Broken, &mut said);
     assert!(rt; code == ExitCode::FAILURE);
     assert_eq!(rt; names(&rt, "files_rest")?.as_str(), " bank.db copy.db");
     fs::remove_dir_all(&rt, "files_rest")?;

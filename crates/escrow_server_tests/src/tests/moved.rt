@@ -1,7 +1,7 @@
 //! Files of a store that others touch while a program has them open, or as it opens them.
 use super::files::{AGAIN, MODES, assert_stored, fresh, names};
-use super::program::{CommandLine, assert_run};
-use escrow_server::{InFiles, OpenStore, Opened, Outlook, run_program};
+use super::program::{assert_run, run};
+use escrow_server::{InFiles, OpenStore, Opened, Outlook};
 use sqlite::{Connection, File, FileStore};
 use std::fs::{self, Permissions};
 use std::io::{self, Read};
@@ -61,11 +61,10 @@ fn copied_while_open(rt: HostRuntime) -> Result<(), Fail> {
             b"--store",
             b"moved_log/bank.db",
         ];
-        let line = CommandLine { words: &words };
         let mut output = Vec::new(rt.alloc());
         let mut said = Vec::new(rt.alloc());
         let mut input = Copying { rt: &rt, script };
-        let code = run_program(&rt, &rt, &line, &mut input, &mut output, &mut said);
+        let code = run(&rt, &rt, &words, &mut input, &mut output, &mut said);
         assert_eq!(rt; str::from_utf8(said.as_slice())?, "");
         assert!(rt; code == ExitCode::SUCCESS);
         assert_eq!(rt; output.as_slice(), COMMITTED);
@@ -241,7 +240,6 @@ fn serve_moved<T: Threads + Wait + Sync>(
     path: &str,
 ) -> (ExitCode, Vec<u8>, bool) {
     let words = [b"escrowd".as_slice(), b"run", b"--store", path.as_bytes()];
-    let line = CommandLine { words: &words };
     let mut output = Vec::new(rt.alloc());
     let mut said = Vec::new(rt.alloc());
     let mut input = Moving {
@@ -249,7 +247,7 @@ fn serve_moved<T: Threads + Wait + Sync>(
         script: COMMITS[0].1,
         other: None,
     };
-    let code = run_program(rt, to, &line, &mut input, &mut output, &mut said);
+    let code = run(rt, to, &words, &mut input, &mut output, &mut said);
     let is_opened = input.other.is_some();
     (code, said, is_opened)
 }

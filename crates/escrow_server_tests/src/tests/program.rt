@@ -1,5 +1,5 @@
 //! Command lines: the exit status of the program, and what it writes to which stream.
-use escrow_server::run_program;
+use escrow_server::{NO_SCREEN, run_program};
 use std::env::{Env, FillError};
 use std::io::{self, Error, ErrorKind, Read, Write};
 use std::process::{Abort, ExitCode};
@@ -64,6 +64,19 @@ impl Write for Broken {
     }
 }
 
+/// Runs the program with a command line, and without a screen. It may wait.
+pub(super) fn run<T: Threads + Wait + Sync, R: Read, W: Write, F: Write>(
+    rt: &HostRuntime,
+    to: &T,
+    words: &[&[u8]],
+    input: &mut R,
+    output: &mut W,
+    errors: &mut F,
+) -> ExitCode {
+    let line = CommandLine { words };
+    run_program(rt, to, &line, input, output, errors, NO_SCREEN)
+}
+
 /// Runs the program with a command line and a script, and compares its exit status, the replies and what it
 /// says of errors. Where a store can't be opened, nothing was read.
 pub(super) fn assert_run<T: Abort + Threads + Wait + Sync>(
@@ -79,8 +92,7 @@ pub(super) fn assert_run<T: Abort + Threads + Wait + Sync>(
     let mut input = script;
     let mut output = Vec::new(alloc);
     let mut said = Vec::new(alloc);
-    let line = CommandLine { words };
-    let code = run_program(rt, to, &line, &mut input, &mut output, &mut said);
+    let code = run(rt, to, words, &mut input, &mut output, &mut said);
     assert_eq!(to; str::from_utf8(said.as_slice())?, errors);
     assert_eq!(to; str::from_utf8(output.as_slice())?, replies);
     assert!(to; code == ExitCode::from(status));
@@ -225,10 +237,8 @@ fn broken_streams(rt: HostRuntime) -> Result<(), Fail> {
     let alloc = rt.alloc();
     let mut output = Vec::new(alloc);
     let mut said = Vec::new(alloc);
-    let help = CommandLine {
-        words: &[b"escrowd", b"--help"],
-    };
-    let code = run_program(&rt, &rt, &help, &mut Broken, &mut output, &mut said);
+    let help = [b"escrowd".as_slice(), b"--help"];
+    let code = run(&rt, &rt, &help, &mut Broken, &mut output, &mut said);
     assert!(rt; code == ExitCode::SUCCESS);
     assert!(rt; output.starts_with(b"A server of tables"));
     assert!(rt; said.is_empty());
@@ -236,8 +246,7 @@ fn broken_streams(rt: HostRuntime) -> Result<(), Fail> {
     output.clear();
     for words in &[RUN, FREE] {
         said.clear();
-        let line = CommandLine { words };
-        let code = run_program(&rt, &rt, &line, &mut Broken, &mut output, &mut said);
+        let code = run(&rt, &rt, words, &mut Broken, &mut output, &mut said);
         assert!(rt; code == ExitCode::FAILURE);
         assert!(rt; output.is_empty());
         let read = "escrowd: the script can't be read: other error\n";
@@ -245,12 +254,12 @@ fn broken_streams(rt: HostRuntime) -> Result<(), Fail> {
 
         said.clear();
         let mut script = b"bank.1: COMMIT".as_slice();
-        let code = run_program(&rt, &rt, &line, &mut script, &mut Broken, &mut said);
+        let code = run(&rt, &rt, words, &mut script, &mut Broken, &mut said);
         assert!(rt; code == ExitCode::FAILURE);
         let write = "escrowd: a reply can't be written\n";
         assert_eq!(rt; said.as_slice(), write.as_bytes());
 
-        let code = run_program(&rt, &rt, &line, &mut Broken, &mut output, &mut Broken);
+        let code = run(&rt, &rt, words, &mut Broken, &mut output, &mut Broken);
         assert!(rt; code == ExitCode::FAILURE);
         assert!(rt; output.is_empty());
     }
@@ -279,17 +288,16 @@ fn unread_scripts(rt: HostRuntime) -> Result<(), Fail> {
     let mut output = Vec::new(rt.alloc());
     let mut said = Vec::new(rt.alloc());
     for words in &[RUN, FREE] {
-        let line = CommandLine { words };
         for (number, errors) in UNREAD {
             said.clear();
             let mut reader = Failing(number);
-            let code = run_program(&rt, &rt, &line, &mut reader, &mut output, &mut said);
+            let code = run(&rt, &rt, words, &mut reader, &mut output, &mut said);
             assert!(rt; code == ExitCode::FAILURE);
             assert_eq!(rt; str::from_utf8(said.as_slice())?, errors);
         }
         said.clear();
         let mut endless = io::repeat(b'-');
-        let code = run_program(&rt, &rt, &line, &mut endless, &mut output, &mut said);
+        let code = run(&rt, &rt, words, &mut endless, &mut output, &mut said);
         assert!(rt; code == ExitCode::FAILURE);
         let errors = "escrowd: the script can't be read: it is longer than 16777216 bytes\n";
         assert_eq!(rt; str::from_utf8(said.as_slice())?, errors);

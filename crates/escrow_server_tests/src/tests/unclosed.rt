@@ -1,7 +1,6 @@
 //! Stores in files that aren't closed: where a script isn't served to its end, and where closing fails.
 use super::files::{MODES, fresh, names};
-use super::program::{Broken, CommandLine, assert_run};
-use escrow_server::run_program;
+use super::program::{Broken, assert_run, run};
 use std::fs;
 use std::io::{self, Read};
 use std::process::ExitCode;
@@ -59,10 +58,9 @@ fn stopped(rt: HostRuntime) -> Result<(), Fail> {
 
         // The replies can't be written.
         words[1] = b"free";
-        let line = CommandLine { words: &words };
         let mut said = Vec::new(rt.alloc());
         let mut input = b"bank.1: UPDATE T SET N = N + 5 WHERE ID = 1\nbank.1: COMMIT\n".as_slice();
-        let code = run_program(&rt, &rt, &line, &mut input, &mut Broken, &mut said);
+        let code = run(&rt, &rt, &words, &mut input, &mut Broken, &mut said);
         assert!(rt; code == ExitCode::FAILURE);
         assert_eq!(rt;
             str::from_utf8(said.as_slice())?,
@@ -119,8 +117,7 @@ fn unclosed(rt: HostRuntime) -> Result<(), Fail> {
         said.clear();
         reader.script = b"bank.1: COMMIT\n";
         words[1] = mode;
-        let line = CommandLine { words: &words };
-        let code = run_program(&rt, &rt, &line, &mut reader, &mut output, &mut said);
+        let code = run(&rt, &rt, &words, &mut reader, &mut output, &mut said);
         assert!(rt; code == ExitCode::SUCCESS);
         assert_eq!(rt; str::from_utf8(said.as_slice())?, UNCLOSED);
         assert_eq!(rt; output.as_slice(), b"bank.1> OK committed 0\n".as_slice());
@@ -129,8 +126,7 @@ fn unclosed(rt: HostRuntime) -> Result<(), Fail> {
     fresh(&rt, "files_unclosed")?;
     said.clear();
     reader.script = b"bank.1: COMMIT\n";
-    let line = CommandLine { words: &words };
-    let code = run_program(&rt, &rt, &line, &mut reader, &mut Broken, &mut said);
+    let code = run(&rt, &rt, &words, &mut reader, &mut Broken, &mut said);
     assert!(rt; code == ExitCode::FAILURE);
     let told = str::from_utf8(said.as_slice())?;
     let rest = told.strip_prefix("escrowd: a reply can't be written\n");

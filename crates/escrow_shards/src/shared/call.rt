@@ -4,13 +4,14 @@ use crate::part::Part;
 use crate::pass::Pass;
 use crate::receipt::Receipt;
 use crate::shared::Shared;
+use crate::under_lock::UnderLock;
 use escrow_num::Refusal;
 use escrow_sql::Statement;
 use sqlite::Alter;
 use std::alloc::Global;
 use std::sync::Wait;
 
-impl<S: Alter> Shared<S> {
+impl<S: Alter, L: UnderLock<S>> Shared<S, L> {
     ghost use Rattle.std.specs.Prelude.{◌≡◌, ◌<◌, length, IfOk, IfErr};
     ghost use Rattle.escrow_history.specs.Calls.{IsNotDrained};
     ghost use Rattle.escrow_shards.specs.Answer.{IsAnswered};

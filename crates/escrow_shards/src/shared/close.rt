@@ -10,9 +10,10 @@ use crate::pass::Pass;
 use crate::room::Room;
 use crate::shard::Shard;
 use crate::shared::Shared;
+use crate::under_lock::UnderLock;
 use sqlite::Alter;
 
-impl<S: Alter + Drop> Shared<S> {
+impl<S: Alter + Drop, L: UnderLock<S> + Drop> Shared<S, L> {
     ghost use Rattle.std.specs.Prelude.{◌≡◌, map, IfOk, IfErr};
     ghost use Rattle.escrow_shards.specs.Closing.{opening_of};
     ghost use Rattle.escrow_shards.specs.Whole.{AreWhole, IsTrueOf};
@@ -52,7 +53,10 @@ impl<S: Alter + Drop> Shared<S> {
 }
 
 /// Databases out of their locks, into room that was taken for them.
-fn out_of_locks<S: Alter + Drop>(shards: Vec<Shard<S>>, room: Room<S>) -> Vec<Closed<S>>
+fn out_of_locks<S: Alter + Drop, L: UnderLock<S> + Drop>(
+    shards: Vec<Shard<S, L>>,
+    room: Room<S>,
+) -> Vec<Closed<S>>
     requires { vec_len shards ≤ MAX_DATABASES }
     ensures { map opening_of result.items ≡ shards.items }
 {

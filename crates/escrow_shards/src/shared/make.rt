@@ -7,6 +7,7 @@ ghost use Rattle.escrow_shards.specs.Opened.{any_open, seen_at, AreRead, IsRead}
 ghost use Rattle.escrow_shards.specs.Seat.{new_seats, new_seats_of};
 
 use crate::cause::MakeFault;
+use crate::locked::Locked;
 use crate::pass::Pass;
 use crate::room::Room;
 use crate::shard::Shard;
@@ -69,20 +70,20 @@ impl<S: Alter + Drop> Shared<S> {
 
 /// All that is read and taken before databases go under their locks.
 #[derive(Drop)]
-struct Ready<S: Alter> {
-    starts: Vec<Start<S>>,
-    passes: Vec<Pass>,
+pub(super) struct Ready<S: Alter, L> {
+    pub(super) starts: Vec<Start<S>>,
+    pub(super) passes: Vec<Pass>,
     // Room for the databases.
-    shards: Vec<Shard<S>>,
-    room: Room<S>,
+    pub(super) shards: Vec<Shard<S, L>>,
+    pub(super) room: Room<S>,
 }
 
 /// Reads all, and takes all memory. Nothing in the databases changes.
-fn prepare<S: Alter + Drop>(
+pub(super) fn prepare<S: Alter + Drop, L>(
     alloc: Global,
     databases: &mut Vec<Database<S>>,
     sessions: u8,
-) -> Result<Ready<S>, Refusal>
+) -> Result<Ready<S, L>, Refusal>
     requires { IsSession sessions }
     ensures read { AreRead S.Store databases.old.items databases.new.items }
     ensures starts { IfOk result (λ r. map seen_at r.starts.items ≡ databases.new.items) }
@@ -186,8 +187,8 @@ fn into_shards<S: Alter + Drop>(
     alloc: Global,
     mut databases: Vec<Database<S>>,
     mut starts: Vec<Start<S>>,
-    mut shards: Vec<Shard<S>>,
-) -> Vec<Shard<S>>
+    mut shards: Vec<Shard<S, Locked<S>>>,
+) -> Vec<Shard<S, Locked<S>>>
     requires seen { map seen_at starts.items ≡ databases.items }
     requires empty { shards.items ≡ [] }
     requires room { vec_len databases ≤ vec_capacity shards }

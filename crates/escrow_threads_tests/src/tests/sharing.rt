@@ -3,7 +3,9 @@ use super::results::made;
 use escrow_core::Database;
 use escrow_memory::BlockStore;
 use escrow_num::{Refusal, Session};
-use escrow_shards::{Answer, Closed, Gate, MAX_DATABASES, MakeFault, Part, Pass, Shared};
+use escrow_shards::{
+    Answer, Closed, Gate, MAX_DATABASES, MakeFault, Part, Pass, Shared, UnderLock,
+};
 use escrow_sql::Statement;
 use std::process::Abort;
 use std::sync::Wait;
@@ -41,9 +43,9 @@ pub fn share<R: Abort + AllocGlobal>(
 
 /// What a statement of the session of a pass is answered. Where memory is refused the pass has as many receipts as
 /// before, and the statement is asked again.
-pub fn call<R: Wait + Abort + AllocGlobal>(
+pub fn call<R: Wait + Abort + AllocGlobal, L: UnderLock<BlockStore>>(
     rt: &R,
-    shared: &Shared<BlockStore>,
+    shared: &Shared<BlockStore, L>,
     pass: &mut Pass,
     statement: &Statement,
 ) -> Answer {
@@ -57,9 +59,9 @@ pub fn call<R: Wait + Abort + AllocGlobal>(
 }
 
 /// What it is answered, also where memory is refused.
-fn try_call<R: Wait + Abort + AllocGlobal>(
+fn try_call<R: Wait + Abort + AllocGlobal, L: UnderLock<BlockStore>>(
     rt: &R,
-    shared: &Shared<BlockStore>,
+    shared: &Shared<BlockStore, L>,
     pass: &mut Pass,
     statement: &Statement,
 ) -> Answer {
@@ -80,9 +82,9 @@ pub fn call_gated<R: Wait + Abort + AllocGlobal, G: Gate>(
 }
 
 /// The next part of the history of a database, or why there is none.
-pub fn try_drain<R: Wait + Abort + AllocGlobal>(
+pub fn try_drain<R: Wait + Abort + AllocGlobal, L: UnderLock<BlockStore>>(
     rt: &R,
-    shared: &Shared<BlockStore>,
+    shared: &Shared<BlockStore, L>,
     database: usize,
 ) -> Result<Part<BlockStore>, Refusal> {
     assert!(rt; database < shared.databases());
@@ -90,9 +92,9 @@ pub fn try_drain<R: Wait + Abort + AllocGlobal>(
 }
 
 /// The next part of the history of a database. Where memory is refused it is asked for again.
-pub fn drain<R: Wait + Abort + AllocGlobal>(
+pub fn drain<R: Wait + Abort + AllocGlobal, L: UnderLock<BlockStore>>(
     rt: &R,
-    shared: &Shared<BlockStore>,
+    shared: &Shared<BlockStore, L>,
     database: usize,
 ) -> Part<BlockStore> {
     match try_drain(rt, shared, database) {

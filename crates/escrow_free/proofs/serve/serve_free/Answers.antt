@@ -1,33 +1,27 @@
-use Rattle.std.proofs.Common.{◌*◌, length, ap, sym, ◌∙◌, arith}
+use mir.Syntax.{ty_param}
+use denote.Exit.{yes}
+use denote.Param.Send.{arg_send, param_send}
+use Rattle.std.proofs.Common.{ap, sym, ◌∙◌, arith}
 use Rattle.escrow_num.specs.declared.session.TheConstants.Session.{MAX}
-use Rattle.escrow_free.proofs.Closing.{openings_long, are_histories, serves_each}
-use Rattle.escrow_free.proofs.Desks.{fits_new, new_long}
+use Rattle.escrow_shards.specs.Seat.{new_seats}
+use Rattle.escrow_shards.proofs.Crossing.{locked_send}
+use Rattle.escrow_free.proofs.Closing.{openings_long}
 use Rattle.escrow_free.proofs.serve.serve_free.Goals as goal
 
-pub serve_phases-requires-clause-few : goal.serve_phases-requires-clause-few
-serve_phases-requires-clause-few g c κs within =
-    let long = openings_long g.S.Store c.args.databases.items c.in_ok-shared.shared.openings c.in_ok-shared.ensures.read in
+pub serve_stage-requires-send-L : goal.serve_stage-requires-send-L
+serve_stage-requires-send-L g c κs within =
+    let send = locked_send _ g.S.Store c.type_bounds.send-S in
+    record { owned = send.owned; leaving = (param_send 1 _ (arg_send (ty_param 1) yes _ send)).leaving }
+
+pub serve_stage-requires-clause-few : goal.serve_stage-requires-clause-few
+serve_stage-requires-clause-few g c κs within =
+    let long = openings_long g.S.Store c.args.databases.items c.in_ok-stage.stage.shared.openings c.in_ok-stage.ensures.read in
     omega (arith, long, c.requires.few, c.args.databases.ok.0)
 
-pub serve_phases-requires-clause-seats : goal.serve_phases-requires-clause-seats
-serve_phases-requires-clause-seats g c κs within =
-    let made = c.in_ok-shared.ensures in
-    let databases = c.args.databases.items in
-    let long = openings_long g.S.Store databases c.in_ok-shared.shared.openings made.read in
-    record {
-      sessions = made.sessions;
-      count = new_long (length databases) c.in_ok-shared.passes.items c.in_ok-desks.desks.items made.passes c.in_ok-desks.ensures ∙ ap (λ n. n * MAX) (sym long);
-    }
-
-pub serve_phases-requires-clause-fits : goal.serve_phases-requires-clause-fits
-serve_phases-requires-clause-fits g c κs within = fits_new (length c.args.databases.items) c.in_ok-shared.passes.items c.in_ok-desks.desks.items c.in_ok-shared.ensures.passes c.in_ok-desks.ensures
+pub serve_stage-requires-clause-passes : goal.serve_stage-requires-clause-passes
+serve_stage-requires-clause-passes g c κs within =
+    let long = openings_long g.S.Store c.args.databases.items c.in_ok-stage.stage.shared.openings c.in_ok-stage.ensures.read in
+    c.in_ok-stage.ensures.passes ∙ ap (λ n. new_seats n MAX) (sym long)
 
 pub returns-clause-legal : goal.returns-clause-legal
-returns-clause-legal g c =
-    are_histories g.S.Store c.args.databases.items c.in_ok-shared.shared c.in_ok-passes.passes.items c.in_ok-audit.audit.parts.items c.in_ok-audit.audit.closed.items
-    c.in_ok-shared.ensures.read c.in_ok-audit.ensures
-
-pub returns-clause-output : goal.returns-clause-output
-returns-clause-output g c =
-    serves_each g.S.Store c.in_ok-shared.shared c.in_ok-audit.audit.parts.items c.in_ok-audit.audit.closed.items (g.R.Read.remaining c.args.reader.now)
-    c.in_ok-served.served.desks.items c.in_ok-passes.passes.items _ _ c.in_ok-passes.ensures c.in_ok-audit.ensures c.in_ok-served.ensures.served
+returns-clause-legal g c = c.in_ok-audit.ensures.legal c.args.databases.items c.in_ok-stage.ensures.read

@@ -2,4 +2,4 @@ use Rattle.escrow_shards.proofs.Crossing.{shared_sync}
 use Rattle.escrow_sessions.proofs.fed.run_fed.Goals as goal
 
 pub serve_fed-requires-sync-H : goal.serve_fed-requires-sync-H
-serve_fed-requires-sync-H g c κs within = record { shared = (shared_sync _ g.S.Store c.type_bounds.send-S).shared }
+serve_fed-requires-sync-H g c κs within = record { shared = (shared_sync _ g.S.Store c.type_bounds.send-S _ c.type_bounds.send-L).shared }

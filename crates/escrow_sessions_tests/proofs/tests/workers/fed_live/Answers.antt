@@ -1,6 +1,13 @@
+use denote.Param.Send.{sendable}
+use Rattle.std.proofs.Crossing.{crosses}
+use Rattle.escrow_memory.proofs.store.BlockStore.TheSendSync as BlockStore
+use Rattle.escrow_shards.proofs.Crossing.{locked_send}
 use Rattle.std.proofs.Common.{length, ◌∙◌}
 use Rattle.escrow_sessions_tests.proofs.Deals.{all_dealt}
 use Rattle.escrow_sessions_tests.proofs.tests.workers.fed_live.Goals as goal
 
 pub run_fed-done-requires-clause-places : goal.run_fed-done-requires-clause-places
 run_fed-done-requires-clause-places g c κs = all_dealt (λ s. s.places) (length c.seated-passes.result.items) _ (c.len.ensures ∙ c.seated-passes.result.ok.0)
+
+pub run_fed-done-requires-send-L : goal.run_fed-done-requires-send-L
+run_fed-done-requires-send-L g c κs = search (locked_send, BlockStore.the_send, sendable, crosses) depth 20

@@ -3,7 +3,7 @@ use Rattle.escrow_shards.specs.Opened.{seen_at, AreRead}
 use Rattle.escrow_shards.specs.Sharing.{Sharing}
 use Rattle.escrow_shards.proofs.NewSeats.{all_have_seats}
 use Rattle.escrow_shards.proofs.UnderLocks.{as_many, few_of}
-use Rattle.escrow_shards.proofs.shared.Shared.make.Goals as goal
+use Rattle.escrow_shards.proofs.shared.make.Shared+S.make.Goals as goal
 
 pub returns-in-Ok-clause-opened : goal.returns-in-Ok-clause-opened
 returns-in-Ok-clause-opened g c =

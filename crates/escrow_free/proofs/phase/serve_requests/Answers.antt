@@ -5,7 +5,7 @@ use Rattle.escrow_shards.specs.Sharing.{HasSeat}
 use Rattle.escrow_free.specs.Desks.{ArePassesServed, AreServed}
 use Rattle.escrow_free.specs.Ranks.{marked_by, ranks_from, renamed, parted, rested, merged}
 use Rattle.escrow_free.proofs.Ranks.{marks_over, long_ranks, parted_seats, long_over, renamed_within, all_served}
-use Rattle.escrow_free.proofs.phase.run_phase.Goals as goal
+use Rattle.escrow_free.proofs.phase.serve_requests.Goals as goal
 
 pub rename-requires : goal.rename-requires
 rename-requires g c =

@@ -1,0 +1,26 @@
+use mir.Syntax.{erased, ty_param}
+use denote.Exit.{yes}
+use denote.Param.Send.{arg_send, param_send, shr_send}
+use Rattle.std.proofs.Common.{ap, sym, ◌∙◌, arith}
+use Rattle.escrow_num.specs.declared.session.TheConstants.Session.{MAX}
+use Rattle.escrow_shards.specs.Seat.{new_seats}
+use Rattle.escrow_shards.proofs.Crossing.{watched_send}
+use Rattle.escrow_free.proofs.Closing.{openings_long}
+use Rattle.escrow_free.proofs.serve.serve_free_watched.Goals as goal
+
+pub serve_stage-requires-send-L : goal.serve_stage-requires-send-L
+serve_stage-requires-send-L g c κs within =
+    record { owned = (watched_send _ g.S.Store c.type_bounds.send-S _ g.S.Alter (shr_send erased _ _ c.type_bounds.sync-T)).owned; leaving = (param_send 1 _ (arg_send (ty_param 1) yes _ (watched_send _ g.S.Store c.type_bounds.send-S _ g.S.Alter (shr_send erased κs.0 _ c.type_bounds.sync-T)))).leaving }
+
+pub serve_stage-requires-clause-few : goal.serve_stage-requires-clause-few
+serve_stage-requires-clause-few g c κs within =
+    let long = openings_long g.S.Store c.args.databases.items c.in_ok-stage.stage.shared.openings c.in_ok-stage.ensures.read in
+    omega (arith, long, c.requires.few, c.args.databases.ok.0)
+
+pub serve_stage-requires-clause-passes : goal.serve_stage-requires-clause-passes
+serve_stage-requires-clause-passes g c κs within =
+    let long = openings_long g.S.Store c.args.databases.items c.in_ok-stage.stage.shared.openings c.in_ok-stage.ensures.read in
+    c.in_ok-stage.ensures.passes ∙ ap (λ n. new_seats n MAX) (sym long)
+
+pub returns-clause-legal : goal.returns-clause-legal
+returns-clause-legal g c = c.in_ok-audit.ensures.legal c.args.databases.items c.in_ok-stage.ensures.read

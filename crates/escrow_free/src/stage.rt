@@ -1,0 +1,81 @@
+//! Databases that are shared for a script, and what is found when they no longer are.
+ghost use Rattle.std.specs.Prelude.{◌≡◌, ◌≤◌, length, map, vec_len, IfOk};
+ghost use Rattle.escrow_num.specs.declared.session.TheConstants.Session.{MAX};
+ghost use Rattle.escrow_shards.specs.Opened.{AreRead, seen_at};
+ghost use Rattle.escrow_shards.specs.Seat.{new_seats};
+ghost use Rattle.escrow_shards.specs.Whole.{AreWhole};
+
+use crate::fault::FreeFault;
+use escrow_core::Database;
+use escrow_num::Session;
+use escrow_script::MAX_DATABASES;
+use escrow_shards::{Audit, Locked, Part, Pass, Shared, UnderLock, Watched};
+use escrow_stats::Watcher;
+use sqlite::Alter;
+use std::alloc::Global;
+use std::sync::Wait;
+
+/// Databases under locks, a pass for each of their sessions, and watchers of them.
+#[derive(Drop)]
+pub(crate) struct Stage<S: Alter, L> {
+    pub(crate) shared: Shared<S, L>,
+    pub(crate) passes: Vec<Pass>,
+    pub(crate) watchers: Vec<Watcher<S>>,
+}
+
+/// Puts databases under locks, and makes a pass for each of their sessions. Nobody watches them.
+pub(crate) fn share<S: Alter + Drop>(
+    alloc: Global,
+    databases: Vec<Database<S>>,
+) -> Result<Stage<S, Locked<S>>, FreeFault>
+    requires some { 1 ≤ vec_len databases }
+    requires few { vec_len databases ≤ MAX_DATABASES }
+    ensures read { IfOk result (λ stage. AreRead S.Store databases.items (map seen_at stage.shared.openings)) }
+    ensures sessions { IfOk result (λ stage. stage.shared.sessions ≡ MAX) }
+    ensures passes { IfOk result (λ stage. stage.passes.items ≡ new_seats (length databases.items) MAX) }
+{
+    match Shared::<S>::make(alloc, databases, Session::MAX) {
+        Ok((shared, passes)) => Ok(Stage {
+            shared,
+            passes,
+            watchers: Vec::new(alloc),
+        }),
+        Err(fault) => Err(FreeFault::of_sharing(fault.cause)),
+    }
+}
+
+/// The same, with a watcher for each database.
+pub(crate) fn share_watched<'r, S: Alter + Drop, T: Wait>(
+    rt: &'r T,
+    alloc: Global,
+    databases: Vec<Database<S>>,
+) -> Result<Stage<S, Watched<S, &'r T>>, FreeFault>
+    requires some { 1 ≤ vec_len databases }
+    requires few { vec_len databases ≤ MAX_DATABASES }
+    ensures read { IfOk result (λ stage. AreRead S.Store databases.items (map seen_at stage.shared.openings)) }
+    ensures sessions { IfOk result (λ stage. stage.shared.sessions ≡ MAX) }
+    ensures passes { IfOk result (λ stage. stage.passes.items ≡ new_seats (length databases.items) MAX) }
+{
+    match Shared::make_watched(rt, alloc, databases, Session::MAX, 1) {
+        Ok((shared, passes, watchers)) => Ok(Stage {
+            shared,
+            passes,
+            watchers,
+        }),
+        Err(fault) => Err(FreeFault::of_watching(fault.cause)),
+    }
+}
+
+/// Takes databases out of their locks, and puts together what was served.
+pub(crate) fn close<S: Alter + Drop, L: UnderLock<S> + Drop>(
+    shared: Shared<S, L>,
+    passes: Vec<Pass>,
+    parts: Vec<Part<S>>,
+) -> Result<Audit<S>, FreeFault>
+    ensures { IfOk result (λ audit. AreWhole S.Store shared passes.items audit.parts.items audit.closed.items) }
+{
+    match shared.close(passes, parts) {
+        Ok(audit) => Ok(audit),
+        Err(mismatch) => Err(FreeFault::of_close(mismatch.cause)),
+    }
+}

@@ -1,0 +1,152 @@
+//! What the thread is told that shows how far a script is.
+use crate::screen::Screen;
+use escrow_free::Audience;
+use escrow_stats::Watcher;
+use sqlite::Alter;
+use std::alloc::Global;
+use std::sync::{Arc, Condvar, Mutex, MutexGuard, Wait};
+use std::thread;
+use std::thread::{JoinHandle, Threads};
+use std::time::{Clock, Duration};
+
+/// What a screen is told of a script that is served: who watches its databases, and while what they look.
+#[derive(Drop)]
+pub struct Desk<V> {
+    told: Mutex<Told<V>>,
+    bell: Condvar,
+}
+
+/// What is told.
+#[derive(Drop)]
+pub(crate) struct Told<V> {
+    /// A watcher for each database, in their order, or none before the first phase.
+    pub(crate) watchers: Vec<V>,
+    /// What the program does.
+    pub(crate) stage: Stage,
+    /// Whether something stands on the screen.
+    pub(crate) is_drawn: bool,
+    // How many phases have begun.
+    begun: u64,
+}
+
+/// What the program does with a script.
+#[derive(Clone, Copy, PartialEq, Eq)]
+pub(crate) enum Stage {
+    /// It reads lines, or writes replies.
+    Between,
+    /// The sessions of the phase of this number are served.
+    Phase(u64),
+    /// Nothing any more.
+    Over,
+}
+
+impl<V> Desk<V> {
+    /// Nothing is told.
+    fn new(alloc: Global) -> Self {
+        Desk {
+            told: Mutex::new(Told {
+                watchers: Vec::new(alloc),
+                stage: Stage::Between,
+                is_drawn: false,
+                begun: 0,
+            }),
+            bell: Condvar::new(),
+        }
+    }
+
+    /// What is told now. It waits for who has it.
+    pub(crate) fn told<P: Wait>(&self, rt: &P) -> MutexGuard<'_, Told<V>> {
+        self.told.lock(rt)
+    }
+
+    /// Waits while lines are read and replies are written.
+    pub(crate) fn wait_between<'a, P: Wait>(
+        &self,
+        rt: &P,
+        told: MutexGuard<'a, Told<V>>,
+    ) -> MutexGuard<'a, Told<V>> {
+        self.bell
+            .wait_while(rt, told, |told| told.stage == Stage::Between)
+    }
+
+    /// Waits while it is at a stage, and so long at most.
+    pub(crate) fn wait_at<'a, P: Wait + Clock>(
+        &self,
+        rt: &P,
+        told: MutexGuard<'a, Told<V>>,
+        stage: Stage,
+        most: Duration,
+    ) -> MutexGuard<'a, Told<V>> {
+        self.bell
+            .wait_timeout_while(rt, told, most, |told| told.stage == stage)
+            .0
+    }
+
+    /// Tells that nothing stands on the screen any more.
+    pub(crate) fn clear(&self, told: &mut Told<V>) {
+        told.is_drawn = false;
+        self.bell.notify_one();
+    }
+
+    /// Tells that the next phase is served.
+    fn begin<P: Wait>(&self, rt: &P) {
+        let mut told = self.told(rt);
+        told.begun = told.begun.wrapping_add(1);
+        told.stage = Stage::Phase(told.begun);
+        self.bell.notify_one();
+    }
+
+    /// Tells that no phase is served, and waits until nothing stands on the screen.
+    fn leave<P: Wait>(&self, rt: &P, stage: Stage) {
+        let mut told = self.told(rt);
+        told.stage = stage;
+        self.bell.notify_one();
+        drop(self.bell.wait_while(rt, told, |told| told.is_drawn));
+    }
+}
+
+/// A thread that shows how far a script is, and the desk that tells it.
+#[derive(Drop)]
+pub(crate) struct Shower<'a, V, T> {
+    rt: &'a T,
+    desk: Arc<Desk<V>, Global>,
+    thread: JoinHandle<()>,
+}
+
+impl<V: Drop, T: Threads + Wait> Shower<'_, V, T> {
+    /// Tells the thread that all is over, and waits for it.
+    pub(crate) fn stop(self) {
+        let Shower { rt, desk, thread } = self;
+        desk.leave(rt, Stage::Over);
+        thread.join(rt);
+    }
+}
+
+impl<V: Drop, T: Threads + Wait> Audience<V> for Shower<'_, V, T> {
+    fn watch(&mut self, _alloc: Global, watchers: Vec<V>) {
+        self.desk.told(self.rt).watchers = watchers;
+    }
+
+    fn begin(&mut self) {
+        self.desk.begin(self.rt);
+    }
+
+    fn end(&mut self) {
+        self.desk.leave(self.rt, Stage::Between);
+    }
+}
+
+/// Starts a thread that shows on a screen how far a script is, unless there is no screen, or memory or
+/// the thread isn't had.
+pub(crate) fn start<
+    'a,
+    S: Alter + Drop + Send + 'static,
+    T: Threads + Wait,
+    X: Screen + Send + Drop + 'static,
+>(rt: &'a T, alloc: Global, screen: Option<X>) -> Option<Shower<'a, Watcher<S>, T>> {
+    let screen = screen?;
+    let desk = Arc::new(alloc, Desk::new(alloc)).ok()?;
+    let theirs = Arc::try_clone(&desk).ok()?;
+    let thread = thread::spawn(rt, move || screen.show(alloc, &*theirs)).ok()?;
+    Some(Shower { rt, desk, thread })
+}

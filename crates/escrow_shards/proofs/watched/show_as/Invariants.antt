@@ -1,0 +1,4 @@
+use Rattle.escrow_shards.proofs.watched.show_as.Given as goal
+
+abbrev pub ghost-post : goal.ghost-post
+ghost-post g a = g.doubts

@@ -1,0 +1,42 @@
+-- Believed: what is kept under the lock of a database that is watched.
+use Rattle.std.specs.Prelude.{◌≡◌, ℕ, ◌+◌, ◌≤◌, List, ◌++◌, length, refl}
+use Rattle.std.specs.Coded.{Coded, code_by, coded×, coded_ℕ}
+use Rattle.sqlite.specs.Held.{Held, state}
+use Rattle.sqlite.specs.State.{HasCleanDisk}
+use Rattle.sqlite_trees.specs.declared.store.Store.{Ghosts}
+use Rattle.sqlite_trees.specs.View.{doubt}
+use Rattle.escrow_transcript.specs.declared.entry.Entry.{Entry}
+use Rattle.escrow_transcript.specs.Legal.{IsLegal}
+use Rattle.escrow_history.specs.History.{History, history_code}
+use Rattle.escrow_stats.specs.Watching.{Boarded, boarded_code, IsFront}
+
+-- what contracts see of a database that is watched: the database with its transcript, how many parts of its history were
+-- handed out, and the board
+pub record Viewed (S : Type 0) : Type 0 where
+  pub history : History S
+  pub parts : ℕ
+  pub board : Boarded
+
+abbrev pub viewed_code : {S : Type 0} → Coded S → Coded (Viewed S)
+viewed_code {S} store =
+    code_by (History S × (ℕ × Boarded)) (coded× (history_code store) (coded× coded_ℕ boarded_code))
+    (λ w. (w.history, (w.parts, w.board))) (λ p. record { history = p.0; parts = p.1.0; board = p.1.1 }) (λ _. refl)
+
+-- the doubts of the disk below a connection: 0 while it has returned what was written (HasCleanDisk)
+abbrev pub doubts_of : {S : Type 0} → Ghosts S → Held S → ℕ
+doubts_of g connection = doubt (state g connection).is_clean
+
+-- a list ends with entries
+abbrev pub EndsWith : List Entry → List Entry → Type 0
+EndsWith entries last = (earlier : List Entry) × (entries ≡ earlier ++ last)
+
+-- WHAT IS KEPT. The list that the board counts is the whole history of the database: from where it begins, legal up to the
+-- state found, while the disk has returned what was written; as long as the last entry's number; and it ends with the
+-- transcript's entries. It begins with the list whose totals are shown, for which the disk was no more in doubt than now.
+pub record IsShown {S : Type 0} (g : Ghosts S) (h : History S) (b : Boarded) : Type 0 where
+  pub first : b.base.before ≡ 0
+  pub legal : HasCleanDisk (state g h.store) → IsLegal b.base b.entries h.state
+  pub long : length b.entries ≡ h.base.before + length h.entries
+  pub ends : EndsWith b.entries h.entries
+  pub begins : IsFront b.shown b.entries
+  pub fewer : b.doubts ≤ doubts_of g h.store

@@ -1,0 +1,21 @@
+-- Believed: boards and watchers of databases that are shared, as they are made.
+use Rattle.std.specs.Prelude.{◌≡◌, ◌⊎◌, ℕ, List, [], ◌∷◌, ◌++◌, length, All}
+use Rattle.escrow_num.specs.declared.refusal.Refusal.TheVariants as refusal
+use Rattle.escrow_stats.specs.Watching.{Boarded, Watching, IsNewWatcher}
+use Rattle.escrow_shards.specs.Begun.{Begun}
+use Rattle.escrow_shards.specs.declared.cause.Unshared.{Unshared}
+use Rattle.escrow_shards.specs.declared.cause.Unshared.TheVariants as unshared
+
+-- the board of an opening, of which nothing was served
+abbrev pub new_board : {S : Type 0} → Begun S → Boarded
+new_board o = record { base = o.base; entries = []; shown = []; doubts = 0 }
+
+-- so many watchers that have read nothing for each opening, in the openings' order
+abbrev pub AreNewWatchers : {S : Type 0} → ℕ → List (Begun S) → List Watching → Type 0
+AreNewWatchers count [] watchers = watchers ≡ []
+AreNewWatchers count (o ∷ openings) watchers =
+    (mine : List Watching) × ((others : List Watching) × ((watchers ≡ mine ++ others) × ((length mine ≡ count) × (All (IsNewWatcher o.base) mine × AreNewWatchers count openings others))))
+
+-- why there are no boards and watchers: memory, or no place to read at
+abbrev pub IsUnwatched : Unshared → Type 0
+IsUnwatched cause = (cause ≡ unshared.Refused refusal.Memory) ⊎ (cause ≡ unshared.NoPlace)

@@ -1,0 +1,37 @@
+use crate::locked::Locked;
+use crate::part::Part;
+use escrow_history::{Served, Unserved};
+use escrow_num::{Refusal, Session};
+use escrow_sql::Statement;
+use sqlite::Alter;
+use std::alloc::Global;
+use std::sync::Wait;
+
+/// What lies under the lock of a database: the database with its transcript ([`Locked`]), and a board beside it where
+/// it is watched ([`Watched`]).
+///
+/// [`Watched`]: crate::Watched
+pub trait UnderLock<S: Alter> {
+    ghost use Rattle.std.specs.Prelude.{◌≡◌, None, IfOk, IfErr};
+    ghost use Rattle.escrow_history.specs.Calls.{IsNotDrained};
+    ghost use Rattle.escrow_machine.specs.Reply.{failure_of};
+
+    /// Serves one statement of a session, and adds its entry to the transcript. It may wait.
+    fn serve_locked<R: Wait>(
+        &mut self,
+        rt: &R,
+        alloc: Global,
+        session: Session,
+        statement: &Statement,
+    ) -> Result<Served, Unserved>
+        ensures kept { IfOk result (λ r. r.kept ≡ r.reply) }
+        ensures succeeds { IfOk result (λ r. failure_of r.reply ≡ None) };
+
+    /// Hands out the next part of the history of a database.
+    fn drain_locked(&mut self, alloc: Global, database: usize) -> Result<Part<S>, Refusal>
+        ensures part { IfOk result (λ p. p.database ≡ database) }
+        ensures only { IfErr result IsNotDrained };
+
+    /// The database and its transcript out of their lock.
+    fn into_locked(self) -> Locked<S>;
+}

@@ -1,0 +1,128 @@
+ghost use Rattle.std.specs.Prelude.{◌≡◌, ℕ, ◌+◌, ◌≤◌, ◌++◌, ◌∷◌, [], length};
+ghost use Rattle.sqlite.specs.Held.{state};
+ghost use Rattle.sqlite.specs.State.{HasCleanDisk};
+ghost use Rattle.escrow_transcript.specs.declared.transcript.TheConstants.Transcript.{MAX_NUMBER};
+ghost use Rattle.escrow_transcript.specs.Legal.{IsLegal};
+ghost use Rattle.escrow_stats.specs.Watching.{IsFront};
+ghost use Rattle.escrow_shards.specs.Shown.{doubts_of};
+
+use crate::locked::Locked;
+use crate::part::Part;
+use crate::under_lock::UnderLock;
+use escrow_history::{Audited, Served, Unserved};
+use escrow_num::{Refusal, Session};
+use escrow_sql::Statement;
+use escrow_stats::Board;
+use escrow_transcript::Entry;
+use sqlite::Alter;
+use std::alloc::Global;
+use std::marker::Model;
+use std::sync::Wait;
+
+/// What lies under the lock of a database that is watched: besides, a board with the totals of its whole history.
+/// Whenever the lock is got, the entries that the board counted are legal from its base up to the state found, while
+/// the disk has returned what was written, and end with those of the transcript.
+#[derive(Drop)]
+pub struct Watched<S: Alter, R: Wait + Drop> {
+    locked: Locked<S>,
+    board: Board<S, R>,
+}
+
+impl<S: Alter, R: Wait + Drop> Model for Watched<S, R> {
+    ghost use Rattle.escrow_shards.specs.Shown.{Viewed, viewed_code, IsShown};
+
+    ghost Value = { Viewed S };
+
+    ghost coded = { viewed_code S.code };
+
+    ghost view = { λ w. record { history = w.locked.audited; parts = w.locked.parts; board = w.board } };
+
+    ghost invariant = { λ w. IsShown S.Store w.locked.audited w.board };
+}
+
+impl<S: Alter, R: Wait + Drop> Watched<S, R> {
+    ghost use Rattle.std.specs.Prelude.{◌≡◌, []};
+    ghost use Rattle.escrow_stats.specs.Watching.{IsNewBoard};
+
+    /// A database of which nothing was served, with a board of its history.
+    pub(crate) fn new(audited: Audited<S>, board: Board<S, R>) -> Self
+        requires first { audited.base.before ≡ 0 }
+        requires unserved { audited.entries ≡ [] }
+        requires board { IsNewBoard audited.base board }
+    {
+        // What its type knows of the transcript is told where its base is asked.
+        let _ = audited.base();
+        Watched {
+            locked: Locked::new(audited),
+            board,
+        }
+    }
+}
+
+impl<S: Alter, R: Wait + Drop> UnderLock<S> for Watched<S, R> {
+    /// Serves one statement, and shows the totals with its entry. It may wait for a watcher that is reading.
+    fn serve_locked<T: Wait>(
+        &mut self,
+        rt: &T,
+        alloc: Global,
+        session: Session,
+        statement: &Statement,
+    ) -> Result<Served, Unserved> {
+        let served = self.locked.serve(alloc, session, statement)?;
+        let audited = &self.locked.audited;
+        let Some(entry) = audited.entries().last() else {
+            unreachable!();
+        };
+        show(&mut self.board, rt, entry, audited);
+        Ok(served)
+    }
+
+    fn drain_locked(&mut self, alloc: Global, database: usize) -> Result<Part<S>, Refusal> {
+        self.locked.drain(alloc, database)
+    }
+
+    /// Ends the board. It may wait for a watcher that is reading.
+    fn into_locked(self) -> Locked<S> {
+        let Watched { locked, board } = self;
+        drop(board);
+        locked
+    }
+}
+
+/// Shows the totals with an entry, behind which a database is as it is. It may wait.
+fn show<S: Alter, R: Wait + Drop, T: Wait>(
+    board: &mut Board<S, R>,
+    rt: &T,
+    entry: &Entry,
+    audited: &Audited<S>,
+)
+    requires number { (entry.now.number ≡ length board.old.entries + 1) × (entry.now.number ≤ MAX_NUMBER) }
+    requires legal { HasCleanDisk (state S.Store audited.now.store) → IsLegal board.old.base (board.old.entries ++ entry.now ∷ []) audited.now.state }
+    requires more { board.old.doubts ≤ doubts_of S.Store audited.now.store }
+    ensures base { board.new.base ≡ board.old.base }
+    ensures entries { board.new.entries ≡ board.old.entries ++ entry.now ∷ [] }
+    ensures shown { IsFront board.new.shown board.new.entries }
+    ensures doubts { board.new.doubts ≤ doubts_of S.Store audited.now.store }
+{
+    show_as(board, rt, entry, audited);
+}
+
+/// The same, with the doubts of its disk.
+fn show_as<S: Alter, R: Wait + Drop, T: Wait>(
+    board: &mut Board<S, R>,
+    rt: &T,
+    entry: &Entry,
+    audited: &Audited<S>,
+)
+    ghost doubts: { ℕ }
+    requires picked { doubts ≡ doubts_of S.Store audited.now.store }
+    requires number { (entry.now.number ≡ length board.old.entries + 1) × (entry.now.number ≤ MAX_NUMBER) }
+    requires legal { HasCleanDisk (state S.Store audited.now.store) → IsLegal board.old.base (board.old.entries ++ entry.now ∷ []) audited.now.state }
+    requires more { board.old.doubts ≤ doubts }
+    ensures base { board.new.base ≡ board.old.base }
+    ensures entries { board.new.entries ≡ board.old.entries ++ entry.now ∷ [] }
+    ensures shown { IsFront board.new.shown board.new.entries }
+    ensures doubts { board.new.doubts ≤ doubts }
+{
+    board.post(rt, entry);
+}

@@ -1,0 +1,73 @@
+-- Believed: what contracts see of a watcher, and of the board that it reads.
+use Rattle.std.specs.Prelude.{◌≡◌, ℕ, List, [], ◌++◌, map, refl}
+use Rattle.std.specs.Coded.{Coded, code_by, coded×, coded_list, coded_ℕ}
+use Rattle.sqlite.specs.Held.{Held, state}
+use Rattle.sqlite.specs.State.{HasCleanDisk}
+use Rattle.sqlite_trees.specs.declared.store.Store.{Ghosts}
+use Rattle.escrow_machine.specs.declared.reply.Reply.{Reply}
+use Rattle.escrow_machine.specs.State.{State}
+use Rattle.escrow_transcript.specs.contracts.base.Base as base_row
+use Rattle.escrow_transcript.specs.contracts.entry.Entry as entry_row
+use Rattle.escrow_transcript.specs.declared.base.Base.{Base}
+use Rattle.escrow_transcript.specs.declared.entry.Entry.{Entry}
+use Rattle.escrow_transcript.specs.Legal.{IsLegal}
+
+-- the replies of entries
+abbrev pub replies_of : List Entry → List Reply
+replies_of entries = map (λ e. e.reply) entries
+
+-- entries that begin others: a front of them, which may be all or nothing
+abbrev pub IsFront : List Entry → List Entry → Type 0
+IsFront front entries = (rest : List Entry) × (entries ≡ front ++ rest)
+
+-- entries are a legal transcript from a base, up to some state
+abbrev pub IsLegalFrom : Base → List Entry → Type 0
+IsLegalFrom start entries = (end : State) × IsLegal start entries end
+
+-- whatever was done over a connection, its disk has returned what was written, as memory always does
+abbrev pub IsAlwaysClean : {S : Type 0} → Ghosts S → Type 0
+IsAlwaysClean {S} g = (connection : Held S) → HasCleanDisk (state g connection)
+
+-- What contracts see of a watcher: the base where the history of its database begins; the entries whose totals it read
+-- last; and the doubts of the disk when these were shown: 0 while it had returned what was written.
+pub record Watching : Type 0 where
+  pub base : Base
+  pub entries : List Entry
+  pub doubts : ℕ
+
+abbrev pub watching_code : Coded Watching
+watching_code =
+    code_by (Base × (List Entry × ℕ)) (coded× base_row.the_row.coded (coded× (coded_list entry_row.the_row.coded) coded_ℕ))
+    (λ w. (w.base, (w.entries, w.doubts))) (λ p. record { base = p.0; entries = p.1.0; doubts = p.1.1 }) (λ _. refl)
+
+-- What a watcher keeps: where the disk had returned what was written, its entries are a legal transcript from the base.
+-- A store whose disk always does leaves no doubt.
+pub record IsSound {S : Type 0} (g : Ghosts S) (w : Watching) : Type 0 where
+  pub legal : w.doubts ≡ 0 → IsLegalFrom w.base w.entries
+  pub always : IsAlwaysClean g → w.doubts ≡ 0
+
+-- a watcher of a history from a base that has read nothing
+pub record IsNewWatcher (start : Base) (w : Watching) : Type 0 where
+  pub begins : w.base ≡ start
+  pub unread : w.entries ≡ []
+
+-- What contracts see of a board: the base where the history of its database begins; all entries since, and a front of
+-- them, whose totals it shows; and the doubts of the disk when these were shown.
+pub record Boarded : Type 0 where
+  pub base : Base
+  pub entries : List Entry
+  pub shown : List Entry
+  pub doubts : ℕ
+
+abbrev pub boarded_code : Coded Boarded
+boarded_code =
+    code_by (Base × (List Entry × (List Entry × ℕ)))
+    (coded× base_row.the_row.coded (coded× (coded_list entry_row.the_row.coded) (coded× (coded_list entry_row.the_row.coded) coded_ℕ)))
+    (λ b. (b.base, (b.entries, (b.shown, b.doubts)))) (λ p. record { base = p.0; entries = p.1.0; shown = p.1.1.0; doubts = p.1.1.1 }) (λ _. refl)
+
+-- a board of a history from a base of which nothing was served
+pub record IsNewBoard (start : Base) (b : Boarded) : Type 0 where
+  pub begins : b.base ≡ start
+  pub unserved : b.entries ≡ []
+  pub unshown : b.shown ≡ []
+  pub sure : b.doubts ≡ 0

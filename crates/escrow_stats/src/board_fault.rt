@@ -1,0 +1,10 @@
+/// Why there is no board.
+#[derive(Clone, Copy, Debug, PartialEq, Eq)]
+pub enum BoardFault {
+    /// More than 8 watchers are asked.
+    TooMany,
+    /// Out of memory.
+    Memory,
+    /// A watcher has no place to read at.
+    NoPlace,
+}
