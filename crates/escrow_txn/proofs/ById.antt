@@ -77,6 +77,36 @@ rising_in_order (r ∷ rest) order = (
   rising_in_order rest order.1,
 )
 
+-- two with different ids may be put in either order
+put_swap : (x r : Reservation) (zs : List Reservation) → IsTrue (nat_lt x.id r.id) → put r (put x zs) ≡ put x (put r zs)
+put_swap x r [] less = grind arith
+put_swap x r (z ∷ zs) less = grind (arith, put_swap x r zs less)
+
+-- those that are put one after another among others
+abbrev put_all : List Reservation → List Reservation → List Reservation
+put_all [] zs = zs
+put_all (x ∷ xs) zs = put x (put_all xs zs)
+
+put_all_swap : (r : Reservation) (xs zs : List Reservation) → put_all (put r xs) zs ≡ put r (put_all xs zs)
+put_all_swap r [] zs = refl
+put_all_swap r (x ∷ xs) zs =
+    cond_both (nat_lt x.id r.id) (x ∷ put r xs) (r ∷ x ∷ xs) (λ ys. put_all ys zs ≡ put r (put x (put_all xs zs)))
+    (λ t. ap (put x) (put_all_swap r xs zs) ∙ sym (put_swap x r (put_all xs zs) t)) (λ f. refl)
+
+put_all_by_id : (xs zs : List Reservation) → put_all (by_id xs) zs ≡ put_all xs zs
+put_all_by_id [] zs = refl
+put_all_by_id (r ∷ rest) zs = put_all_swap r (by_id rest) zs ∙ ap (put r) (put_all_by_id rest zs)
+
+by_id_put_all : (xs ys : List Reservation) → by_id (xs ++ ys) ≡ put_all xs (by_id ys)
+by_id_put_all [] ys = refl
+by_id_put_all (x ∷ xs) ys = ap (put x) (by_id_put_all xs ys)
+
+-- what is put in order together may be put in order before, part by part
+pub by_id_append : (xs ys : List Reservation) → by_id (by_id xs ++ by_id ys) ≡ by_id (xs ++ ys)
+by_id_append xs ys =
+    by_id_put_all (by_id xs) (by_id ys) ∙ put_all_by_id xs (by_id (by_id ys)) ∙ ap (put_all xs) (by_id_in_order (by_id ys) (by_id_order ys))
+    ∙ sym (by_id_put_all xs ys)
+
 -- those of a journal, whose ids rise, stay
 pub by_id_rising : (xs : List Reservation) → IsAscending reservation_before xs → by_id xs ≡ xs
 by_id_rising xs order = by_id_in_order xs (rising_in_order xs order)

@@ -10,39 +10,52 @@ use escrow_journal::Journal;
 use escrow_num::Reservation;
 use std::alloc::{AllocError, Global};
 
-/// The reservations of journals of different sessions, in order of id. Want of memory is the only
-/// error.
+/// The reservations of journals of different sessions, in order of id: those of each half of the
+/// journals, and then both. Want of memory is the only error.
 pub(crate) fn merged(alloc: Global, journals: &[Journal]) -> Result<Vec<&Reservation>, AllocError>
     requires { AllByRecursion IsLog journals.now }
     ensures { IfOk result (λ all. map (λ r. r.now) all.items ≡ by_id (flat_map (λ log. log.reservations) journals.now)) }
 {
-    let mut all = Vec::new(alloc);
-    for journal in journals.iter().rev() {
-        all = merge(alloc, journal.all(), &all)?;
+    match journals {
+        [] => Ok(Vec::new(alloc)),
+        [journal] => references(alloc, journal.all()),
+        _ => {
+            let (front, back) = journals.split_at(journals.len() / 2);
+            merge(alloc, &merged(alloc, front)?, &merged(alloc, back)?)
+        }
     }
-    Ok(all)
+}
+
+/// A reference to each of the reservations.
+fn references(alloc: Global, reservations: &[Reservation]) -> Result<Vec<&Reservation>, AllocError>
+    ensures { IfOk result (λ all. map (λ r. r.now) all.items ≡ reservations.now) }
+{
+    reservations.iter().collect(alloc)
 }
 
 /// Two lists in order of id as one.
 fn merge<'a>(
     alloc: Global,
-    own: &'a [Reservation],
-    others: &[&'a Reservation],
+    front: &[&'a Reservation],
+    back: &[&'a Reservation],
 ) -> Result<Vec<&'a Reservation>, AllocError>
-    requires own { IsAscending reservation_before own.now }
-    requires others { IsAscending in_order (map (λ r. r.now) others.now) }
-    ensures { IfOk result (λ all. map (λ r. r.now) all.items ≡ by_id (own.now ++ map (λ r. r.now) others.now)) }
+    requires front { IsAscending in_order (map (λ r. r.now) front.now) }
+    requires back { IsAscending in_order (map (λ r. r.now) back.now) }
+    ensures { IfOk result (λ all. map (λ r. r.now) all.items ≡ by_id (map (λ r. r.now) front.now ++ map (λ r. r.now) back.now)) }
 {
-    let mut all = Vec::new(alloc);
+    let mut all = Vec::with_capacity(alloc, front.len() + back.len())?;
     let (mut i, mut j) = (0, 0);
-    while i < own.len() || j < others.len() {
-        if j == others.len() || (i < own.len() && own[i].id <= others[j].id) {
-            all.push(&own[i])?;
+    while i < front.len() && j < back.len() {
+        let (first, second) = (front[i], back[j]);
+        if first.id <= second.id {
+            all.push(first)?;
             i += 1;
         } else {
-            all.push(others[j])?;
+            all.push(second)?;
             j += 1;
         }
     }
+    all.extend_from_slice(&front[i..])?;
+    all.extend_from_slice(&back[j..])?;
     Ok(all)
 }

@@ -1,14 +1,9 @@
-use Rattle.std.proofs.Common.{length, drop, ◌≡◌, ◌++◌, ◌+◌, ◌-◌, ◌≤◌}
-use Rattle.escrow_txn.specs.Joined.{by_id}
-use Rattle.escrow_txn.proofs.Merging.{read}
+use Rattle.std.proofs.Common.{length, ◌+◌, ◌-◌}
+use Rattle.escrow_txn.proofs.Merging.{IsMerged}
 use Rattle.escrow_txn.proofs.merge.merge.Given as goal
 
 abbrev pub invariant-loop-i : goal.invariant-loop-i
-invariant-loop-i l = record {
-  own : l.i ≤ length l.own;
-  others : l.j ≤ length l.others;
-  merged : read l.all.items ++ by_id (drop l.i l.own ++ drop l.j (read l.others)) ≡ by_id (l.own ++ read l.others);
-}
+invariant-loop-i l = IsMerged l.front l.back l.i l.j l.all.items
 
 abbrev pub decreases-loop-i : goal.decreases-loop-i
-decreases-loop-i l = (length l.own - l.i) + (length l.others - l.j)
+decreases-loop-i l = (length l.front - l.i) + (length l.back - l.j)
