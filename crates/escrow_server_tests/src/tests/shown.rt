@@ -94,9 +94,11 @@ fn drawn_and_erased(rt: HostRuntime) -> Result<(), Fail> {
     }
     let sent = sent.lock(&rt);
     assert!(rt; sent.starts_with(FIRST));
-    let drawn = sent.strip_suffix(ERASED).unwrap_or(b"");
-    let (_, line) = str::from_utf8(drawn)?.rsplit_once(LINE).unwrap_or(("", ""));
-    let (served, _) = line.split_once(' ').unwrap_or(("", ""));
+    let drawn = sent.strip_suffix(ERASED).expect(&rt, "what erases");
+    let (_, line) = str::from_utf8(drawn)?
+        .rsplit_once(LINE)
+        .expect(&rt, "a line");
+    let (served, _) = line.split_once(' ').expect(&rt, "a total");
     let mut expected = String::new(rt.alloc());
     write!(
         expected,
