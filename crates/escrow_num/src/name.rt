@@ -135,14 +135,15 @@ impl Eq for Name {
     ghost laws = { nat_list_eq_equiv };
 }
 
-/// A name is hashed as its text.
+/// A name is hashed as its text: its bytes, and a byte that no text has.
 impl Hash for Name {
     ghost hash_input = { fed.str };
 
     ghost respects_eq = { Prim.search (hashing, rules) };
 
     fn hash<H: Hasher>(&self, state: &mut H) {
-        self.as_str().hash(state);
+        state.write(self.as_bytes());
+        state.write_u8(0xff);
     }
 }
 
