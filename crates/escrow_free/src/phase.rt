@@ -50,7 +50,7 @@ pub(crate) fn run_phase<
     served
 }
 
-/// The same, where nobody looks.
+/// The same, without a word to an audience.
 fn serve_requests<
     S: Alter + Send,
     L: UnderLock<S> + Send,

@@ -9,7 +9,7 @@ use std::thread;
 use std::thread::{JoinHandle, Threads};
 use std::time::{Clock, Duration};
 
-/// What a screen is told of a script that is served: who watches its databases, and while what they look.
+/// What a screen is told of a script that is served: who watches its databases, and what the program does.
 #[derive(Drop)]
 pub struct Desk<V> {
     told: Mutex<Told<V>>,

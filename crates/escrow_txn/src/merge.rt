@@ -3,7 +3,6 @@ ghost use Rattle.std.specs.Prelude.{◌≡◌, ◌++◌, IfOk, flat_map, map};
 ghost use Rattle.std.specs.List.{AllByRecursion};
 ghost use Rattle.escrow_num.specs.Ascending.{IsAscending};
 ghost use Rattle.escrow_journal.specs.Log.{IsLog};
-ghost use Rattle.escrow_journal.specs.Reservations.{reservation_before};
 ghost use Rattle.escrow_txn.specs.Joined.{by_id, in_order};
 
 use escrow_journal::Journal;

@@ -57,7 +57,7 @@ fn watch<'a, R: Wait + Abort + AllocGlobal>(
     made(
         rt,
         try_watch(rt, alone(rt, asked), sessions, watchers),
-        "watched",
+        "memory",
     )
 }
 
@@ -126,7 +126,7 @@ fn watchers_are_few(rt: HostRuntime) {
     let (shared, mut passes, mut watchers) = made(
         &rt,
         try_watch(&rt, fault.databases, 1, MAX_WATCHERS),
-        "watched",
+        "memory",
     );
     assert_eq!(rt; watchers.len(), MAX_WATCHERS);
     ask(&rt, &shared, &mut passes, 0, &[TAKE]);
