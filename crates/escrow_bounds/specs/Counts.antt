@@ -13,7 +13,8 @@ use Rattle.escrow_bounds.specs.Moved.{amounts_after}
 abbrev pub HaveSums : List Tracked → List (List ℤ) → Type 0
 HaveSums forms reservations = AllByRecursion (λ (form : Tracked). IsSpread form.check.coeffs reservations form.spread) forms
 
--- a place counts these reservations: its number is theirs, and its spreads are
+-- a place counts these reservations: its number is theirs, and its spreads are. Their order doesn't matter: a
+-- reservation is put and taken wherever it stands among them (TakesIn, GivesBack)
 abbrev pub Counts : Kept → List (List ℤ) → Type 0
 Counts place reservations = (place.count ≡ length reservations) × HaveSums place.checks reservations × HaveSums place.columns reservations
 

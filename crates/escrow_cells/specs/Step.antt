@@ -47,7 +47,7 @@ pub record Contents : Type 0 where
 abbrev pub contents : Database → Contents
 contents db = record { cells = cells db; tabs = tabs db }
 
--- what a step makes of them
+-- what a step makes of the rows of CELL and TAB, which are told in any order, since SQL has none
 abbrev pub done : Contents → Step → Contents
 done c (step.InsertCell table key place value) = record c { cells = (Int table ∷ kept key ∷ Int place ∷ kept value ∷ []) ∷ c.cells }
 done c (step.SetCell table key place value) = record c { cells = map (with_value (Int table) (kept key) (Int place) (kept value)) c.cells }
@@ -63,6 +63,7 @@ pub record HoldsContents (c : Contents) (old new : Database) : Type 0 where
   pub tabs_are : IsPermutation c.tabs (tabs new)
   pub metas_are : metas new ≡ metas old
 
--- the steps, one after another, are done to a store
+-- the steps, one after another, are done to a store: CELL and TAB then hold what these make of their rows, in any
+-- order, since SQL has none
 abbrev pub Does : List Step → Database → Database → Type 0
 Does steps old new = IsStore old → HoldsContents (fold done (contents old) steps) old new

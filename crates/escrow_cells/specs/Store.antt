@@ -44,14 +44,14 @@ pub record NumbersDiffer (rows : List Row) : Type 0 where
   pub whole : AllByRecursion (λ r. IsTrue (is_int (rowid r))) rows
   pub apart : IsAscending (λ a b. is_eq (value_cmp (rowid a) (rowid b)) ≡ false) rows
 
--- the rows of the three tables are numbered
+-- SQLite's own numbers of the rows of the three tables are whole, and none comes twice in a table
 pub record AreAllNumbered (db : Database) : Type 0 where
   pub metas : NumbersDiffer (db.trees meta_tree)
   pub tabs : NumbersDiffer (db.trees tab_tree)
   pub cells : NumbersDiffer (db.trees cell_tree)
 
--- A store: a database of SQLite with the three tables, and without foreign keys, which would let a write
--- to one table reach another.
+-- A store: a database of SQLite with the three tables first, their rows numbered, and without foreign keys, which would
+-- let a write to one table reach another.
 pub record IsStore (db : Database) : Type 0 where
   pub tables : HasTables db.schema
   pub sound : IsDatabase db
@@ -60,22 +60,22 @@ pub record IsStore (db : Database) : Type 0 where
   pub tabs_numbered : NumbersDiffer (db.trees tab_tree)
   pub cells_numbered : NumbersDiffer (db.trees cell_tree)
 
--- the rows of META in a store of the format of a number
+-- the rows of META in a store of the format of a number: one, which says that number
 abbrev pub format : ℤ → List Row
 format number = (Text (codes "format") ∷ Int number ∷ []) ∷ []
 
--- a store of the known format, without tables of its own
+-- a store of the known format (FORMAT) whose TAB and CELL are empty
 pub record IsEmpty (db : Database) : Type 0 where
   pub store : IsStore db
   pub metas_are : metas db ≡ format FORMAT
   pub tabs_are : tabs db ≡ []
   pub cells_are : cells db ≡ []
 
--- a store is made of a database without objects
+-- an empty store is made of a database without objects
 abbrev pub MakesStore : Database → Database → Type 0
 MakesStore old new = old.schema ≡ no_schema → IsEmpty new
 
--- a store of the known format, with the tables and the cells of another
+-- a store of the known format (FORMAT), with the rows of TAB and CELL that another had
 pub record HasMigrated (old new : Database) : Type 0 where
   pub store : IsStore new
   pub metas_are : metas new ≡ format FORMAT

@@ -11,13 +11,15 @@ use Rattle.sqlite_schema.specs.declared.schema.Index.{Index}
 use Rattle.sqlite_schema.specs.declared.schema.View.{View}
 use Rattle.sqlite_schema.specs.declared.schema.Schema.{Schema}
 
--- the texts that make the tables
+-- the text that makes META, which says what format a store has
 abbrev pub meta_text : List ℕ
 meta_text = codes "CREATE TABLE META(K TEXT NOT NULL PRIMARY KEY, V INTEGER NOT NULL) STRICT"
 
+-- the text that makes TAB: of each table its number, its name and the text that defines it
 abbrev pub tab_text : List ℕ
 tab_text = codes "CREATE TABLE TAB(ID INTEGER PRIMARY KEY, NAME TEXT NOT NULL UNIQUE, DDL TEXT NOT NULL) STRICT"
 
+-- the text that makes CELL: values, each by the number of its table, the key of its row and the place of its column
 abbrev pub cell_text : List ℕ
 cell_text = codes "CREATE TABLE CELL(TAB INTEGER NOT NULL, K ANY NOT NULL, C INTEGER NOT NULL, V ANY NOT NULL, PRIMARY KEY(TAB, K, C)) STRICT"
 
@@ -43,22 +45,29 @@ table_of name tree columns key primary uniques = record {
   is_counted = false;
 }
 
--- the trees of the three tables
+-- the number of the tree that has the rows of META
 abbrev pub meta_tree : ℕ
 meta_tree = 0
 
+-- the number of the tree that has the rows of TAB
 abbrev pub tab_tree : ℕ
 tab_tree = 2
 
+-- the number of the tree that has the rows of CELL
 abbrev pub cell_tree : ℕ
 cell_tree = 4
 
+-- META as SQLite understands its text: no column is NULL, and no two rows have one K
 abbrev pub meta : Table
 meta = table_of (codes "META") meta_tree (filled (codes "K") kind.Text ∷ filled (codes "V") kind.Integer ∷ []) None (1 ∷ []) ((1 ∷ []) ∷ [])
 
+-- TAB as SQLite understands its text: the ID is SQLite's own number of the row, NAME and DDL aren't NULL, and no two
+-- rows have one NAME
 abbrev pub tab : Table
 tab = table_of (codes "TAB") tab_tree (record (filled (codes "ID") kind.Integer) { not_null = false } ∷ filled (codes "NAME") kind.Text ∷ filled (codes "DDL") kind.Text ∷ []) (Some 0) (0 ∷ []) ((2 ∷ []) ∷ [])
 
+-- CELL as SQLite understands its text: no column is NULL, K and V take values of any type, and no two rows have one
+-- TAB, K and C
 abbrev pub cell : Table
 cell = table_of (codes "CELL") cell_tree (filled (codes "TAB") kind.Integer ∷ filled (codes "K") kind.Any ∷ filled (codes "C") kind.Integer ∷ filled (codes "V") kind.Any ∷ []) None (1 ∷ 2 ∷ 3 ∷ []) ((1 ∷ 2 ∷ 3 ∷ []) ∷ [])
 

@@ -1,4 +1,5 @@
--- Believed: which checks the CHECKs of a table declare, by name, coefficients, scale and limits. Beside the columns' names stand their scales.
+-- Believed: which checks the CHECKs of a table declare, by name, coefficients, scale and limits.
+-- Beside the columns' names stand their scales.
 use Rattle.std.specs.Prelude.{ℕ, ℤ, pos, neg_ℤ, ◌+◌, ◌==◌, ◌+ℤ◌, ◌-ℤ◌, Bool, true, not, ◌&&◌, nat_le, int_le, int_div, int_rem, if◌then◌else◌, Option, Some, None, option_and_then, option_map, List, [], ◌∷◌, ◌++◌, length, map, codes, bytes_eq}
 use Rattle.std.specs.List.{list_any, list_all, flat_map}
 use Rattle.std.specs.Ordering.{int_eq}
@@ -32,7 +33,8 @@ abbrev pub right_of : Test → List Term
 right_of (Compare comparison sum) = sum
 right_of (Between low high) = []
 
--- a column's coefficient: the sum of those on the left less the sum of those on the right
+-- a column's coefficient in a condition brought to one side: the sum of those on the left less the sum of those on the
+-- right
 abbrev pub coefficient_of : Condition → List ℕ → ℤ
 coefficient_of condition name = total (coefficient_in name) condition.sum -ℤ total (coefficient_in name) (right_of condition.test)
 
@@ -74,7 +76,7 @@ abbrev pub has_whole_limits : ℕ → Test → ℤ → Bool
 has_whole_limits scale (Compare comparison sum) left = is_whole scale (total number_in sum -ℤ left)
 has_whole_limits scale (Between low high) left = is_whole scale (low -ℤ left) && is_whole scale (high -ℤ left)
 
--- the limits of a condition, in units of a scale
+-- the limits of a condition brought to one side, in units of a scale
 abbrev pub condition_limits : ℕ → Condition → Span
 condition_limits scale condition = limits_of scale condition.test (total number_in condition.sum)
 
@@ -109,11 +111,11 @@ in_order (Some lo) (Some hi) = int_le lo hi
 in_order (Some lo) None = true
 in_order None hi = true
 
--- limits are good
+-- limits are good: each is an amount, and the low one isn't greater than the high one
 abbrev pub is_good_span : Span → Bool
 is_good_span span = is_limit span.lo && is_limit span.hi && in_order span.lo span.hi
 
--- a condition's limits are whole numbers of units of a scale, and good
+-- a condition's limits are whole numbers of units of a scale, each of at most 15 digits, and in order
 abbrev pub has_good_limits : ℕ → Condition → Bool
 has_good_limits scale condition =
     has_whole_limits scale condition.test (total number_in condition.sum) && is_good_span (condition_limits scale condition)

@@ -1,5 +1,5 @@
--- Believed: what a CHECK says of a row, as its text is written: both sides are summed and compared. Amounts and
--- numbers are in millionths.
+-- Believed: what a CHECK says of a row, as its text is written: both sides are summed and compared.
+-- Amounts and numbers are in millionths.
 use Rattle.std.specs.Prelude.{◌≡◌, ℕ, ℤ, pos, ◌+ℤ◌, ◌*ℤ◌, ◌≤ℤ◌, ◌<ℤ◌, if◌then◌else◌, List, [], ◌∷◌, All, bytes_eq}
 use Rattle.escrow_sql.specs.declared.statement.Comparison.{Comparison}
 use Rattle.escrow_sql.specs.declared.statement.Comparison.TheVariants.{Below, AtMost, Above, AtLeast, Equal}
@@ -44,7 +44,7 @@ abbrev pub Passes : List (List ℕ) → List ℤ → ℤ → Test → Type 0
 Passes columns amounts z (Compare comparison sum) = Compares comparison z (sum_at columns amounts sum)
 Passes columns amounts z (Between low high) = (low ≤ℤ z) × (z ≤ℤ high)
 
--- a row's amounts meet a condition: what its sum comes to passes its test
+-- a row's amounts meet a condition: both sides are summed and compared, as its text says
 abbrev pub MeetsCondition : List (List ℕ) → List ℤ → Condition → Type 0
 MeetsCondition columns amounts condition = Passes columns amounts (sum_at columns amounts condition.sum) condition.test
 

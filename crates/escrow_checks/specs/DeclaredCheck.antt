@@ -10,7 +10,8 @@ use Rattle.escrow_checks.specs.WrittenName.{is_written_name}
 abbrev pub written_of : Check → List ℕ → List ℤ
 written_of check scales = written_coeffs check.scale check.coeffs scales
 
--- a check over columns of these names and scales, as CHECKs declare it
+-- a check over columns of these names and scales, as CHECKs declare it: what is known of its coefficients, as they are
+-- written and as the check keeps them, of its scale, its limits and its name
 pub record IsDeclared (columns : List (List ℕ)) (scales : List ℕ) (check : Check) : Type 0 where
   -- a coefficient for each column
   pub covers : length check.coeffs ≡ length columns

@@ -4,7 +4,7 @@ use Rattle.std.specs.Int.{int_min, int_max}
 use Rattle.escrow_checks.specs.Form.{form, all_changed}
 use Rattle.escrow_checks.specs.Sublists.{sublists}
 
--- what the form comes to after each choice of the open reservations, each a list of changes
+-- what the form comes to after each choice of the open reservations, each a list of changes; nothing is summed by sign
 abbrev pub outcomes : List ℤ → List ℤ → List (List ℤ) → List ℤ
 outcomes coeffs amounts reservations = map (λ chosen. form coeffs (all_changed amounts chosen)) (sublists reservations)
 

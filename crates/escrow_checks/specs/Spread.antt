@@ -21,7 +21,8 @@ rises coeffs (changes ∷ reservations) = int_max (pos 0) (form coeffs changes) 
 abbrev pub AreContributions : List ℤ → List (List ℤ) → Type 0
 AreContributions coeffs reservations = AllByRecursion (λ changes. IsContribution (form coeffs changes)) reservations
 
--- a spread is that of these reservations under these coefficients: it has their two sums
+-- a spread is that of these reservations under these coefficients: it has their two sums, and what each of them adds is
+-- within 10^28
 abbrev pub IsSpread : List ℤ → List (List ℤ) → Spread → Type 0
 IsSpread coeffs reservations spread =
     (spread.falls ≡ falls coeffs reservations) × (spread.rises ≡ rises coeffs reservations) × AreContributions coeffs reservations

@@ -24,11 +24,11 @@ use Rattle.escrow_machine.specs.Turn.{turn_of}
 abbrev pub AreHeldOf : State → Trees → Type 0
 AreHeldOf s trees = AreHeld s.catalog s.rows trees
 
--- those after a step
+-- what a disk has is a database that holds the tables and the rows after a step
 abbrev pub AreAfter : State → ℕ → Statement → Trees → Type 0
 AreAfter s session asked trees = AreHeldOf (step s session asked).1 trees
 
--- those after some first entries of a plan
+-- what a disk has is a database that holds those after some first entries of a plan of ends
 abbrev pub AreAfterEnds : List (ℕ × End) → State → Trees → Type 0
 AreAfterEnds plan s trees = (n : ℕ) × AreHeldOf (settled (take n plan) s) trees
 

@@ -51,11 +51,11 @@ TakesNext taken place session asked out new =
     (number : ℕ) × (answer : Reply) × (out ≡ rendered (database_name place) session answer)
     × (new ≡ taken ++ (record { place = place; session = session; receipt = record { number = number; statement = asked; reply = answer } }) ∷ [])
 
--- or it takes none, and prints that it wasn't served: 51, 52 or 60
+-- a statement takes no entry, and prints that it wasn't served: 51, 52 or 60
 abbrev pub TakesNone : List Taken → ℕ → ℕ → List ℕ → List Taken → Type 0
 TakesNone taken place session out new = (cause : Refusal) × IsUnserved cause × (out ≡ refused place session cause) × (new ≡ taken)
 
--- SHOW STATISTICS takes none, and prints the totals of what its session took so far
+-- SHOW STATISTICS takes no entry, and prints the totals of what its session took so far
 abbrev pub ShowsTotals : List Taken → ℕ → ℕ → List ℕ → List Taken → Type 0
 ShowsTotals taken place session out new =
     (out ≡ rendered_totals (database_name place) session (tally_of (replies_by place session taken))) × (new ≡ taken)

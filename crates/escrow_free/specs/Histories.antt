@@ -13,6 +13,7 @@ abbrev pub histories_from : {S : Type 0} → ℕ → List (Piece S) → List (Cl
 histories_from place parts [] = []
 histories_from place parts (c ∷ closed) = all_entries place parts c ∷ histories_from (place + 1) parts closed
 
+-- the histories of all databases, by place
 abbrev pub histories : {S : Type 0} → List (Piece S) → List (Closing S) → List (List Entry)
 histories parts closed = histories_from 0 parts closed
 
@@ -22,7 +23,7 @@ pub record IsHistory {S : Type 0} (g : Ghosts S) (place : ℕ) (parts : List (Pi
   pub began : IsRead g database (seen_at c.opening)
   pub whole : IsWhole g place parts c
 
--- so it is with each database, by place
+-- there is a history for each database, by place: each began as its database was handed in, and is whole
 pub record AreHistories {S : Type 0} (g : Ghosts S) (databases : List (Seen S)) (parts : List (Piece S)) (closed : List (Closing S)) : Type 0 where
   pub count : length closed ≡ length databases
   pub each : (place : ℕ) (database : Seen S) (c : Closing S) → slice_get databases place ≡ Some database → slice_get closed place ≡ Some c

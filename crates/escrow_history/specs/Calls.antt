@@ -32,8 +32,8 @@ pub record Stays {S : Type 0} (g : Ghosts S) (old new : History S) : Type 0 wher
   pub entries : new.entries ≡ old.entries
   pub unchanged : HasCleanDisk (state g new.store) → new.state ≡ old.state
 
--- Nothing is asked of a statement but an entry: it is served whatever memory there is and whatever the store does, and a
--- copy of it takes no memory. ROLLBACK, ROLLBACK TO, and COMMIT of a session that holds no reservation are such.
+-- Nothing is asked of a statement but an entry: it is served whatever memory there is and whatever the store does, and
+-- a copy of it takes no memory. ROLLBACK, ROLLBACK TO, and COMMIT of a session that holds no reservation are such.
 abbrev pub NeedsAnEntry : State → ℕ → Statement → Type 0
 NeedsAnEntry s session asked = IsTrue (is_promised s session asked) × (holds_memory asked ≡ false)
 
@@ -41,15 +41,15 @@ NeedsAnEntry s session asked = IsTrue (is_promised s session asked) × (holds_me
 abbrev pub IsFailed : Refusal → Type 0
 IsFailed r = (r ≡ refusal.Memory) ⊎ (r ≡ refusal.Store)
 
--- why no transcript begins: something is open, or a failure
+-- why no transcript begins: something is open (26), or a failure (51, 60)
 abbrev pub IsNotBegun : Refusal → Type 0
 IsNotBegun r = (r ≡ refusal.TransactionOpen) ⊎ IsFailed r
 
--- why no transcript is handed out: something is open, too few numbers are left, or a failure
+-- why no transcript is handed out: something is open (26), too few numbers are left (52), or a failure (51, 60)
 abbrev pub IsNotDrained : Refusal → Type 0
 IsNotDrained r = (r ≡ refusal.TransactionOpen) ⊎ ((r ≡ refusal.TranscriptFull) ⊎ IsFailed r)
 
--- why no room is taken for entries: a transcript may not have so many, or memory is short
+-- why no room is taken for entries: a transcript may not have so many (52), or memory is short (51)
 abbrev pub IsNoRoom : Refusal → Type 0
 IsNoRoom r = (r ≡ refusal.TranscriptFull) ⊎ (r ≡ refusal.Memory)
 

@@ -29,7 +29,7 @@ history_code {S} store =
     (λ h. (h.store, (h.state, (h.base, (h.entries, h.room))))) (λ p. record { store = p.0; state = p.1.0; base = p.1.1.0; entries = p.1.1.1.0; room = p.1.1.1.1 }) (λ _. refl)
 
 -- What it keeps: while the disk has returned what was written, the transcript is legal from its base to the state; it
--- has no more entries than it may have, and a number is left for each of these.
+-- has at most 65,536 entries, and a number is left for each of so many.
 pub record IsKept {S : Type 0} (g : Ghosts S) (h : History S) : Type 0 where
   pub legal : HasCleanDisk (state g h.store) → IsLegal h.base h.entries h.state
   pub few : length h.entries ≤ MAX_ENTRIES

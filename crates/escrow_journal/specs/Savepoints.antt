@@ -31,10 +31,12 @@ through session name (p ∷ rest) = if is_named session name p then p ∷ other_
 abbrev pub is_after : Savepoint → Reservation → Bool
 is_after p r = (r.session == p.session) && nat_le p.id r.id
 
--- the reservations that came after a savepoint, in order of grant
+-- the reservations that came after a savepoint, in order of grant: those of its session with an id not below the one
+-- that was the next when it was made
 abbrev pub after : Savepoint → List Reservation → List Reservation
 after p reservations = filter (is_after p) reservations
 
--- and all the others, of whichever session
+-- the reservations that didn't come after a savepoint: those of its session with an id below that one, and all those of
+-- other sessions
 abbrev pub not_after : Savepoint → List Reservation → List Reservation
 not_after p reservations = filter (λ r. not (is_after p r)) reservations

@@ -73,7 +73,7 @@ abbrev pub is_beside : State → List ℕ → Plan → Bool
 is_beside s table (plan.Reserve key changes) = is_reserved s (row_name table key)
 is_beside s table (plan.Plain key values) = false
 
--- an UPDATE does
+-- an UPDATE has a plan, and that reserves changes of a row that has an open reservation, of whichever session
 abbrev pub reserves_beside : State → UpdateText → Bool
 reserves_beside s text = unwrap_or (option_map (is_beside s text.table) (plan_of s text)) false
 

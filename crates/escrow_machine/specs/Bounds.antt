@@ -32,7 +32,8 @@ column_bounds names amounts reservations column = record {
   sup = greatest (unit_of names column.name) amounts reservations;
 }
 
--- and of a check: the least and the greatest value of its form, and its limits; all in units of its scale
+-- what SHOW BOUNDS shows of a check: the least and the greatest value of its form, and its limits; all in units of its
+-- scale
 abbrev pub check_bounds : List ℤ → List (List ℤ) → Check → CheckBounds
 check_bounds amounts reservations check = record {
   check = check.name;
@@ -49,11 +50,12 @@ bounds_over reservations table amounts =
     let columns = reservables table.columns in
     reply.Bounds (map (column_bounds (names_of columns) amounts reservations) columns) (map (check_bounds amounts reservations) (declared_checks table))
 
--- and of the row of a name, over those of all sessions
+-- what SHOW BOUNDS shows of the row of a name, of these amounts, over every choice of the open reservations of all
+-- sessions
 abbrev pub bounds_in : List Reservation → TableDef → RowName → List ℤ → Reply
 bounds_in open_ones table name amounts = bounds_over (map (changes_at name) open_ones) table amounts
 
--- what a SHOW BOUNDS shows
+-- what a SHOW BOUNDS shows of the row that it names
 abbrev pub bounds_reply : State → RowText → Reply
 bounds_reply s text =
     unwrap_or (option_and_then (λ table. option_map (λ row. bounds_in s.reservations table row.name row.amounts) (row_named s.rows (named_by s.catalog text.table text.row))) (table_named s.catalog text.table))

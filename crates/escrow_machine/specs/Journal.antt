@@ -24,7 +24,7 @@ named_changes (column ∷ columns) (Some change ∷ changes) =
 abbrev pub columns_of : List TableDef → List ℕ → List Column
 columns_of catalog table = unwrap_or (option_map (λ t. reservables t.columns) (table_named catalog table)) []
 
--- a reservation as it is shown
+-- a reservation as it is shown, with the changes of the columns that its UPDATE assigned
 abbrev pub entry_of : List TableDef → Reservation → JournalEntry
 entry_of catalog r = record {
   id = r.id;

@@ -15,21 +15,23 @@ use Rattle.escrow_machine.specs.Step.{step}
 abbrev pub end_of : List (ℕ × End) → ℕ → Option End
 end_of plan session = option_map (λ entry. entry.1) (find (λ entry. session == entry.0) plan)
 
--- a transaction ends by a commit; it ends by a rollback
+-- a transaction ends, and by a commit
 abbrev pub is_commit : Option End → Bool
 is_commit (Some end.Commit) = true
 is_commit (Some end.Rollback) = false
 is_commit None = false
 
+-- a transaction ends, and by a rollback
 abbrev pub is_rollback : Option End → Bool
 is_rollback (Some end.Commit) = false
 is_rollback (Some end.Rollback) = true
 is_rollback None = false
 
--- the reservations of the sessions that a plan commits, and of those that it rolls back
+-- the reservations of the sessions that a plan commits, in their order
 abbrev pub committed_by : List (ℕ × End) → List Reservation → List Reservation
 committed_by plan reservations = filter (λ r. is_commit (end_of plan r.session)) reservations
 
+-- the reservations of the sessions that a plan rolls back, in their order
 abbrev pub released_by : List (ℕ × End) → List Reservation → List Reservation
 released_by plan reservations = filter (λ r. is_rollback (end_of plan r.session)) reservations
 

@@ -3,7 +3,7 @@ use Rattle.std.specs.Prelude.{◌≡◌, ◌<◌, List, length, flat_map, All}
 use Rattle.sqlite_value.specs.Order.{Row}
 use Rattle.escrow_memory.specs.declared.child.Child.{Child}
 
--- the rows of each child, one after another
+-- the rows of a branch: those of each child, one after another
 abbrev pub children_rows : {N : Type 0} → (N → List Row) → List (Child N) → List Row
 children_rows rows = flat_map (λ child. rows child.node.value)
 

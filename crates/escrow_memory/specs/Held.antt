@@ -7,17 +7,19 @@ use Rattle.sqlite_trees.specs.Tree.{Trees, with_tree}
 use Rattle.sqlite_trees.specs.Objects.{catalog_tree, version_tree, set_at}
 use Rattle.sqlite_trees.specs.Listing.{Heading, shape_in, reals_in, objects_from}
 
--- shape, REAL columns and description; and the rows
+-- what is seen of a tree: its heading (shape, REAL columns and description), and its rows
 abbrev pub Held : Type 0
 Held = Heading × List Row
 
+-- the headings of trees, by number
 abbrev pub headings : List Held → List Heading
 headings = map (λ held. held.0)
 
--- the rows at each number
+-- the rows at each number, none where there is no tree
 abbrev pub rows_of : List Held → Trees
 rows_of trees t = slice_index_or (map (λ held. held.1) trees) t []
 
+-- the shape at each number
 abbrev pub shape_of : List Held → ℕ → Shape
 shape_of trees = shape_in (headings trees)
 
@@ -29,16 +31,19 @@ objects_of trees = objects_from 0 (headings trees)
 abbrev pub forest : List Held → Trees
 forest trees = with_tree (rows_of trees) catalog_tree (objects_of trees)
 
+-- the shape at each number, that of the list of the trees being a table's
 abbrev pub shapes : List Held → ℕ → Shape
 shapes trees = set_at (shape_of trees) catalog_tree Table
 
+-- the REAL columns at each number, of which the list of the trees has none
 abbrev pub reals : List Held → ℕ → ℕ
 reals trees = set_at (reals_in (headings trees)) catalog_tree 0
 
--- the same, with the table of the version
+-- the shape at each number, also at those of the list of the trees and of the version: both are tables
 abbrev pub all_shapes : List Held → ℕ → Shape
 all_shapes trees = set_at (shapes trees) version_tree Table
 
+-- the REAL columns at each number, of which neither the list of the trees nor the version has any
 abbrev pub all_reals : List Held → ℕ → ℕ
 all_reals trees = set_at (reals trees) version_tree 0
 

@@ -12,9 +12,12 @@ use Rattle.escrow_memory.specs.declared.store.BlockStore.{BlockStore}
 use Rattle.escrow_memory.specs.Held.{Held, Replaces, rows_of, forest, all_shapes, all_reals}
 use Rattle.escrow_memory.specs.Trees.{all_held}
 
+-- what is seen of the trees of a forest, by number
 abbrev pub trees_of : Forest → List Held
 trees_of it = all_held it.trees.items
 
+-- what a forest shows: rows, shape and REAL columns at each number, with the list of the trees and SQLite's user
+-- version as trees of their own
 abbrev pub snapshot_of : Forest → Snapshot
 snapshot_of it = record {
   trees = with_version (forest (trees_of it)) it.version;
@@ -22,10 +25,12 @@ snapshot_of it = record {
   reals = all_reals (trees_of it);
 }
 
--- what the transaction sees
+-- the forest that the transaction sees: its own once it has written, else that of the last commit
 abbrev pub current : BlockStore → Forest
 current s = unwrap_or s.changed s.base
 
+-- the rows that are left from a place: forward those that stand there and behind, backward those before it, the last
+-- first
 abbrev pub left_from : Direction → ℕ → List Row → List Row
 left_from Forward at rows = drop at rows
 left_from Backward at rows = reverse (take at rows)
@@ -34,6 +39,7 @@ left_from Backward at rows = reverse (take at rows)
 abbrev pub left_of : List Held → Cursor → List Row
 left_of trees cursor = left_from cursor.direction cursor.at (rows_of trees cursor.tree)
 
+-- the cursor of a number is this one, and all others are as they were
 abbrev pub SetsCursor : List (Option Cursor) → List (Option Cursor) → ℕ → Cursor → Type 0
 SetsCursor old new at cursor = (c : ℕ) → slice_index_or new c None ≡ (if c == at then Some cursor else slice_index_or old c None)
 
@@ -42,6 +48,9 @@ abbrev pub Steps : List Held → Cursor → Row → Option Cursor → Type 0
 Steps trees cursor row None = left_of trees cursor ≡ []
 Steps trees cursor row (Some moved) = left_of trees cursor ≡ row ∷ left_of trees moved
 
+-- WHAT THE STORE SHOWS, in the words of the kit's trait: the trees that the transaction sees and those of the last
+-- commit, what each cursor has left, the savepoints, and whether the transaction can only be rolled back. It is always
+-- open and clean.
 abbrev pub block_view : BlockStore → View
 block_view s = record {
   trees = (snapshot_of (current s)).trees;

@@ -5,11 +5,14 @@ use Rattle.escrow_memory.specs.declared.tree.Tree.{Tree}
 use Rattle.escrow_memory.specs.declared.shared.Shared.{Shared}
 use Rattle.escrow_memory.specs.Held.{Held}
 
+-- the heading of a tree: its shape, its REAL columns, and its type, name, table and SQL text
 abbrev pub heading : Tree → Heading
 heading tree = (tree.shape, tree.reals, tree.described.value)
 
+-- what is seen of a tree, whatever nodes its rows stand in
 abbrev pub held : Tree → Held
 held tree = (heading tree, tree.rows)
 
+-- what is seen of trees, whichever other owners they have
 abbrev pub all_held : List Shared → List Held
 all_held = map (λ shared. held shared.tree.value)

@@ -13,7 +13,8 @@ pub record AreUnits (scale : ℕ) (millionths units : ℤ) : Type 0 where
   pub worth : units *ℤ pos (unit_at scale) ≡ millionths
   pub small : IsAmount units
 
--- a decimal, in millionths, is an amount of units of some scale: at most 15 digits, of which at most 6 stand behind the point
+-- a decimal, in millionths, is an amount of units of some scale: at most 15 digits, of which at most 6 stand behind the
+-- point
 abbrev pub IsDecimal : ℤ → Type 0
 IsDecimal z = (scale : ℕ) × (units : ℤ) × AreUnits scale z units
 
@@ -61,7 +62,7 @@ negated_if test (Some z) = Some (if test then neg_ℤ z else z)
 unfoldable pub decimal_spelled : List ℕ → Option ℤ
 decimal_spelled text = negated_if (is_negative text) (unsigned_spelled (after_sign text))
 
--- the units of a scale that millionths are, where they are a whole number of them and an amount
+-- the units of a scale that millionths are, where they are a whole number of them and an amount; nothing is rounded
 unfoldable pub units_at : ℕ → ℤ → Option ℤ
 units_at scale z =
     let units = int_div z (pos (unit_at scale)) in

@@ -20,7 +20,8 @@ pointed (d ∷ ds) = 46 ∷ d ∷ ds
 abbrev pub magnitude_text : ℕ → ℕ → List ℕ
 magnitude_text scale n = decimal (before_last scale n) ++ pointed (last_digits scale n)
 
--- the same with a minus in front where the units are negative, also where the whole part is 0
+-- the text of units of a scale: a minus where they are negative, also where the whole part is 0; the whole part; and a
+-- point with just as many digits as the scale has, but no point where that is 0
 unfoldable pub scaled_text : ℕ → ℤ → List ℕ
 scaled_text scale (pos n) = magnitude_text scale n
 scaled_text scale (negsuc n) = 45 ∷ magnitude_text scale (suc n)

@@ -53,15 +53,15 @@ stored_named tables name = find (λ s. bytes_eq s.table.name name) tables
 abbrev pub cells_of : List StoredTable → Row → List SqlRow
 cells_of tables row = unwrap_or (option_map (λ s. cells_in s row) (stored_named tables row.name.table)) []
 
--- THE IMAGE in the format of a number: META has this number, TAB a row for each table, and CELL the cells of
--- each row
+-- THE IMAGE in the format of a number: META has this number, TAB a row for each table, with its canonical text, and
+-- CELL a cell for each value of each row; both in any order
 pub record IsImageIn (number : ℤ) (tables : List StoredTable) (rows : List Row) (db : Database) : Type 0 where
   pub store : IsStore db
   pub format_is : metas db ≡ format number
   pub tabs_are : IsPermutation (map tab_row tables) (tabs db)
   pub cells_are : IsPermutation (flat_map (cells_of tables) rows) (cells db)
 
--- the image in the known format
+-- the image in the known format: TAB has the canonical text of each table, and CELL the values of each row
 abbrev pub IsImage : List StoredTable → List Row → Database → Type 0
 IsImage = IsImageIn FORMAT
 
@@ -78,7 +78,7 @@ pub record AreTables (tables : List StoredTable) : Type 0 where
 abbrev pub IsOfTables : List StoredTable → Row → Type 0
 IsOfTables tables row = IsSomeAnd (stored_named tables row.name.table) (λ s. IsRowOf s.table row)
 
--- rows of tables, in order; at most 65,536 of one table
+-- rows of tables, in order of table and key, no two of one name; at most 65,536 of one table
 pub record AreRows (tables : List StoredTable) (rows : List Row) : Type 0 where
   pub of_tables : AllByRecursion (IsOfTables tables) rows
   pub row_order : IsAscending row_before rows

@@ -47,6 +47,7 @@ abbrev pub sorted_rows : List Row → List Row
 sorted_rows [] = []
 sorted_rows (row ∷ rows) = with_row row (sorted_rows rows)
 
--- THE ROWS OF A STORE: a row for each cell at the first place, in order of table and key
+-- THE ROWS OF A STORE: a row for each cell at the first place, in order of table and key. A law (TheRowsOfAnImage) says
+-- that these are the rows of which the store is the image.
 abbrev pub rows_in : List StoredTable → Database → List Row
 rows_in tables db = sorted_rows (flat_map (row_at tables (cells db)) (cells db))

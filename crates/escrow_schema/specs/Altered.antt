@@ -31,7 +31,8 @@ without_check_at table place = record table { checks = remove table.checks place
 abbrev pub without_check : TableDef → List ℕ → Option TableDef
 without_check table name = option_map (without_check_at table) (declared_place table name)
 
--- the table that a change makes of one, or why it makes none
+-- the table that a change makes of one, or why it makes none: what it adds breaks a rule (22), or what it drops isn't
+-- there (27)
 abbrev pub altered : TableDef → TableChange → Result TableDef Refusal
 altered table (change.Add text) = ok_or (with_check table text) refusal.BadDefinition
 altered table (change.Drop name) = ok_or (without_check table name) refusal.NoSuchConstraint

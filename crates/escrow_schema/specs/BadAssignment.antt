@@ -64,7 +64,8 @@ abbrev pub MixesColumns : TableDef → UpdateText → Type 0
 MixesColumns table text =
     (one : Assign) × (other : Assign) × Assigns text one × Assigns text other × IsReservableName table one.column × IsPlainName table other.column
 
--- one of the six is the case
+-- one of the six is the case; a law (BadAssignmentsAreOfSixKinds) says that an UPDATE of a table is refused by 24
+-- exactly there
 abbrev pub IsBadlyAssigned : TableDef → UpdateText → Type 0
 IsBadlyAssigned table text =
     AssignsUnknown table text

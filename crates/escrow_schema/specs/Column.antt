@@ -79,9 +79,10 @@ truncated_value scale (literal.Text t) = value.Text t
 abbrev pub reservables : List Column → List Column
 reservables columns = filter (λ column. column.reservable) columns
 
--- the names of columns, and the scales of their types
+-- the names of columns, in their order
 abbrev pub names_of : List Column → List (List ℕ)
 names_of columns = map (λ column. column.name) columns
 
+-- the scales of the columns' types, in their order
 abbrev pub scales_of : List Column → List ℕ
 scales_of columns = map (λ column. scale_of column.kind) columns

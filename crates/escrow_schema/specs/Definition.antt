@@ -156,6 +156,6 @@ IsTable table = (text : CreateText) × (definition_of text ≡ Some table)
 abbrev pub key_column : TableDef → Option Column
 key_column table = slice_get table.columns table.key
 
--- the scale of its type
+-- the scale of its type: that of the table's keys, 0 where they are texts
 abbrev pub key_scale : TableDef → ℕ
 key_scale table = unwrap_or (option_map (λ column. scale_of column.kind) (key_column table)) 0

@@ -29,8 +29,8 @@ is_key table name = unwrap_or (option_map (λ column. bytes_eq column.name name)
 abbrev pub key_in : TableDef → Literal → Option Value
 key_in table literal = option_and_then (λ column. value_in column.kind literal) (key_column table)
 
--- the key that a WHERE names, or why it names none: it is of another column than the key, or its
--- literal isn't one that the key's type holds
+-- the key that a WHERE names, or why it names none: it is of another column than the key (25), or its literal isn't one
+-- that the key's type holds (23)
 abbrev pub key_named : TableDef → WhereText → Result Value Refusal
 key_named table row = if not (is_key table row.column) then Err refusal.NotTheKey else ok_or (key_in table row.literal) refusal.BadValue
 
@@ -68,11 +68,12 @@ are_replacements table assigns = are_distinct (map (λ assign. assign.column) as
 abbrev pub assigned_to : List Assign → List ℕ → Option Assigned
 assigned_to assigns column = option_map (λ assign. assign.value) (find (λ assign. bytes_eq assign.column column) assigns)
 
--- the change, and the literal, that is assigned
+-- the change that is assigned, where one is
 abbrev pub change_in : Assigned → Option ℤ
 change_in (assigned.Literal literal) = None
 change_in (assigned.Change source change) = Some change
 
+-- the literal that is assigned, where one is
 abbrev pub literal_in : Assigned → Option Literal
 literal_in (assigned.Literal literal) = Some literal
 literal_in (assigned.Change source change) = None
@@ -121,9 +122,9 @@ abbrev pub for_key : (Value → Result Plan Refusal) → Result Value Refusal �
 for_key plan (Ok key) = plan key
 for_key plan (Err refusal) = Err refusal
 
--- what an UPDATE asks, or why it can't be planned: bad assignments, then a WHERE of another column
--- than the key, then a literal, of the WHERE or assigned, that its column's type doesn't hold, or a
--- change that isn't a whole number of its column's units, or of more of them than an amount has
+-- what an UPDATE asks, or why it can't be planned: bad assignments (24), then a WHERE of another column than the key
+-- (25), then (23) a literal, of the WHERE or assigned, that its column's type doesn't hold, or a change that isn't a
+-- whole number of its column's units, or of more of them than an amount has
 abbrev pub planned : TableDef → UpdateText → Result Plan Refusal
 planned table text =
     if are_changes table.columns text.assigns

@@ -14,7 +14,8 @@ use Rattle.escrow_schema.specs.declared.table.TheConstants.TableDef.{MIN_COLUMNS
 use Rattle.escrow_schema.specs.Column.{is_numeric, reservables, names_of, scales_of}
 use Rattle.escrow_schema.specs.Definition.{check_names, checks_in, column_texts, columns_of, key_names, range_checks}
 
--- a table follows the rules that its text has to keep
+-- a table follows the rules that its text has to keep; a law (DefinitionsFollowRules) says that it does exactly where
+-- the text defines it
 pub record FollowsRules (text : CreateText) (table : TableDef) : Type 0 where
   -- its name and its columns are those of the text, in order, 2 to 30 of them
   pub name : table.name ≡ text.table

@@ -20,10 +20,11 @@ use Rattle.escrow_script.specs.declared.limits.TheConstants.{MAX_DATABASES}
 abbrev pub mode_rule : Rule
 mode_rule = record (new_rule (codes "mode")) { required = true; action = Some Set; value_names = 1 }
 
--- options that may be there: `--store PATH` and `--databases N`
+-- an option that may be there: `--store PATH`
 abbrev pub store_rule : Rule
 store_rule = record (new_rule (codes "store")) { long = Some (codes "store"); action = Some Set; value_names = 1 }
 
+-- an option that may be there: `--databases N`
 abbrev pub databases_rule : Rule
 databases_rule = record (new_rule (codes "databases")) { long = Some (codes "databases"); action = Some Set; value_names = 1 }
 
@@ -83,10 +84,11 @@ status_of kind.DisplayHelp = 0
 status_of kind.OutOfMemory = 1
 status_of _ = 2
 
--- for words that ask nothing: that of what is wrong with them, and 2 where only a value can't be read
+-- for what is wrong with words before their values are read: that of the kind of error, and 2 where there is none
 abbrev pub status_at : Kinds → ℕ
 status_at [] = 2
 status_at (k ∷ kinds) = status_of k
 
+-- for words that ask nothing: that of what is wrong with them, and 2 where only a value can't be read
 abbrev pub refused_status : List Text → ℕ
 refused_status words = status_at (faults_of words)

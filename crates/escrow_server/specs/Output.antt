@@ -46,7 +46,9 @@ IsServed s session text answer new =
 abbrev pub IsRefused : State → List ℕ → Reply → State → Type 0
 IsRefused s text answer new = (f : ParseFault) × IsFaultIn text f × (answer ≡ reply.Refused (fault_refusal f)) × (new ≡ s)
 
--- the answer to a text of a session, and the state after it
+-- the answer to a text of a session, and the state after it: the machine's step or what may come in its place, where
+-- the text is a statement; 11 with the column of its first fault, where it asks nothing; or 51 for want of memory to
+-- read it
 abbrev pub Answers : State → ℕ → List ℕ → Reply → State → Type 0
 Answers s session text answer new = IsServed s session text answer new ⊎ IsRefused s text answer new
 
@@ -83,7 +85,7 @@ PrintsAnswer name sitting session text out new =
     (answer : Reply) × (after : State) × Answers sitting.state session text answer after
     × (out ≡ rendered name session answer) × (new ≡ record { state = after; answered = sitting.answered ++ (session, answer) ∷ [] })
 
--- or it asks totals: it prints those of what its session was answered, and nothing changes
+-- the text of a session asks totals: it prints those of what its session was answered, and nothing changes
 abbrev pub PrintsTotals : List ℕ → Sitting → ℕ → List ℕ → List ℕ → Sitting → Type 0
 PrintsTotals name sitting session text out new =
     Asks text request.Statistics × (out ≡ rendered_totals name session (tally_of (replies_to session sitting.answered))) × (new ≡ sitting)
@@ -121,7 +123,8 @@ abbrev pub WritesLines : List State → List (List ℕ) → List ℕ → List St
 WritesLines states lines out new =
     (end : List Sitting) × ServesLines (map begun states) lines out end × (new ≡ map (λ sitting. sitting.state) end)
 
--- THE OUTPUT OF A SCRIPT: what it writes from the databases' states, and the states after it
+-- THE OUTPUT OF A SCRIPT: what it writes from the databases' states, when no session was answered yet, and the states
+-- after it
 abbrev pub Output : List ℕ → List State → List ℕ → List State → Type 0
 Output script states out new = WritesLines states (lines_of script) out new
 

@@ -116,8 +116,8 @@ Stops (run_fault.Unopened database place cause) starts new script rest old_bytes
 Stops (run_fault.Unserved fault) starts new script rest old_bytes new_bytes = (old : List State) × starts old × StopsWithin fault script old new old_bytes new_bytes
 Stops (run_fault.Unjoined fault) starts new script rest old_bytes new_bytes = ⊥
 
--- A script was served line after line with status 0, from such states to these; or it ended at a fault, with status 1; or a
--- store couldn't be opened, with status 3, and nothing was read or written.
+-- A script was served line after line with status 0, from such states to these; or it ended at a fault, with status 1;
+-- or a store couldn't be opened, with status 3, and nothing was read or written.
 abbrev pub Ends : (List State → Type 0) → List State → ℕ → List ℕ → Option (List ℕ) → Option (List ℕ) → Option (List ℕ) → Type 0
 Ends starts new status script rest old_bytes new_bytes =
     ((status ≡ 0) × (old : List State) × starts old × ServesWhole script old new old_bytes new_bytes)

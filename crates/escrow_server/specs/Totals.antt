@@ -35,7 +35,8 @@ AllSit [] [] [] most = Unit {0}
 AllSit (state ∷ states) (totals ∷ others) (sitting ∷ sittings) most = Sits state totals sitting most × AllSit states others sittings most
 AllSit _ _ _ most = ⊥
 
--- what a text prints and leaves of a database, whichever sitting it had, as long as no more was answered than a script has lines
+-- what a text prints and leaves of a database, whichever sitting it had, as long as no more was answered than a script
+-- has lines
 abbrev pub TextServed : List ℕ → State → Totals → ℕ → List ℕ → List ℕ → State → Totals → Type 0
 TextServed name state totals session text out new_state new_totals =
     (sitting : Sitting) (most : ℕ) → Sits state totals sitting most → most < MAX_SCRIPT

@@ -28,11 +28,12 @@ served_in (r ∷ rs) (g ∷ gs) = served_in rs gs
 served_in rs [] = []
 served_in [] gs = []
 
--- what a pass gained is what was served
+-- what a pass gained is what was served: a receipt for each statement with its reply, in order, and nothing else
 pub record Gained (old new : Seat) (served : List (Statement × Reply)) : Type 0 where
   pub database : new.database ≡ old.database
   pub session : new.session ≡ old.session
   pub calls : calls_in new.receipts ≡ calls_in old.receipts ++ served
 
+-- where requests are given answers (Serves), the pass gains just those of them that were served
 abbrev pub ReceiptsAreServed : Type 0
 ReceiptsAreServed = (old new : Seat) (requests : List Request) (answers : List Given) → Serves old requests answers new → Gained old new (served_in requests answers)

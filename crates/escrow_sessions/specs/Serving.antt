@@ -25,7 +25,8 @@ replies_of receipts = map (λ r. r.reply) receipts
 abbrev pub totals_of : Seat → Tally
 totals_of seat = tally_of (replies_of seat.receipts)
 
--- ONE REQUEST. A statement is called, as a call is answered; SHOW STATISTICS shows the totals so far, and changes nothing.
+-- ONE REQUEST. A statement is called, as a call is answered; SHOW STATISTICS shows the totals so far, and changes
+-- nothing.
 abbrev pub IsGiven : Request → Given → Seat → Seat → Type 0
 IsGiven (request.Statement asked) (given.Reply answer) old new = IsAnswered answer asked old new
 IsGiven request.Statistics (given.Totals totals) old new = (totals ≡ totals_of old) × (new ≡ old)

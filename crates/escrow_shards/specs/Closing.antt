@@ -56,7 +56,8 @@ pub record IsOneRun {S : Type 0} (d : ℕ) (parts : List (Piece S)) (c : Closing
   pub run : AreSteps c.opening.state (all_entries d parts c) c.history.state
   pub numbered : AreNumbered 0 (all_entries d parts c)
 
--- the history of a database is whole
+-- The history of a database is whole: all its parts are there, and where its disk has returned what was written all its
+-- entries are one run.
 pub record IsWhole {S : Type 0} (g : Ghosts S) (d : ℕ) (parts : List (Piece S)) (c : Closing S) : Type 0 where
   pub whole : HasAllParts d parts c
   pub run : WasClean g d parts c → IsOneRun d parts c

@@ -17,7 +17,7 @@ pub record IsRead {S : Type 0} (g : Ghosts S) (old new : Seen S) : Type 0 where
   pub unchanged : new.state ≡ old.state
   pub clean : HasCleanDisk (state g new.store) → HasCleanDisk (state g old.store)
 
--- so it is with each
+-- of each of several databases was only read
 abbrev pub AreRead : {S : Type 0} → Ghosts S → List (Seen S) → List (Seen S) → Type 0
 AreRead g [] [] = Unit {0}
 AreRead g [] (n ∷ news) = ⊥

@@ -10,8 +10,8 @@ use Rattle.escrow_transcript.specs.Legal.{IsLegal}
 use Rattle.escrow_history.specs.History.{History, history_code}
 use Rattle.escrow_stats.specs.Watching.{Boarded, boarded_code, IsFront}
 
--- what contracts see of a database that is watched: the database with its transcript, how many parts of its history were
--- handed out, and the board
+-- what contracts see of a database that is watched: the database with its transcript, how many parts of its history
+-- were handed out, and the board
 pub record Viewed (S : Type 0) : Type 0 where
   pub history : History S
   pub parts : ℕ
@@ -30,9 +30,10 @@ doubts_of g connection = doubt (state g connection).is_clean
 abbrev pub EndsWith : List Entry → List Entry → Type 0
 EndsWith entries last = (earlier : List Entry) × (entries ≡ earlier ++ last)
 
--- WHAT IS KEPT. The list that the board counts is the whole history of the database: from where it begins, legal up to the
--- state found, while the disk has returned what was written; as long as the last entry's number; and it ends with the
--- transcript's entries. It begins with the list whose totals are shown, for which the disk was no more in doubt than now.
+-- WHAT IS KEPT. The list that the board counts is the whole history of the database: from where it begins, legal up to
+-- the state found, while the disk has returned what was written; as long as the last entry's number; and it ends with
+-- the transcript's entries. It begins with the list whose totals are shown, for which the disk was no more in doubt
+-- than now.
 pub record IsShown {S : Type 0} (g : Ghosts S) (h : History S) (b : Boarded) : Type 0 where
   pub first : b.base.before ≡ 0
   pub legal : HasCleanDisk (state g h.store) → IsLegal b.base b.entries h.state

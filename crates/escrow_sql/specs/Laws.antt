@@ -16,7 +16,8 @@ pub record EachIsLexedOnce : Type 0 where
   pub lexed : (text : List ℕ) → (r : Result (List Token) ℕ) × IsLexed text r
   pub once : (text : List ℕ) (r q : Result (List Token) ℕ) → IsLexed text r → IsLexed text q → r ≡ q
 
--- a text alone is a number that means the millionths that it spells; where it spells none its fault is at its first byte
+-- a text alone is a number that means the millionths that it spells; where it spells none its fault is at its first
+-- byte
 pub record IsReadAsSpelled (text : List ℕ) : Type 0 where
   pub read : (millionths : ℤ) → decimal_spelled text ≡ Some millionths → (tokens : List Token) × IsLexed text (Ok tokens) × Sentence number tokens millionths
   pub fault : decimal_spelled text ≡ None → IsLexed text (Err 1)

@@ -45,10 +45,11 @@ use Rattle.escrow_sql.specs.declared.statement.WhereText.{WhereText}
 
 infixr 20 ◌then◌
 infixr 15 ◌or◌
--- a reserved word, a symbol: they mean nothing by themselves
+-- a reserved word, which means nothing by itself
 abbrev pub word : Word → Grammar (Unit {0})
 word w = token (kind.Word w) (λ k. tt)
 
+-- a symbol, which means nothing by itself
 abbrev pub symbol : Symbol → Grammar (Unit {0})
 symbol s = token (kind.Symbol s) (λ k. tt)
 
@@ -84,37 +85,43 @@ separated separator a = sequence a (many (separator then a) (λ xs. xs)) (λ x x
 abbrev pub list : {V : Type 0} → Grammar V → Grammar (List V)
 list a = separated (symbol symbols.Comma) a
 
+-- "(" a ")"
 abbrev pub in_parentheses : {V : Type 0} → Grammar V → Grammar V
 in_parentheses a = symbol symbols.Open then before a (symbol symbols.Close)
 
--- what a token holds: a name, a number that is written without a point, the millionths of one with a
--- point, a text
+-- the name that a token holds, if it is one
 abbrev pub name_in : Kind → List ℕ
 name_in (kind.Name n) = n
 name_in other = []
 
+-- the number that a token holds, if it is one that is written without a point
 abbrev pub whole_in : Kind → ℤ
 whole_in (kind.Number n) = n
 whole_in other = pos 0
 
+-- the millionths that a token holds, if it is a number that is written with a point
 abbrev pub point_in : Kind → ℤ
 point_in (kind.Decimal d) = d
 point_in other = pos 0
 
+-- the text that a token holds, if it is one, without its quotes
 abbrev pub text_in : Kind → List ℕ
 text_in (kind.Text t) = t
 text_in other = []
 
--- a name, a number that is written without a point, one with a point (which means its millionths), a text
+-- a name
 abbrev pub name : Grammar (List ℕ)
 name = token (kind.Name []) name_in
 
+-- a number that is written without a point; it means itself
 abbrev pub whole : Grammar ℤ
 whole = token (kind.Number (pos 0)) whole_in
 
+-- a number that is written with a point; it means its millionths
 abbrev pub point : Grammar ℤ
 point = token (kind.Decimal (pos 0)) point_in
 
+-- a text in quotes
 abbrev pub text : Grammar (List ℕ)
 text = token (kind.Text []) text_in
 
@@ -332,6 +339,7 @@ body =
     or meaning requests.Statement ending
     or show
 
--- request = body [ ";" ]
+-- request = body [ ";" ]. A number means its millionths; but the factor of a column and the size of a type, each a
+-- `whole` (a number that is written without a point), mean themselves.
 unfoldable pub request : Grammar Request
 request = before body (optional tt (symbol symbols.Semicolon))

@@ -23,7 +23,8 @@ pub record IsPostOf (start : Base) (all : List Entry) (p : Post) : Type 0 where
   pub count : p.count ≡ length all
 
 -- What is known at an end is true, where a board shows these entries, from a base, with so many doubts of the disk: the
--- base, and a front of the entries, for which there were no more doubts. An end that knows all entries knows all doubts.
+-- base, and a front of the entries, for which there were no more doubts. An end that knows all entries knows all
+-- doubts.
 pub record Holds (start : Base) (all : List Entry) (doubts : ℕ) (v : Known) : Type 0 where
   pub named : IfSome v.base (λ b. b ≡ start)
   pub seen : IsFront v.shown all
@@ -57,8 +58,8 @@ pub record IsPublished (more : Entry) (doubts : ℕ) (v : Known) (x y : Shown) (
   pub begins : IsFront w.shown w.entries
   pub fewer : w.doubts ≤ doubts
 
--- what is shown was read: the totals of a list that begins with what had been seen, and is legal unless there are doubts,
--- of which there are no fewer than before
+-- what is shown was read: the totals of a list that begins with what had been seen, and is legal unless there are
+-- doubts, of which there are no fewer than before
 pub record IsRead {S : Type 0} (g : Ghosts S) (v : Known) (x y : Shown) (w : Known) : Type 0 where
   pub named : w.base ≡ v.base
   pub totals : y.totals ≡ tally_of (replies_of w.shown)

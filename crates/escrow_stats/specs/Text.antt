@@ -15,10 +15,10 @@ done_text t =
     codes " commits " ++ decimal t.commits ++ codes " rollbacks " ++ decimal t.rollbacks
     ++ codes " writes " ++ decimal t.writes ++ codes " queries " ++ decimal t.queries
 
--- the lines of a tally
+-- the two lines of a tally
 abbrev pub totals_lines : Tally → List (List ℕ)
 totals_lines t = (outcomes_text t ++ done_text t) ∷ codes "OK statistics" ∷ []
 
--- a tally that is shown to a session, as it is written
+-- a tally that is shown to a session, as it is written: two lines, to the byte
 abbrev pub rendered_totals : List ℕ → ℕ → Tally → List ℕ
 rendered_totals database session t = with_prefix (prefix_of database session) (totals_lines t)

@@ -28,6 +28,6 @@ pub record Writes {S : Type 0} (g : Ghosts S) (old new : Committed S) (is_done :
   pub kept_rows : is_done ≡ false → new.rows ≡ old.rows
   pub survives : Survives (state g old.store) (state g new.store) (λ trees. IsTrue (state g old.store).is_open → AreHeld catalog rows trees)
 
--- amounts are those that the row of each reservation has; each of the rows is there
+-- what COMMIT is given: the amounts are those that the row of each reservation has, and each of the rows is there
 abbrev pub AreGiven : List Row → List Reservation → List (List ℤ) → Type 0
 AreGiven rows reservations before = map (λ r. option_map (λ row. row.amounts) (row_named rows r.row)) reservations ≡ map Some before

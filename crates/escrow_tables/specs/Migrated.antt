@@ -24,7 +24,7 @@ pub record HasUnknownFormat (db : Database) : Type 0 where
   pub not_before : number ≢ FORMAT_BEFORE
   pub has : HasFormat number db
 
--- what a disk has holds the tables and rows that a database held in the format before
+-- what a disk has holds, in the known format, the tables and rows that a database held in the format before
 abbrev pub IsMigrated : Database → Trees → Type 0
 IsMigrated old trees = (catalog : List TableDef) × (rows : List Row) × HoldsBefore catalog rows old × AreHeld catalog rows trees
 

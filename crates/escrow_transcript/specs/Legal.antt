@@ -18,7 +18,8 @@ abbrev pub AreNumbered : ℕ → List Entry → Type 0
 AreNumbered before [] = Unit {0}
 AreNumbered before (e ∷ es) = (e.number ≡ before + 1) × AreNumbered (before + 1) es
 
--- A transcript is legal, from its base to a state.
+-- A transcript is legal, from its base to a state: its entries are the machine's steps, and their numbers run on from
+-- those before.
 pub record IsLegal (base : Base) (entries : List Entry) (end : State) : Type 0 where
   pub run : AreSteps (started base.image) entries end
   pub numbered : AreNumbered base.before entries

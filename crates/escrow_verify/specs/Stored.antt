@@ -41,19 +41,21 @@ pub record HasFormat (number : ℤ) (db : Database) : Type 0 where
   pub schema : IsStoreSchema db.schema
   pub format_is : metas db ≡ format number
 
--- it says that the format is another than one
+-- the tables are those of a store, and META has one row, which says that the format is another than this one
 pub record HasFormatBut (known : ℤ) (db : Database) : Type 0 where
   pub number : ℤ
   pub other : number ≢ known
   pub has : HasFormat number db
 
--- the same of the known format
+-- A STORE in the known format, of these tables and rows
 abbrev pub IsStoreOf : List StoredTable → List Row → Database → Type 0
 IsStoreOf = IsStoreIn FORMAT
 
+-- a database that is the store of no tables and rows whatever in the known format
 abbrev pub IsNoStore : Database → Type 0
 IsNoStore = IsNoStoreIn FORMAT
 
+-- the tables are those of a store, and META has one row, with another number of the format than the known one
 abbrev pub HasOtherFormat : Database → Type 0
 HasOtherFormat = HasFormatBut FORMAT
 
@@ -61,6 +63,7 @@ HasOtherFormat = HasFormatBut FORMAT
 abbrev pub IsWhole : TableDef → Type 0
 IsWhole table = AllByRecursion (λ column. scale_of column.kind ≡ 0) table.columns
 
+-- no table of a list has a column that has a scale
 abbrev pub AreWhole : List TableDef → Type 0
 AreWhole = AllByRecursion IsWhole
 
