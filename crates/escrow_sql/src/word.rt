@@ -1,4 +1,5 @@
-ghost use Rattle.std.specs.Prelude.{◌≡◌, ℕ, List, ◌∷◌, bytes_eq};
+ghost use Rattle.std.specs.Prelude.{◌≡◌, ℕ, List, ◌∷◌, bytes_eq, map};
+ghost use Rattle.std.specs.Char.{to_ascii_uppercase};
 ghost use Rattle.std.specs.List.{find};
 
 /// A reserved word: no name may be one, in any case of its letters.
@@ -178,6 +179,32 @@ impl Word {
         match text {
             [] => None,
             [letter, ..] => Self::among(Self::beginning_with(*letter), text),
+        }
+    }
+
+    /// Whether the bytes write the word, in any case of their letters.
+    fn is_written(self, text: &[u8]) -> bool
+        ensures { result ≡ bytes_eq (spelling self) (map to_ascii_uppercase text.now) }
+    {
+        self.spelling().as_bytes().eq_ignore_ascii_case(text)
+    }
+
+    /// The first of the words that is written so, if one is.
+    fn written_among(words: &[Self], text: &[u8]) -> Option<Self>
+        ensures { result ≡ find (λ w. bytes_eq (spelling w) (map to_ascii_uppercase text.now)) words.now }
+    {
+        words.iter().copied().find(|word| word.is_written(text))
+    }
+
+    /// The reserved word that is written so, in any case of its letters, if one is.
+    pub(crate) fn written(text: &[u8]) -> Option<Self>
+        ensures { result ≡ reserved (map to_ascii_uppercase text.now) }
+    {
+        match text {
+            [] => None,
+            [letter, ..] => {
+                Self::written_among(Self::beginning_with(letter.to_ascii_uppercase()), text)
+            }
         }
     }
 }
