@@ -1,14 +1,17 @@
 -- Names and reserved words as they are written, in any case of their letters.
-use Rattle.std.proofs.Common.{◌≡◌, ℕ, ◌≤◌, Bool, true, false, List, [], ◌∷◌, length, map, bytes_eq, slice_index, ◌↔◌, arith, refl, sym, ap, ap₂, ◌∙◌}
-use Rattle.std.specs.Prelude.{IsTrue}
+use Rattle.std.proofs.Common.{◌≡◌, ℕ, ◌≤◌, ◌<◌, Bool, true, false, List, [], ◌∷◌, ◌+◌, ◌*◌, ◌%◌, Option, Some, None, length, map, bytes_eq, slice_index, get_or, ◌↔◌, arith, refl, sym, ap, ap₂, ◌∙◌}
+use Rattle.std.specs.Prelude.{IsTrue, slice_get}
 use Rattle.std.specs.Char.{to_ascii_lowercase, to_ascii_uppercase, is_ascii_uppercase}
 use Rattle.std.specs.List.{find, list_all}
 use Rattle.std.proofs.lemmas.Bool.Decides.{nat_tests}
 use Rattle.std.proofs.lemmas.Bool.{and_parts}
+use Rattle.std.proofs.lemmas.List.{length-map}
+use Rattle.std.proofs.lemmas.Option.{slice_get_within, get_or_from_slice_get}
 use Rattle.std.proofs.lemmas.Slice.Eq.{bytes_eq-Decides}
 use Rattle.std.proofs.lemmas.Str.Ascii.{uppercase_is, lowercase_is, lowercase-uppercase}
 use Rattle.escrow_num.specs.Name.{is_name_byte, spells_name}
-use Rattle.escrow_sql.specs.Word.{spelling, reserved}
+use Rattle.escrow_sql.specs.Word.{spelling, reserved, reserved_words}
+use Rattle.escrow_sql.specs.declared.word.TheConstants.{WORDS, NUMBERS}
 use Rattle.escrow_sql.specs.declared.word.Word.{Word}
 use Rattle.escrow_sql.specs.declared.word.Word.TheVariants as word
 
@@ -40,60 +43,99 @@ name_kept (c ∷ cs) h =
     let first : to_ascii_uppercase c ≡ c = let u = uppercase_is c in grind (arith, nat_tests, both.0) in
     ap₂ (λ (b : ℕ) (bs : List ℕ). b ∷ bs) first (name_bytes_kept cs both.1)
 
--- a reserved word is spelled in upper case
-spelling_kept : (w : Word) → map to_ascii_uppercase (spelling w) ≡ spelling w
-spelling_kept word.Add = refl
-spelling_kept word.Alter = refl
-spelling_kept word.And = refl
-spelling_kept word.Between = refl
-spelling_kept word.Bounds = refl
-spelling_kept word.Check = refl
-spelling_kept word.Commit = refl
-spelling_kept word.Constraint = refl
-spelling_kept word.Create = refl
-spelling_kept word.Delete = refl
-spelling_kept word.Drop = refl
-spelling_kept word.From = refl
-spelling_kept word.Insert = refl
-spelling_kept word.Integer = refl
-spelling_kept word.Into = refl
-spelling_kept word.Journal = refl
-spelling_kept word.Key = refl
-spelling_kept word.Not = refl
-spelling_kept word.Null = refl
-spelling_kept word.Number = refl
-spelling_kept word.Primary = refl
-spelling_kept word.Reservable = refl
-spelling_kept word.Rollback = refl
-spelling_kept word.Savepoint = refl
-spelling_kept word.Select = refl
-spelling_kept word.Set = refl
-spelling_kept word.Show = refl
-spelling_kept word.Statistics = refl
-spelling_kept word.Table = refl
-spelling_kept word.To = refl
-spelling_kept word.Update = refl
-spelling_kept word.Values = refl
-spelling_kept word.Varchar2 = refl
-spelling_kept word.Where = refl
-spelling_kept word.Work = refl
+-- the place of bytes among the numbers of reserved words, and the word whose number stands there
+abbrev place : List ℕ → ℕ
+place text = (5 * get_or text 0 0 + 3 * get_or text 1 0 + length text) % 128
+
+abbrev candidate : List ℕ → Option Word
+candidate text = slice_get WORDS (get_or NUMBERS (place text) 0)
+
+-- a reserved word is spelled in upper case, is found by its spelling, and has its number at its place
+each_word : (w : Word) → (map to_ascii_uppercase (spelling w) ≡ spelling w) × (reserved (spelling w) ≡ Some w) × (candidate (spelling w) ≡ Some w)
+each_word word.Add = (refl, refl, refl)
+each_word word.Alter = (refl, refl, refl)
+each_word word.And = (refl, refl, refl)
+each_word word.Between = (refl, refl, refl)
+each_word word.Bounds = (refl, refl, refl)
+each_word word.Check = (refl, refl, refl)
+each_word word.Commit = (refl, refl, refl)
+each_word word.Constraint = (refl, refl, refl)
+each_word word.Create = (refl, refl, refl)
+each_word word.Delete = (refl, refl, refl)
+each_word word.Drop = (refl, refl, refl)
+each_word word.From = (refl, refl, refl)
+each_word word.Insert = (refl, refl, refl)
+each_word word.Integer = (refl, refl, refl)
+each_word word.Into = (refl, refl, refl)
+each_word word.Journal = (refl, refl, refl)
+each_word word.Key = (refl, refl, refl)
+each_word word.Not = (refl, refl, refl)
+each_word word.Null = (refl, refl, refl)
+each_word word.Number = (refl, refl, refl)
+each_word word.Primary = (refl, refl, refl)
+each_word word.Reservable = (refl, refl, refl)
+each_word word.Rollback = (refl, refl, refl)
+each_word word.Savepoint = (refl, refl, refl)
+each_word word.Select = (refl, refl, refl)
+each_word word.Set = (refl, refl, refl)
+each_word word.Show = (refl, refl, refl)
+each_word word.Statistics = (refl, refl, refl)
+each_word word.Table = (refl, refl, refl)
+each_word word.To = (refl, refl, refl)
+each_word word.Update = (refl, refl, refl)
+each_word word.Values = (refl, refl, refl)
+each_word word.Varchar2 = (refl, refl, refl)
+each_word word.Where = (refl, refl, refl)
+each_word word.Work = (refl, refl, refl)
+
+candidate_is : (text : List ℕ) (first second : ℕ) → 2 ≤ length text → first ≡ to_ascii_uppercase (slice_index text 0) → second ≡ to_ascii_uppercase (slice_index text 1)
+    → (w : Word) → map to_ascii_uppercase text ≡ spelling w → slice_get WORDS (get_or NUMBERS ((5 * first + 3 * second + length text) % 128) 0) ≡ Some w
+candidate_is [] first second some f s w same = absurd (omega arith)
+candidate_is (c ∷ []) first second some f s w same = absurd (omega arith)
+candidate_is (c ∷ (d ∷ cs)) first second some f s w same =
+    rw (f, s) (ap (λ (n : ℕ). slice_get WORDS (get_or NUMBERS ((5 * to_ascii_uppercase c + 3 * to_ascii_uppercase d + n) % 128) 0)) (sym (length-map (c ∷ (d ∷ cs)) to_ascii_uppercase)) ∙ (ap candidate same ∙ (each_word w).2))
+
+-- what the number at the place is, where the bytes are a reserved word
+pub number_is : (text : List ℕ) (first second number : ℕ) → 2 ≤ length text → first ≡ to_ascii_uppercase (slice_index text 0) → second ≡ to_ascii_uppercase (slice_index text 1)
+    → number ≡ get_or NUMBERS ((5 * first + 3 * second + length text) % 128) 0 → (w : Word) → map to_ascii_uppercase text ≡ spelling w
+    → (number < length WORDS) × ((d : Word) → get_or WORDS number d ≡ w)
+number_is text first second number some f s e w same =
+    let found : slice_get WORDS number ≡ Some w = rw e (candidate_is text first second some f s w same) in
+    (slice_get_within WORDS number w found, λ d. get_or_from_slice_get WORDS number w d found)
 
 same_answer : (a b : Bool) → (a ≡ true → b ≡ true) → (b ≡ true → a ≡ true) → a ≡ b
 same_answer true b there back = sym (there refl)
 same_answer false true there back = back refl
 same_answer false false there back = refl
 
+-- what is spelled as the word is so in upper case too
+pub kept_in_upper_case : (text : List ℕ) (w : Word) → text ≡ spelling w → map to_ascii_uppercase text ≡ spelling w
+kept_in_upper_case text w e = ap (map to_ascii_uppercase) e ∙ (each_word w).0
+
+pub is_spelled : (w : Word) (text : List ℕ) (r : Bool) → r ≡ bytes_eq (spelling w) text → r ≡ true → r ≡ bytes_eq (spelling w) (map to_ascii_uppercase text)
+is_spelled w text r e h =
+    let same : text ≡ spelling w = sym ((bytes_eq-Decides (spelling w) text).0 (sym e ∙ h)) in
+    h ∙ sym ((bytes_eq-Decides (spelling w) (map to_ascii_uppercase text)).1 (sym (kept_in_upper_case text w same)))
+
 -- what is the word without regard to case is the word in upper case
 pub is_written : (w : Word) (text : List ℕ) (r : Bool) → (IsTrue r ↔ (map to_ascii_lowercase (spelling w) ≡ map to_ascii_lowercase text)) → r ≡ bytes_eq (spelling w) (map to_ascii_uppercase text)
 is_written w text r test =
     let decides = bytes_eq-Decides (spelling w) (map to_ascii_uppercase text) in
     same_answer r (bytes_eq (spelling w) (map to_ascii_uppercase text))
-    (λ h. decides.1 (sym (spelling_kept w) ∙ (sym (upper_of_lower (spelling w)) ∙ (ap (map to_ascii_uppercase) (test.0 h) ∙ upper_of_lower text))))
+    (λ h. decides.1 (sym ((each_word w).0) ∙ (sym (upper_of_lower (spelling w)) ∙ (ap (map to_ascii_uppercase) (test.0 h) ∙ upper_of_lower text))))
     (λ h. test.1 (ap (map to_ascii_lowercase) (decides.0 h) ∙ lower_of_upper text))
 
--- what holds behind the first letter holds of bytes that have one
-pub written_first : (text : List ℕ) (letter : ℕ) (words : List Word) → 1 ≤ length text → letter ≡ to_ascii_uppercase (slice_index text 0)
-    → ((rest : List ℕ) → find (λ w. bytes_eq (spelling w) (letter ∷ rest)) words ≡ reserved (letter ∷ rest))
-    → find (λ w. bytes_eq (spelling w) (map to_ascii_uppercase text)) words ≡ reserved (map to_ascii_uppercase text)
-written_first [] letter words some is same = elim some [ ]
-written_first (c ∷ cs) letter words some is same = rw (← is) (same (map to_ascii_uppercase cs))
+-- where the only candidate is spelled so it is the reserved word, and else there is none
+pub is_reserved : (text : List ℕ) (w : Word) → bytes_eq (spelling w) text ≡ true → Some w ≡ reserved text
+is_reserved text w h = sym (ap reserved (sym ((bytes_eq-Decides (spelling w) text).0 h)) ∙ (each_word w).1)
+
+find_none : (p : Word → Bool) (words : List Word) → ((w : Word) → p w ≡ false) → find p words ≡ None
+find_none p [] h = refl
+find_none p (w ∷ words) h = rw (h w) (find_none p words h)
+
+only_one : (text : List ℕ) (found : Option Word) (w : Word) (b : Bool) → b ≡ bytes_eq (spelling w) text → (text ≡ spelling w → found ≡ Some w) → (found ≡ Some w → b ≡ false) → b ≡ false
+only_one text found w true e one other = other (one (sym ((bytes_eq-Decides (spelling w) text).0 (sym e))))
+only_one text found w false e one other = refl
+
+pub not_reserved : (text : List ℕ) (found : Option Word) → ((w : Word) → text ≡ spelling w → found ≡ Some w) → ((w : Word) → found ≡ Some w → bytes_eq (spelling w) text ≡ false) → None ≡ reserved text
+not_reserved text found one other = sym (find_none (λ w. bytes_eq (spelling w) text) reserved_words (λ w. only_one text found w (bytes_eq (spelling w) text) refl (one w) (other w)))

@@ -10,11 +10,34 @@ use crate::word::Word;
 use crate::written::WrittenName;
 use escrow_num::Name;
 
+/// For each byte whether a name may go on with it.
+const GOES_ON: [bool; 256] = [
+    false, false, false, false, false, false, false, false, false, false, false, false, false,
+    false, false, false, false, false, false, false, false, false, false, false, false, false,
+    false, false, false, false, false, false, false, false, false, true, true, false, false, false,
+    false, false, false, false, false, false, false, false, true, true, true, true, true, true,
+    true, true, true, true, false, false, false, false, false, false, false, true, true, true,
+    true, true, true, true, true, true, true, true, true, true, true, true, true, true, true, true,
+    true, true, true, true, true, true, true, false, false, false, false, true, false, true, true,
+    true, true, true, true, true, true, true, true, true, true, true, true, true, true, true, true,
+    true, true, true, true, true, true, true, true, false, false, false, false, false, false,
+    false, false, false, false, false, false, false, false, false, false, false, false, false,
+    false, false, false, false, false, false, false, false, false, false, false, false, false,
+    false, false, false, false, false, false, false, false, false, false, false, false, false,
+    false, false, false, false, false, false, false, false, false, false, false, false, false,
+    false, false, false, false, false, false, false, false, false, false, false, false, false,
+    false, false, false, false, false, false, false, false, false, false, false, false, false,
+    false, false, false, false, false, false, false, false, false, false, false, false, false,
+    false, false, false, false, false, false, false, false, false, false, false, false, false,
+    false, false, false, false, false, false, false, false, false, false, false, false, false,
+    false, false, false, false, false, false, false, false, false, false,
+];
+
 /// Whether a name may go on with the byte.
 fn goes_on(byte: u8) -> bool
     ensures { result ≡ goes_on byte }
 {
-    byte.is_ascii_alphanumeric() || byte == b'_' || byte == b'$' || byte == b'#'
+    GOES_ON[usize::from(byte)]
 }
 
 /// How many bytes at the front a name may go on with.
