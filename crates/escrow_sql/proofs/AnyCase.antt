@@ -48,7 +48,7 @@ abbrev place : List ℕ → ℕ
 place text = (5 * get_or text 0 0 + 3 * get_or text 1 0 + length text) % 128
 
 abbrev candidate : List ℕ → Option Word
-candidate text = slice_get WORDS (get_or NUMBERS (place text) 0)
+candidate text = slice_get WORDS.now (get_or NUMBERS (place text) 0)
 
 -- a reserved word is spelled in upper case, is found by its spelling, and has its number at its place
 each_word : (w : Word) → (map to_ascii_uppercase (spelling w) ≡ spelling w) × (reserved (spelling w) ≡ Some w) × (candidate (spelling w) ≡ Some w)
@@ -89,19 +89,19 @@ each_word word.Where = (refl, refl, refl)
 each_word word.Work = (refl, refl, refl)
 
 candidate_is : (text : List ℕ) (first second : ℕ) → 2 ≤ length text → first ≡ to_ascii_uppercase (slice_index text 0) → second ≡ to_ascii_uppercase (slice_index text 1)
-    → (w : Word) → map to_ascii_uppercase text ≡ spelling w → slice_get WORDS (get_or NUMBERS ((5 * first + 3 * second + length text) % 128) 0) ≡ Some w
+    → (w : Word) → map to_ascii_uppercase text ≡ spelling w → slice_get WORDS.now (get_or NUMBERS ((5 * first + 3 * second + length text) % 128) 0) ≡ Some w
 candidate_is [] first second some f s w same = absurd (omega arith)
 candidate_is (c ∷ []) first second some f s w same = absurd (omega arith)
 candidate_is (c ∷ (d ∷ cs)) first second some f s w same =
-    rw (f, s) (ap (λ (n : ℕ). slice_get WORDS (get_or NUMBERS ((5 * to_ascii_uppercase c + 3 * to_ascii_uppercase d + n) % 128) 0)) (sym (length-map (c ∷ (d ∷ cs)) to_ascii_uppercase)) ∙ (ap candidate same ∙ (each_word w).2))
+    rw (f, s) (ap (λ (n : ℕ). slice_get WORDS.now (get_or NUMBERS ((5 * to_ascii_uppercase c + 3 * to_ascii_uppercase d + n) % 128) 0)) (sym (length-map (c ∷ (d ∷ cs)) to_ascii_uppercase)) ∙ (ap candidate same ∙ (each_word w).2))
 
 -- what the number at the place is, where the bytes are a reserved word
 pub number_is : (text : List ℕ) (first second number : ℕ) → 2 ≤ length text → first ≡ to_ascii_uppercase (slice_index text 0) → second ≡ to_ascii_uppercase (slice_index text 1)
     → number ≡ get_or NUMBERS ((5 * first + 3 * second + length text) % 128) 0 → (w : Word) → map to_ascii_uppercase text ≡ spelling w
-    → (number < length WORDS) × ((d : Word) → get_or WORDS number d ≡ w)
+    → (number < length WORDS.now) × ((d : Word) → get_or WORDS.now number d ≡ w)
 number_is text first second number some f s e w same =
-    let found : slice_get WORDS number ≡ Some w = rw e (candidate_is text first second some f s w same) in
-    (slice_get_within WORDS number w found, λ d. get_or_from_slice_get WORDS number w d found)
+    let found : slice_get WORDS.now number ≡ Some w = rw e (candidate_is text first second some f s w same) in
+    (slice_get_within WORDS.now number w found, λ d. get_or_from_slice_get WORDS.now number w d found)
 
 same_answer : (a b : Bool) → (a ≡ true → b ≡ true) → (b ≡ true → a ≡ true) → a ≡ b
 same_answer true b there back = sym (there refl)

@@ -9,6 +9,7 @@ use crate::halt::Halt;
 use crate::lexeme::Lexeme;
 use crate::token::{Kind, Symbol};
 use crate::word::Word;
+use crate::written::WrittenName;
 use escrow_num::{Amount, Decimal, Name, Text};
 use std::alloc::Global;
 
@@ -20,7 +21,7 @@ pub(crate) struct Cursor<'a> {
     pub(crate) tokens: &'a [Lexeme<'a>],
 }
 
-impl Cursor<'_> {
+impl<'a> Cursor<'a> {
     /// Whether a reserved word comes next.
     pub(crate) fn is_at_word(&self, expected: Word) -> bool
         ensures { result ≡ starts (class_number (kind.Word expected) ∷ []) self.now.tokens.now }
@@ -121,8 +122,8 @@ impl Cursor<'_> {
         }
     }
 
-    /// Reads a name.
-    pub(crate) fn name(&mut self) -> Result<Name, Halt>
+    /// Reads a name, and answers it as it is written.
+    pub(crate) fn written_name(&mut self) -> Result<WrittenName<'a>, Halt>
         ensures { Advances self.new.tokens.now result (run name self.old.tokens.now) }
     {
         let [token, rest @ ..] = self.tokens else {
@@ -135,6 +136,14 @@ impl Cursor<'_> {
             }
             None => Err(Halt::Syntax),
         }
+    }
+
+    /// Reads a name.
+    pub(crate) fn name(&mut self) -> Result<Name, Halt>
+        ensures { Advances self.new.tokens.now result (run name self.old.tokens.now) }
+    {
+        let written = self.written_name()?;
+        Ok(written.name())
     }
 
     /// Reads a number without a point.

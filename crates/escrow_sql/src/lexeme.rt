@@ -5,7 +5,7 @@ ghost use Rattle.escrow_sql.specs.declared.token.Kind.TheVariants as kind;
 use crate::token::{Kind, Symbol, Token};
 use crate::word::Word;
 use crate::written::{WrittenName, WrittenText};
-use escrow_num::{Amount, Decimal, Name, Text};
+use escrow_num::{Amount, Decimal, Text};
 use std::alloc::{AllocError, Global};
 use std::marker::Model;
 
@@ -26,22 +26,46 @@ pub(crate) enum Sort<'a> {
     Symbol(Symbol),
 }
 
+impl Sort<'_> {
+    ghost use Rattle.escrow_sql.specs.Lexeme.{kind_of};
+
+    /// The number of its class: what it is, without what it holds.
+    fn class(&self) -> u8
+        ensures { result ≡ class_number (kind_of self.now) }
+    {
+        match self {
+            Sort::Name(_) => Kind::NAME,
+            Sort::Number(_) => Kind::NUMBER,
+            Sort::Decimal(_) => Kind::DECIMAL,
+            Sort::Text(_) => Kind::TEXT,
+            Sort::Symbol(symbol) => Kind::Symbol(*symbol).class(),
+            Sort::Word(word) => Kind::Word(*word).class(),
+        }
+    }
+}
+
 /// A token of a text that borrows the text's bytes: it takes no memory of its own, and is small.
 /// Contracts see it as the [`Token`] that it is.
 #[derive(Debug, Drop)]
 pub(crate) struct Lexeme<'a> {
+    /// The class of its sort, which the parser asks for most.
+    class: u8,
     sort: Sort<'a>,
     start: usize,
     end: usize,
 }
 
 impl<'a> Model for Lexeme<'a> {
+    ghost use Rattle.std.specs.Prelude.{◌≡◌};
+    ghost use Rattle.escrow_sql.specs.Classes.{class_number};
     ghost use Rattle.escrow_sql.specs.Lexeme.{kind_of};
     ghost use Rattle.escrow_sql.specs.declared.token.Token.{Token};
 
     ghost Value = { Token };
 
     ghost view = { λ l. record { kind = kind_of l.sort; start = l.start; end = l.end } };
+
+    ghost invariant = { λ l. l.class ≡ class_number (kind_of l.sort) };
 }
 
 impl<'a> Lexeme<'a> {
@@ -51,7 +75,12 @@ impl<'a> Lexeme<'a> {
     pub(crate) fn new(sort: Sort<'a>, start: usize, end: usize) -> Self
         ensures { result ≡ record { kind = kind_of sort.entry; start = start; end = end } }
     {
-        Lexeme { sort, start, end }
+        Lexeme {
+            class: sort.class(),
+            sort,
+            start,
+            end,
+        }
     }
 
     /// Where its first byte is, from 0.
@@ -61,26 +90,19 @@ impl<'a> Lexeme<'a> {
         self.start
     }
 
-    /// The number of its class: what it is, without what it holds.
+    /// The number of its class.
     pub(crate) fn class(&self) -> u8
         ensures { result ≡ class_number self.now.kind }
     {
-        match &self.sort {
-            Sort::Name(_) => Kind::NAME,
-            Sort::Number(_) => Kind::NUMBER,
-            Sort::Decimal(_) => Kind::DECIMAL,
-            Sort::Text(_) => Kind::TEXT,
-            Sort::Symbol(symbol) => Kind::Symbol(*symbol).class(),
-            Sort::Word(word) => Kind::Word(*word).class(),
-        }
+        self.class
     }
 
     /// The name that it is, if it is one.
-    pub(crate) fn name(&self) -> Option<Name>
+    pub(crate) fn name(&self) -> Option<WrittenName<'a>>
         ensures { MatchOption result ((class_number self.now.kind == 0) ≡ false) (λ n. self.now.kind ≡ kind.Name n) }
     {
         match &self.sort {
-            Sort::Name(name) => Some(name.name()),
+            Sort::Name(name) => Some(name.copied()),
             _ => None,
         }
     }

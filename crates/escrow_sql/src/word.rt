@@ -77,7 +77,7 @@ pub enum Word {
 }
 
 /// The reserved words, in the alphabet's order.
-const WORDS: [Word; 35] = [
+const WORDS: &[Word] = &[
     Word::Add,
     Word::Alter,
     Word::And,

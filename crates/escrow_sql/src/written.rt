@@ -34,6 +34,13 @@ impl<'a> WrittenName<'a> {
         WrittenName { bytes }
     }
 
+    /// The same name, which borrows the text alone.
+    pub(crate) fn copied(&self) -> Self
+        ensures { result ≡ self.now }
+    {
+        WrittenName { bytes: self.bytes }
+    }
+
     /// The name itself. One that is written in upper case is taken as it stands.
     pub(crate) fn name(&self) -> Name
         ensures { result ≡ self.now }
