@@ -10,10 +10,10 @@ use Rattle.std.proofs.lemmas.Option.{slice_get_within, get_or_from_slice_get}
 use Rattle.std.proofs.lemmas.Slice.Eq.{bytes_eq-Decides}
 use Rattle.std.proofs.lemmas.Str.Ascii.{uppercase_is, lowercase_is, lowercase-uppercase}
 use Rattle.escrow_num.specs.Name.{is_name_byte, spells_name}
+use Rattle.escrow_sql.proofs.ClassLemmas.{each_word}
 use Rattle.escrow_sql.specs.Word.{spelling, reserved, reserved_words}
 use Rattle.escrow_sql.specs.declared.word.TheConstants.{WORDS, NUMBERS}
 use Rattle.escrow_sql.specs.declared.word.Word.{Word}
-use Rattle.escrow_sql.specs.declared.word.Word.TheVariants as word
 
 uppercase-lowercase : (c : ℕ) → to_ascii_uppercase (to_ascii_lowercase c) ≡ to_ascii_uppercase c
 uppercase-lowercase c = let u = uppercase_is c in let l = lowercase_is c in let v = uppercase_is (to_ascii_lowercase c) in grind (arith, nat_tests)
@@ -50,50 +50,22 @@ place text = (5 * get_or text 0 0 + 3 * get_or text 1 0 + length text) % 128
 abbrev candidate : List ℕ → Option Word
 candidate text = slice_get WORDS.now (get_or NUMBERS (place text) 0)
 
--- a reserved word is spelled in upper case, is found by its spelling, and has its number at its place
-each_word : (w : Word) → (map to_ascii_uppercase (spelling w) ≡ spelling w) × (reserved (spelling w) ≡ Some w) × (candidate (spelling w) ≡ Some w)
-each_word word.Add = (refl, refl, refl)
-each_word word.Alter = (refl, refl, refl)
-each_word word.And = (refl, refl, refl)
-each_word word.Between = (refl, refl, refl)
-each_word word.Bounds = (refl, refl, refl)
-each_word word.Check = (refl, refl, refl)
-each_word word.Commit = (refl, refl, refl)
-each_word word.Constraint = (refl, refl, refl)
-each_word word.Create = (refl, refl, refl)
-each_word word.Delete = (refl, refl, refl)
-each_word word.Drop = (refl, refl, refl)
-each_word word.From = (refl, refl, refl)
-each_word word.Insert = (refl, refl, refl)
-each_word word.Integer = (refl, refl, refl)
-each_word word.Into = (refl, refl, refl)
-each_word word.Journal = (refl, refl, refl)
-each_word word.Key = (refl, refl, refl)
-each_word word.Not = (refl, refl, refl)
-each_word word.Null = (refl, refl, refl)
-each_word word.Number = (refl, refl, refl)
-each_word word.Primary = (refl, refl, refl)
-each_word word.Reservable = (refl, refl, refl)
-each_word word.Rollback = (refl, refl, refl)
-each_word word.Savepoint = (refl, refl, refl)
-each_word word.Select = (refl, refl, refl)
-each_word word.Set = (refl, refl, refl)
-each_word word.Show = (refl, refl, refl)
-each_word word.Statistics = (refl, refl, refl)
-each_word word.Table = (refl, refl, refl)
-each_word word.To = (refl, refl, refl)
-each_word word.Update = (refl, refl, refl)
-each_word word.Values = (refl, refl, refl)
-each_word word.Varchar2 = (refl, refl, refl)
-each_word word.Where = (refl, refl, refl)
-each_word word.Work = (refl, refl, refl)
+spelled_in_upper_case : (w : Word) → map to_ascii_uppercase (spelling w) ≡ spelling w
+spelled_in_upper_case = each_word (λ w. map to_ascii_uppercase (spelling w)) spelling refl
+
+found_by_spelling : (w : Word) → reserved (spelling w) ≡ Some w
+found_by_spelling = each_word (λ w. reserved (spelling w)) Some refl
+
+-- the number of a reserved word stands at its place
+found_at_place : (w : Word) → candidate (spelling w) ≡ Some w
+found_at_place = each_word (λ w. candidate (spelling w)) Some refl
 
 candidate_is : (text : List ℕ) (first second : ℕ) → 2 ≤ length text → first ≡ to_ascii_uppercase (slice_index text 0) → second ≡ to_ascii_uppercase (slice_index text 1)
     → (w : Word) → map to_ascii_uppercase text ≡ spelling w → slice_get WORDS.now (get_or NUMBERS ((5 * first + 3 * second + length text) % 128) 0) ≡ Some w
 candidate_is [] first second some f s w same = absurd (omega arith)
 candidate_is (c ∷ []) first second some f s w same = absurd (omega arith)
 candidate_is (c ∷ (d ∷ cs)) first second some f s w same =
-    rw (f, s) (ap (λ (n : ℕ). slice_get WORDS.now (get_or NUMBERS ((5 * to_ascii_uppercase c + 3 * to_ascii_uppercase d + n) % 128) 0)) (sym (length-map (c ∷ (d ∷ cs)) to_ascii_uppercase)) ∙ (ap candidate same ∙ (each_word w).2))
+    rw (f, s) (ap (λ (n : ℕ). slice_get WORDS.now (get_or NUMBERS ((5 * to_ascii_uppercase c + 3 * to_ascii_uppercase d + n) % 128) 0)) (sym (length-map (c ∷ (d ∷ cs)) to_ascii_uppercase)) ∙ (ap candidate same ∙ found_at_place w))
 
 -- what the number at the place is, where the bytes are a reserved word
 pub number_is : (text : List ℕ) (first second number : ℕ) → 2 ≤ length text → first ≡ to_ascii_uppercase (slice_index text 0) → second ≡ to_ascii_uppercase (slice_index text 1)
@@ -110,7 +82,7 @@ same_answer false false there back = refl
 
 -- what is spelled as the word is so in upper case too
 pub kept_in_upper_case : (text : List ℕ) (w : Word) → text ≡ spelling w → map to_ascii_uppercase text ≡ spelling w
-kept_in_upper_case text w e = ap (map to_ascii_uppercase) e ∙ (each_word w).0
+kept_in_upper_case text w e = ap (map to_ascii_uppercase) e ∙ spelled_in_upper_case w
 
 pub is_spelled : (w : Word) (text : List ℕ) (r : Bool) → r ≡ bytes_eq (spelling w) text → r ≡ true → r ≡ bytes_eq (spelling w) (map to_ascii_uppercase text)
 is_spelled w text r e h =
@@ -122,12 +94,12 @@ pub is_written : (w : Word) (text : List ℕ) (r : Bool) → (IsTrue r ↔ (map 
 is_written w text r test =
     let decides = bytes_eq-Decides (spelling w) (map to_ascii_uppercase text) in
     same_answer r (bytes_eq (spelling w) (map to_ascii_uppercase text))
-    (λ h. decides.1 (sym ((each_word w).0) ∙ (sym (upper_of_lower (spelling w)) ∙ (ap (map to_ascii_uppercase) (test.0 h) ∙ upper_of_lower text))))
+    (λ h. decides.1 (sym (spelled_in_upper_case w) ∙ (sym (upper_of_lower (spelling w)) ∙ (ap (map to_ascii_uppercase) (test.0 h) ∙ upper_of_lower text))))
     (λ h. test.1 (ap (map to_ascii_lowercase) (decides.0 h) ∙ lower_of_upper text))
 
 -- where the only candidate is spelled so it is the reserved word, and else there is none
 pub is_reserved : (text : List ℕ) (w : Word) → bytes_eq (spelling w) text ≡ true → Some w ≡ reserved text
-is_reserved text w h = sym (ap reserved (sym ((bytes_eq-Decides (spelling w) text).0 h)) ∙ (each_word w).1)
+is_reserved text w h = sym (ap reserved (sym ((bytes_eq-Decides (spelling w) text).0 h)) ∙ found_by_spelling w)
 
 find_none : (p : Word → Bool) (words : List Word) → ((w : Word) → p w ≡ false) → find p words ≡ None
 find_none p [] h = refl
