@@ -1,15 +1,13 @@
 -- Names and reserved words as they are written, in any case of their letters.
 use Rattle.std.proofs.Common.{◌≡◌, ℕ, ◌≤◌, ◌<◌, Bool, true, false, List, [], ◌∷◌, ◌+◌, ◌*◌, ◌%◌, Option, Some, None, length, map, bytes_eq, slice_index, get_or, ◌↔◌, arith, refl, sym, ap, ap₂, ◌∙◌}
 use Rattle.std.specs.Prelude.{IsTrue, slice_get}
-use Rattle.std.specs.Char.{to_ascii_lowercase, to_ascii_uppercase, is_ascii_uppercase}
-use Rattle.std.specs.List.{find, list_all}
+use Rattle.std.specs.Char.{to_ascii_lowercase, to_ascii_uppercase}
+use Rattle.std.specs.List.{find}
 use Rattle.std.proofs.lemmas.Bool.Decides.{nat_tests}
-use Rattle.std.proofs.lemmas.Bool.{and_parts}
 use Rattle.std.proofs.lemmas.List.{length-map}
 use Rattle.std.proofs.lemmas.Option.{slice_get_within, get_or_from_slice_get}
 use Rattle.std.proofs.lemmas.Slice.Eq.{bytes_eq-Decides}
 use Rattle.std.proofs.lemmas.Str.Ascii.{uppercase_is, lowercase_is, lowercase-uppercase}
-use Rattle.escrow_num.specs.Name.{is_name_byte, spells_name}
 use Rattle.escrow_sql.proofs.ClassLemmas.{each_word}
 use Rattle.escrow_sql.specs.Word.{spelling, reserved, reserved_words}
 use Rattle.escrow_sql.specs.declared.word.TheConstants.{WORDS, NUMBERS}
@@ -25,23 +23,6 @@ upper_of_lower (c ∷ cs) = ap₂ (λ (b : ℕ) (bs : List ℕ). b ∷ bs) (uppe
 lower_of_upper : (text : List ℕ) → map to_ascii_lowercase (map to_ascii_uppercase text) ≡ map to_ascii_lowercase text
 lower_of_upper [] = refl
 lower_of_upper (c ∷ cs) = ap₂ (λ (b : ℕ) (bs : List ℕ). b ∷ bs) (lowercase-uppercase c) (lower_of_upper cs)
-
--- a byte of a name in upper case stays as it is
-name_byte_kept : (c : ℕ) → is_name_byte c ≡ true → to_ascii_uppercase c ≡ c
-name_byte_kept c h = let u = uppercase_is c in grind (arith, nat_tests)
-
-name_bytes_kept : (bytes : List ℕ) → list_all is_name_byte bytes ≡ true → map to_ascii_uppercase bytes ≡ bytes
-name_bytes_kept [] h = refl
-name_bytes_kept (c ∷ cs) h =
-    let both = and_parts (is_name_byte c) (list_all is_name_byte cs) h in
-    ap₂ (λ (b : ℕ) (bs : List ℕ). b ∷ bs) (name_byte_kept c both.0) (name_bytes_kept cs both.1)
-
-pub name_kept : (bytes : List ℕ) → spells_name bytes ≡ true → map to_ascii_uppercase bytes ≡ bytes
-name_kept [] h = refl
-name_kept (c ∷ cs) h =
-    let both = and_parts (is_ascii_uppercase c) (list_all is_name_byte cs) h in
-    let first : to_ascii_uppercase c ≡ c = let u = uppercase_is c in grind (arith, nat_tests, both.0) in
-    ap₂ (λ (b : ℕ) (bs : List ℕ). b ∷ bs) first (name_bytes_kept cs both.1)
 
 -- the place of bytes among the numbers of reserved words, and the word whose number stands there
 abbrev place : List ℕ → ℕ

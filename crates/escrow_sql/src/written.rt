@@ -41,27 +41,12 @@ impl<'a> WrittenName<'a> {
         WrittenName { bytes: self.bytes }
     }
 
-    /// The name itself. One that is written in upper case is taken as it stands.
+    /// The name itself.
     pub(crate) fn name(&self) -> Name
         ensures { result ≡ self.now }
     {
-        match Name::new(self.bytes) {
-            Some(name) => name,
-            None => in_upper_case(self.bytes),
-        }
+        Name::in_upper_case(self.bytes)
     }
-}
-
-/// The name of the bytes in upper case.
-fn in_upper_case(bytes: &[u8]) -> Name
-    requires { IsName (map to_ascii_uppercase bytes.now) }
-    ensures { result ≡ map to_ascii_uppercase bytes.now }
-{
-    let mut place = [0; Name::MAX_LEN];
-    let upper = &mut place[..bytes.len()];
-    upper.copy_from_slice(bytes);
-    upper.make_ascii_uppercase();
-    Name::new(upper).unwrap()
 }
 
 /// A text as a statement writes it, each quote in it twice. Contracts see each once.
