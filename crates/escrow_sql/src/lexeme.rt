@@ -48,11 +48,11 @@ impl Sort<'_> {
 /// Contracts see it as the [`Token`] that it is.
 #[derive(Debug, Drop)]
 pub(crate) struct Lexeme<'a> {
-    /// The class of its sort, which the parser asks for most.
-    class: u8,
     sort: Sort<'a>,
     start: usize,
     end: usize,
+    /// The class of its sort, which the parser asks for most.
+    class: u8,
 }
 
 impl<'a> Model for Lexeme<'a> {
