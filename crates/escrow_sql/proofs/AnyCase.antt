@@ -3,6 +3,7 @@ use Rattle.std.proofs.Common.{◌≡◌, ℕ, ◌≤◌, ◌<◌, Bool, true, fa
 use Rattle.std.specs.Prelude.{IsTrue, slice_get}
 use Rattle.std.specs.Char.{to_ascii_lowercase, to_ascii_uppercase}
 use Rattle.std.specs.List.{find}
+use Rattle.std.proofs.Math.Nat.{add-mod_right}
 use Rattle.std.proofs.lemmas.Bool.Decides.{nat_tests}
 use Rattle.std.proofs.lemmas.List.{length-map}
 use Rattle.std.proofs.lemmas.Option.{slice_get_within, get_or_from_slice_get}
@@ -26,7 +27,7 @@ lower_of_upper (c ∷ cs) = ap₂ (λ (b : ℕ) (bs : List ℕ). b ∷ bs) (lowe
 
 -- the place of bytes among the numbers of reserved words, and the word whose number stands there
 abbrev place : List ℕ → ℕ
-place text = (5 * get_or text 0 0 + 3 * get_or text 1 0 + length text) % 128
+place text = (5 * (get_or text 0 0 % 32) + 3 * (get_or text 1 0 % 32) + length text) % 128
 
 abbrev candidate : List ℕ → Option Word
 candidate text = slice_get WORDS.now (get_or NUMBERS (place text) 0)
@@ -41,15 +42,19 @@ found_by_spelling = each_word (λ w. reserved (spelling w)) Some refl
 found_at_place : (w : Word) → candidate (spelling w) ≡ Some w
 found_at_place = each_word (λ w. candidate (spelling w)) Some refl
 
-candidate_is : (text : List ℕ) (first second : ℕ) → 2 ≤ length text → first ≡ to_ascii_uppercase (slice_index text 0) → second ≡ to_ascii_uppercase (slice_index text 1)
+same_letter : (c : ℕ) → to_ascii_uppercase c % 32 ≡ c % 32
+same_letter c = let u = uppercase_is c in let m = add-mod_right (to_ascii_uppercase c) 32 in grind (arith, nat_tests)
+
+candidate_is : (text : List ℕ) (first second : ℕ) → 2 ≤ length text → first ≡ slice_index text 0 % 32 → second ≡ slice_index text 1 % 32
     → (w : Word) → map to_ascii_uppercase text ≡ spelling w → slice_get WORDS.now (get_or NUMBERS ((5 * first + 3 * second + length text) % 128) 0) ≡ Some w
 candidate_is [] first second some f s w same = absurd (omega arith)
 candidate_is (c ∷ []) first second some f s w same = absurd (omega arith)
 candidate_is (c ∷ (d ∷ cs)) first second some f s w same =
-    rw (f, s) (ap (λ (n : ℕ). slice_get WORDS.now (get_or NUMBERS ((5 * to_ascii_uppercase c + 3 * to_ascii_uppercase d + n) % 128) 0)) (sym (length-map (c ∷ (d ∷ cs)) to_ascii_uppercase)) ∙ (ap candidate same ∙ found_at_place w))
+    rw (f ∙ sym (same_letter c), s ∙ sym (same_letter d))
+    (ap (λ (n : ℕ). slice_get WORDS.now (get_or NUMBERS ((5 * (to_ascii_uppercase c % 32) + 3 * (to_ascii_uppercase d % 32) + n) % 128) 0)) (sym (length-map (c ∷ (d ∷ cs)) to_ascii_uppercase)) ∙ (ap candidate same ∙ found_at_place w))
 
 -- what the number at the place is, where the bytes are a reserved word
-pub number_is : (text : List ℕ) (first second number : ℕ) → 2 ≤ length text → first ≡ to_ascii_uppercase (slice_index text 0) → second ≡ to_ascii_uppercase (slice_index text 1)
+pub number_is : (text : List ℕ) (first second number : ℕ) → 2 ≤ length text → first ≡ slice_index text 0 % 32 → second ≡ slice_index text 1 % 32
     → number ≡ get_or NUMBERS ((5 * first + 3 * second + length text) % 128) 0 → (w : Word) → map to_ascii_uppercase text ≡ spelling w
     → (number < length WORDS.now) × ((d : Word) → get_or WORDS.now number d ≡ w)
 number_is text first second number some f s e w same =

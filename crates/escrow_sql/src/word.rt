@@ -180,15 +180,15 @@ impl Word {
     }
 
     /// The reserved word that the bytes may be, in any case of their letters: the only one whose
-    /// first two letters and length lead to the same place.
+    /// first two letters and length lead to the same place. Modulo 32 the case doesn't count.
     fn candidate(text: &[u8]) -> Option<Self>
         ensures { (w : Word) → map to_ascii_uppercase text.now ≡ spelling w → result ≡ Some w }
     {
         let [first, second, ..] = text else {
             return None;
         };
-        let first = usize::from(first.to_ascii_uppercase());
-        let second = usize::from(second.to_ascii_uppercase());
+        let first = usize::from(*first % 32);
+        let second = usize::from(*second % 32);
         let place = (5 * first + 3 * second + text.len()) % NUMBERS.len();
         let number = usize::from(NUMBERS[place]);
         if number < WORDS.len() {
