@@ -1,4 +1,5 @@
-ghost use Rattle.std.specs.Prelude.{◌≡◌, SomeIff, Some, refl, bytes_eq};
+ghost use Rattle.std.specs.Prelude.{◌≡◌, SomeIff, Some, refl, bytes_eq, map};
+ghost use Rattle.std.specs.Char.{to_ascii_uppercase};
 ghost use Rattle.std.proofs.Common.{rules};
 ghost use Rattle.std.specs.Hash as fed;
 ghost use Rattle.std.specs.Ordering.{nat_cmp};
@@ -57,14 +58,22 @@ impl Name {
         if !spells_name(text) || Self::MAX_LEN < text.len() {
             return None;
         }
+        Some(Self::in_upper_case(text))
+    }
+
+    /// The name that the bytes write, in any case of their letters.
+    pub fn in_upper_case(text: &[u8]) -> Self
+        requires { IsName (map to_ascii_uppercase text.now) }
+        ensures { result ≡ map to_ascii_uppercase text.now }
+    {
         let mut bytes = [0; 36];
         for (i, byte) in text.iter().enumerate() {
-            bytes[i] = *byte;
+            bytes[i] = byte.to_ascii_uppercase();
         }
-        Some(Name {
+        Name {
             bytes,
             len: text.len(),
-        })
+        }
     }
 
     /// Some name, for what has none yet.

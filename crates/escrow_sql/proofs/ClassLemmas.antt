@@ -1,7 +1,8 @@
 -- The numbers of classes tell classes apart.
-use Rattle.std.proofs.Common.{◌≡◌, ℕ, pos, List, [], ◌∷◌, ◌++◌, get_or, refl, sym, ap, ◌∙◌}
+use Rattle.std.proofs.Common.{◌≡◌, ℕ, pos, List, [], ◌∷◌, ◌++◌, get_or, refl, sym, ap, ap₂, ◌∙◌}
 use Rattle.std.specs.Prelude.{map}
-use Rattle.escrow_sql.specs.Classes.{class_number}
+use Rattle.std.proofs.Math.ListN.{get_or-map}
+use Rattle.escrow_sql.specs.Classes.{class_number, number_of}
 use Rattle.escrow_sql.specs.Token.{class_of}
 use Rattle.escrow_sql.specs.Word.{reserved_words}
 use Rattle.escrow_sql.specs.declared.token.Symbol.{Symbol}
@@ -32,7 +33,8 @@ symbol_found symbol.AtMost = refl
 symbol_found symbol.Above = refl
 symbol_found symbol.AtLeast = refl
 
-word_found : (w : Word) → get_or classes (class_number (kind.Word w)) (kind.Name []) ≡ kind.Word w
+-- each reserved word is found by its number
+word_found : (w : Word) → get_or reserved_words (number_of w) word.Add ≡ w
 word_found word.Add = refl
 word_found word.Alter = refl
 word_found word.And = refl
@@ -69,13 +71,20 @@ word_found word.Varchar2 = refl
 word_found word.Where = refl
 word_found word.Work = refl
 
+-- what agrees along the list of reserved words agrees at each of them
+pub each_word : {A : Type 0} (f g : Word → A) → map f reserved_words ≡ map g reserved_words → (w : Word) → f w ≡ g w
+each_word f g same w =
+    let n = number_of w in
+    let first : f word.Add ≡ g word.Add = ap (λ xs. get_or xs 0 (f word.Add)) same in
+    ap f (sym (word_found w)) ∙ (sym (get_or-map f reserved_words n word.Add) ∙ (ap₂ (λ xs d. get_or xs n d) same first ∙ (get_or-map g reserved_words n word.Add ∙ ap g (word_found w))))
+
 found : (k : Kind) → get_or classes (class_number k) (kind.Name []) ≡ class_of k
 found (kind.Name name) = refl
 found (kind.Number n) = refl
 found (kind.Decimal d) = refl
 found (kind.Text text) = refl
 found (kind.Symbol s) = symbol_found s
-found (kind.Word w) = word_found w
+found (kind.Word w) = each_word (λ v. get_or classes (class_number (kind.Word v)) (kind.Name [])) kind.Word refl w
 
 -- one number, one class
 pub same_class : (k l : Kind) → class_number k ≡ class_number l → class_of k ≡ class_of l

@@ -1,4 +1,5 @@
 pub mod Answered
+pub mod AnyCase
 pub mod ClassLemmas
 pub mod Factoring
 pub mod Faults

@@ -1,7 +1,6 @@
 -- A piece takes at least one byte, and lies within the text.
-use Rattle.std.proofs.Common.{◌≡◌, ℕ, suc, ◌+◌, ◌-◌, ◌≤◌, ◌<◌, Bool, true, false, cond, Result, Ok, Err, List, [], ◌∷◌, length, get_or, drop, take, arith, refl, sym, subst, map}
-use Rattle.std.specs.Prelude.{nat_lt, nat_eq, not, ◌&&◌, IfOk}
-use Rattle.std.specs.declared.alloc.AllocError.{AllocError}
+use Rattle.std.proofs.Common.{◌≡◌, ℕ, suc, ◌+◌, ◌-◌, ◌≤◌, ◌<◌, Bool, true, false, cond, List, [], ◌∷◌, length, get_or, drop, take, arith, refl, sym, subst, map}
+use Rattle.std.specs.Prelude.{nat_lt, nat_eq, not, ◌&&◌}
 use Rattle.std.specs.Char.{is_ascii_alphabetic, is_ascii_digit, to_ascii_uppercase}
 use Rattle.std.specs.List.{prefix_len}
 use Rattle.std.proofs.lemmas.Bool.{cond_both}
@@ -83,9 +82,8 @@ pub piece_of-within : (c : ℕ) (next : List ℕ) → IsWithin (suc (length next
 piece_of-within c next = either_within (suc (length next)) (nat_eq c 39) (text_piece next) (plain_piece c next) (λ e. text_within next) (λ e. plain_within c next)
 
 -- what was read at a place lies within what the text has from there on
-pub read_within : (r : Result Piece AllocError) (text : List ℕ) (at : ℕ) → at < length text
-    → IfOk r (λ p. p ≡ piece_of (get_or text at 0) (drop (at + 1) text)) → IfOk r (IsWithin (length text - at))
-read_within (Err e) text at below h = tt
-read_within (Ok p) text at below h =
+pub read_within : (p : Piece) (text : List ℕ) (at : ℕ) → at < length text
+    → p ≡ piece_of (get_or text at 0) (drop (at + 1) text) → IsWithin (length text - at) p
+read_within p text at below h =
     let e : suc (length (drop (at + 1) text)) ≡ length text - at = omega (arith, length-drop (at + 1) text) in
     subst (λ (n : ℕ). IsWithin n p) e (subst (λ (q : Piece). IsWithin (suc (length (drop (at + 1) text))) q) (sym h) (piece_of-within (get_or text at 0) (drop (at + 1) text)))

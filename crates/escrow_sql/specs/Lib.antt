@@ -6,6 +6,7 @@ pub mod Grammar
 pub mod Joined
 pub mod Laws
 pub mod Lex
+pub mod Lexeme
 pub mod Parser
 pub mod Parts
 pub mod Predictive

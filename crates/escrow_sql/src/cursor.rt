@@ -6,8 +6,10 @@ ghost use Rattle.escrow_sql.specs.Statement.{word, symbol, name, whole, point, t
 ghost use Rattle.escrow_sql.specs.declared.token.Kind.TheVariants as kind;
 
 use crate::halt::Halt;
-use crate::token::{Kind, Symbol, Token};
+use crate::lexeme::Lexeme;
+use crate::token::{Kind, Symbol};
 use crate::word::Word;
+use crate::written::WrittenName;
 use escrow_num::{Amount, Decimal, Name, Text};
 use std::alloc::Global;
 
@@ -16,17 +18,17 @@ use std::alloc::Global;
 #[derive(Drop)]
 pub(crate) struct Cursor<'a> {
     /// The tokens that are not read yet.
-    pub(crate) tokens: &'a [Token],
+    pub(crate) tokens: &'a [Lexeme<'a>],
 }
 
-impl Cursor<'_> {
+impl<'a> Cursor<'a> {
     /// Whether a reserved word comes next.
     pub(crate) fn is_at_word(&self, expected: Word) -> bool
         ensures { result ≡ starts (class_number (kind.Word expected) ∷ []) self.now.tokens.now }
     {
         match self.tokens {
             [] => false,
-            [token, ..] => token.kind.class() == Kind::Word(expected).class(),
+            [token, ..] => token.class() == Kind::Word(expected).class(),
         }
     }
 
@@ -36,7 +38,7 @@ impl Cursor<'_> {
     {
         match self.tokens {
             [] => false,
-            [token, ..] => token.kind.class() == Kind::Symbol(expected).class(),
+            [token, ..] => token.class() == Kind::Symbol(expected).class(),
         }
     }
 
@@ -46,7 +48,7 @@ impl Cursor<'_> {
     {
         match self.tokens {
             [] => false,
-            [token, ..] => matches!(&token.kind, Kind::Name(_)),
+            [token, ..] => token.class() == Kind::NAME,
         }
     }
 
@@ -56,7 +58,7 @@ impl Cursor<'_> {
     {
         match self.tokens {
             [] => false,
-            [token, ..] => matches!(&token.kind, Kind::Number(_)),
+            [token, ..] => token.class() == Kind::NUMBER,
         }
     }
 
@@ -66,7 +68,7 @@ impl Cursor<'_> {
     {
         match self.tokens {
             [] => false,
-            [token, ..] => matches!(&token.kind, Kind::Decimal(_)),
+            [token, ..] => token.class() == Kind::DECIMAL,
         }
     }
 
@@ -76,7 +78,7 @@ impl Cursor<'_> {
     {
         match self.tokens {
             [] => false,
-            [token, ..] => matches!(&token.kind, Kind::Text(_)),
+            [token, ..] => token.class() == Kind::TEXT,
         }
     }
 
@@ -86,7 +88,7 @@ impl Cursor<'_> {
             ((starts (class_number expected.now ∷ []) self.old.tokens.now ≡ false) × (self.new.tokens.now ≡ self.old.tokens.now)) }
     {
         match self.tokens {
-            [token, rest @ ..] if token.kind.class() == expected.class() => {
+            [token, rest @ ..] if token.class() == expected.class() => {
                 self.tokens = rest;
                 true
             }
@@ -99,7 +101,7 @@ impl Cursor<'_> {
         ensures { Advances self.new.tokens.now result (run (word expected) self.old.tokens.now) }
     {
         match self.tokens {
-            [token, rest @ ..] if token.kind.class() == Kind::Word(expected).class() => {
+            [token, rest @ ..] if token.class() == Kind::Word(expected).class() => {
                 self.tokens = rest;
                 Ok(())
             }
@@ -112,7 +114,7 @@ impl Cursor<'_> {
         ensures { Advances self.new.tokens.now result (run (symbol expected) self.old.tokens.now) }
     {
         match self.tokens {
-            [token, rest @ ..] if token.kind.class() == Kind::Symbol(expected).class() => {
+            [token, rest @ ..] if token.class() == Kind::Symbol(expected).class() => {
                 self.tokens = rest;
                 Ok(())
             }
@@ -120,20 +122,28 @@ impl Cursor<'_> {
         }
     }
 
-    /// Reads a name.
-    pub(crate) fn name(&mut self) -> Result<Name, Halt>
+    /// Reads a name, and answers it as it is written.
+    pub(crate) fn written_name(&mut self) -> Result<WrittenName<'a>, Halt>
         ensures { Advances self.new.tokens.now result (run name self.old.tokens.now) }
     {
         let [token, rest @ ..] = self.tokens else {
             return Err(Halt::Syntax);
         };
-        match &token.kind {
-            Kind::Name(name) => {
+        match token.name() {
+            Some(name) => {
                 self.tokens = rest;
-                Ok(*name)
+                Ok(name)
             }
-            _ => Err(Halt::Syntax),
+            None => Err(Halt::Syntax),
         }
+    }
+
+    /// Reads a name.
+    pub(crate) fn name(&mut self) -> Result<Name, Halt>
+        ensures { Advances self.new.tokens.now result (run name self.old.tokens.now) }
+    {
+        let written = self.written_name()?;
+        Ok(written.name())
     }
 
     /// Reads a number without a point.
@@ -143,12 +153,12 @@ impl Cursor<'_> {
         let [token, rest @ ..] = self.tokens else {
             return Err(Halt::Syntax);
         };
-        match &token.kind {
-            Kind::Number(number) => {
+        match token.number() {
+            Some(number) => {
                 self.tokens = rest;
-                Ok(*number)
+                Ok(number)
             }
-            _ => Err(Halt::Syntax),
+            None => Err(Halt::Syntax),
         }
     }
 
@@ -159,12 +169,12 @@ impl Cursor<'_> {
         let [token, rest @ ..] = self.tokens else {
             return Err(Halt::Syntax);
         };
-        match &token.kind {
-            Kind::Decimal(number) => {
+        match token.decimal() {
+            Some(number) => {
                 self.tokens = rest;
-                Ok(*number)
+                Ok(number)
             }
-            _ => Err(Halt::Syntax),
+            None => Err(Halt::Syntax),
         }
     }
 
@@ -175,13 +185,12 @@ impl Cursor<'_> {
         let [token, rest @ ..] = self.tokens else {
             return Err(Halt::Syntax);
         };
-        match &token.kind {
-            Kind::Text(text) => {
-                let copied = text.copy(alloc)?;
+        match token.text(alloc)? {
+            Some(text) => {
                 self.tokens = rest;
-                Ok(copied)
+                Ok(text)
             }
-            _ => Err(Halt::Syntax),
+            None => Err(Halt::Syntax),
         }
     }
 }

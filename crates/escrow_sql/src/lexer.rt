@@ -1,6 +1,7 @@
 ghost use Rattle.std.specs.Prelude.{◌≡◌, ◌<◌, ◌+◌, ◌-◌, ◌==◌, not, Ok, List, MatchResult, IfOk, IfErr, length, drop, slice_index};
 ghost use Rattle.std.specs.List.{prefix_len, AllByRecursion};
 ghost use Rattle.escrow_sql.specs.Lex.{is_blank, IsLexed, IsLexFault, IsItsSlice};
+ghost use Rattle.escrow_sql.specs.Lexeme.{piece_of_scan};
 ghost use Rattle.escrow_sql.specs.Scan.{piece_of, IsWithin};
 ghost use Rattle.escrow_sql.specs.Token.{AreInOrder};
 ghost use Rattle.escrow_sql.specs.declared.fault.ParseFault.TheVariants.{Memory};
@@ -9,11 +10,13 @@ ghost use Rattle.escrow_sql.specs.declared.token.Token.{Token};
 mod name;
 mod number;
 mod piece;
+mod scan;
 mod symbol;
 mod text;
 
 use crate::fault::ParseFault;
-use crate::lexer::piece::Piece;
+use crate::lexeme::Lexeme;
+use crate::lexer::scan::Scan;
 use crate::token::Token;
 use escrow_num::Seq;
 use std::alloc::{AllocError, Global};
@@ -30,30 +33,30 @@ fn is_blank(byte: u8) -> bool
 
 /// What the text begins with from a place on.
 #[tactic(auto, unfolding(crate::specs::Lex::plain_piece))]
-fn read_piece(alloc: Global, text: &str, at: usize) -> Result<Piece, AllocError>
+fn read_piece(text: &str, at: usize) -> Scan<'_>
     requires { at < length text.now }
-    ensures { IfOk result (λ p. p ≡ piece_of (slice_index text.now at) (drop (at + 1) text.now)) }
+    ensures { piece_of_scan result ≡ piece_of (slice_index text.now at) (drop (at + 1) text.now) }
 {
     let bytes = text.as_bytes();
+    let first = bytes[at];
+    if is_blank(first) {
+        return Scan::Blank(1);
+    }
+    if first == b'\'' {
+        return text::read_text(&text[at + 1..]);
+    }
     let rest = &bytes[at..];
     let next = &bytes[at + 1..];
-    let first = bytes[at];
-    if first == b'\'' {
-        return text::read_text(alloc, &text[at + 1..]);
-    }
-    if is_blank(first) {
-        return Ok(Piece::Blank(1));
-    }
     if first == b'-' && symbol::starts_with(next, b'-') {
-        return Ok(Piece::Blank(comment_len(rest)));
+        return Scan::Blank(comment_len(rest));
     }
     if first.is_ascii_alphabetic() {
-        return Ok(name::read_name(rest));
+        return name::read_name(rest);
     }
     if first.is_ascii_digit() {
-        return Ok(number::read_number(rest));
+        return number::read_number(rest);
     }
-    Ok(symbol::read_symbol(first, next))
+    symbol::read_symbol(first, next)
 }
 
 /// How many bytes a comment takes: all up to the line's end.
@@ -64,12 +67,56 @@ fn comment_len(bytes: &[u8]) -> usize
 }
 
 /// [`read_piece`], with how much of the text it takes.
-fn piece_at(alloc: Global, text: &str, at: usize) -> Result<Piece, AllocError>
+fn piece_at(text: &str, at: usize) -> Scan<'_>
     requires { at < length text.now }
-    ensures value { IfOk result (λ p. p ≡ piece_of (slice_index text.now at) (drop (at + 1) text.now)) }
-    ensures within { IfOk result (IsWithin (length text.now - at)) }
+    ensures value { piece_of_scan result ≡ piece_of (slice_index text.now at) (drop (at + 1) text.now) }
+    ensures within { IsWithin (length text.now - at) (piece_of_scan result) }
 {
-    read_piece(alloc, text, at)
+    read_piece(text, at)
+}
+
+/// The lexemes of a text: its tokens, as [`lex`] answers them, that borrow what they hold.
+pub(crate) fn lexemes(alloc: Global, text: &str) -> Result<Seq<Lexeme<'_>>, ParseFault>
+    ensures found { IfOk result (λ tokens. IsLexed text.now (Ok tokens)) }
+    ensures spans { IfOk result (AreInOrder 0 (length text.now)) }
+    ensures slices { IfOk result (AllByRecursion (IsItsSlice text.now)) }
+    ensures fault { IfErr result (IsLexFault text.now) }
+    ensures only { (tokens : List Token) → IsLexed text.now (Ok tokens) → MatchResult result (λ x. x ≡ tokens) (λ e. e ≡ Memory) }
+{
+    if MAX_TEXT < text.len() {
+        return Err(ParseFault::Syntax {
+            column: MAX_TEXT as u32 + 1,
+        });
+    }
+    // Of a statement each token takes some four bytes, so that the list seldom has to grow.
+    let mut lexemes = Seq::from_vec(Vec::with_capacity(alloc, text.len() / 4 + 1)?);
+    let mut at = 0;
+    while at < text.len() {
+        match piece_at(text, at) {
+            Scan::Blank(len) => at += len,
+            Scan::Lexeme(sort, len) => {
+                lexemes.push(Lexeme::new(sort, at, at + len))?;
+                at += len;
+            }
+            Scan::Fault(place) => {
+                return Err(ParseFault::Syntax {
+                    column: (at + place + 1) as u32,
+                });
+            }
+        }
+    }
+    Ok(lexemes)
+}
+
+/// The tokens that lexemes are.
+fn tokens_of(alloc: Global, lexemes: &[Lexeme]) -> Result<Seq<Token>, AllocError>
+    ensures { IfOk result (λ tokens. tokens ≡ lexemes.now) }
+{
+    let mut tokens = Seq::from_vec(Vec::with_capacity(alloc, lexemes.len())?);
+    for lexeme in lexemes {
+        tokens.push(lexeme.token(alloc)?)?;
+    }
+    Ok(tokens)
 }
 
 /// The tokens of a text, in order, each with the bytes that it takes. `Syntax` has the column of
@@ -84,31 +131,7 @@ pub fn lex(alloc: Global, text: &str) -> Result<Seq<Token>, ParseFault>
     // The tokens of a text are answered, unless memory runs out.
     ensures only { (tokens : List Token) → IsLexed text.now (Ok tokens) → MatchResult result (λ x. x ≡ tokens) (λ e. e ≡ Memory) }
 {
-    if MAX_TEXT < text.len() {
-        return Err(ParseFault::Syntax {
-            column: MAX_TEXT as u32 + 1,
-        });
-    }
-    // Of a statement each token takes some four bytes, so that the list seldom has to grow.
-    let mut tokens = Seq::from_vec(Vec::with_capacity(alloc, text.len() / 4 + 1)?);
-    let mut at = 0;
-    while at < text.len() {
-        match piece_at(alloc, text, at)? {
-            Piece::Blank(len) => at += len,
-            Piece::Token(kind, len) => {
-                tokens.push(Token {
-                    kind,
-                    start: at,
-                    end: at + len,
-                })?;
-                at += len;
-            }
-            Piece::Fault(place) => {
-                return Err(ParseFault::Syntax {
-                    column: (at + place + 1) as u32,
-                });
-            }
-        }
-    }
+    let lexemes = lexemes(alloc, text)?;
+    let tokens = tokens_of(alloc, lexemes.as_slice())?;
     Ok(tokens)
 }

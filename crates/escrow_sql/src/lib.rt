@@ -9,11 +9,13 @@ mod cursor;
 mod fault;
 mod halt;
 pub mod laws;
+mod lexeme;
 mod lexer;
 mod parser;
 mod statement;
 mod token;
 mod word;
+mod written;
 
 pub use fault::ParseFault;
 pub use lexer::{MAX_TEXT, lex};

@@ -20,9 +20,10 @@ mod rows;
 use crate::cursor::Cursor;
 use crate::fault::ParseFault;
 use crate::halt::Halt;
+use crate::lexeme::Lexeme;
 use crate::lexer;
 use crate::statement::{Request, Statement};
-use crate::token::{Kind, Symbol, Token};
+use crate::token::{Kind, Symbol};
 use crate::word::Word;
 use escrow_num::Name;
 use std::alloc::Global;
@@ -221,13 +222,13 @@ impl Cursor<'_> {
 }
 
 /// The column of the first of the tokens that are left, or behind a text of so many bytes.
-fn column_of(rest: &[Token], len: usize) -> u32
+fn column_of(rest: &[Lexeme], len: usize) -> u32
     requires { column_at rest.now len ≤ MAX_TEXT + 1 }
     ensures { result ≡ column_at rest.now len }
 {
     match rest {
         [] => (len + 1) as u32,
-        [token, ..] => (token.start + 1) as u32,
+        [token, ..] => (token.start() + 1) as u32,
     }
 }
 
@@ -243,7 +244,7 @@ pub fn parse(alloc: Global, text: &str) -> Result<Request, ParseFault>
 
     ensures fault { IfErr result (IsFaultIn text.now) }
 {
-    let tokens = lexer::lex(alloc, text)?;
+    let tokens = lexer::lexemes(alloc, text)?;
     let mut cursor = Cursor {
         tokens: tokens.as_slice(),
     };

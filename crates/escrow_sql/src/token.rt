@@ -63,15 +63,27 @@ impl Symbol {
 impl Kind {
     ghost use Rattle.escrow_sql.specs.Classes.{class_number};
 
+    /// The class of names.
+    pub(crate) const NAME: u8 = 0;
+
+    /// The class of numbers without a point.
+    pub(crate) const NUMBER: u8 = 1;
+
+    /// The class of numbers with a point.
+    pub(crate) const DECIMAL: u8 = 2;
+
+    /// The class of texts.
+    pub(crate) const TEXT: u8 = 3;
+
     /// The number of the token's class: what it is, without what it holds.
     pub(crate) fn class(&self) -> u8
         ensures { result ≡ class_number self.now }
     {
         match self {
-            Kind::Name(_) => 0,
-            Kind::Number(_) => 1,
-            Kind::Decimal(_) => 2,
-            Kind::Text(_) => 3,
+            Kind::Name(_) => Kind::NAME,
+            Kind::Number(_) => Kind::NUMBER,
+            Kind::Decimal(_) => Kind::DECIMAL,
+            Kind::Text(_) => Kind::TEXT,
             Kind::Symbol(symbol) => 4 + symbol.number(),
             Kind::Word(word) => 16 + word.number(),
         }

@@ -1,5 +1,5 @@
-ghost use Rattle.std.specs.Prelude.{◌≡◌, ℕ, List, ◌∷◌, bytes_eq};
-ghost use Rattle.std.specs.List.{find};
+ghost use Rattle.std.specs.Prelude.{◌≡◌, ℕ, List, ◌∷◌, bytes_eq, map, Some};
+ghost use Rattle.std.specs.Char.{to_ascii_uppercase};
 
 /// A reserved word: no name may be one, in any case of its letters.
 #[derive(Clone, Copy, Debug, PartialEq, Eq)]
@@ -76,6 +76,55 @@ pub enum Word {
     Work,
 }
 
+/// The reserved words, in the alphabet's order.
+const WORDS: &[Word] = &[
+    Word::Add,
+    Word::Alter,
+    Word::And,
+    Word::Between,
+    Word::Bounds,
+    Word::Check,
+    Word::Commit,
+    Word::Constraint,
+    Word::Create,
+    Word::Delete,
+    Word::Drop,
+    Word::From,
+    Word::Insert,
+    Word::Integer,
+    Word::Into,
+    Word::Journal,
+    Word::Key,
+    Word::Not,
+    Word::Null,
+    Word::Number,
+    Word::Primary,
+    Word::Reservable,
+    Word::Rollback,
+    Word::Savepoint,
+    Word::Select,
+    Word::Set,
+    Word::Show,
+    Word::Statistics,
+    Word::Table,
+    Word::To,
+    Word::Update,
+    Word::Values,
+    Word::Varchar2,
+    Word::Where,
+    Word::Work,
+];
+
+/// At the place of each reserved word its number in the list above, and past the last elsewhere.
+const NUMBERS: [u8; 128] = [
+    35, 35, 35, 35, 35, 35, 35, 35, 35, 18, 35, 19, 35, 20, 35, 22, 33, 35, 35, 29, 0, 35, 35, 35,
+    35, 35, 35, 35, 35, 35, 35, 30, 3, 35, 35, 35, 34, 27, 35, 35, 35, 9, 35, 35, 5, 35, 1, 35, 35,
+    35, 2, 35, 35, 35, 35, 35, 35, 35, 35, 35, 35, 4, 35, 35, 35, 35, 6, 35, 35, 35, 7, 35, 35, 16,
+    35, 8, 35, 35, 10, 35, 35, 35, 35, 35, 35, 35, 35, 35, 11, 35, 35, 14, 35, 12, 13, 35, 35, 35,
+    35, 35, 35, 35, 15, 35, 35, 35, 35, 23, 28, 35, 35, 35, 35, 25, 35, 21, 24, 35, 17, 31, 35, 32,
+    35, 26, 35, 35, 35, 35,
+];
+
 impl Word {
     ghost use Rattle.escrow_sql.specs.Word.{spelling, reserved};
     ghost use Rattle.escrow_sql.specs.Classes.{number_of};
@@ -130,54 +179,54 @@ impl Word {
         self as u8
     }
 
-    /// The reserved words that begin with the letter, in the alphabet's order.
-    fn beginning_with(letter: u8) -> &'static [Self]
-        ensures { (rest : List ℕ) → find (λ w. bytes_eq (spelling w) (letter ∷ rest)) result.now ≡ reserved (letter ∷ rest) }
+    /// The reserved word that the bytes may be, in any case of their letters: the only one whose
+    /// first two letters and length lead to the same place. Modulo 32 the case doesn't count.
+    fn candidate(text: &[u8]) -> Option<Self>
+        ensures { (w : Word) → map to_ascii_uppercase text.now ≡ spelling w → result ≡ Some w }
     {
-        match letter {
-            b'A' => &[Word::Add, Word::Alter, Word::And],
-            b'B' => &[Word::Between, Word::Bounds],
-            b'C' => &[Word::Check, Word::Commit, Word::Constraint, Word::Create],
-            b'D' => &[Word::Delete, Word::Drop],
-            b'F' => &[Word::From],
-            b'I' => &[Word::Insert, Word::Integer, Word::Into],
-            b'J' => &[Word::Journal],
-            b'K' => &[Word::Key],
-            b'N' => &[Word::Not, Word::Null, Word::Number],
-            b'P' => &[Word::Primary],
-            b'R' => &[Word::Reservable, Word::Rollback],
-            b'S' => &[
-                Word::Savepoint,
-                Word::Select,
-                Word::Set,
-                Word::Show,
-                Word::Statistics,
-            ],
-            b'T' => &[Word::Table, Word::To],
-            b'U' => &[Word::Update],
-            b'V' => &[Word::Values, Word::Varchar2],
-            b'W' => &[Word::Where, Word::Work],
-            _ => &[],
+        let [first, second, ..] = text else {
+            return None;
+        };
+        let first = usize::from(*first % 32);
+        let second = usize::from(*second % 32);
+        let place = (5 * first + 3 * second + text.len()) % NUMBERS.len();
+        let number = usize::from(NUMBERS[place]);
+        if number < WORDS.len() {
+            Some(WORDS[number])
+        } else {
+            None
         }
     }
 
-    /// The first of the words that is spelled so, if one is.
-    fn among(words: &[Self], text: &[u8]) -> Option<Self>
-        ensures { result ≡ find (λ w. bytes_eq (spelling w) text.now) words.now }
+    /// Whether the bytes write the word, in any case of their letters.
+    fn is_written(self, text: &[u8]) -> bool
+        ensures { result ≡ bytes_eq (spelling self) (map to_ascii_uppercase text.now) }
     {
-        words
-            .iter()
-            .copied()
-            .find(|word| word.spelling().as_bytes() == text)
+        let spelling = self.spelling().as_bytes();
+        spelling == text || spelling.eq_ignore_ascii_case(text)
+    }
+
+    /// The reserved word that is written so, in any case of its letters, if one is.
+    pub(crate) fn written(text: &[u8]) -> Option<Self>
+        ensures { result ≡ reserved (map to_ascii_uppercase text.now) }
+    {
+        let word = Self::candidate(text)?;
+        if word.is_written(text) {
+            Some(word)
+        } else {
+            None
+        }
     }
 
     /// The reserved word that is spelled so, in upper case, if one is.
     pub fn of(text: &[u8]) -> Option<Self>
         ensures { result ≡ reserved text.now }
     {
-        match text {
-            [] => None,
-            [letter, ..] => Self::among(Self::beginning_with(*letter), text),
+        let word = Self::candidate(text)?;
+        if word.spelling().as_bytes() == text {
+            Some(word)
+        } else {
+            None
         }
     }
 }

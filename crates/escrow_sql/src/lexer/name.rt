@@ -2,17 +2,42 @@ ghost use Rattle.std.specs.Prelude.{◌≡◌, true, slice_index};
 ghost use Rattle.std.specs.Char.{is_ascii_alphabetic};
 ghost use Rattle.std.specs.List.{prefix_len};
 ghost use Rattle.escrow_sql.specs.Lex.{goes_on, name_piece};
+ghost use Rattle.escrow_sql.specs.Lexeme.{piece_of_scan};
 
-use crate::lexer::piece::Piece;
-use crate::token::Kind;
+use crate::lexeme::Sort;
+use crate::lexer::scan::Scan;
 use crate::word::Word;
+use crate::written::WrittenName;
 use escrow_num::Name;
+
+/// For each byte whether a name may go on with it.
+const GOES_ON: [bool; 256] = [
+    false, false, false, false, false, false, false, false, false, false, false, false, false,
+    false, false, false, false, false, false, false, false, false, false, false, false, false,
+    false, false, false, false, false, false, false, false, false, true, true, false, false, false,
+    false, false, false, false, false, false, false, false, true, true, true, true, true, true,
+    true, true, true, true, false, false, false, false, false, false, false, true, true, true,
+    true, true, true, true, true, true, true, true, true, true, true, true, true, true, true, true,
+    true, true, true, true, true, true, true, false, false, false, false, true, false, true, true,
+    true, true, true, true, true, true, true, true, true, true, true, true, true, true, true, true,
+    true, true, true, true, true, true, true, true, false, false, false, false, false, false,
+    false, false, false, false, false, false, false, false, false, false, false, false, false,
+    false, false, false, false, false, false, false, false, false, false, false, false, false,
+    false, false, false, false, false, false, false, false, false, false, false, false, false,
+    false, false, false, false, false, false, false, false, false, false, false, false, false,
+    false, false, false, false, false, false, false, false, false, false, false, false, false,
+    false, false, false, false, false, false, false, false, false, false, false, false, false,
+    false, false, false, false, false, false, false, false, false, false, false, false, false,
+    false, false, false, false, false, false, false, false, false, false, false, false, false,
+    false, false, false, false, false, false, false, false, false, false, false, false, false,
+    false, false, false, false, false, false, false, false, false, false,
+];
 
 /// Whether a name may go on with the byte.
 fn goes_on(byte: u8) -> bool
     ensures { result ≡ goes_on byte }
 {
-    byte.is_ascii_alphanumeric() || byte == b'_' || byte == b'$' || byte == b'#'
+    GOES_ON[usize::from(byte)]
 }
 
 /// How many bytes at the front a name may go on with.
@@ -24,21 +49,18 @@ fn name_len(bytes: &[u8]) -> usize
 
 /// The reserved word or the name at the front of the bytes, the first of which is a letter.
 #[tactic(auto, unfolding(crate::specs::Lex::name_piece))]
-pub(super) fn read_name(bytes: &[u8]) -> Piece
+pub(super) fn read_name(bytes: &[u8]) -> Scan<'_>
     requires { is_ascii_alphabetic (slice_index bytes.now 0) ≡ true }
-    ensures { result ≡ name_piece bytes.now }
+    ensures { piece_of_scan result ≡ name_piece bytes.now }
 {
     let len = name_len(bytes);
     if Name::MAX_WRITTEN < len {
-        return Piece::Fault(0);
+        return Scan::Fault(0);
     }
-    let mut place = [0; Name::MAX_WRITTEN];
-    let upper = &mut place[..len];
-    upper.copy_from_slice(&bytes[..len]);
-    upper.make_ascii_uppercase();
-    let kind = match Word::of(upper) {
-        Some(word) => Kind::Word(word),
-        None => Kind::Name(Name::new(upper).unwrap()),
+    let written = &bytes[..len];
+    let sort = match Word::written(written) {
+        Some(word) => Sort::Word(word),
+        None => Sort::Name(WrittenName::new(written)),
     };
-    Piece::Token(kind, len)
+    Scan::Lexeme(sort, len)
 }

@@ -4,9 +4,10 @@ ghost use Rattle.std.specs.Char.{is_ascii_digit};
 ghost use Rattle.escrow_num.specs.Amount.{IsAmount, number_of};
 ghost use Rattle.escrow_num.specs.Decimal.{millionths_of};
 ghost use Rattle.escrow_sql.specs.Lex.{front_digits, number_piece, point_digits, point_piece, whole_piece};
+ghost use Rattle.escrow_sql.specs.Lexeme.{piece_of_scan};
 
-use crate::lexer::piece::Piece;
-use crate::token::Kind;
+use crate::lexeme::Sort;
+use crate::lexer::scan::Scan;
 use escrow_num::{Amount, Decimal};
 
 /// How many digits stand at the front.
@@ -51,29 +52,29 @@ fn value_of(digits: &[u8]) -> Option<Amount>
 }
 
 /// The number of digits without a point.
-fn whole_number(digits: &[u8]) -> Piece
-    ensures { result ≡ whole_piece digits.now }
+fn whole_number(digits: &[u8]) -> Scan<'_>
+    ensures { piece_of_scan result ≡ whole_piece digits.now }
 {
     match value_of(digits) {
-        Some(value) => Piece::Token(Kind::Number(value), digits.len()),
-        None => Piece::Fault(0),
+        Some(value) => Scan::Lexeme(Sort::Number(value), digits.len()),
+        None => Scan::Fault(0),
     }
 }
 
 /// The number of digits in front of a point and behind it, which takes so many bytes.
-fn point_number(len: usize, front: &[u8], behind: &[u8]) -> Piece
-    ensures { result ≡ point_piece len (millionths_of front.now behind.now) }
+fn point_number<'a>(len: usize, front: &'a [u8], behind: &'a [u8]) -> Scan<'a>
+    ensures { piece_of_scan result ≡ point_piece len (millionths_of front.now behind.now) }
 {
     match Decimal::of_digits(front, behind) {
-        Some(value) => Piece::Token(Kind::Decimal(value), len),
-        None => Piece::Fault(0),
+        Some(value) => Scan::Lexeme(Sort::Decimal(value), len),
+        None => Scan::Fault(0),
     }
 }
 
 /// The number at the front of the bytes: its point is taken only where a digit follows it.
 #[tactic(auto, unfolding(crate::specs::Lex::number_piece))]
-pub(super) fn read_number(bytes: &[u8]) -> Piece
-    ensures { result ≡ number_piece bytes.now }
+pub(super) fn read_number(bytes: &[u8]) -> Scan<'_>
+    ensures { piece_of_scan result ≡ number_piece bytes.now }
 {
     let front = front_digits(bytes);
     let behind = point_digits(&bytes[front.len()..]);

@@ -1,6 +1,6 @@
 use crate::token::Kind;
 
-/// What the rest of a text begins with.
+/// What the rest of a text begins with, as contracts say it: a `Scan` is seen as one.
 #[derive(Debug, Drop)]
 pub enum Piece {
     /// So many bytes of blanks or of a comment.

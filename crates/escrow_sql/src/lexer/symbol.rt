@@ -1,13 +1,15 @@
 ghost use Rattle.std.specs.Prelude.{◌≡◌, ◌∷◌};
 ghost use Rattle.escrow_sql.specs.Lex.{symbol_piece, begins};
+ghost use Rattle.escrow_sql.specs.Lexeme.{piece_of_scan};
 
-use crate::lexer::piece::Piece;
-use crate::token::{Kind, Symbol};
+use crate::lexeme::Sort;
+use crate::lexer::scan::Scan;
+use crate::token::Symbol;
 
 /// The longest symbol that begins with a byte and goes on with others.
 #[tactic(auto, unfolding(crate::specs::Lex::symbol_piece))]
-pub(super) fn read_symbol(first: u8, next: &[u8]) -> Piece
-    ensures { result ≡ symbol_piece first next.now }
+pub(super) fn read_symbol<'a>(first: u8, next: &'a [u8]) -> Scan<'a>
+    ensures { piece_of_scan result ≡ symbol_piece first next.now }
 {
     let or_equal = starts_with(next, b'=');
     let (symbol, len) = match first {
@@ -23,9 +25,9 @@ pub(super) fn read_symbol(first: u8, next: &[u8]) -> Piece
         b'<' => (Symbol::Below, 1),
         b'>' if or_equal => (Symbol::AtLeast, 2),
         b'>' => (Symbol::Above, 1),
-        _ => return Piece::Fault(0),
+        _ => return Scan::Fault(0),
     };
-    Piece::Token(Kind::Symbol(symbol), len)
+    Scan::Lexeme(Sort::Symbol(symbol), len)
 }
 
 /// Whether the bytes begin with this one.

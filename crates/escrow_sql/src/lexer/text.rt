@@ -1,11 +1,11 @@
-ghost use Rattle.std.specs.Prelude.{◌≡◌, ◌-◌, ◌≤◌, IfOk, IfSome, false, length, position, string_bytes, slice_index};
+ghost use Rattle.std.specs.Prelude.{◌≡◌, ◌-◌, ◌≤◌, IfSome, false, length, position, slice_index};
 ghost use Rattle.escrow_sql.specs.Lex.{is_forbidden};
-ghost use Rattle.escrow_sql.specs.Scan.{text_rest, undoubled, text_piece};
+ghost use Rattle.escrow_sql.specs.Scan.{text_rest, text_piece};
+ghost use Rattle.escrow_sql.specs.Lexeme.{piece_of_scan};
 
-use crate::lexer::piece::Piece;
-use crate::token::Kind;
-use escrow_num::Text;
-use std::alloc::{AllocError, Global};
+use crate::lexeme::Sort;
+use crate::lexer::scan::Scan;
+use crate::written::WrittenText;
 
 /// How many bytes a text takes behind its opening quote, or `None` where it has no end.
 fn quoted_len(body: &[u8]) -> Option<usize>
@@ -38,34 +38,16 @@ fn forbidden_place(bytes: &[u8]) -> Option<usize>
     bytes.iter().position(|byte| is_forbidden(*byte))
 }
 
-/// A copy of the text, each doubled quote once.
-fn copy_undoubled(alloc: Global, raw: &str) -> Result<String, AllocError>
-    ensures { IfOk result (λ s. string_bytes s ≡ undoubled false raw.now) }
-{
-    let mut copy = String::new(alloc);
-    let mut behind = false;
-    for c in raw.chars() {
-        if behind && c == '\'' {
-            behind = false;
-        } else {
-            copy.push(c)?;
-            behind = c == '\'';
-        }
-    }
-    Ok(copy)
-}
-
 /// The text whose opening quote stands right before `body`.
-pub(super) fn read_text(alloc: Global, body: &str) -> Result<Piece, AllocError>
-    ensures { IfOk result (λ p. p ≡ text_piece body.now) }
+pub(super) fn read_text(body: &str) -> Scan<'_>
+    ensures { piece_of_scan result ≡ text_piece body.now }
 {
     let Some(len) = quoted_len(body.as_bytes()) else {
-        return Ok(Piece::Fault(0));
+        return Scan::Fault(0);
     };
     let raw = &body[..len - 1];
     if let Some(place) = forbidden_place(raw.as_bytes()) {
-        return Ok(Piece::Fault(1 + place));
+        return Scan::Fault(1 + place);
     }
-    let copy = copy_undoubled(alloc, raw)?;
-    Ok(Piece::Token(Kind::Text(Text::from_string(copy)), 1 + len))
+    Scan::Lexeme(Sort::Text(WrittenText::new(raw)), 1 + len)
 }

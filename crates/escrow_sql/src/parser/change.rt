@@ -117,10 +117,13 @@ impl Cursor<'_> {
         ensures { Advances self.new.tokens.now result (run where_part self.old.tokens.now) }
     {
         self.word(Word::Where)?;
-        let column = self.name()?;
+        let column = self.written_name()?;
         self.symbol(Symbol::Equal)?;
         let literal = self.literal(alloc)?;
-        Ok(WhereText { column, literal })
+        Ok(WhereText {
+            column: column.name(),
+            literal,
+        })
     }
 
     /// `sign number`
@@ -142,9 +145,12 @@ impl Cursor<'_> {
             let literal = self.literal(alloc)?;
             return Ok(Assigned::Literal(literal));
         }
-        let source = self.name()?;
+        let source = self.written_name()?;
         let change = self.change()?;
-        Ok(Assigned::Change { source, change })
+        Ok(Assigned::Change {
+            source: source.name(),
+            change,
+        })
     }
 
     /// `name "=" assigned`
@@ -152,10 +158,13 @@ impl Cursor<'_> {
     fn assign(&mut self, alloc: Global) -> Result<Assign, Halt>
         ensures { Advances self.new.tokens.now result (run assign self.old.tokens.now) }
     {
-        let column = self.name()?;
+        let column = self.written_name()?;
         self.symbol(Symbol::Equal)?;
         let value = self.assigned(alloc)?;
-        Ok(Assign { column, value })
+        Ok(Assign {
+            column: column.name(),
+            value,
+        })
     }
 
     /// `UPDATE name SET assign { "," assign } where_part`
@@ -164,12 +173,12 @@ impl Cursor<'_> {
         ensures { Advances self.new.tokens.now result (run update self.old.tokens.now) }
     {
         self.word(Word::Update)?;
-        let table = self.name()?;
+        let table = self.written_name()?;
         self.word(Word::Set)?;
         let assigns = part::read_list(alloc, self)?;
         let row = self.where_part(alloc)?;
         Ok(UpdateText {
-            table,
+            table: table.name(),
             assigns,
             row,
         })

@@ -1,13 +1,22 @@
-use Rattle.std.proofs.Common.{◌≡◌, ℕ, List, [], ◌∷◌, bytes_eq, ◌≤◌, length, slice_index}
-use Rattle.std.specs.List.{find}
-use Rattle.escrow_sql.specs.Word.{spelling, reserved}
-use Rattle.escrow_sql.specs.declared.word.Word.{Word}
+use Rattle.std.proofs.Common.{◌≡◌, None, true, false, bytes_eq, subst, sym, ◌∙◌}
+use Rattle.escrow_sql.specs.Word.{spelling}
+use Rattle.escrow_sql.proofs.AnyCase.{is_reserved, not_reserved, kept_in_upper_case}
 use Rattle.escrow_sql.proofs.word.Word.of.Goals as goal
 
--- what holds behind the first byte holds of a text that has one
-at_first : (text : List ℕ) (words : List Word) → 1 ≤ length text → ((rest : List ℕ) → find (λ w. bytes_eq (spelling w) (slice_index text 0 ∷ rest)) words ≡ reserved (slice_index text 0 ∷ rest)) → find (λ w. bytes_eq (spelling w) text) words ≡ reserved text
-at_first [] words some same = elim some [ ]
-at_first (c ∷ cs) words some same = same cs
+pub returns-in_err-word : goal.returns-in_err-word
+returns-in_err-word c =
+    c.from_residual.ensures
+    ∙ not_reserved c.args.text.now c.candidate.result (λ w e. c.candidate.ensures w (kept_in_upper_case c.args.text.now w e)) (λ w h. let none : c.candidate.result ≡ None = c.in_err-word.was in absurd (cc))
 
-pub returns-in-len1-up : goal.returns-in-len1-up
-returns-in-len1-up c = rw c.among.ensures (at_first c.args.text.now c.beginning_with.result.now c.in-len1-up.len_at_least c.beginning_with.ensures)
+pub returns-then-eq : goal.returns-then-eq
+returns-then-eq c =
+    is_reserved c.args.text.now c.in_ok-word.word
+    (subst (λ bytes. bytes_eq bytes c.args.text.now ≡ true) (c.as_bytes.ensures.value ∙ c.spelling.ensures) (sym c.eq.ensures ∙ c.if-eq.true))
+
+pub returns-else-eq : goal.returns-else-eq
+returns-else-eq c =
+    not_reserved c.args.text.now c.candidate.result (λ w e. c.candidate.ensures w (kept_in_upper_case c.args.text.now w e)) (λ w h.
+    let found = c.in_ok-word.was in
+    let same : c.in_ok-word.word ≡ w = cc in
+    subst (λ v. bytes_eq (spelling v) c.args.text.now ≡ false) same
+    (subst (λ bytes. bytes_eq bytes c.args.text.now ≡ false) (c.as_bytes.ensures.value ∙ c.spelling.ensures) (sym c.eq.ensures ∙ c.if-eq.false)))

@@ -1,7 +1,7 @@
 use Rattle.std.proofs.Common.{◌≡◌, true, false, refl}
 use Rattle.escrow_sql.proofs.TextLemmas.{copied}
-use Rattle.escrow_sql.proofs.lexer.text.copy_undoubled.Goals as goal
-use Rattle.escrow_sql.proofs.lexer.text.copy_undoubled.Goals.{else-behind-via-then-behind+else-c-eq39, else-behind-via-else-behind}
+use Rattle.escrow_sql.proofs.written.copy_undoubled.Goals as goal
+use Rattle.escrow_sql.proofs.written.copy_undoubled.Goals.{else-behind-via-then-behind+else-c-eq39, else-behind-via-else-behind}
 
 pub loop-c-preserved : goal.loop-c-preserved
 loop-c-preserved c =

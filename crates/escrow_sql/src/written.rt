@@ -1,0 +1,99 @@
+ghost use Rattle.std.specs.Prelude.{◌≡◌, IfOk, false, map, string_bytes};
+ghost use Rattle.std.specs.Char.{to_ascii_uppercase};
+ghost use Rattle.escrow_num.specs.Name.{IsName};
+ghost use Rattle.escrow_sql.specs.Scan.{undoubled};
+
+use escrow_num::{Name, Text};
+use std::alloc::{AllocError, Global};
+use std::marker::Model;
+
+/// A name as a statement writes it, in any case of its letters. Contracts see it in upper case.
+#[derive(Debug, Drop)]
+pub(crate) struct WrittenName<'a> {
+    bytes: &'a [u8],
+}
+
+impl<'a> Model for WrittenName<'a> {
+    ghost use Rattle.std.specs.Prelude.{List, ℕ, map};
+    ghost use Rattle.std.specs.Char.{to_ascii_uppercase};
+    ghost use Rattle.escrow_num.specs.Name.{IsName};
+
+    ghost Value = { List ℕ };
+
+    ghost view = { λ n. map to_ascii_uppercase n.bytes.now };
+
+    ghost invariant = { λ n. IsName (map to_ascii_uppercase n.bytes.now) };
+}
+
+impl<'a> WrittenName<'a> {
+    /// The name that the bytes write.
+    pub(crate) fn new(bytes: &'a [u8]) -> Self
+        requires { IsName (map to_ascii_uppercase bytes.now) }
+        ensures { result ≡ map to_ascii_uppercase bytes.now }
+    {
+        WrittenName { bytes }
+    }
+
+    /// The same name, which borrows the text alone.
+    pub(crate) fn copied(&self) -> Self
+        ensures { result ≡ self.now }
+    {
+        WrittenName { bytes: self.bytes }
+    }
+
+    /// The name itself.
+    pub(crate) fn name(&self) -> Name
+        ensures { result ≡ self.now }
+    {
+        Name::in_upper_case(self.bytes)
+    }
+}
+
+/// A text as a statement writes it, each quote in it twice. Contracts see each once.
+#[derive(Debug, Drop)]
+pub(crate) struct WrittenText<'a> {
+    raw: &'a str,
+}
+
+impl<'a> Model for WrittenText<'a> {
+    ghost use Rattle.std.specs.Prelude.{List, ℕ, false};
+    ghost use Rattle.escrow_sql.specs.Scan.{undoubled};
+
+    ghost Value = { List ℕ };
+
+    ghost view = { λ t. undoubled false t.raw.now };
+}
+
+impl<'a> WrittenText<'a> {
+    /// The text that stands so between its quotes.
+    pub(crate) fn new(raw: &'a str) -> Self
+        ensures { result ≡ undoubled false raw.now }
+    {
+        WrittenText { raw }
+    }
+
+    /// The text itself.
+    pub(crate) fn copy(&self, alloc: Global) -> Result<Text, AllocError>
+        ensures { IfOk result (λ t. t ≡ self.now) }
+    {
+        let copy = copy_undoubled(alloc, self.raw)?;
+        Ok(Text::from_string(copy))
+    }
+}
+
+/// A copy of the text, each doubled quote once.
+fn copy_undoubled(alloc: Global, raw: &str) -> Result<String, AllocError>
+    ensures { IfOk result (λ s. string_bytes s ≡ undoubled false raw.now) }
+{
+    let mut copy = String::new(alloc);
+    let mut behind = false;
+    for c in raw.chars() {
+        if behind && c == '\'' {
+            behind = false;
+        } else {
+            copy.push(c)?;
+            behind = c == '\'';
+        }
+    }
+    Ok(copy)
+}
