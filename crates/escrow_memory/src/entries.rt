@@ -76,17 +76,6 @@ impl<N: Node> Entries<N> {
         }
     }
 
-    /// Whether no entry from a place on passes.
-    fn fails_from(&self, probe: Probe<'_>, at: usize) -> bool
-        requires { IsCut (passes probe) self.now }
-        ensures { IsTrue result → count_by (passes probe.entry) self.now ≤ at }
-    {
-        match self.get(at) {
-            Some(entry) => !probe.passes(entry),
-            None => true,
-        }
-    }
-
     /// Whether each entry before a place passes.
     fn passes_before(&self, probe: Probe<'_>, at: usize) -> bool
         requires { IsCut (passes probe) self.now }
@@ -101,12 +90,39 @@ impl<N: Node> Entries<N> {
         }
     }
 
-    /// Whether a place is that behind the entries that pass.
-    fn is_place(&self, probe: Probe<'_>, at: usize) -> bool
+    /// The entry at a place, or none behind the last, if no entry from there on passes.
+    #[tactic(auto, using(crate::proofs::Cuts::passes_before, crate::proofs::Cuts::fails_behind, crate::proofs::Cuts::fails_past))]
+    fn get_failing(&self, probe: Probe<'_>, at: usize) -> Option<Option<&[u8]>>
         requires { IsCut (passes probe) self.now }
-        ensures { IsTrue result → IsPlaceOf (passes probe.entry) self.now at }
+        ensures fails { IfSome result (λ _. count_by (passes probe.entry) self.now ≤ at) }
+        ensures passes { result ≡ None → at < count_by (passes probe.entry) self.now }
+        ensures some { IfSome result (λ found. IfSome found (λ entry. (at < length self.now) × (decode entry.now ≡ slice_index_or self.now at []))) }
+        ensures none { IfSome result (λ found. found ≡ None → length self.now ≤ at) }
     {
-        self.fails_from(probe, at) && self.passes_before(probe, at)
+        match self.get(at) {
+            Some(entry) if probe.passes(entry) => None,
+            Some(entry) => Some(Some(entry)),
+            None => Some(None),
+        }
+    }
+
+    /// The place behind the entries that pass, and the entry that stands there, if one does, where it is this
+    /// place or the next.
+    fn seek_near(&self, probe: Probe<'_>, near: usize) -> Option<(usize, Option<&[u8]>)>
+        requires { IsCut (passes probe) self.now }
+        ensures place { IfSome result (λ found. IsPlaceOf (passes probe.entry) self.now found.0) }
+        ensures some { IfSome result (λ found. IfSome found.1 (λ entry. (found.0 < length self.now) × (decode entry.now ≡ slice_index_or self.now found.0 []))) }
+        ensures none { IfSome result (λ found. found.1 ≡ None → length self.now ≤ found.0) }
+    {
+        if let Some(found) = self.get_failing(probe, near) {
+            if self.passes_before(probe, near) {
+                return Some((near, found));
+            }
+            return None;
+        }
+        let next = near.saturating_add(1);
+        let found = self.get_failing(probe, next)?;
+        Some((next, found))
     }
 
     /// The place behind the entries that pass, and the entry that stands there, if one does. Where the last
@@ -118,18 +134,14 @@ impl<N: Node> Entries<N> {
         ensures none { result.1 ≡ None → length self.now ≤ result.0 }
     {
         let near = self.near.load(Ordering::SeqCst);
-        let next = near.saturating_add(1);
         if self.is_run.load(Ordering::SeqCst) {
-            if self.is_place(probe, near) {
-                return (near, self.get(near));
-            }
-            if self.is_place(probe, next) {
-                self.note(next, true);
-                return (next, self.get(next));
+            if let Some((at, found)) = self.seek_near(probe, near) {
+                self.note(at, true);
+                return (at, found);
             }
         }
         let (at, found) = self.root.seek(probe);
-        self.note(at, at == near || at == next);
+        self.note(at, at == near || at == near.saturating_add(1));
         (at, found)
     }
 
