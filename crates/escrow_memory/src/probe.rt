@@ -1,6 +1,5 @@
 //! Tests by which a place in a tree is found.
 ghost use Rattle.std.specs.Prelude.{◌≡◌};
-ghost use Rattle.std.specs.Ordering.{is_lt};
 ghost use Rattle.sqlite_value.specs.Value.{owned};
 ghost use Rattle.sqlite_value.specs.Order.{value_cmp};
 ghost use Rattle.sqlite_record.specs.Record.{decode};
@@ -55,17 +54,6 @@ pub(crate) fn with_rowid(entry: &[u8], id: ValueRef<'_>) -> Ordering
     }
 }
 
-/// Whether the rowid of an entry is below a value.
-#[inline(always)]
-fn is_below_rowid(entry: &[u8], id: ValueRef<'_>) -> bool
-    ensures { result ≡ is_lt (value_cmp (rowid (decode entry.now)) (owned id.entry)) }
-{
-    match (first_int(entry), id) {
-        (Some(found), ValueRef::Int(wanted)) => found < wanted,
-        _ => any_with_rowid(entry, id).is_lt(),
-    }
-}
-
 impl Probe<'_> {
     ghost use Rattle.escrow_memory.specs.Probe.{passes};
 
@@ -77,7 +65,7 @@ impl Probe<'_> {
         match self {
             Probe::BelowKey(order, key) => with_key(order, entry, key).is_lt(),
             Probe::UpToKey(order, key) => !with_key(order, entry, key).is_gt(),
-            Probe::BelowRowid(id) => is_below_rowid(entry, id),
+            Probe::BelowRowid(id) => with_rowid(entry, id).is_lt(),
             Probe::BelowEntry(order, other) => with_row(order, entry, other).is_lt(),
         }
     }
