@@ -1,6 +1,6 @@
 //! Entries whose header is narrow: its length takes one byte, and so does the type of each field that is read, as of all but long
-//! texts and blobs. Integers and texts are read where they lie; whatever else is met is left to the kit.
-ghost use Rattle.std.specs.Prelude.{◌≡◌, ◌≢◌, ◌⊎◌, ◌-◌, ◌<◌, ◌≤◌, ◌^◌, [], ◌∷◌, length, take, drop, IfSome};
+//! texts and blobs. NULL, integers and texts are read where they lie; whatever else is met is left to the kit.
+ghost use Rattle.std.specs.Prelude.{◌≡◌, ◌≢◌, ◌⊎◌, ◌-◌, ◌<◌, ◌≤◌, ◌^◌, [], ◌∷◌, ◌++◌, length, take, drop, IsTrue, IfOk, IfSome};
 ghost use Rattle.sqlite_value.specs.declared.value.Value.{Value};
 ghost use Rattle.sqlite_value.specs.declared.value.Value.TheVariants.{Int, Text};
 ghost use Rattle.sqlite_value.specs.Value.{owned};
@@ -13,6 +13,7 @@ use sqlite_record::compare;
 use sqlite_value::keys::Order;
 use sqlite_value::row::Row;
 use sqlite_value::value::ValueRef;
+use std::alloc::AllocError;
 use std::cmp::Ordering;
 
 /// The fields of a narrow entry that are still to come.
@@ -96,6 +97,24 @@ fn split_text(serial: u8, bytes: &[u8]) -> Option<(&[u8], &[u8])>
     bytes.split_at_checked(usize::from((serial - 12) / 2))
 }
 
+/// The value that the first bytes are, if it is NULL, an integer or a narrow text, and the bytes behind them.
+#[inline(always)]
+#[tactic(auto, unfolding(sqlite_record::specs::Serial::serial_size, sqlite_record::specs::Serial::serial_value))]
+fn split_value(serial: u8, bytes: &[u8]) -> Option<(ValueRef<'_>, &[u8])>
+    ensures value { IfSome result (λ split. serial_value serial (take (serial_size serial) bytes.now) ≡ owned split.0) }
+    ensures behind { IfSome result (λ split. split.1.now ≡ drop (serial_size serial) bytes.now) }
+    ensures narrow { IfSome result (λ _. serial < 128) }
+{
+    if serial == 0 {
+        return Some((ValueRef::Null, bytes));
+    }
+    if let Some((n, behind)) = split_int(serial, bytes) {
+        return Some((ValueRef::Int(n), behind));
+    }
+    let (text, behind) = split_text(serial, bytes)?;
+    Some((ValueRef::Text(text), behind))
+}
+
 /// How integers compare by the key of the first column. Its collation speaks of texts alone.
 #[inline(always)]
 fn compare_ints(order: Order, a: i64, b: i64) -> Ordering
@@ -139,19 +158,19 @@ impl<'a> NarrowFields<'a> {
         Some((n, NarrowFields { types, body }))
     }
 
-    /// The first field, if it is a text, and the fields behind it.
+    /// The first field, if it is NULL, an integer or a text, and the fields behind it.
     #[inline(always)]
-    fn split_text(self) -> Option<(&'a [u8], NarrowFields<'a>)>
-        ensures { IfSome result (λ split. values_of self.entry.types.now self.entry.body.now ≡ Text split.0.now ∷ values_of split.1.types.now split.1.body.now) }
+    fn split_first(self) -> Option<(ValueRef<'a>, NarrowFields<'a>)>
+        ensures { IfSome result (λ split. values_of self.entry.types.now self.entry.body.now ≡ owned split.0 ∷ values_of split.1.types.now split.1.body.now) }
     {
         let [serial, types @ ..] = self.types else {
             return None;
         };
-        let (text, body) = split_text(*serial, self.body)?;
-        Some((text, NarrowFields { types, body }))
+        let (value, body) = split_value(*serial, self.body)?;
+        Some((value, NarrowFields { types, body }))
     }
 
-    /// How the first field compares with a value, if both are integers or both texts, and the fields behind it.
+    /// How the first field compares with a value by the key of the first column, if it is read, and the fields behind it.
     fn compare_first(
         self,
         order: Order,
@@ -159,17 +178,8 @@ impl<'a> NarrowFields<'a> {
     ) -> Option<(Ordering, NarrowFields<'a>)>
         ensures { IfSome result (λ found. (first : Value) × (values_of self.entry.types.now self.entry.body.now ≡ first ∷ values_of found.1.types.now found.1.body.now) × (found.0 ≡ by_key (first_key order) first (owned value.entry))) }
     {
-        match value {
-            ValueRef::Int(n) => {
-                let (first, behind) = self.split_int()?;
-                Some((compare_ints(order, first, n), behind))
-            }
-            ValueRef::Text(_) => {
-                let (first, behind) = self.split_text()?;
-                Some((order.compare_first(ValueRef::Text(first), value), behind))
-            }
-            _ => None,
-        }
+        let (first, behind) = self.split_first()?;
+        Some((order.compare_first(first, value), behind))
     }
 
     /// How the fields compare with the columns of a row from one on, if each is read, and the fields behind those that were read.
@@ -267,4 +277,18 @@ pub(crate) fn with_row(order: Order, entry: &[u8], row: &Row) -> Ordering
         Some(found) => found,
         None => compare::with_row(order, entry, row),
     }
+}
+
+/// Appends the fields of a narrow entry to a row, and answers whether each was read.
+pub(crate) fn push_fields(entry: &[u8], row: &mut Row) -> Result<bool, AllocError>
+    ensures { IfOk result (λ is_whole. IsTrue is_whole → row.new ≡ row.old ++ decode entry.now) }
+{
+    let Some(mut fields) = NarrowFields::new(entry) else {
+        return Ok(false);
+    };
+    while let Some((value, behind)) = fields.split_first() {
+        row.push(value)?;
+        fields = behind;
+    }
+    Ok(fields.types.is_empty())
 }

@@ -12,7 +12,7 @@ ghost use Rattle.sqlite_trees.specs.Objects.{description, listing};
 use crate::branch::Branch;
 use crate::entries::Entries;
 use crate::leaf::Leaf;
-use crate::narrow::with_row;
+use crate::narrow::{self, with_row};
 use crate::probe::{Probe, with_rowid};
 use sqlite_record::fields::decode_into;
 use sqlite_trees::schema::Object;
@@ -72,6 +72,10 @@ fn is_entry(order: Order, found: Option<&[u8]>, entry: &Row) -> bool
 pub(crate) fn read_into(entry: &[u8], row: &mut Row) -> Result<(), AllocError>
     ensures { OnOk result (row.new ≡ decode entry.now) }
 {
+    row.clear();
+    if narrow::push_fields(entry, row)? {
+        return Ok(());
+    }
     row.clear();
     decode_into(entry, 0, row)
 }
