@@ -6,7 +6,8 @@
 //! several owners. It is written in place where it has one, and else a copy of it is; so a commit drops the trees of the last one, a
 //! rollback drops those of the transaction, and a savepoint is one more owner of each tree that the transaction has written. None
 //! of them goes over entries, and none but the savepoint takes memory. A search goes down from the first branch; where the last two
-//! stood side by side, it looks there first. It compares integers and texts where they lie in a record, and all else by the kit.
+//! stood side by side, or as far apart as their rowids, it looks there first. Integers and texts are compared and read where they lie
+//! in a record, and all else by the kit.
 //!
 //! The kit's own store in memory, `MemStore`, keeps each tree as one sorted list of rows, in two copies. An insertion there that is
 //! not the last moves what stands behind it, a removal goes over the whole list, and the first write after a rollback copies all

@@ -57,6 +57,14 @@ pub(crate) fn with_rowid(entry: &[u8], id: ValueRef<'_>) -> Ordering
 impl Probe<'_> {
     ghost use Rattle.escrow_memory.specs.Probe.{passes};
 
+    /// The rowid that is sought, and 0 where it is negative or a key is sought.
+    pub(crate) fn number(self) -> usize {
+        match self {
+            Probe::BelowRowid(ValueRef::Int(id)) => usize::try_from(id).unwrap_or(0),
+            _ => 0,
+        }
+    }
+
     /// Whether an entry passes.
     #[inline(always)]
     pub(crate) fn passes(self, entry: &[u8]) -> bool
