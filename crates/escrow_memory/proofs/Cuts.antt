@@ -1,5 +1,5 @@
 -- How many rows pass, where those that pass are the first. That number is called the place: it is where they end.
-use Rattle.std.proofs.Common.{◌≡◌, ℕ, zero, suc, ◌+◌, ◌-◌, ◌<◌, ◌≤◌, min, Bool, true, false, IsTrue, List, [], ◌∷◌, ◌++◌, length, get_or, take, drop, count_by, cond, inl, inr, refl, sym, ap, ◌∙◌, arith, length-append}
+use Rattle.std.proofs.Common.{◌≡◌, ℕ, zero, suc, ◌+◌, ◌-◌, ◌<◌, ◌≤◌, min, Bool, true, false, IsTrue, List, [], ◌∷◌, ◌++◌, length, get_or, take, drop, count_by, cond, inl, inr, refl, sym, ap, subst, ◌∙◌, arith, length-append}
 use Rattle.std.specs.Borrow.{Bor}
 use Rattle.std.specs.List.{AllByRecursion}
 use Rattle.std.specs.Prelude.{Option, Some, None, IfSome}
@@ -46,6 +46,10 @@ module _ (test : Row → Bool) where
   pub fails_behind : (rows : List Row) (k : ℕ) → IsCut test rows → k < length rows → test (get_or rows k []) ≡ false → count_by test rows ≤ k
   fails_behind rows k cut within fails = omega (arith, count_by_more_no test rows k [] within fails, count-take k rows cut, count-take (k + 1) rows cut)
 
+  -- nor does one past the end
+  pub fails_past : (rows : List Row) (k : ℕ) → length rows ≤ k → count_by test rows ≤ k
+  fails_past rows k past = omega (arith, count_by-le-length test rows)
+
   -- the count is the place up to which the rows pass
   pub place_of_count : (rows : List Row) → IsCut test rows → IsPlaceOf test rows (count_by test rows)
   place_of_count rows cut = record {
@@ -59,6 +63,10 @@ module _ (test : Row → Bool) where
       | inr fails ↦ fails
     ];
   }
+
+  -- a place that as many rows pass before
+  pub place_at : (rows : List Row) (at : ℕ) → IsCut test rows → count_by test rows ≤ at → at ≤ count_by test rows → IsPlaceOf test rows at
+  place_at rows at cut most least = let same : count_by test rows ≡ at = omega arith in subst (IsPlaceOf test rows) same (place_of_count rows cut)
 
 module _ {A : Type 0} (P : A → Type 0) where
   -- what is so of all is so of those in the back

@@ -4,6 +4,7 @@ pub mod Edits
 pub mod Emptiness
 pub mod Forests
 pub mod LeafLemmas
+pub mod NarrowLemmas
 pub mod Searches
 pub mod Splicing
 pub mod Views

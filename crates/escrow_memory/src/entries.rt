@@ -18,9 +18,9 @@ use std::sync::atomic::{AtomicBool, AtomicUsize, Ordering};
 #[derive(Drop)]
 pub(crate) struct Entries<N: Node> {
     root: Branch<N>,
-    /// The place that was found last.
-    near: AtomicUsize,
-    /// Whether it was the place that was found before, or the next to it: then the one that is asked may be, too.
+    /// The place that was found last, less the rowid that was sought, if one was: the same for all that stand side by side.
+    offset: AtomicUsize,
+    /// Whether that place was the one that was expected, or the next: then the one that is asked may be, too.
     is_run: AtomicBool,
 }
 
@@ -41,7 +41,7 @@ impl<N: Node> Entries<N> {
     {
         Entries {
             root: Branch::new(alloc),
-            near: AtomicUsize::new(0),
+            offset: AtomicUsize::new(0),
             is_run: AtomicBool::new(false),
         }
     }
@@ -52,7 +52,7 @@ impl<N: Node> Entries<N> {
     {
         Ok(Entries {
             root: self.root.copy(alloc)?,
-            near: AtomicUsize::new(self.near.load(Ordering::SeqCst)),
+            offset: AtomicUsize::new(self.offset.load(Ordering::SeqCst)),
             is_run: AtomicBool::new(self.is_run.load(Ordering::SeqCst)),
         })
     }
@@ -76,17 +76,6 @@ impl<N: Node> Entries<N> {
         }
     }
 
-    /// Whether no entry from a place on passes.
-    fn fails_from(&self, probe: Probe<'_>, at: usize) -> bool
-        requires { IsCut (passes probe) self.now }
-        ensures { IsTrue result → count_by (passes probe.entry) self.now ≤ at }
-    {
-        match self.get(at) {
-            Some(entry) => !probe.passes(entry),
-            None => true,
-        }
-    }
-
     /// Whether each entry before a place passes.
     fn passes_before(&self, probe: Probe<'_>, at: usize) -> bool
         requires { IsCut (passes probe) self.now }
@@ -101,43 +90,71 @@ impl<N: Node> Entries<N> {
         }
     }
 
-    /// Whether a place is that behind the entries that pass.
-    fn is_place(&self, probe: Probe<'_>, at: usize) -> bool
+    /// The entry at a place, or none behind the last, if no entry from there on passes.
+    #[tactic(auto, using(crate::proofs::Cuts::passes_before, crate::proofs::Cuts::fails_behind, crate::proofs::Cuts::fails_past))]
+    fn get_failing(&self, probe: Probe<'_>, at: usize) -> Option<Option<&[u8]>>
         requires { IsCut (passes probe) self.now }
-        ensures { IsTrue result → IsPlaceOf (passes probe.entry) self.now at }
+        ensures fails { IfSome result (λ _. count_by (passes probe.entry) self.now ≤ at) }
+        ensures passes { result ≡ None → at < count_by (passes probe.entry) self.now }
+        ensures some { IfSome result (λ found. IfSome found (λ entry. (at < length self.now) × (decode entry.now ≡ slice_index_or self.now at []))) }
+        ensures none { IfSome result (λ found. found ≡ None → length self.now ≤ at) }
     {
-        self.fails_from(probe, at) && self.passes_before(probe, at)
+        match self.get(at) {
+            Some(entry) if probe.passes(entry) => None,
+            Some(entry) => Some(Some(entry)),
+            None => Some(None),
+        }
     }
 
-    /// The place behind the entries that pass, and the entry that stands there, if one does. Where the last
-    /// two that were asked stood side by side, as where a table is gone through, it is looked for there first.
+    /// The place behind the entries that pass, and the entry that stands there, if one does, where it is this
+    /// place or the next.
+    fn seek_near(&self, probe: Probe<'_>, near: usize) -> Option<(usize, Option<&[u8]>)>
+        requires { IsCut (passes probe) self.now }
+        ensures place { IfSome result (λ found. IsPlaceOf (passes probe.entry) self.now found.0) }
+        ensures some { IfSome result (λ found. IfSome found.1 (λ entry. (found.0 < length self.now) × (decode entry.now ≡ slice_index_or self.now found.0 []))) }
+        ensures none { IfSome result (λ found. found.1 ≡ None → length self.now ≤ found.0) }
+    {
+        if let Some(found) = self.get_failing(probe, near) {
+            if self.passes_before(probe, near) {
+                return Some((near, found));
+            }
+            return None;
+        }
+        let next = near.saturating_add(1);
+        let found = self.get_failing(probe, next)?;
+        Some((next, found))
+    }
+
+    /// The place behind the entries that pass, and the entry that stands there, if one does. Where the last two that were
+    /// asked stood side by side, as where an index is gone through, or as far apart as their rowids, it is looked for
+    /// first at the place that follows from this.
     pub(crate) fn seek(&self, probe: Probe<'_>) -> (usize, Option<&[u8]>)
         requires { IsCut (passes probe) self.now }
         ensures place { IsPlaceOf (passes probe.entry) self.now result.0 }
         ensures some { IfSome result.1 (λ entry. (result.0 < length self.now) × (decode entry.now ≡ slice_index_or self.now result.0 [])) }
         ensures none { result.1 ≡ None → length self.now ≤ result.0 }
     {
-        let near = self.near.load(Ordering::SeqCst);
-        let next = near.saturating_add(1);
+        let number = probe.number();
+        let near = self.offset.load(Ordering::SeqCst).wrapping_add(number);
         if self.is_run.load(Ordering::SeqCst) {
-            if self.is_place(probe, near) {
-                return (near, self.get(near));
-            }
-            if self.is_place(probe, next) {
-                self.note(next, true);
-                return (next, self.get(next));
+            if let Some((at, found)) = self.seek_near(probe, near) {
+                self.note(at.wrapping_sub(number), true);
+                return (at, found);
             }
         }
         let (at, found) = self.root.seek(probe);
-        self.note(at, at == near || at == next);
+        self.note(
+            at.wrapping_sub(number),
+            at == near || at == near.saturating_add(1),
+        );
         (at, found)
     }
 
-    /// Notes the place that was found, and whether it stood beside the one before. What stays the same isn't
-    /// written, since a look costs less.
-    fn note(&self, at: usize, is_run: bool) {
-        if self.near.load(Ordering::SeqCst) != at {
-            self.near.store(at, Ordering::SeqCst);
+    /// Notes the place that was found, less the number that was sought, and whether it was expected there. What stays
+    /// the same isn't written, since a look costs less.
+    fn note(&self, offset: usize, is_run: bool) {
+        if self.offset.load(Ordering::SeqCst) != offset {
+            self.offset.store(offset, Ordering::SeqCst);
         }
         if self.is_run.load(Ordering::SeqCst) != is_run {
             self.is_run.store(is_run, Ordering::SeqCst);

@@ -1,15 +1,17 @@
 //! Tests by which a place in a tree is found.
 ghost use Rattle.std.specs.Prelude.{◌≡◌};
 ghost use Rattle.sqlite_value.specs.Value.{owned};
+ghost use Rattle.sqlite_value.specs.Order.{value_cmp};
 ghost use Rattle.sqlite_record.specs.Record.{decode};
 ghost use Rattle.sqlite_trees.specs.Tree.{rowid};
 
-use sqlite_record::compare::{with_key, with_row};
+use crate::narrow::{first_int, with_key, with_row};
 use sqlite_record::fields::Fields;
 use sqlite_value::keys::Order;
 use sqlite_value::order::compare;
 use sqlite_value::row::Row;
 use sqlite_value::value::ValueRef;
+use std::cmp::Ordering;
 
 /// A test that the entries of a tree pass up to some place, and fail from there on.
 #[derive(Clone, Copy, Debug)]
@@ -25,16 +27,43 @@ pub(crate) enum Probe<'a> {
 }
 
 /// The first value of an entry, which is the rowid of a table's; NULL where it has none.
-#[inline(always)]
-pub(crate) fn rowid_of(entry: &[u8]) -> ValueRef<'_>
+fn rowid_of(entry: &[u8]) -> ValueRef<'_>
     ensures { owned result ≡ rowid (decode entry.now) }
 {
     let mut fields = Fields::new(entry);
     fields.next().unwrap_or(ValueRef::Null)
 }
 
+/// As [`with_rowid`], of any entry and any value.
+#[cold]
+#[inline(never)]
+fn any_with_rowid(entry: &[u8], id: ValueRef<'_>) -> Ordering
+    ensures { result ≡ value_cmp (rowid (decode entry.now)) (owned id.entry) }
+{
+    compare(rowid_of(entry), id)
+}
+
+/// How the rowid of an entry compares with a value.
+#[inline(always)]
+pub(crate) fn with_rowid(entry: &[u8], id: ValueRef<'_>) -> Ordering
+    ensures { result ≡ value_cmp (rowid (decode entry.now)) (owned id.entry) }
+{
+    match (first_int(entry), id) {
+        (Some(found), ValueRef::Int(wanted)) => found.cmp(&wanted),
+        _ => any_with_rowid(entry, id),
+    }
+}
+
 impl Probe<'_> {
     ghost use Rattle.escrow_memory.specs.Probe.{passes};
+
+    /// The rowid that is sought, and 0 where it is negative or a key is sought.
+    pub(crate) fn number(self) -> usize {
+        match self {
+            Probe::BelowRowid(ValueRef::Int(id)) => usize::try_from(id).unwrap_or(0),
+            _ => 0,
+        }
+    }
 
     /// Whether an entry passes.
     #[inline(always)]
@@ -44,7 +73,7 @@ impl Probe<'_> {
         match self {
             Probe::BelowKey(order, key) => with_key(order, entry, key).is_lt(),
             Probe::UpToKey(order, key) => !with_key(order, entry, key).is_gt(),
-            Probe::BelowRowid(id) => compare(rowid_of(entry), id).is_lt(),
+            Probe::BelowRowid(id) => with_rowid(entry, id).is_lt(),
             Probe::BelowEntry(order, other) => with_row(order, entry, other).is_lt(),
         }
     }

@@ -12,13 +12,12 @@ ghost use Rattle.sqlite_trees.specs.Objects.{description, listing};
 use crate::branch::Branch;
 use crate::entries::Entries;
 use crate::leaf::Leaf;
-use crate::probe::{Probe, rowid_of};
-use sqlite_record::compare::with_row;
+use crate::narrow::{self, with_row};
+use crate::probe::{Probe, with_rowid};
 use sqlite_record::fields::decode_into;
 use sqlite_trees::schema::Object;
 use sqlite_trees::store::Shape;
 use sqlite_value::keys::Order;
-use sqlite_value::order::compare;
 use sqlite_value::row::Row;
 use sqlite_value::value::ValueRef;
 use std::alloc::{AllocError, Global};
@@ -53,7 +52,7 @@ fn has_rowid(found: Option<&[u8]>, id: ValueRef<'_>) -> bool
     ensures none { found.entry ≡ None → result ≡ false }
 {
     match found {
-        Some(entry) => compare(rowid_of(entry), id).is_eq(),
+        Some(entry) => with_rowid(entry, id).is_eq(),
         None => false,
     }
 }
@@ -73,6 +72,10 @@ fn is_entry(order: Order, found: Option<&[u8]>, entry: &Row) -> bool
 pub(crate) fn read_into(entry: &[u8], row: &mut Row) -> Result<(), AllocError>
     ensures { OnOk result (row.new ≡ decode entry.now) }
 {
+    row.clear();
+    if narrow::push_fields(entry, row)? {
+        return Ok(());
+    }
     row.clear();
     decode_into(entry, 0, row)
 }
@@ -142,7 +145,7 @@ impl Tree {
         let Some(entry) = found else {
             return Ok(false);
         };
-        if compare(rowid_of(entry), wanted).is_eq() {
+        if with_rowid(entry, wanted).is_eq() {
             read_into(entry, row)?;
             Ok(true)
         } else {

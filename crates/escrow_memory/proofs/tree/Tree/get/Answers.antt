@@ -21,7 +21,7 @@ pub returns-in_ok-read_into : goal.returns-in_ok-read_into
 returns-in_ok-read_into c =
     let fits = c.ranges.id in
     let place = simp to_z-of_z at c.seek.ensures.place in
-    let compared = simp to_z-of_z at c.compare.ensures in
+    let compared = simp to_z-of_z at c.with_rowid.ensures in
     let (inside, reads) = rw c.in-Some.is at c.seek.ensures.some in
     let same : has_rowid c.args.id (get_or c.args.self.now.rows c.seek.result.0 []) ≡ true = cc in
     found_at c.args.id _ _ (lemma.table_rises c.args.self.now c.requires) place inside same ∙ cc (c.in_ok-read_into.ensures)
@@ -30,7 +30,7 @@ pub returns-else-is_eq : goal.returns-else-is_eq
 returns-else-is_eq c =
     let fits = c.ranges.id in
     let place = simp to_z-of_z at c.seek.ensures.place in
-    let compared = simp to_z-of_z at c.compare.ensures in
+    let compared = simp to_z-of_z at c.with_rowid.ensures in
     let (inside, reads) = rw c.in-Some.is at c.seek.ensures.some in
     let other : has_rowid c.args.id (get_or c.args.self.now.rows c.seek.result.0 []) ≡ false = cc in
     missing_at c.args.id _ _ (lemma.table_rises c.args.self.now c.requires) place (λ within. other)
