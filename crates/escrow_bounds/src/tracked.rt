@@ -1,14 +1,16 @@
 ghost use Rattle.std.specs.Prelude.{◌≡◌, ℤ, List, [], ◌∷◌, ◌++◌, ◌<◌, OnOk, length};
 ghost use Rattle.std.specs.List.{AllByRecursion};
-ghost use Rattle.escrow_checks.specs.Form.{IsCovered};
-ghost use Rattle.escrow_checks.specs.Grant.{broken};
+ghost use Rattle.escrow_checks.specs.Contribution.{IsContribution};
+ghost use Rattle.escrow_checks.specs.Form.{form, IsCovered};
+ghost use Rattle.escrow_checks.specs.Grant.{broken_by, broken};
 ghost use Rattle.escrow_checks.specs.Spread.{IsSpread};
 ghost use Rattle.escrow_checks.specs.declared.spread.TheConstants.Spread.{MAX_OPEN};
 ghost use Rattle.escrow_bounds.specs.Counts.{HaveSums};
 ghost use Rattle.escrow_bounds.specs.Kept.{checks_of};
 
+use crate::changes::contribution;
 use escrow_checks::{Check, Spread};
-use escrow_num::{Amount, Breach, Span};
+use escrow_num::{Amount, Breach, Span, Wide};
 use std::alloc::AllocError;
 
 /// A check of a row with the spread of the open reservations that are counted.
@@ -21,32 +23,47 @@ pub struct Tracked {
 }
 
 impl Tracked {
-    /// The form with one more reservation counted.
-    fn with(self, changes: &[Amount]) -> Self
-        requires { (reservations : List (List ℤ)) × IsSpread self.check.coeffs reservations self.spread × (length reservations < MAX_OPEN) }
-        ensures check { result.check ≡ self.check }
-        ensures added { (before after : List (List ℤ)) → IsSpread self.check.coeffs (before ++ after) self.spread
-            → IsSpread self.check.coeffs (before ++ changes.now ∷ after) result.spread }
+    /// Counts one more reservation.
+    fn take_in(&mut self, changes: &[Amount])
+        requires { (reservations : List (List ℤ)) × IsSpread self.old.check.coeffs reservations self.old.spread × (length reservations < MAX_OPEN) }
+        ensures check { self.new.check ≡ self.old.check }
+        ensures added { (before after : List (List ℤ)) → IsSpread self.old.check.coeffs (before ++ after) self.old.spread
+            → IsSpread self.old.check.coeffs (before ++ changes.now ∷ after) self.new.spread }
     {
-        let contribution = self.check.contribution(changes);
-        Tracked {
-            spread: self.spread.with(contribution),
-            ..self
-        }
+        let contribution = contribution(self.check.coeffs.as_slice(), changes);
+        self.spread = self.spread.with(contribution);
     }
 
-    /// The form with one of its reservations counted no more.
-    fn without(self, changes: &[Amount]) -> Self
-        requires { (before after : List (List ℤ)) × IsSpread self.check.coeffs (before ++ changes.now ∷ after) self.spread }
-        ensures check { result.check ≡ self.check }
-        ensures removed { (before after : List (List ℤ)) → IsSpread self.check.coeffs (before ++ changes.now ∷ after) self.spread
-            → IsSpread self.check.coeffs (before ++ after) result.spread }
+    /// Counts one of its reservations no more.
+    fn give_back(&mut self, changes: &[Amount])
+        requires { (before after : List (List ℤ)) × IsSpread self.old.check.coeffs (before ++ changes.now ∷ after) self.old.spread }
+        ensures check { self.new.check ≡ self.old.check }
+        ensures removed { (before after : List (List ℤ)) → IsSpread self.old.check.coeffs (before ++ changes.now ∷ after) self.old.spread
+            → IsSpread self.old.check.coeffs (before ++ after) self.new.spread }
     {
-        let contribution = self.check.contribution(changes);
-        Tracked {
-            spread: self.spread.without(contribution),
-            ..self
-        }
+        let contribution = contribution(self.check.coeffs.as_slice(), changes);
+        self.spread = self.spread.without(contribution);
+    }
+
+    /// What changes would break of the check where its form is at a value, over every choice of the
+    /// reservations that are counted. `None` where they break nothing.
+    fn breach(&self, value: Wide, changes: &[Amount]) -> Option<Breach>
+        requires { IsContribution value }
+        ensures { (amounts : List ℤ) (reservations : List (List ℤ)) → value ≡ form self.now.check.coeffs amounts
+            → IsCovered self.now.check.coeffs amounts → IsSpread self.now.check.coeffs reservations self.now.spread
+            → result ≡ broken_by self.now.check amounts changes.now reservations }
+    {
+        let with_new = value.plus(contribution(self.check.coeffs.as_slice(), changes));
+        let least = with_new.plus(self.spread.falls);
+        let greatest = with_new.plus(self.spread.rises);
+        let (side, worst, limit) = self.check.span.first_broken(least, greatest)?;
+        Some(Breach {
+            check: self.check.name,
+            side,
+            worst,
+            limit,
+            scale: self.check.scale,
+        })
     }
 }
 
@@ -72,7 +89,7 @@ pub(crate) fn take_in(forms: &mut [Tracked], changes: &[Amount])
     ensures sums { (before after : List (List ℤ)) → HaveSums forms.old (before ++ after) → HaveSums forms.new (before ++ changes.now ∷ after) }
 {
     for form in forms.iter_mut() {
-        *form = form.with(changes);
+        form.take_in(changes);
     }
 }
 
@@ -83,7 +100,7 @@ pub(crate) fn give_back(forms: &mut [Tracked], changes: &[Amount])
     ensures sums { (before after : List (List ℤ)) → HaveSums forms.old (before ++ changes.now ∷ after) → HaveSums forms.new (before ++ after) }
 {
     for form in forms.iter_mut() {
-        *form = form.without(changes);
+        form.give_back(changes);
     }
 }
 
@@ -99,7 +116,8 @@ pub(crate) fn first_breach(
         → result ≡ broken (checks_of forms.now) amounts.now changes.now reservations }
 {
     for form in forms {
-        let breach = form.check.breach(amounts, changes, &form.spread);
+        let value = contribution(form.check.coeffs.as_slice(), amounts);
+        let breach = form.breach(value, changes);
         if breach.is_some() {
             return breach;
         }
