@@ -29,21 +29,21 @@ pub(crate) fn contribution(coeffs: &[Amount], changes: &[Amount]) -> Wide
     ensures value { result ≡ form coeffs.now changes.now }
     ensures within { IsContribution result }
 {
-    let mut sum = Wide::ZERO;
+    let mut sum = 0;
     for i in 0..coeffs.len().min(changes.len()) {
-        sum = sum.plus(product(coeffs[i], changes[i]));
+        sum += product(coeffs[i], changes[i]);
     }
-    sum
+    Wide::new(sum).unwrap()
 }
 
 /// A coefficient times a change, of which most are zero.
-fn product(coefficient: Amount, change: Amount) -> Wide
+fn product(coefficient: Amount, change: Amount) -> i128
     requires { IsCoefficient coefficient }
     ensures value { result ≡ coefficient *ℤ change }
     ensures within { IsProduct result }
 {
     if change.get() == 0 {
-        return Wide::ZERO;
+        return 0;
     }
-    Wide::new(i128::from(coefficient.get()) * i128::from(change.get())).unwrap()
+    i128::from(coefficient.get()) * i128::from(change.get())
 }

@@ -1,13 +1,13 @@
-use Rattle.std.proofs.Common.{◌≡◌, ◌*ℤ◌, arith}
+use Rattle.std.proofs.Common.{◌≡◌, ◌*ℤ◌, refl, sym, to_z, of_z, arith}
+use Rattle.std.specs.Int.{w128}
 use Rattle.std.proofs.lemmas.Int.{ints}
 use Rattle.escrow_checks.proofs.Products.{product_bound, product_in_128}
 use Rattle.escrow_bounds.proofs.changes.product.Goals as goal
 
-is : (c : goal.After-unwrap) → c.unwrap.result ≡ c.args.coefficient *ℤ c.args.change
+is : (c : goal.After-from-2) → to_z w128 (of_z w128 (to_z w128 (of_z w128 c.from.result) *ℤ to_z w128 (of_z w128 c.from-2.result))) ≡ c.args.coefficient *ℤ c.args.change
 is c =
     let fits = rw c.get-3.ensures.value at c.get-3.ensures.within in
-    let held = rw c.unwrap.ensures at c.new.ensures in
-    product_in_128 c.args.coefficient c.args.change c.from.result c.from-2.result c.unwrap.result c.requires fits (omega (arith, ints)) (omega (arith, ints)) held.1
+    product_in_128 c.args.coefficient c.args.change c.from.result c.from-2.result _ c.requires fits (omega (arith, ints)) (omega (arith, ints)) refl
 
 pub returns-clause-value : goal.returns-clause-value
 returns-clause-value c = is c
