@@ -2,6 +2,7 @@
 use Rattle.std.specs.Prelude.{ℤ, Bool, true, false, Option, Some, None, option_map, option_to_list, List, [], ◌∷◌, ◌++◌, length, take, drop, remove, slice_get, bytes_eq}
 use Rattle.std.specs.List.{AllByRecursion}
 use Rattle.std.proofs.Common.{◌≡◌, ◌∙◌, ℕ, zero, suc, ◌<◌, ◌≤◌, cond, refl, sym, ap, subst, set, get_or, ◌+◌, ◌-◌, arith}
+use Rattle.std.proofs.lemmas.List.{drop-map, take-map}
 use Rattle.indexmap.specs.IndexMap.{set_value_at}
 use Rattle.escrow_num.specs.declared.refusal.Breach.{Breach}
 use Rattle.escrow_num.specs.declared.reservation.Reservation.{Reservation}
@@ -9,7 +10,7 @@ use Rattle.escrow_num.specs.declared.value.RowName.{RowName}
 use Rattle.escrow_num.specs.Order.{same_row}
 use Rattle.escrow_num.proofs.Orders.{row_same, same_row_itself}
 use Rattle.escrow_checks.specs.declared.check.Check.{Check}
-use Rattle.escrow_checks.specs.Form.{IsCovered}
+use Rattle.escrow_checks.specs.Form.{form as form_of, IsCovered}
 use Rattle.escrow_checks.specs.Grant.{broken}
 use Rattle.escrow_checks.specs.Spread.{IsSpread}
 use Rattle.escrow_bounds.specs.declared.tracked.Tracked.{Tracked}
@@ -20,6 +21,7 @@ use Rattle.escrow_bounds.specs.Held.{of_row, CountsJust, CountsAll, AllCount}
 use Rattle.escrow_bounds.specs.Inside.{IsPlace}
 use Rattle.escrow_bounds.specs.Kept.{Kept, checks_of}
 use Rattle.escrow_bounds.specs.Places.{Places, place_at, OthersStay}
+use Rattle.escrow_bounds.proofs.Forms.{values_at}
 use Rattle.escrow_bounds.proofs.LawLemmas.{split, each_row, other_way}
 use Rattle.escrow_bounds.proofs.Steps.{AllStepped, Stepped, stepped_more}
 
@@ -91,6 +93,17 @@ without_counts index old new count checks columns reservations known = (
   subst (λ (forms : List Tracked). HaveSums forms reservations) (sym checks) (all_without (λ (form : Tracked). IsSpread form.check.coeffs reservations form.spread) old.checks index known.1),
   subst (λ (forms : List Tracked). HaveSums forms reservations) (sym columns) known.2,
 )
+
+-- the values of the forms that are left are those that are left
+pub values_without : (forms : List Tracked) (amounts values : List ℤ) (index : ℕ) → values ≡ values_at amounts (checks_of forms)
+    → remove values index ≡ values_at amounts (checks_of (remove forms index))
+values_without forms amounts values index are = ap (λ (vs : List ℤ). remove vs index) are ∙ each forms index
+  where
+    each : (fs : List Tracked) (i : ℕ) → remove (values_at amounts (checks_of fs)) i ≡ values_at amounts (checks_of (remove fs i))
+    each [] zero = refl
+    each [] (suc i) = refl
+    each (form ∷ fs) zero = refl
+    each (form ∷ fs) (suc i) = ap (λ (vs : List ℤ). form_of form.check.coeffs amounts ∷ vs) (each fs i)
 
 pub is_without : (index : ℕ) (old new : Kept) → new.amounts ≡ old.amounts → new.count ≡ old.count → new.checks ≡ remove old.checks index → new.columns ≡ old.columns → IsWithout index old new
 is_without index old new amounts count checks columns = record {
@@ -284,20 +297,34 @@ adopt_counts table checks held old addition new counts counting prepared adopts 
     let known = table_counts table Step held old new (λ row was after step _. step.counts) counts counting goes in
     (known.0, known.1, goes)
 
--- ---- what some of a place's checks allow
+-- ---- what a place's checks allow, all or some of them
 
-pub covered_there : (place : Kept) (first count : ℕ) (forms : List Tracked) (amounts : List ℤ) → IsPlace place → forms ≡ place.checks → amounts ≡ place.amounts
-    → AllByRecursion (λ (check : Check). IsCovered check.coeffs amounts) (checks_of (take (first + count - first) (drop first forms)))
-covered_there place first count forms amounts is checks shown =
-    let n : first + count - first ≡ count = omega arith in
-    rw (n, checks, shown) (some_covered place.checks place.amounts first count is.covered)
+-- the values of some of the forms are some of the values
+some_values : (forms : List Tracked) (amounts : List ℤ) (first count : ℕ)
+    → take count (drop first (values_at amounts (checks_of forms))) ≡ values_at amounts (checks_of (some_of forms first count))
+some_values forms amounts first count = simp (drop-map, take-map) refl
 
-pub broken_there : (place : Kept) (first count : ℕ) (forms : List Tracked) (amounts : List ℤ) (reservations : List (List ℤ)) (breach : Option Breach) → forms ≡ place.checks → amounts ≡ place.amounts → Counts place reservations
-    → ((rs : List (List ℤ)) → HaveSums (take (first + count - first) (drop first forms)) rs → breach ≡ broken (checks_of (take (first + count - first) (drop first forms))) amounts [] rs)
+-- what is found broken by the values of forms, over the reservations that a place counts
+abbrev FoundBroken : List Tracked → List ℤ → List ℤ → Option Breach → Type 0
+FoundBroken forms values changes breach =
+    (amounts : List ℤ) (reservations : List (List ℤ)) → values ≡ values_at amounts (checks_of forms)
+    → AllByRecursion (λ (check : Check). IsCovered check.coeffs amounts) (checks_of forms) → HaveSums forms reservations
+    → breach ≡ broken (checks_of forms) amounts changes reservations
+
+pub verdict_there : (place : Kept) (values : List ℤ) (forms : List Tracked) (shown changes : List ℤ) (reservations : List (List ℤ)) (breach : Option Breach)
+    → IsPlace place → values ≡ values_at place.amounts (checks_of place.checks) → forms ≡ place.checks → shown ≡ values → Counts place reservations
+    → FoundBroken forms shown changes breach → breach ≡ broken (checks_of place.checks) place.amounts changes reservations
+verdict_there place values forms shown changes reservations breach is are checks read counts found =
+    let found_there = subst (λ (vs : List ℤ). FoundBroken place.checks vs changes breach) read (subst (λ (fs : List Tracked). FoundBroken fs shown changes breach) checks found) in
+    found_there place.amounts reservations are is.covered counts.1
+
+pub broken_there : (place : Kept) (values : List ℤ) (first count : ℕ) (forms : List Tracked) (shown : List ℤ) (reservations : List (List ℤ)) (breach : Option Breach)
+    → IsPlace place → values ≡ values_at place.amounts (checks_of place.checks) → forms ≡ place.checks → shown ≡ values → Counts place reservations
+    → FoundBroken (take (first + count - first) (drop first forms)) (take (first + count - first) (drop first shown)) [] breach
     → breach ≡ broken (take count (drop first (checks_of place.checks))) place.amounts [] reservations
-broken_there place first count forms amounts reservations breach checks shown counts is =
+broken_there place values first count forms shown reservations breach is are checks read counts found =
     let n : first + count - first ≡ count = omega arith in
-    let some : take (first + count - first) (drop first forms) ≡ some_of place.checks first count = rw (n, checks) refl in
-    is reservations (subst (λ (fs : List Tracked). HaveSums fs reservations) (sym some) (some_sums place.checks reservations first count counts.1))
-    ∙ ap (λ (held : List ℤ). broken (checks_of (take (first + count - first) (drop first forms))) held [] reservations) shown
-    ∙ ap (λ (cs : List Check). broken cs place.amounts [] reservations) (ap checks_of some ∙ some_checks place.checks first count)
+    let found_some : FoundBroken (some_of place.checks first count) (take count (drop first values)) [] breach = rw (← n, ← checks, ← read) found in
+    found_some place.amounts reservations (ap (λ (vs : List ℤ). take count (drop first vs)) are ∙ some_values place.checks place.amounts first count)
+    (some_covered place.checks place.amounts first count is.covered) (some_sums place.checks reservations first count counts.1)
+    ∙ ap (λ (cs : List Check). broken cs place.amounts [] reservations) (some_checks place.checks first count)

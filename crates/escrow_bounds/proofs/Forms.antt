@@ -1,11 +1,13 @@
 -- The forms of a place, when one more reservation is counted, or one less.
-use Rattle.std.proofs.Common.{◌≡◌, ℕ, zero, suc, ◌+◌, ℤ, ◌<◌, true, false, Option, Some, None, List, [], ◌∷◌, ◌++◌, length, get_or, drop, refl, sym, ap, ap₂, subst, arith, add-one, drop-cons}
+use Rattle.std.proofs.Common.{◌≡◌, ℕ, zero, suc, ◌+◌, ℤ, ◌<◌, ◌≤◌, true, false, Option, Some, None, List, [], ◌∷◌, ◌++◌, length, get_or, take, drop, map, refl, sym, ap, ap₂, ◌∙◌, subst, arith, add-one, drop-cons}
 use Rattle.std.specs.List.{AllByRecursion}
 use Rattle.std.specs.Prelude.{is_some, slice_get}
+use Rattle.std.proofs.lemmas.List.{take_all}
+use Rattle.std.proofs.lemmas.Simd.{map-map}
 use Rattle.escrow_num.specs.declared.refusal.Breach.{Breach}
 use Rattle.escrow_num.proofs.Items.{all_at}
 use Rattle.escrow_checks.specs.declared.check.Check.{Check}
-use Rattle.escrow_checks.specs.Form.{IsCovered}
+use Rattle.escrow_checks.specs.Form.{form as form_of, IsCovered}
 use Rattle.escrow_checks.specs.Grant.{broken_by, broken}
 use Rattle.escrow_checks.specs.Spread.{IsSpread}
 use Rattle.escrow_bounds.specs.declared.tracked.Tracked.{Tracked}
@@ -108,3 +110,25 @@ pub broken_past : (forms : List Tracked) (place : ℕ) (form : Tracked) (amounts
 broken_past forms place form amounts changes reservations (Some breach) below at is none = absurd (cc)
 broken_past forms place form amounts changes reservations None below at is none =
     rw (drop-cons forms place form, ← at, ← is, add-one) refl
+
+-- ---- the values of forms at amounts
+
+-- of each check its form's value
+abbrev pub values_at : List ℤ → List Check → List ℤ
+values_at amounts checks = map (λ (check : Check). form_of check.coeffs amounts) checks
+
+-- the value at a place is that of the form there
+pub value_at : (forms : List Tracked) (amounts values : List ℤ) (place : ℕ) (form : Tracked) (value : ℤ) → place < length forms → form ≡ get_or forms place form
+    → value ≡ get_or values place value → values ≡ values_at amounts (checks_of forms) → value ≡ form_of form.check.coeffs amounts
+value_at [] amounts values place form value below at read are = absurd (omega arith)
+value_at (first ∷ forms) amounts values zero form value below at read are =
+    read ∙ ap (λ (vs : List ℤ). get_or vs zero value) are ∙ ap (λ (f : Tracked). form_of f.check.coeffs amounts) (sym at)
+value_at (first ∷ forms) amounts values (suc place) form value below at read are =
+    value_at forms amounts (values_at amounts (checks_of forms)) place form value (omega arith) at (read ∙ ap (λ (vs : List ℤ). get_or vs (suc place) value) are) refl
+
+-- where all are read they are those of the checks
+pub values_all : (forms : List Tracked) (amounts values : List ℤ) (place : ℕ) → length values ≡ length forms → length forms ≤ place
+    → take place values ≡ map (λ (form : Tracked). form_of form.check.coeffs amounts) (take place forms) → values ≡ values_at amounts (checks_of forms)
+values_all forms amounts values place each past are =
+    sym (take_all place values (omega arith)) ∙ are ∙ ap (map (λ (form : Tracked). form_of form.check.coeffs amounts)) (take_all place forms past)
+    ∙ sym (map-map (λ (check : Check). form_of check.coeffs amounts) (λ (form : Tracked). form.check) forms)

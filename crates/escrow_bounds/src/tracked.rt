@@ -1,4 +1,4 @@
-ghost use Rattle.std.specs.Prelude.{◌≡◌, ℤ, List, [], ◌∷◌, ◌++◌, ◌<◌, OnOk, length};
+ghost use Rattle.std.specs.Prelude.{◌≡◌, ℤ, List, [], ◌∷◌, ◌++◌, ◌<◌, IfOk, OnOk, length, map};
 ghost use Rattle.std.specs.List.{AllByRecursion};
 ghost use Rattle.escrow_checks.specs.Contribution.{IsContribution};
 ghost use Rattle.escrow_checks.specs.Form.{form, IsCovered};
@@ -11,7 +11,7 @@ ghost use Rattle.escrow_bounds.specs.Kept.{checks_of};
 use crate::changes::contribution;
 use escrow_checks::{Check, Spread};
 use escrow_num::{Amount, Breach, Span, Wide};
-use std::alloc::AllocError;
+use std::alloc::{AllocError, Global};
 
 /// A check of a row with the spread of the open reservations that are counted.
 #[derive(Clone, Copy, Debug)]
@@ -104,20 +104,45 @@ pub(crate) fn give_back(forms: &mut [Tracked], changes: &[Amount])
     }
 }
 
-/// What changes would break of the first check that they can break, over every choice of the
-/// reservations that are counted. `None` where they break nothing.
-pub(crate) fn first_breach(
-    forms: &[Tracked],
+/// The values of the forms of checks at a row's amounts.
+pub(crate) fn all_values(
+    alloc: Global,
+    checks: &[Check],
     amounts: &[Amount],
-    changes: &[Amount],
-) -> Option<Breach>
-    requires { AllByRecursion (λ check. IsCovered check.coeffs amounts.now) (checks_of forms.now) }
-    ensures { (reservations : List (List ℤ)) → HaveSums forms.now reservations
-        → result ≡ broken (checks_of forms.now) amounts.now changes.now reservations }
+) -> Result<Vec<Wide>, AllocError>
+    ensures values { IfOk result (λ values. values.items ≡ map (λ check. form check.coeffs amounts.now) checks.now) }
+    ensures within { IfOk result (λ values. AllByRecursion IsContribution values.items) }
 {
-    for form in forms {
-        let value = contribution(form.check.coeffs.as_slice(), amounts);
-        let breach = form.breach(value, changes);
+    let mut values = Vec::with_capacity(alloc, checks.len())?;
+    for check in checks {
+        values.push(contribution(check.coeffs.as_slice(), amounts))?;
+    }
+    Ok(values)
+}
+
+/// Puts the values of forms at a row's new amounts where those at the old ones stand.
+pub(crate) fn revalue(values: &mut [Wide], forms: &[Tracked], amounts: &[Amount])
+    requires { length values.old ≡ length forms.now }
+    ensures values { values.new ≡ map (λ check. form check.coeffs amounts.now) (checks_of forms.now) }
+    ensures within { AllByRecursion IsContribution values.new }
+{
+    for (i, form) in forms.iter().enumerate() {
+        values[i] = contribution(form.check.coeffs.as_slice(), amounts);
+    }
+}
+
+/// What changes would break of the first check that they can break, over every choice of the
+/// reservations that are counted, where these are the values of the forms. `None` where they break
+/// nothing.
+pub(crate) fn first_breach(forms: &[Tracked], values: &[Wide], changes: &[Amount]) -> Option<Breach>
+    requires each { length values.now ≡ length forms.now }
+    requires within { AllByRecursion IsContribution values.now }
+    ensures { (amounts : List ℤ) (reservations : List (List ℤ)) → values.now ≡ map (λ check. form check.coeffs amounts) (checks_of forms.now)
+        → AllByRecursion (λ check. IsCovered check.coeffs amounts) (checks_of forms.now) → HaveSums forms.now reservations
+        → result ≡ broken (checks_of forms.now) amounts changes.now reservations }
+{
+    for (i, form) in forms.iter().enumerate() {
+        let breach = form.breach(values[i], changes);
         if breach.is_some() {
             return breach;
         }

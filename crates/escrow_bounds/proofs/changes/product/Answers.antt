@@ -1,4 +1,4 @@
-use Rattle.std.proofs.Common.{◌≡◌, ◌*ℤ◌, refl, sym, to_z, of_z, arith}
+use Rattle.std.proofs.Common.{◌≡◌, ◌*ℤ◌, refl, to_z, of_z, arith}
 use Rattle.std.specs.Int.{w128}
 use Rattle.std.proofs.lemmas.Int.{ints}
 use Rattle.escrow_checks.proofs.Products.{product_bound, product_in_128}

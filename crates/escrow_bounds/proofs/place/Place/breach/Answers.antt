@@ -3,14 +3,12 @@ use Rattle.escrow_checks.specs.Grant.{broken}
 use Rattle.escrow_bounds.specs.Counts.{Counts}
 use Rattle.escrow_bounds.specs.Inside.{kept_of}
 use Rattle.escrow_bounds.specs.Kept.{Kept, checks_of}
-use Rattle.escrow_bounds.proofs.Altering.{covered_there, broken_there}
+use Rattle.escrow_bounds.proofs.Altering.{broken_there}
 use Rattle.escrow_bounds.proofs.place.Place.breach.Goals as goal
-
-pub first_breach-requires : goal.first_breach-requires
-first_breach-requires c = covered_there (kept_of c.self.inside) c.args.first c.args.count c.deref.result.now c.deref-2.result.now c.self.invariant c.deref.ensures.value c.deref-2.ensures.value
 
 pub returns : goal.returns
 returns c =
     subst (λ (kept : Kept). (reservations : List (List ℤ)) → Counts kept reservations → c.first_breach.result ≡ broken (take c.args.count (drop c.args.first (checks_of kept.checks))) kept.amounts [] reservations)
     c.self.view_is
-    (λ reservations counts. broken_there (kept_of c.self.inside) c.args.first c.args.count c.deref.result.now c.deref-2.result.now reservations c.first_breach.result c.deref.ensures.value c.deref-2.ensures.value counts c.first_breach.ensures)
+    (λ reservations counts. broken_there (kept_of c.self.inside) c.self.inside.values.items c.args.first c.args.count c.deref.result.now c.deref-2.result.now reservations c.first_breach.result
+    c.self.invariant.0 c.self.invariant.1 c.deref.ensures.value c.deref-2.ensures.value counts c.first_breach.ensures)
