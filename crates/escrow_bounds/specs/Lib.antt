@@ -7,5 +7,6 @@ pub mod Held
 pub mod Inside
 pub mod Kept
 pub mod Laws
+pub mod Listed
 pub mod Moved
 pub mod Places

@@ -8,6 +8,7 @@
 mod bounds;
 mod changes;
 pub mod laws;
+mod moves;
 mod place;
 mod tracked;
 

@@ -8,7 +8,7 @@ ghost use Rattle.escrow_checks.specs.declared.spread.TheConstants.Spread.{MAX_OP
 ghost use Rattle.escrow_bounds.specs.Counts.{HaveSums};
 ghost use Rattle.escrow_bounds.specs.Kept.{checks_of};
 
-use crate::changes::contribution;
+use crate::moves::{Moves, contribution};
 use escrow_checks::{Check, Spread};
 use escrow_num::{Amount, Breach, Span, Wide};
 use std::alloc::{AllocError, Global};
@@ -24,7 +24,7 @@ pub struct Tracked {
 
 impl Tracked {
     /// Counts one more reservation.
-    fn take_in(&mut self, changes: &[Amount])
+    fn take_in(&mut self, changes: &Moves<'_>)
         requires { (reservations : List (List ℤ)) × IsSpread self.old.check.coeffs reservations self.old.spread × (length reservations < MAX_OPEN) }
         ensures check { self.new.check ≡ self.old.check }
         ensures added { (before after : List (List ℤ)) → IsSpread self.old.check.coeffs (before ++ after) self.old.spread
@@ -35,7 +35,7 @@ impl Tracked {
     }
 
     /// Counts one of its reservations no more.
-    fn give_back(&mut self, changes: &[Amount])
+    fn give_back(&mut self, changes: &Moves<'_>)
         requires { (before after : List (List ℤ)) × IsSpread self.old.check.coeffs (before ++ changes.now ∷ after) self.old.spread }
         ensures check { self.new.check ≡ self.old.check }
         ensures removed { (before after : List (List ℤ)) → IsSpread self.old.check.coeffs (before ++ changes.now ∷ after) self.old.spread
@@ -47,7 +47,7 @@ impl Tracked {
 
     /// What changes would break of the check where its form is at a value, over every choice of the
     /// reservations that are counted. `None` where they break nothing.
-    fn breach(&self, value: Wide, changes: &[Amount]) -> Option<Breach>
+    fn breach(&self, value: Wide, changes: &Moves<'_>) -> Option<Breach>
         requires { IsContribution value }
         ensures { (amounts : List ℤ) (reservations : List (List ℤ)) → value ≡ form self.now.check.coeffs amounts
             → IsCovered self.now.check.coeffs amounts → IsSpread self.now.check.coeffs reservations self.now.spread
@@ -88,8 +88,9 @@ pub(crate) fn take_in(forms: &mut [Tracked], changes: &[Amount])
     ensures checks { checks_of forms.new ≡ checks_of forms.old }
     ensures sums { (before after : List (List ℤ)) → HaveSums forms.old (before ++ after) → HaveSums forms.new (before ++ changes.now ∷ after) }
 {
+    let moves = Moves::of(changes);
     for form in forms.iter_mut() {
-        form.take_in(changes);
+        form.take_in(&moves);
     }
 }
 
@@ -99,8 +100,9 @@ pub(crate) fn give_back(forms: &mut [Tracked], changes: &[Amount])
     ensures checks { checks_of forms.new ≡ checks_of forms.old }
     ensures sums { (before after : List (List ℤ)) → HaveSums forms.old (before ++ changes.now ∷ after) → HaveSums forms.new (before ++ after) }
 {
+    let moves = Moves::of(changes);
     for form in forms.iter_mut() {
-        form.give_back(changes);
+        form.give_back(&moves);
     }
 }
 
@@ -114,8 +116,9 @@ pub(crate) fn all_values(
     ensures within { IfOk result (λ values. AllByRecursion IsContribution values.items) }
 {
     let mut values = Vec::with_capacity(alloc, checks.len())?;
+    let row = Moves::of(amounts);
     for check in checks {
-        values.push(contribution(check.coeffs.as_slice(), amounts))?;
+        values.push(contribution(check.coeffs.as_slice(), &row))?;
     }
     Ok(values)
 }
@@ -126,8 +129,9 @@ pub(crate) fn revalue(values: &mut [Wide], forms: &[Tracked], amounts: &[Amount]
     ensures values { values.new ≡ map (λ check. form check.coeffs amounts.now) (checks_of forms.now) }
     ensures within { AllByRecursion IsContribution values.new }
 {
+    let row = Moves::of(amounts);
     for (i, form) in forms.iter().enumerate() {
-        values[i] = contribution(form.check.coeffs.as_slice(), amounts);
+        values[i] = contribution(form.check.coeffs.as_slice(), &row);
     }
 }
 
@@ -141,8 +145,9 @@ pub(crate) fn first_breach(forms: &[Tracked], values: &[Wide], changes: &[Amount
         → AllByRecursion (λ check. IsCovered check.coeffs amounts) (checks_of forms.now) → HaveSums forms.now reservations
         → result ≡ broken (checks_of forms.now) amounts changes.now reservations }
 {
+    let moves = Moves::of(changes);
     for (i, form) in forms.iter().enumerate() {
-        let breach = form.breach(values[i], changes);
+        let breach = form.breach(values[i], &moves);
         if breach.is_some() {
             return breach;
         }

@@ -1,4 +1,4 @@
-use Rattle.std.proofs.Common.{◌≡◌, sym, ◌∙◌}
+use Rattle.std.proofs.Common.{◌≡◌, ℤ, List, ap, sym, ◌∙◌}
 use Rattle.escrow_checks.specs.Grant.{broken_by}
 use Rattle.escrow_bounds.proofs.Forms.{sums_at, covered_at, value_at, broken_here, broken_past}
 use Rattle.escrow_bounds.proofs.tracked.first_breach.Goals as goal
@@ -11,7 +11,8 @@ returns-then-is_some c = λ amounts reservations values covered sums.
     let below = c.loop-i-test.true in
     let at = value_at forms amounts c.args.values.now i form c.index-values-i.result below c.index-forms-i.is c.index-values-i.is values in
     let is : c.breach-breach.result ≡ broken_by form.check amounts c.args.changes.now reservations =
-    c.breach-breach.ensures amounts reservations at (covered_at forms amounts i form below c.index-forms-i.is covered) (sums_at forms reservations i form below c.index-forms-i.is sums) in
+    c.breach-breach.ensures amounts reservations at (covered_at forms amounts i form below c.index-forms-i.is covered) (sums_at forms reservations i form below c.index-forms-i.is sums)
+    ∙ ap (λ (changes : List ℤ). broken_by form.check amounts changes reservations) c.of-moves.ensures in
     broken_here forms i form amounts c.args.changes.now reservations c.breach-breach.result below c.index-forms-i.is is (sym c.is_some.ensures ∙ c.if-is_some.true)
     ∙ c.loop-i.invariant amounts reservations values covered sums
 
@@ -23,6 +24,7 @@ loop-i-preserved c = λ amounts reservations values covered sums.
     let below = c.loop-i-test.true in
     let at = value_at forms amounts c.args.values.now i form c.index-values-i.result below c.index-forms-i.is c.index-values-i.is values in
     let is : c.breach-breach.result ≡ broken_by form.check amounts c.args.changes.now reservations =
-    c.breach-breach.ensures amounts reservations at (covered_at forms amounts i form below c.index-forms-i.is covered) (sums_at forms reservations i form below c.index-forms-i.is sums) in
+    c.breach-breach.ensures amounts reservations at (covered_at forms amounts i form below c.index-forms-i.is covered) (sums_at forms reservations i form below c.index-forms-i.is sums)
+    ∙ ap (λ (changes : List ℤ). broken_by form.check amounts changes reservations) c.of-moves.ensures in
     broken_past forms i form amounts c.args.changes.now reservations c.breach-breach.result below c.index-forms-i.is is (sym c.is_some.ensures ∙ c.if-is_some.false)
     ∙ c.loop-i.invariant amounts reservations values covered sums
