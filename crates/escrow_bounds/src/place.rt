@@ -184,7 +184,7 @@ fn all_forms(alloc: Global, checks: &[Check]) -> Result<Vec<Tracked>, AllocError
     ensures checks { IfOk result (λ forms. checks_of forms.items ≡ checks.now) }
     ensures sums { IfOk result (λ forms. HaveSums forms.items []) }
 {
-    let mut forms = Vec::new(alloc);
+    let mut forms = Vec::with_capacity(alloc, checks.len())?;
     for check in checks {
         push_check(&mut forms, *check)?;
     }
@@ -197,7 +197,7 @@ fn all_columns(alloc: Global, columns: usize) -> Result<Vec<Tracked>, AllocError
     ensures checks { IfOk result (λ forms. checks_of forms.items ≡ column_checks columns columns) }
     ensures sums { IfOk result (λ forms. HaveSums forms.items []) }
 {
-    let mut forms = Vec::new(alloc);
+    let mut forms = Vec::with_capacity(alloc, columns)?;
     for place in 0..columns {
         push_check(&mut forms, column_check(columns, place))?;
     }
