@@ -7,6 +7,5 @@ pub mod Held
 pub mod Inside
 pub mod Kept
 pub mod Laws
-pub mod Listed
 pub mod Moved
 pub mod Places

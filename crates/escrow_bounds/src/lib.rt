@@ -8,7 +8,6 @@
 mod bounds;
 mod changes;
 pub mod laws;
-mod moves;
 mod place;
 mod tracked;
 

@@ -15,7 +15,7 @@ ghost use Rattle.escrow_bounds.specs.declared.tracked.Tracked.{Tracked};
 
 use crate::changes::deltas;
 use crate::tracked::{Tracked, all_values, first_breach, give_back, push_check, revalue, take_in};
-use escrow_checks::{Check, Coefficients};
+use escrow_checks::{Check, Coefficients, Sparse};
 use escrow_num::{Amount, Breach, End, Name, Reservation, RowName, Scale, Span, Wide};
 use std::alloc::{AllocError, Global};
 use std::marker::Model;
@@ -155,8 +155,9 @@ impl Place {
         requires { self.old.count < MAX_OPEN }
         ensures { TakesIn changes.now self.old self.new }
     {
-        take_in(&mut self.checks, changes);
-        take_in(&mut self.columns, changes);
+        let changes = Sparse::of(changes);
+        take_in(&mut self.checks, &changes);
+        take_in(&mut self.columns, &changes);
         self.count += 1;
     }
 
@@ -166,16 +167,30 @@ impl Place {
         requires { (before after : List (List ℤ)) × Counts self.old (before ++ changes.now ∷ after) }
         ensures { GivesBack end changes.now self.old self.new }
     {
-        give_back(&mut self.checks, changes);
-        give_back(&mut self.columns, changes);
-        self.count -= 1;
+        self.forget(changes);
         match end {
-            End::Commit => {
-                move_all(&mut self.amounts, changes);
-                revalue(&mut self.values, &self.checks, &self.amounts);
-            }
+            End::Commit => self.commit(changes),
             End::Rollback => {}
         }
+    }
+
+    /// Counts one of its reservations no more.
+    fn forget(&mut self, changes: &[Amount])
+        requires { (before after : List (List ℤ)) × Counts self.old (before ++ changes.now ∷ after) }
+        ensures { GivesBack End.Rollback changes.now self.old self.new }
+    {
+        let changes = Sparse::of(changes);
+        give_back(&mut self.checks, &changes);
+        give_back(&mut self.columns, &changes);
+        self.count -= 1;
+    }
+
+    /// Moves changes into the committed amounts.
+    fn commit(&mut self, changes: &[Amount])
+        ensures { self.new ≡ record self.old { amounts = all_moved self.old.amounts changes.now } }
+    {
+        move_all(&mut self.amounts, changes);
+        revalue(&mut self.values, &self.checks, &self.amounts);
     }
 }
 

@@ -2,14 +2,13 @@ ghost use Rattle.std.specs.Prelude.{◌≡◌, ℤ, List, [], ◌∷◌, ◌++�
 ghost use Rattle.std.specs.List.{AllByRecursion};
 ghost use Rattle.escrow_checks.specs.Contribution.{IsContribution};
 ghost use Rattle.escrow_checks.specs.Form.{form, IsCovered};
-ghost use Rattle.escrow_checks.specs.Grant.{broken_by, broken};
+ghost use Rattle.escrow_checks.specs.Grant.{broken};
 ghost use Rattle.escrow_checks.specs.Spread.{IsSpread};
 ghost use Rattle.escrow_checks.specs.declared.spread.TheConstants.Spread.{MAX_OPEN};
 ghost use Rattle.escrow_bounds.specs.Counts.{HaveSums};
 ghost use Rattle.escrow_bounds.specs.Kept.{checks_of};
 
-use crate::moves::{Moves, contribution};
-use escrow_checks::{Check, Spread};
+use escrow_checks::{Check, Sparse, Spread};
 use escrow_num::{Amount, Breach, Span, Wide};
 use std::alloc::{AllocError, Global};
 
@@ -24,46 +23,25 @@ pub struct Tracked {
 
 impl Tracked {
     /// Counts one more reservation.
-    fn take_in(&mut self, changes: &Moves<'_>)
+    fn take_in(&mut self, changes: &Sparse<'_>)
         requires { (reservations : List (List ℤ)) × IsSpread self.old.check.coeffs reservations self.old.spread × (length reservations < MAX_OPEN) }
         ensures check { self.new.check ≡ self.old.check }
         ensures added { (before after : List (List ℤ)) → IsSpread self.old.check.coeffs (before ++ after) self.old.spread
             → IsSpread self.old.check.coeffs (before ++ changes.now ∷ after) self.new.spread }
     {
-        let contribution = contribution(self.check.coeffs.as_slice(), changes);
+        let contribution = self.check.form_of(changes);
         self.spread = self.spread.with(contribution);
     }
 
     /// Counts one of its reservations no more.
-    fn give_back(&mut self, changes: &Moves<'_>)
+    fn give_back(&mut self, changes: &Sparse<'_>)
         requires { (before after : List (List ℤ)) × IsSpread self.old.check.coeffs (before ++ changes.now ∷ after) self.old.spread }
         ensures check { self.new.check ≡ self.old.check }
         ensures removed { (before after : List (List ℤ)) → IsSpread self.old.check.coeffs (before ++ changes.now ∷ after) self.old.spread
             → IsSpread self.old.check.coeffs (before ++ after) self.new.spread }
     {
-        let contribution = contribution(self.check.coeffs.as_slice(), changes);
+        let contribution = self.check.form_of(changes);
         self.spread = self.spread.without(contribution);
-    }
-
-    /// What changes would break of the check where its form is at a value, over every choice of the
-    /// reservations that are counted. `None` where they break nothing.
-    fn breach(&self, value: Wide, changes: &Moves<'_>) -> Option<Breach>
-        requires { IsContribution value }
-        ensures { (amounts : List ℤ) (reservations : List (List ℤ)) → value ≡ form self.now.check.coeffs amounts
-            → IsCovered self.now.check.coeffs amounts → IsSpread self.now.check.coeffs reservations self.now.spread
-            → result ≡ broken_by self.now.check amounts changes.now reservations }
-    {
-        let with_new = value.plus(contribution(self.check.coeffs.as_slice(), changes));
-        let least = with_new.plus(self.spread.falls);
-        let greatest = with_new.plus(self.spread.rises);
-        let (side, worst, limit) = self.check.span.first_broken(least, greatest)?;
-        Some(Breach {
-            check: self.check.name,
-            side,
-            worst,
-            limit,
-            scale: self.check.scale,
-        })
     }
 }
 
@@ -83,26 +61,24 @@ pub(crate) fn push_check(forms: &mut Vec<Tracked>, check: Check) -> Result<(), A
 }
 
 /// Counts one more reservation in each form.
-pub(crate) fn take_in(forms: &mut [Tracked], changes: &[Amount])
+pub(crate) fn take_in(forms: &mut [Tracked], changes: &Sparse<'_>)
     requires { (reservations : List (List ℤ)) × HaveSums forms.old reservations × (length reservations < MAX_OPEN) }
     ensures checks { checks_of forms.new ≡ checks_of forms.old }
     ensures sums { (before after : List (List ℤ)) → HaveSums forms.old (before ++ after) → HaveSums forms.new (before ++ changes.now ∷ after) }
 {
-    let moves = Moves::of(changes);
     for form in forms.iter_mut() {
-        form.take_in(&moves);
+        form.take_in(changes);
     }
 }
 
 /// Counts one of its reservations no more in each form.
-pub(crate) fn give_back(forms: &mut [Tracked], changes: &[Amount])
+pub(crate) fn give_back(forms: &mut [Tracked], changes: &Sparse<'_>)
     requires { (before after : List (List ℤ)) × HaveSums forms.old (before ++ changes.now ∷ after) }
     ensures checks { checks_of forms.new ≡ checks_of forms.old }
     ensures sums { (before after : List (List ℤ)) → HaveSums forms.old (before ++ changes.now ∷ after) → HaveSums forms.new (before ++ after) }
 {
-    let moves = Moves::of(changes);
     for form in forms.iter_mut() {
-        form.give_back(&moves);
+        form.give_back(changes);
     }
 }
 
@@ -116,9 +92,9 @@ pub(crate) fn all_values(
     ensures within { IfOk result (λ values. AllByRecursion IsContribution values.items) }
 {
     let mut values = Vec::with_capacity(alloc, checks.len())?;
-    let row = Moves::of(amounts);
+    let row = Sparse::of(amounts);
     for check in checks {
-        values.push(contribution(check.coeffs.as_slice(), &row))?;
+        values.push(check.form_of(&row))?;
     }
     Ok(values)
 }
@@ -129,9 +105,9 @@ pub(crate) fn revalue(values: &mut [Wide], forms: &[Tracked], amounts: &[Amount]
     ensures values { values.new ≡ map (λ check. form check.coeffs amounts.now) (checks_of forms.now) }
     ensures within { AllByRecursion IsContribution values.new }
 {
-    let row = Moves::of(amounts);
+    let row = Sparse::of(amounts);
     for (i, form) in forms.iter().enumerate() {
-        values[i] = contribution(form.check.coeffs.as_slice(), &row);
+        values[i] = form.check.form_of(&row);
     }
 }
 
@@ -145,9 +121,9 @@ pub(crate) fn first_breach(forms: &[Tracked], values: &[Wide], changes: &[Amount
         → AllByRecursion (λ check. IsCovered check.coeffs amounts) (checks_of forms.now) → HaveSums forms.now reservations
         → result ≡ broken (checks_of forms.now) amounts changes.now reservations }
 {
-    let moves = Moves::of(changes);
+    let listed = Sparse::of(changes);
     for (i, form) in forms.iter().enumerate() {
-        let breach = form.breach(values[i], &moves);
+        let breach = form.check.breach_from(values[i], &listed, &form.spread);
         if breach.is_some() {
             return breach;
         }

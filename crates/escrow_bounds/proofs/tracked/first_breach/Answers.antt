@@ -10,10 +10,10 @@ returns-then-is_some c = λ amounts reservations values covered sums.
     let i = c.loop-i.i in
     let below = c.loop-i-test.true in
     let at = value_at forms amounts c.args.values.now i form c.index-values-i.result below c.index-forms-i.is c.index-values-i.is values in
-    let is : c.breach-breach.result ≡ broken_by form.check amounts c.args.changes.now reservations =
-    c.breach-breach.ensures amounts reservations at (covered_at forms amounts i form below c.index-forms-i.is covered) (sums_at forms reservations i form below c.index-forms-i.is sums)
-    ∙ ap (λ (changes : List ℤ). broken_by form.check amounts changes reservations) c.of-moves.ensures in
-    broken_here forms i form amounts c.args.changes.now reservations c.breach-breach.result below c.index-forms-i.is is (sym c.is_some.ensures ∙ c.if-is_some.true)
+    let is : c.breach_from-breach.result ≡ broken_by form.check amounts c.args.changes.now reservations =
+    c.breach_from-breach.ensures amounts reservations at (covered_at forms amounts i form below c.index-forms-i.is covered) (sums_at forms reservations i form below c.index-forms-i.is sums)
+    ∙ ap (λ (changes : List ℤ). broken_by form.check amounts changes reservations) c.of-listed.ensures in
+    broken_here forms i form amounts c.args.changes.now reservations c.breach_from-breach.result below c.index-forms-i.is is (sym c.is_some.ensures ∙ c.if-is_some.true)
     ∙ c.loop-i.invariant amounts reservations values covered sums
 
 pub loop-i-preserved : goal.loop-i-preserved
@@ -23,8 +23,8 @@ loop-i-preserved c = λ amounts reservations values covered sums.
     let i = c.loop-i.i in
     let below = c.loop-i-test.true in
     let at = value_at forms amounts c.args.values.now i form c.index-values-i.result below c.index-forms-i.is c.index-values-i.is values in
-    let is : c.breach-breach.result ≡ broken_by form.check amounts c.args.changes.now reservations =
-    c.breach-breach.ensures amounts reservations at (covered_at forms amounts i form below c.index-forms-i.is covered) (sums_at forms reservations i form below c.index-forms-i.is sums)
-    ∙ ap (λ (changes : List ℤ). broken_by form.check amounts changes reservations) c.of-moves.ensures in
-    broken_past forms i form amounts c.args.changes.now reservations c.breach-breach.result below c.index-forms-i.is is (sym c.is_some.ensures ∙ c.if-is_some.false)
+    let is : c.breach_from-breach.result ≡ broken_by form.check amounts c.args.changes.now reservations =
+    c.breach_from-breach.ensures amounts reservations at (covered_at forms amounts i form below c.index-forms-i.is covered) (sums_at forms reservations i form below c.index-forms-i.is sums)
+    ∙ ap (λ (changes : List ℤ). broken_by form.check amounts changes reservations) c.of-listed.ensures in
+    broken_past forms i form amounts c.args.changes.now reservations c.breach_from-breach.result below c.index-forms-i.is is (sym c.is_some.ensures ∙ c.if-is_some.false)
     ∙ c.loop-i.invariant amounts reservations values covered sums

@@ -1,5 +1,4 @@
-use Rattle.std.proofs.Common.{◌≡◌, ℤ, List, sym, ◌<◌, ◌≤◌, ◌++◌, ◌∷◌, length, get_or, subst, arith}
-use Rattle.escrow_checks.specs.Spread.{IsSpread}
+use Rattle.std.proofs.Common.{◌≡◌, ◌<◌, ◌≤◌, ◌++◌, ◌∷◌, length, get_or, subst, arith}
 use Rattle.escrow_bounds.specs.declared.tracked.Tracked.{Tracked}
 use Rattle.escrow_bounds.proofs.Forms.{StepOut, sums_at, out_checks, out_sums}
 use Rattle.escrow_bounds.proofs.Steps.{stepped_first, stepped_at, stepped_more, stepped_last}
@@ -15,11 +14,7 @@ give_back-requires c =
     let is : form ≡ get_or c.loop-form.forms i form = subst (λ (f : Tracked). f ≡ get_or c.loop-form.forms i f) c.form-item.is c.form-item.is in
     let below : i < length c.loop-form.forms = omega (arith, c.loop-form.auto.forms, c.loop-form-test.true) in
     let at = stepped_at (StepOut c.args.changes.now) i c.args.forms.now c.loop-form.forms form below c.loop-form.invariant is in
-    let counted = sums_at c.args.forms.now (c.requires.0 ++ c.args.changes.now ∷ c.requires.1) i form at.0 at.1 c.requires.2 in (
-      c.requires.0,
-      c.requires.1,
-      subst (λ (changes : List ℤ). IsSpread form.check.coeffs (c.requires.0 ++ changes ∷ c.requires.1) form.spread) (sym c.of-moves.ensures) counted,
-    )
+    (c.requires.0, c.requires.1, sums_at c.args.forms.now (c.requires.0 ++ c.args.changes.now ∷ c.requires.1) i form at.0 at.1 c.requires.2)
 
 pub loop-form-preserved : goal.loop-form-preserved
 loop-form-preserved c =
@@ -27,8 +22,7 @@ loop-form-preserved c =
     let form = get_or c.loop-form.forms i c.form-item.result in
     let is : form ≡ get_or c.loop-form.forms i form = subst (λ (f : Tracked). f ≡ get_or c.loop-form.forms i f) c.form-item.is c.form-item.is in
     let below : i < length c.loop-form.forms = omega (arith, c.loop-form.auto.forms, c.loop-form-test.true) in
-    let step = subst (λ (changes : List ℤ). StepOut changes form c.give_back.new.self) c.of-moves.ensures (c.give_back.ensures.check, c.give_back.ensures.removed) in
-    stepped_more (StepOut c.args.changes.now) i c.args.forms.now c.loop-form.forms form c.give_back.new.self below c.loop-form.invariant is step
+    stepped_more (StepOut c.args.changes.now) i c.args.forms.now c.loop-form.forms form c.give_back.new.self below c.loop-form.invariant is (c.give_back.ensures.check, c.give_back.ensures.removed)
 
 pub returns-clause-checks : goal.returns-clause-checks
 returns-clause-checks c =

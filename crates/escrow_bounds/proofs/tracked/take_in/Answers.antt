@@ -1,4 +1,4 @@
-use Rattle.std.proofs.Common.{◌≡◌, ℤ, List, ◌<◌, ◌≤◌, length, get_or, subst, arith}
+use Rattle.std.proofs.Common.{◌≡◌, ◌<◌, ◌≤◌, length, get_or, subst, arith}
 use Rattle.escrow_bounds.specs.declared.tracked.Tracked.{Tracked}
 use Rattle.escrow_bounds.proofs.Forms.{StepIn, sums_at, in_checks, in_sums}
 use Rattle.escrow_bounds.proofs.Steps.{stepped_first, stepped_at, stepped_more, stepped_last}
@@ -22,8 +22,7 @@ loop-form-preserved c =
     let form = get_or c.loop-form.forms i c.form-item.result in
     let is : form ≡ get_or c.loop-form.forms i form = subst (λ (f : Tracked). f ≡ get_or c.loop-form.forms i f) c.form-item.is c.form-item.is in
     let below : i < length c.loop-form.forms = omega (arith, c.loop-form.auto.forms, c.loop-form-test.true) in
-    let step = subst (λ (changes : List ℤ). StepIn changes form c.take_in.new.self) c.of-moves.ensures (c.take_in.ensures.check, c.take_in.ensures.added) in
-    stepped_more (StepIn c.args.changes.now) i c.args.forms.now c.loop-form.forms form c.take_in.new.self below c.loop-form.invariant is step
+    stepped_more (StepIn c.args.changes.now) i c.args.forms.now c.loop-form.forms form c.take_in.new.self below c.loop-form.invariant is (c.take_in.ensures.check, c.take_in.ensures.added)
 
 pub returns-clause-checks : goal.returns-clause-checks
 returns-clause-checks c =
