@@ -1,16 +1,17 @@
 -- Places of a table whose checks are altered.
-use Rattle.std.specs.Prelude.{ℤ, Bool, true, false, Option, Some, None, option_map, option_to_list, List, [], ◌∷◌, ◌++◌, length, take, drop, remove, slice_get, bytes_eq}
+use Rattle.std.specs.Prelude.{ℤ, Bool, true, false, Option, Some, None, option_map, option_to_list, List, [], ◌∷◌, ◌++◌, length, map, take, drop, remove, slice_get, bytes_eq}
 use Rattle.std.specs.List.{AllByRecursion}
-use Rattle.std.proofs.Common.{◌≡◌, ◌∙◌, ℕ, zero, suc, ◌<◌, ◌≤◌, cond, refl, sym, ap, subst, set, get_or, ◌+◌, ◌-◌, arith}
+use Rattle.std.proofs.Common.{◌≡◌, ◌∙◌, ℕ, zero, suc, ◌<◌, ◌≤◌, cond, refl, sym, ap, subst, set, ◌+◌, arith}
+use Rattle.std.proofs.lemmas.List.{drop-map, take-map}
+use Rattle.std.proofs.lemmas.Option.{slice_get_within, get_or_from_slice_get}
+use Rattle.indexmap.proofs.SetLemmas.{map-remove}
 use Rattle.indexmap.specs.IndexMap.{set_value_at}
-use Rattle.escrow_num.specs.declared.refusal.Breach.{Breach}
 use Rattle.escrow_num.specs.declared.reservation.Reservation.{Reservation}
 use Rattle.escrow_num.specs.declared.value.RowName.{RowName}
 use Rattle.escrow_num.specs.Order.{same_row}
 use Rattle.escrow_num.proofs.Orders.{row_same, same_row_itself}
 use Rattle.escrow_checks.specs.declared.check.Check.{Check}
-use Rattle.escrow_checks.specs.Form.{IsCovered}
-use Rattle.escrow_checks.specs.Grant.{broken}
+use Rattle.escrow_checks.specs.Form.{form as form_of, IsCovered}
 use Rattle.escrow_checks.specs.Spread.{IsSpread}
 use Rattle.escrow_bounds.specs.declared.tracked.Tracked.{Tracked}
 use Rattle.escrow_bounds.specs.Altered.{Goes, TableGoes, IsWithout, IsOver, ArePrepared, adopted, Adopts}
@@ -20,6 +21,7 @@ use Rattle.escrow_bounds.specs.Held.{of_row, CountsJust, CountsAll, AllCount}
 use Rattle.escrow_bounds.specs.Inside.{IsPlace}
 use Rattle.escrow_bounds.specs.Kept.{Kept, checks_of}
 use Rattle.escrow_bounds.specs.Places.{Places, place_at, OthersStay}
+use Rattle.escrow_bounds.proofs.Forms.{values_at}
 use Rattle.escrow_bounds.proofs.LawLemmas.{split, each_row, other_way}
 use Rattle.escrow_bounds.proofs.Steps.{AllStepped, Stepped, stepped_more}
 
@@ -37,12 +39,6 @@ remove_past [] (suc i) past = refl
 remove_past (x ∷ xs) zero past = absurd (omega (arith, past))
 remove_past {X} (x ∷ xs) (suc i) past = ap (λ (ys : List X). x ∷ ys) (remove_past xs i (omega (arith, past)))
 
-checks_without : (forms : List Tracked) (i : ℕ) → checks_of (remove forms i) ≡ remove (checks_of forms) i
-checks_without [] zero = refl
-checks_without [] (suc i) = refl
-checks_without (form ∷ forms) zero = refl
-checks_without (form ∷ forms) (suc i) = ap (λ (checks : List Check). form.check ∷ checks) (checks_without forms i)
-
 all_taken : {X : Type 0} (P : X → Type 0) (n : ℕ) (xs : List X) → AllByRecursion P xs → AllByRecursion P (take n xs)
 all_taken P zero xs all = tt
 all_taken P (suc n) [] all = tt
@@ -53,16 +49,6 @@ all_dropped P zero xs all = all
 all_dropped P (suc n) [] all = tt
 all_dropped P (suc n) (x ∷ xs) all = all_dropped P n xs all.1
 
-checks_taken : (n : ℕ) (forms : List Tracked) → checks_of (take n forms) ≡ take n (checks_of forms)
-checks_taken zero forms = refl
-checks_taken (suc n) [] = refl
-checks_taken (suc n) (form ∷ forms) = ap (λ (checks : List Check). form.check ∷ checks) (checks_taken n forms)
-
-checks_dropped : (n : ℕ) (forms : List Tracked) → checks_of (drop n forms) ≡ drop n (checks_of forms)
-checks_dropped zero forms = refl
-checks_dropped (suc n) [] = refl
-checks_dropped (suc n) (form ∷ forms) = checks_dropped n forms
-
 -- ---- some of a place's checks
 
 -- the forms of some checks that stand one behind another
@@ -70,13 +56,18 @@ abbrev pub some_of : List Tracked → ℕ → ℕ → List Tracked
 some_of forms first count = take count (drop first forms)
 
 pub some_checks : (forms : List Tracked) (first count : ℕ) → checks_of (some_of forms first count) ≡ take count (drop first (checks_of forms))
-some_checks forms first count = checks_taken count (drop first forms) ∙ ap (λ (checks : List Check). take count checks) (checks_dropped first forms)
+some_checks forms first count = simp (drop-map, take-map) refl
 
 pub some_covered : (forms : List Tracked) (amounts : List ℤ) (first count : ℕ) → AllByRecursion (λ (check : Check). IsCovered check.coeffs amounts) (checks_of forms)
     → AllByRecursion (λ (check : Check). IsCovered check.coeffs amounts) (checks_of (some_of forms first count))
 some_covered forms amounts first count all =
     let P : Check → Type 0 = λ check. IsCovered check.coeffs amounts in
     subst (λ (checks : List Check). AllByRecursion P checks) (sym (some_checks forms first count)) (all_taken P count (drop first (checks_of forms)) (all_dropped P first (checks_of forms) all))
+
+-- the values of some of the forms are some of the values
+pub some_values : (forms : List Tracked) (amounts values : List ℤ) (first count : ℕ) → values ≡ values_at amounts (checks_of forms)
+    → take count (drop first values) ≡ values_at amounts (checks_of (some_of forms first count))
+some_values forms amounts values first count are = ap (λ (vs : List ℤ). take count (drop first vs)) are ∙ simp (drop-map, take-map) refl
 
 pub some_sums : (forms : List Tracked) (reservations : List (List ℤ)) (first count : ℕ) → HaveSums forms reservations → HaveSums (some_of forms first count) reservations
 some_sums forms reservations first count sums =
@@ -92,10 +83,17 @@ without_counts index old new count checks columns reservations known = (
   subst (λ (forms : List Tracked). HaveSums forms reservations) (sym columns) known.2,
 )
 
+-- the values of the forms that are left are those that are left
+pub values_without : (forms : List Tracked) (amounts values : List ℤ) (index : ℕ) → values ≡ values_at amounts (checks_of forms)
+    → remove values index ≡ values_at amounts (checks_of (remove forms index))
+values_without forms amounts values index are =
+    let value : Check → ℤ = λ check. form_of check.coeffs amounts in
+    ap (λ (vs : List ℤ). remove vs index) are ∙ sym (map-remove value (checks_of forms) index) ∙ ap (map value) (sym (map-remove (λ (form : Tracked). form.check) forms index))
+
 pub is_without : (index : ℕ) (old new : Kept) → new.amounts ≡ old.amounts → new.count ≡ old.count → new.checks ≡ remove old.checks index → new.columns ≡ old.columns → IsWithout index old new
 is_without index old new amounts count checks columns = record {
   amounts = amounts;
-  checks = ap checks_of checks ∙ checks_without old.checks index;
+  checks = ap checks_of checks ∙ map-remove (λ (form : Tracked). form.check) old.checks index;
   counts = without_counts index old new count checks columns;
 }
 
@@ -104,7 +102,7 @@ place_without index old new place amounts count checks columns =
     let P : List ℤ → Check → Type 0 = λ held check. IsCovered check.coeffs held in
     record {
       covered = subst (λ (held : List ℤ). AllByRecursion (P held) (checks_of new.checks)) (sym amounts)
-          (subst (λ (cs : List Check). AllByRecursion (P old.amounts) cs) (sym (ap checks_of checks ∙ checks_without old.checks index)) (all_without (P old.amounts) (checks_of old.checks) index place.covered));
+          (subst (λ (cs : List Check). AllByRecursion (P old.amounts) cs) (sym (ap checks_of checks ∙ map-remove (λ (form : Tracked). form.check) old.checks index)) (all_without (P old.amounts) (checks_of old.checks) index place.covered));
       columns = ap checks_of columns ∙ place.columns ∙ ap (λ (held : List ℤ). column_checks (length held) (length held)) (sym amounts);
       reservations = place.reservations;
       counts = without_counts index old new count checks columns place.reservations place.counts;
@@ -130,22 +128,12 @@ length-set_value_at [] i new = refl
 length-set_value_at (entry ∷ places) zero new = refl
 length-set_value_at (entry ∷ places) (suc i) new = ap suc (length-set_value_at places i new)
 
-slice_below : (places : Places) (i : ℕ) (entry : RowName × Kept) → slice_get places i ≡ Some entry → i < length places
-slice_below [] i entry at = absurd (cc)
-slice_below (first ∷ places) zero entry at = omega arith
-slice_below (first ∷ places) (suc i) entry at = let below = slice_below places i entry at in omega (arith, below)
-
-slice_is : (places : Places) (i : ℕ) (entry : RowName × Kept) → slice_get places i ≡ Some entry → entry ≡ get_or places i entry
-slice_is [] i entry at = refl
-slice_is (first ∷ places) zero entry at = let is : first ≡ entry = cc in sym is
-slice_is (first ∷ places) (suc i) entry at = slice_is places i entry at
-
 pub entry_stepped : (table : List ℕ) (index i : ℕ) (old now : Places) (row : RowName) (was new : Kept) → Stepped (EntryStep table index) i old now → slice_get now i ≡ Some (row, was)
     → (bytes_eq row.table table ≡ true → IsWithout index was new) → (bytes_eq row.table table ≡ false → new ≡ was)
     → Stepped (EntryStep table index) (i + 1) old (set_value_at now i new)
 entry_stepped table index i old now row was new are at own others =
     subst (λ (places : Places). Stepped (EntryStep table index) (i + 1) old places) (sym (put_at now i row was new at))
-    (stepped_more (EntryStep table index) i old now (row, was) (row, new) (slice_below now i (row, was) at) are (slice_is now i (row, was) at) (refl, own, others))
+    (stepped_more (EntryStep table index) i old now (row, was) (row, new) (slice_get_within now i (row, was) at) are (sym (get_or_from_slice_get now i (row, was) (row, was) at)) (refl, own, others))
 
 goes_one : (Step : Kept → Kept → Type 0) (is : Bool) (old new : Kept) (before after : Option Kept) → (is ≡ true → Step old new) → Goes Step before after → Goes Step (cond is (Some old) before) (cond is (Some new) after)
 goes_one Step true old new before after step rest = (new, refl, step refl)
@@ -283,21 +271,3 @@ adopt_counts table checks held old addition new counts counting prepared adopts 
     } in
     let known = table_counts table Step held old new (λ row was after step _. step.counts) counts counting goes in
     (known.0, known.1, goes)
-
--- ---- what some of a place's checks allow
-
-pub covered_there : (place : Kept) (first count : ℕ) (forms : List Tracked) (amounts : List ℤ) → IsPlace place → forms ≡ place.checks → amounts ≡ place.amounts
-    → AllByRecursion (λ (check : Check). IsCovered check.coeffs amounts) (checks_of (take (first + count - first) (drop first forms)))
-covered_there place first count forms amounts is checks shown =
-    let n : first + count - first ≡ count = omega arith in
-    rw (n, checks, shown) (some_covered place.checks place.amounts first count is.covered)
-
-pub broken_there : (place : Kept) (first count : ℕ) (forms : List Tracked) (amounts : List ℤ) (reservations : List (List ℤ)) (breach : Option Breach) → forms ≡ place.checks → amounts ≡ place.amounts → Counts place reservations
-    → ((rs : List (List ℤ)) → HaveSums (take (first + count - first) (drop first forms)) rs → breach ≡ broken (checks_of (take (first + count - first) (drop first forms))) amounts [] rs)
-    → breach ≡ broken (take count (drop first (checks_of place.checks))) place.amounts [] reservations
-broken_there place first count forms amounts reservations breach checks shown counts is =
-    let n : first + count - first ≡ count = omega arith in
-    let some : take (first + count - first) (drop first forms) ≡ some_of place.checks first count = rw (n, checks) refl in
-    is reservations (subst (λ (fs : List Tracked). HaveSums fs reservations) (sym some) (some_sums place.checks reservations first count counts.1))
-    ∙ ap (λ (held : List ℤ). broken (checks_of (take (first + count - first) (drop first forms))) held [] reservations) shown
-    ∙ ap (λ (cs : List Check). broken cs place.amounts [] reservations) (ap checks_of some ∙ some_checks place.checks first count)

@@ -163,9 +163,6 @@ filled_more table checks held places old mid new r copied amounts changes within
 
 -- ---- one after another
 
-pub filled_none : (table : List ℕ) (checks : List Check) (places : Places) → AreFilled table checks [] places []
-filled_none table checks places = record { counts = λ row. refl; each = λ row place is. absurd (cc) }
-
 -- a reference in a list, and what it leads to
 pub shown_at : (rs : List (Bor Reservation)) (i : ℕ) (r : Bor Reservation) → i < length rs → r ≡ get_or rs i r
     → (i < length (map (λ (q : Bor Reservation). q.now) rs)) × (r.now ≡ get_or (map (λ (q : Bor Reservation). q.now) rs) i r.now)

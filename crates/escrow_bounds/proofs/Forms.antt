@@ -1,11 +1,13 @@
 -- The forms of a place, when one more reservation is counted, or one less.
-use Rattle.std.proofs.Common.{◌≡◌, ℕ, zero, suc, ◌+◌, ℤ, ◌<◌, true, false, Option, Some, None, List, [], ◌∷◌, ◌++◌, length, get_or, drop, refl, sym, ap, ap₂, subst, arith, add-one, drop-cons}
+use Rattle.std.proofs.Common.{◌≡◌, ℕ, zero, suc, ◌+◌, ℤ, ◌<◌, ◌≤◌, true, false, Option, Some, None, List, [], ◌∷◌, ◌++◌, length, get_or, take, drop, map, refl, sym, ap, ap₂, ◌∙◌, subst, arith, add-one, drop-cons}
 use Rattle.std.specs.List.{AllByRecursion}
 use Rattle.std.specs.Prelude.{is_some, slice_get}
+use Rattle.std.proofs.lemmas.List.{get_or-map, take_all}
+use Rattle.std.proofs.lemmas.Simd.{map-map}
 use Rattle.escrow_num.specs.declared.refusal.Breach.{Breach}
 use Rattle.escrow_num.proofs.Items.{all_at}
 use Rattle.escrow_checks.specs.declared.check.Check.{Check}
-use Rattle.escrow_checks.specs.Form.{IsCovered}
+use Rattle.escrow_checks.specs.Form.{form as form_of, IsCovered}
 use Rattle.escrow_checks.specs.Grant.{broken_by, broken}
 use Rattle.escrow_checks.specs.Spread.{IsSpread}
 use Rattle.escrow_bounds.specs.declared.tracked.Tracked.{Tracked}
@@ -75,10 +77,6 @@ pub sums_push : (forms : List Tracked) (reservations : List (List ℤ)) (form : 
 sums_push [] reservations form sums is = (is, tt)
 sums_push (first ∷ forms) reservations form sums is = (sums.0, sums_push forms reservations form sums.1 is)
 
-pub checks_push : (forms : List Tracked) (form : Tracked) → checks_of (forms ++ form ∷ []) ≡ checks_of forms ++ form.check ∷ []
-checks_push [] form = refl
-checks_push (first ∷ forms) form = ap (λ (checks : List Check). first.check ∷ checks) (checks_push forms form)
-
 -- ---- the check of the form at a place
 
 pub check_at : (forms : List Tracked) (place : ℕ) (form : Tracked) → place < length forms → form ≡ get_or forms place form → slice_get (checks_of forms) place ≡ Some form.check
@@ -108,3 +106,24 @@ pub broken_past : (forms : List Tracked) (place : ℕ) (form : Tracked) (amounts
 broken_past forms place form amounts changes reservations (Some breach) below at is none = absurd (cc)
 broken_past forms place form amounts changes reservations None below at is none =
     rw (drop-cons forms place form, ← at, ← is, add-one) refl
+
+-- ---- the values of forms at amounts
+
+-- of each check its form's value
+abbrev pub values_at : List ℤ → List Check → List ℤ
+values_at amounts checks = map (λ (check : Check). form_of check.coeffs amounts) checks
+
+-- the value at a place is that of the form there
+pub value_at : (forms : List Tracked) (amounts values : List ℤ) (place : ℕ) (form : Tracked) (value : ℤ) → place < length forms → form ≡ get_or forms place form
+    → value ≡ get_or values place value → values ≡ values_at amounts (checks_of forms) → value ≡ form_of form.check.coeffs amounts
+value_at forms amounts values place form value below at read are =
+    let value_of : Check → ℤ = λ check. form_of check.coeffs amounts in
+    read ∙ ap (λ (vs : List ℤ). get_or vs place value) (are ∙ map-map value_of (λ (f : Tracked). f.check) forms)
+    ∙ get_or-map (λ (f : Tracked). value_of f.check) forms place form value below ∙ ap (λ (f : Tracked). value_of f.check) (sym at)
+
+-- where all are read they are those of the checks
+pub values_all : (forms : List Tracked) (amounts values : List ℤ) (place : ℕ) → length values ≡ length forms → length forms ≤ place
+    → take place values ≡ map (λ (form : Tracked). form_of form.check.coeffs amounts) (take place forms) → values ≡ values_at amounts (checks_of forms)
+values_all forms amounts values place each past are =
+    sym (take_all place values (omega arith)) ∙ are ∙ ap (map (λ (form : Tracked). form_of form.check.coeffs amounts)) (take_all place forms past)
+    ∙ sym (map-map (λ (check : Check). form_of check.coeffs amounts) (λ (form : Tracked). form.check) forms)

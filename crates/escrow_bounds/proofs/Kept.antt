@@ -1,8 +1,9 @@
 -- What is kept of a row, when one more reservation is counted, or one less.
-use Rattle.std.proofs.Common.{◌≡◌, ℕ, zero, suc, ◌+◌, ◌-◌, ℤ, pos, ◌<◌, List, [], ◌∷◌, ◌++◌, length, get_or, refl, sym, ap, ◌∙◌, subst, arith, length-append}
+use Rattle.std.proofs.Common.{◌≡◌, ℕ, zero, suc, ◌+◌, ◌-◌, ℤ, pos, ◌<◌, Vec, List, [], ◌∷◌, ◌++◌, length, get_or, refl, sym, ap, ◌∙◌, subst, arith, length-append}
 use Rattle.std.specs.List.{AllByRecursion}
 use Rattle.std.specs.Prelude.{Some, slice_get, replicate}
-use Rattle.std.proofs.lemmas.List.{length-map, length-replicate, length-set}
+use Rattle.std.specs.Vec.{with_items}
+use Rattle.std.proofs.lemmas.List.{length-map, length-replicate, length-set, with_items_is}
 use Rattle.std.proofs.lemmas.Option.{slice_get_within, get_or_from_slice_get}
 use Rattle.escrow_num.specs.declared.session.End.{End}
 use Rattle.escrow_num.specs.declared.session.End.TheVariants as ends
@@ -15,15 +16,15 @@ use Rattle.escrow_bounds.specs.Columns.{unit_form, column_check, column_checks}
 use Rattle.escrow_bounds.specs.Counts.{HaveSums, Counts, TakesIn, GivesBack}
 use Rattle.escrow_bounds.specs.Inside.{IsPlace}
 use Rattle.escrow_bounds.specs.Kept.{Kept, checks_of}
-use Rattle.escrow_bounds.specs.Moved.{amounts_after}
+use Rattle.escrow_bounds.specs.Moved.{all_moved, amounts_after}
 use Rattle.escrow_bounds.proofs.Moving.{length-all_moved}
 use Rattle.escrow_bounds.proofs.Forms.{sums_at, check_at, covered_at}
 
 -- ---- what was lent
 
 -- what holds of items that were lent and of what they became holds of the items before and after
-pub lent : {X : Type 0} (R : List X → List X → Type 0) (held shown new filled : List X) → shown ≡ held → filled ≡ new → R shown new → R held filled
-lent {X} R held shown new filled is fits holds = subst (λ (xs : List X). R held xs) (sym fits) (subst (λ (xs : List X). R xs new) is holds)
+pub lent : {X Z : Type 0} (R : List X → List X → Type 0) (held : Vec X Z) (shown new : List X) → shown ≡ held.items → length new ≡ held.len → R shown new → R held.items (with_items held new).items
+lent {X} R held shown new is many holds = subst (λ (xs : List X). R held.items xs) (sym (with_items_is held new many)) (subst (λ (xs : List X). R xs new) is holds)
 
 -- ---- counting
 
@@ -47,13 +48,21 @@ takes_in changes old new amounts count checks columns = record {
   counts = λ before after known. (omega (arith, length-put before after changes, known.0, count), checks.1 before after known.1, columns.1 before after known.2);
 }
 
-pub gives_back : (end : End) (changes : List ℤ) (old new : Kept) → new.amounts ≡ amounts_after end old.amounts changes → new.count ≡ old.count - 1
-    → GivesForms changes old.checks new.checks → GivesForms changes old.columns new.columns → GivesBack end changes old new
-gives_back end changes old new amounts count checks columns = record {
+pub gives_back : (changes : List ℤ) (old new : Kept) → new.amounts ≡ old.amounts → new.count ≡ old.count - 1 → GivesForms changes old.checks new.checks → GivesForms changes old.columns new.columns
+    → GivesBack ends.Rollback changes old new
+gives_back changes old new amounts count checks columns = record {
   amounts = amounts;
   checks = checks.0;
   counts = λ before after known. (omega (arith, length-put before after changes, known.0, count), checks.1 before after known.1, columns.1 before after known.2);
 }
+
+-- and then its changes are moved into the amounts
+pub gives_committed : (changes : List ℤ) (old mid new : Kept) → GivesBack ends.Rollback changes old mid → new ≡ record mid { amounts = all_moved mid.amounts changes } → GivesBack ends.Commit changes old new
+gives_committed changes old mid new given is = subst (GivesBack ends.Commit changes old) (sym is) (record {
+  amounts = ap (λ (amounts : List ℤ). all_moved amounts changes) given.amounts;
+  checks = given.checks;
+  counts = given.counts;
+})
 
 -- ---- what a place keeps
 
@@ -81,11 +90,11 @@ place_takes changes old new place amounts count checks columns =
     let taken = takes_in changes old new amounts count checks columns in
     place_kept old new (changes ∷ place.reservations) place (ap length amounts) checks.0 columns.0 (taken.counts [] place.reservations place.counts)
 
-pub place_gives : (end : End) (changes : List ℤ) (before after : List (List ℤ)) (old new : Kept) → IsPlace old → Counts old (before ++ changes ∷ after) → new.amounts ≡ amounts_after end old.amounts changes → new.count ≡ old.count - 1
+pub place_gives : (changes : List ℤ) (before after : List (List ℤ)) (old new : Kept) → IsPlace old → Counts old (before ++ changes ∷ after) → new.amounts ≡ old.amounts → new.count ≡ old.count - 1
     → GivesForms changes old.checks new.checks → GivesForms changes old.columns new.columns → IsPlace new
-place_gives end changes before after old new place counted amounts count checks columns =
-    let given = gives_back end changes old new amounts count checks columns in
-    place_kept old new (before ++ after) place (ap length amounts ∙ length-after end old.amounts changes) checks.0 columns.0 (given.counts before after counted)
+place_gives changes before after old new place counted amounts count checks columns =
+    let given = gives_back changes old new amounts count checks columns in
+    place_kept old new (before ++ after) place (ap length amounts) checks.0 columns.0 (given.counts before after counted)
 
 -- ---- columns
 

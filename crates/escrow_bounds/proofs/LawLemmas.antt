@@ -21,7 +21,7 @@ use Rattle.escrow_checks.specs.Form.{form, changed, IsCovered}
 use Rattle.escrow_checks.specs.Grant.{broken}
 use Rattle.escrow_checks.specs.Spread.{falls, rises}
 use Rattle.escrow_checks.proofs.ExtremesLemmas.{least_is, greatest_is}
-use Rattle.escrow_checks.proofs.FormLemmas.{length-changed}
+use Rattle.escrow_checks.proofs.FormLemmas.{form-none, length-changed}
 use Rattle.escrow_bounds.specs.Counts.{Counts, is_counting, IsNew, TakesIn, GivesBack}
 use Rattle.escrow_bounds.specs.Held.{of_row, CountsJust, CountsAll}
 use Rattle.escrow_bounds.specs.Kept.{Kept}
@@ -29,19 +29,15 @@ use Rattle.escrow_bounds.specs.Places.{Places, place_at, OthersStay, Becomes}
 
 -- ---- other rows add nothing
 
-form_nil : (coeffs : List ℤ) → form coeffs [] ≡ pos 0
-form_nil [] = refl
-form_nil (c ∷ coeffs) = refl
-
 falls_one : (coeffs : List ℤ) (is_own : Bool) (own : List ℤ) (all some : List (List ℤ)) → falls coeffs all ≡ falls coeffs some
     → falls coeffs (cond is_own own [] ∷ all) ≡ falls coeffs (cond is_own (own ∷ some) some)
 falls_one coeffs true own all some is = ap (λ (z : ℤ). int_min (pos 0) (form coeffs own) +ℤ z) is
-falls_one coeffs false own all some is = omega (arith, ints, clamps, form_nil coeffs, is)
+falls_one coeffs false own all some is = omega (arith, ints, clamps, form-none coeffs, is)
 
 rises_one : (coeffs : List ℤ) (is_own : Bool) (own : List ℤ) (all some : List (List ℤ)) → rises coeffs all ≡ rises coeffs some
     → rises coeffs (cond is_own own [] ∷ all) ≡ rises coeffs (cond is_own (own ∷ some) some)
 rises_one coeffs true own all some is = ap (λ (z : ℤ). int_max (pos 0) (form coeffs own) +ℤ z) is
-rises_one coeffs false own all some is = omega (arith, ints, clamps, form_nil coeffs, is)
+rises_one coeffs false own all some is = omega (arith, ints, clamps, form-none coeffs, is)
 
 falls_same : (coeffs : List ℤ) (row : RowName) (held : List Reservation) → falls coeffs (map (changes_at row) held) ≡ falls coeffs (of_row row held)
 falls_same coeffs row [] = refl

@@ -14,19 +14,21 @@ ghost use Rattle.escrow_bounds.specs.Moved.{moved, all_moved, amounts_after_all}
 ghost use Rattle.escrow_bounds.specs.declared.tracked.Tracked.{Tracked};
 
 use crate::changes::deltas;
-use crate::tracked::{Tracked, first_breach, give_back, push_check, take_in};
-use escrow_checks::{Check, Coefficients};
+use crate::tracked::{Tracked, all_values, first_breach, give_back, push_check, revalue, take_in};
+use escrow_checks::{Check, Coefficients, Sparse};
 use escrow_num::{Amount, Breach, End, Name, Reservation, RowName, Scale, Span, Wide};
 use std::alloc::{AllocError, Global};
 use std::marker::Model;
 
 /// What is kept of a row: its committed amounts, the number of its open reservations, and their
-/// spread under each check and under each RESERVABLE column.
+/// spread under each check and under each RESERVABLE column; and the value of each check's form at the
+/// amounts.
 #[derive(Debug)]
 pub struct Place {
     amounts: Vec<Amount>,
     count: usize,
     checks: Vec<Tracked>,
+    values: Vec<Wide>,
     columns: Vec<Tracked>,
 }
 
@@ -37,20 +39,28 @@ impl Drop for Place {
             amounts: _,
             count: _,
             checks: _,
+            values: _,
             columns: _,
         } = self;
     }
 }
 
 impl Model for Place {
+    ghost use Rattle.std.specs.Prelude.{◌≡◌, map};
+    ghost use Rattle.std.specs.List.{AllByRecursion};
+    ghost use Rattle.escrow_checks.specs.Contribution.{IsContribution};
+    ghost use Rattle.escrow_checks.specs.Form.{form};
+    ghost use Rattle.escrow_checks.specs.declared.check.Check.{Check};
     ghost use Rattle.escrow_bounds.specs.Inside.{kept_of, IsPlace};
-    ghost use Rattle.escrow_bounds.specs.Kept.{Kept};
+    ghost use Rattle.escrow_bounds.specs.Kept.{Kept, checks_of};
 
     ghost Value = { Kept };
 
     ghost view = { λ p. kept_of p };
 
-    ghost invariant = { λ p. IsPlace (kept_of p) };
+    ghost invariant = { λ p. IsPlace (kept_of p)
+        × (p.values.items ≡ map (λ (check : Check). form check.coeffs p.amounts.items) (checks_of p.checks.items))
+        × AllByRecursion IsContribution p.values.items };
 }
 
 impl Place {
@@ -68,6 +78,7 @@ impl Place {
             amounts: Vec::from_slice(alloc, amounts)?,
             count: 0,
             checks: all_forms(alloc, checks)?,
+            values: all_values(alloc, checks, amounts)?,
             columns: all_columns(alloc, amounts.len())?,
         })
     }
@@ -112,7 +123,7 @@ impl Place {
         ensures { (reservations : List (List ℤ)) → Counts self.now reservations
             → result ≡ broken (checks_of self.now.checks) self.now.amounts changes.now reservations }
     {
-        first_breach(&self.checks, &self.amounts, changes)
+        first_breach(&self.checks, &self.values, changes)
     }
 
     /// What the reservations that are counted could break of the first check that they can break,
@@ -122,7 +133,11 @@ impl Place {
         ensures { (reservations : List (List ℤ)) → Counts self.now reservations
             → result ≡ broken (take count (drop first (checks_of self.now.checks))) self.now.amounts [] reservations }
     {
-        first_breach(&self.checks[first..first + count], &self.amounts, &[])
+        first_breach(
+            &self.checks[first..first + count],
+            &self.values[first..first + count],
+            &[],
+        )
     }
 
     /// Takes out the check at an index. Where there is none, all stays.
@@ -131,6 +146,7 @@ impl Place {
     {
         if index < self.checks.len() {
             self.checks.remove(index);
+            self.values.remove(index);
         }
     }
 
@@ -139,8 +155,9 @@ impl Place {
         requires { self.old.count < MAX_OPEN }
         ensures { TakesIn changes.now self.old self.new }
     {
-        take_in(&mut self.checks, changes);
-        take_in(&mut self.columns, changes);
+        let changes = Sparse::of(changes);
+        take_in(&mut self.checks, &changes);
+        take_in(&mut self.columns, &changes);
         self.count += 1;
     }
 
@@ -150,13 +167,30 @@ impl Place {
         requires { (before after : List (List ℤ)) × Counts self.old (before ++ changes.now ∷ after) }
         ensures { GivesBack end changes.now self.old self.new }
     {
-        give_back(&mut self.checks, changes);
-        give_back(&mut self.columns, changes);
-        self.count -= 1;
+        self.forget(changes);
         match end {
-            End::Commit => move_all(&mut self.amounts, changes),
+            End::Commit => self.commit(changes),
             End::Rollback => {}
         }
+    }
+
+    /// Counts one of its reservations no more.
+    fn forget(&mut self, changes: &[Amount])
+        requires { (before after : List (List ℤ)) × Counts self.old (before ++ changes.now ∷ after) }
+        ensures { GivesBack End.Rollback changes.now self.old self.new }
+    {
+        let changes = Sparse::of(changes);
+        give_back(&mut self.checks, &changes);
+        give_back(&mut self.columns, &changes);
+        self.count -= 1;
+    }
+
+    /// Moves changes into the committed amounts.
+    fn commit(&mut self, changes: &[Amount])
+        ensures { self.new ≡ record self.old { amounts = all_moved self.old.amounts changes.now } }
+    {
+        move_all(&mut self.amounts, changes);
+        revalue(&mut self.values, &self.checks, &self.amounts);
     }
 }
 
@@ -165,7 +199,7 @@ fn all_forms(alloc: Global, checks: &[Check]) -> Result<Vec<Tracked>, AllocError
     ensures checks { IfOk result (λ forms. checks_of forms.items ≡ checks.now) }
     ensures sums { IfOk result (λ forms. HaveSums forms.items []) }
 {
-    let mut forms = Vec::new(alloc);
+    let mut forms = Vec::with_capacity(alloc, checks.len())?;
     for check in checks {
         push_check(&mut forms, *check)?;
     }
@@ -178,7 +212,7 @@ fn all_columns(alloc: Global, columns: usize) -> Result<Vec<Tracked>, AllocError
     ensures checks { IfOk result (λ forms. checks_of forms.items ≡ column_checks columns columns) }
     ensures sums { IfOk result (λ forms. HaveSums forms.items []) }
 {
-    let mut forms = Vec::new(alloc);
+    let mut forms = Vec::with_capacity(alloc, columns)?;
     for place in 0..columns {
         push_check(&mut forms, column_check(columns, place))?;
     }

@@ -1,6 +1,7 @@
 -- The extremes over all choices are the form with the falls, and with the rises.
 use Rattle.std.proofs.Common.{◌≡◌, ◌<◌, ◌≤◌, ℤ, pos, ◌+ℤ◌, List, [], ◌∷◌, ◌++◌, length, map, refl, ap, ap₂, ◌∙◌, sym, arith, length-append}
 use Rattle.std.proofs.lemmas.List.{map-append}
+use Rattle.std.proofs.lemmas.Simd.{map-map}
 use Rattle.std.specs.Int.{int_min, int_max}
 use Rattle.std.proofs.lemmas.Int.{ints, clamps}
 use Rattle.std.specs.Prelude.{Option, option_map}
@@ -14,10 +15,6 @@ use Rattle.escrow_checks.specs.Sublists.{sublists}
 use Rattle.escrow_checks.specs.Extremes.{outcomes, smallest, largest, least, greatest}
 use Rattle.escrow_checks.specs.Spread.{falls, rises, IsSpread}
 use Rattle.escrow_checks.proofs.FormLemmas.{form-changed, length-changed}
-
-map-map : {A B C : Type 0} (f : B → C) (g : A → B) (xs : List A) → map f (map g xs) ≡ map (λ x. f (g x)) xs
-map-map f g [] = refl
-map-map f g (x ∷ xs) = ap (λ zs. f (g x) ∷ zs) (map-map f g xs)
 
 -- ---- the outcomes of one more reservation: those without it, and those with it
 

@@ -7,7 +7,7 @@ use Rattle.std.proofs.lemmas.Int.{fits_signed_from_abs, ints, quot_fits, to_z-of
 use Rattle.escrow_checks.specs.Checks.{is_coefficient}
 use Rattle.escrow_checks.specs.Coefficients.{IsCoefficient}
 use Rattle.escrow_checks.specs.declared.condition.TheConstants.{MAX_COEFFICIENT}
-use Rattle.escrow_checks.proofs.Products.{abs_within, product_within, within_abs}
+use Rattle.escrow_checks.proofs.Products.{product_within, within_abs}
 
 -- a written coefficient
 small_abs : (k : ℤ) → is_coefficient k ≡ true → unsigned_abs k ≤ 1000000
@@ -18,9 +18,6 @@ small_abs k e =
 -- times a factor
 pub scaled_abs : (k f : ℤ) → is_coefficient k ≡ true → unsigned_abs f ≤ 1000000 → unsigned_abs (k *ℤ f) ≤ 10 ^ 12
 scaled_abs k f e small = product_within k f 1000000 1000000 (small_abs k e) small
-
-pub scaled_is : (k f : ℤ) → is_coefficient k ≡ true → unsigned_abs f ≤ 1000000 → IsCoefficient (k *ℤ f)
-scaled_is k f e small = abs_within (k *ℤ f) (10 ^ 12) (scaled_abs k f e small)
 
 -- a factor
 pub factor_abs : (f : ℤ) (n : ℕ) → f ≡ pos n → f ≤ℤ pos 1000000 → unsigned_abs f ≤ 1000000

@@ -12,11 +12,6 @@ use Rattle.escrow_checks.specs.Found.{followed_by, found, few}
 
 -- ---- condition by condition
 
--- no condition is left
-found_all : (checks : List Check) (others : Option (List Check)) → found checks (Some []) others ≡ followed_by checks others
-found_all checks None = refl
-found_all checks (Some more) = refl
-
 -- one check comes to those found
 found_step : (checks : List Check) (check : Check) (rest others : Option (List Check))
     → found checks (option_map (λ more. check ∷ more) rest) others ≡ found (checks ++ check ∷ []) rest others
@@ -70,12 +65,6 @@ found_many columns scales name k n condition conditions checks others full = go 
 abbrev pub from_place : List (List ℕ) → List ℕ → Option (List ℕ) → List Condition → ℕ → List Check → Option (List Check)
 from_place columns scales name conditions k checks = checks_of_conditions columns scales name (k + 1) (length checks + 1) (drop k conditions)
 
-pub place_all : (columns : List (List ℕ)) (scales : List ℕ) (name : Option (List ℕ)) (conditions : List Condition) (k : ℕ) (checks : List Check) (others : Option (List Check)) → length conditions ≤ k
-    → found checks (from_place columns scales name conditions k checks) others ≡ followed_by checks others
-place_all columns scales name conditions k checks others past =
-    at_drop_all (λ cs. found checks (checks_of_conditions columns scales name (k + 1) (length checks + 1) cs) others) conditions k past
-    ∙ found_all checks others
-
 pub place_more : (columns : List (List ℕ)) (scales : List ℕ) (name : Option (List ℕ)) (conditions : List Condition) (k : ℕ) (condition : Condition) (checks : List Check) (check : Check) (others : Option (List Check))
     → k < length conditions → condition ≡ get_or conditions k condition → check_of columns scales (check_name name (k + 1) (length checks + 1)) condition ≡ Some check
     → found checks (from_place columns scales name conditions k checks) others ≡ found (checks ++ check ∷ []) (from_place columns scales name conditions (k + 1) (checks ++ check ∷ [])) others
@@ -86,15 +75,6 @@ place_more columns scales name conditions k condition checks check others within
     ∙ ap (λ c. F (c ∷ drop (k + 1) conditions)) (sym is)
     ∙ found_more columns scales name (k + 1) (length checks + 1) condition (drop (k + 1) conditions) checks check others e
     ∙ ap (λ n. found (checks ++ check ∷ []) (checks_of_conditions columns scales name (k + 1 + 1) n (drop (k + 1) conditions)) others) counted
-
-pub place_none : (columns : List (List ℕ)) (scales : List ℕ) (name : Option (List ℕ)) (conditions : List Condition) (k : ℕ) (condition : Condition) (checks : List Check) (others : Option (List Check))
-    → k < length conditions → condition ≡ get_or conditions k condition → check_of columns scales (check_name name (k + 1) (length checks + 1)) condition ≡ None
-    → few (found checks (from_place columns scales name conditions k checks) others) ≡ None
-place_none columns scales name conditions k condition checks others within is e =
-    let F : List Condition → Option (List Check) = λ cs. few (found checks (checks_of_conditions columns scales name (k + 1) (length checks + 1) cs) others) in
-    at_drop_more F conditions k condition within
-    ∙ ap (λ c. F (c ∷ drop (k + 1) conditions)) (sym is)
-    ∙ found_none columns scales name (k + 1) (length checks + 1) condition (drop (k + 1) conditions) checks others e
 
 pub place_many : (columns : List (List ℕ)) (scales : List ℕ) (name : Option (List ℕ)) (conditions : List Condition) (k : ℕ) (condition : Condition) (checks : List Check) (others : Option (List Check))
     → k < length conditions → MAX_CHECKS ≤ length checks

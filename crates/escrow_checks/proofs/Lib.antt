@@ -11,6 +11,7 @@ pub mod InsideLemmas
 pub mod LawsLemmas
 pub mod LimitLemmas
 pub mod LinearLemmas
+pub mod Listing
 pub mod NameLemmas
 pub mod PartsLemmas
 pub mod Products

@@ -8,6 +8,7 @@ pub mod Form
 pub mod Found
 pub mod Grant
 pub mod Laws
+pub mod Listed
 pub mod Meaning
 pub mod Padded
 pub mod Parts

@@ -1,8 +1,9 @@
-ghost use Rattle.std.specs.Prelude.{◌≡◌, ℤ, pos, unwrap_or, ◌*ℤ◌, ◌≤ℤ◌, List, [], ◌∷◌, ◌++◌, OnOk, OnErr};
-ghost use Rattle.escrow_checks.specs.Coefficients.{IsCoefficient};
+ghost use Rattle.std.specs.Prelude.{◌≡◌, ℤ, pos, unwrap_or, slice_index_or, ◌*ℤ◌, ◌≤ℤ◌, List, [], ◌∷◌, ◌++◌, OnOk, OnErr};
+ghost use Rattle.escrow_checks.specs.Coefficients.{AreCoefficients, IsCoefficient};
 ghost use Rattle.escrow_checks.specs.Contribution.{IsProduct, IsContribution};
 
 use crate::coefficients::Coefficients;
+use crate::sparse::Sparse;
 use crate::spread::Spread;
 use escrow_num::{Amount, Breach, Copied, Name, Scale, Seq, Span, Wide, are_same};
 use std::alloc::{AllocError, Global};
@@ -48,11 +49,21 @@ impl Check {
         ensures value { result ≡ form self.now.coeffs amounts.now }
         ensures within { IsContribution result }
     {
-        let mut sum = Wide::ZERO;
-        for (coefficient, amount) in self.coeffs.as_slice().iter().zip(amounts) {
-            sum = sum.plus(product(*coefficient, *amount));
+        self.form_of(&Sparse::of(amounts))
+    }
+
+    /// The same, summed over those amounts alone that aren't zero.
+    pub fn form_of(&self, amounts: &Sparse<'_>) -> Wide
+        ensures value { result ≡ form self.now.coeffs amounts.now }
+        ensures within { IsContribution result }
+    {
+        let coeffs = self.coeffs.as_slice();
+        let listed = amounts.entries();
+        let mut sum = 0;
+        for entry in listed {
+            sum += product(coefficient_at(coeffs, entry.column), entry.amount);
         }
-        sum
+        Wide::new(sum).unwrap()
     }
 
     /// What a reservation's changes add to the form: the same sum over the changes. Of a row's
@@ -87,7 +98,17 @@ impl Check {
             → IsSpread self.now.coeffs reservations spread.now
             → result ≡ broken_by self.now amounts.now changes.now reservations }
     {
-        let with_new = self.form(amounts).plus(self.contribution(changes));
+        self.breach_from(self.form(amounts), &Sparse::of(changes), spread)
+    }
+
+    /// The same, from the value that the form has at the row's amounts.
+    pub fn breach_from(&self, value: Wide, changes: &Sparse<'_>, spread: &Spread) -> Option<Breach>
+        requires { IsContribution value }
+        ensures { (amounts : List ℤ) (reservations : List (List ℤ)) → value ≡ form self.now.coeffs amounts
+            → IsCovered self.now.coeffs amounts → IsSpread self.now.coeffs reservations spread.now
+            → result ≡ broken_by self.now amounts changes.now reservations }
+    {
+        let with_new = value.plus(self.form_of(changes));
         let (least, greatest) = spread.around(with_new);
         let (side, worst, limit) = self.span.first_broken(least, greatest)?;
         Some(Breach {
@@ -121,11 +142,20 @@ impl Copied for Check {
     }
 }
 
+/// The coefficient of the column at an index, which is zero where there is none.
+fn coefficient_at(coeffs: &[Amount], column: usize) -> Amount
+    requires { AreCoefficients coeffs.now }
+    ensures value { result ≡ slice_index_or coeffs.now column (pos 0) }
+    ensures within { IsCoefficient result }
+{
+    coeffs.get(column).copied().unwrap_or(Amount::ZERO)
+}
+
 /// A coefficient times an amount.
-fn product(coefficient: Amount, amount: Amount) -> Wide
+fn product(coefficient: Amount, amount: Amount) -> i128
     requires { IsCoefficient coefficient }
     ensures value { result ≡ coefficient *ℤ amount }
     ensures within { IsProduct result }
 {
-    Wide::new(i128::from(coefficient.get()) * i128::from(amount.get())).unwrap()
+    i128::from(coefficient.get()) * i128::from(amount.get())
 }

@@ -10,10 +10,12 @@ mod coefficients;
 mod condition;
 mod fault;
 pub mod laws;
+mod sparse;
 mod spread;
 
 pub use check::Check;
 pub use coefficients::Coefficients;
 pub use condition::{MAX_CHECKS, MAX_COEFFICIENT, is_written_name, normalise, normalise_behind};
 pub use fault::CheckFault;
+pub use sparse::Sparse;
 pub use spread::Spread;

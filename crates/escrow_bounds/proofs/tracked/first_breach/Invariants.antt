@@ -1,10 +1,14 @@
-use Rattle.std.proofs.Common.{◌≡◌, ℤ, List, drop}
+use Rattle.std.proofs.Common.{◌≡◌, ℤ, List, drop, map}
+use Rattle.std.specs.List.{AllByRecursion}
+use Rattle.escrow_checks.specs.Form.{form, IsCovered}
 use Rattle.escrow_checks.specs.Grant.{broken}
+use Rattle.escrow_checks.specs.declared.check.Check.{Check}
 use Rattle.escrow_bounds.specs.Counts.{HaveSums}
 use Rattle.escrow_bounds.specs.Kept.{checks_of}
 use Rattle.escrow_bounds.proofs.tracked.first_breach.Given as goal
 
-abbrev pub invariant-loop-form : goal.invariant-loop-form
-invariant-loop-form l =
-    (reservations : List (List ℤ)) → HaveSums l.forms reservations
-    → broken (checks_of (drop l.form-index l.forms)) l.amounts l.changes reservations ≡ broken (checks_of l.forms) l.amounts l.changes reservations
+abbrev pub invariant-loop-i : goal.invariant-loop-i
+invariant-loop-i l =
+    (amounts : List ℤ) (reservations : List (List ℤ)) → l.values ≡ map (λ (check : Check). form check.coeffs amounts) (checks_of l.forms)
+    → AllByRecursion (λ (check : Check). IsCovered check.coeffs amounts) (checks_of l.forms) → HaveSums l.forms reservations
+    → broken (checks_of (drop l.i l.forms)) amounts l.changes reservations ≡ broken (checks_of l.forms) amounts l.changes reservations

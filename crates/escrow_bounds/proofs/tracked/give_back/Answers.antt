@@ -7,8 +7,8 @@ use Rattle.escrow_bounds.proofs.tracked.give_back.Goals as goal
 pub loop-form-init : goal.loop-form-init
 loop-form-init c = stepped_first (StepOut c.args.changes.now) c.args.forms.now
 
-pub without-requires : goal.without-requires
-without-requires c =
+pub give_back-requires : goal.give_back-requires
+give_back-requires c =
     let i = c.loop-form.form-index in
     let form = get_or c.loop-form.forms i c.form-item.result in
     let is : form ≡ get_or c.loop-form.forms i form = subst (λ (f : Tracked). f ≡ get_or c.loop-form.forms i f) c.form-item.is c.form-item.is in
@@ -22,7 +22,7 @@ loop-form-preserved c =
     let form = get_or c.loop-form.forms i c.form-item.result in
     let is : form ≡ get_or c.loop-form.forms i form = subst (λ (f : Tracked). f ≡ get_or c.loop-form.forms i f) c.form-item.is c.form-item.is in
     let below : i < length c.loop-form.forms = omega (arith, c.loop-form.auto.forms, c.loop-form-test.true) in
-    stepped_more (StepOut c.args.changes.now) i c.args.forms.now c.loop-form.forms form c.without.result below c.loop-form.invariant is (c.without.ensures.check, c.without.ensures.removed)
+    stepped_more (StepOut c.args.changes.now) i c.args.forms.now c.loop-form.forms form c.give_back.new.self below c.loop-form.invariant is (c.give_back.ensures.check, c.give_back.ensures.removed)
 
 pub returns-clause-checks : goal.returns-clause-checks
 returns-clause-checks c =

@@ -7,8 +7,8 @@ use Rattle.escrow_bounds.proofs.tracked.take_in.Goals as goal
 pub loop-form-init : goal.loop-form-init
 loop-form-init c = stepped_first (StepIn c.args.changes.now) c.args.forms.now
 
-pub with-requires : goal.with-requires
-with-requires c =
+pub take_in-requires : goal.take_in-requires
+take_in-requires c =
     let i = c.loop-form.form-index in
     let form = get_or c.loop-form.forms i c.form-item.result in
     let is : form ≡ get_or c.loop-form.forms i form = subst (λ (f : Tracked). f ≡ get_or c.loop-form.forms i f) c.form-item.is c.form-item.is in
@@ -22,7 +22,7 @@ loop-form-preserved c =
     let form = get_or c.loop-form.forms i c.form-item.result in
     let is : form ≡ get_or c.loop-form.forms i form = subst (λ (f : Tracked). f ≡ get_or c.loop-form.forms i f) c.form-item.is c.form-item.is in
     let below : i < length c.loop-form.forms = omega (arith, c.loop-form.auto.forms, c.loop-form-test.true) in
-    stepped_more (StepIn c.args.changes.now) i c.args.forms.now c.loop-form.forms form c.with.result below c.loop-form.invariant is (c.with.ensures.check, c.with.ensures.added)
+    stepped_more (StepIn c.args.changes.now) i c.args.forms.now c.loop-form.forms form c.take_in.new.self below c.loop-form.invariant is (c.take_in.ensures.check, c.take_in.ensures.added)
 
 pub returns-clause-checks : goal.returns-clause-checks
 returns-clause-checks c =

@@ -1,16 +1,17 @@
-use Rattle.std.proofs.Common.{◌≡◌, ℤ, List, [], take, drop, subst}
+use Rattle.std.proofs.Common.{◌≡◌, ◌+◌, ◌-◌, List, [], ap, ◌∙◌, arith}
+use Rattle.escrow_checks.specs.declared.check.Check.{Check}
 use Rattle.escrow_checks.specs.Grant.{broken}
-use Rattle.escrow_bounds.specs.Counts.{Counts}
-use Rattle.escrow_bounds.specs.Inside.{kept_of}
-use Rattle.escrow_bounds.specs.Kept.{Kept, checks_of}
-use Rattle.escrow_bounds.proofs.Altering.{covered_there, broken_there}
+use Rattle.escrow_bounds.proofs.Altering.{some_values, some_covered, some_sums, some_checks}
 use Rattle.escrow_bounds.proofs.place.Place.breach.Goals as goal
-
-pub first_breach-requires : goal.first_breach-requires
-first_breach-requires c = covered_there (kept_of c.self.inside) c.args.first c.args.count c.deref.result.now c.deref-2.result.now c.self.invariant c.deref.ensures.value c.deref-2.ensures.value
 
 pub returns : goal.returns
 returns c =
-    subst (λ (kept : Kept). (reservations : List (List ℤ)) → Counts kept reservations → c.first_breach.result ≡ broken (take c.args.count (drop c.args.first (checks_of kept.checks))) kept.amounts [] reservations)
-    c.self.view_is
-    (λ reservations counts. broken_there (kept_of c.self.inside) c.args.first c.args.count c.deref.result.now c.deref-2.result.now reservations c.first_breach.result c.deref.ensures.value c.deref-2.ensures.value counts c.first_breach.ensures)
+    let first = c.args.first in
+    let count = c.args.count in
+    let amounts = c.self.inside.amounts.items in
+    let forms = c.self.inside.checks.items in
+    let n : first + count - first ≡ count = omega arith in
+    let found = rw (n, c.deref.ensures.value, c.deref-2.ensures.value) at c.first_breach.ensures in
+    rw (← c.self.view_is) (λ reservations counts.
+    found amounts reservations (some_values forms amounts c.self.inside.values.items first count c.self.invariant.1) (some_covered forms amounts first count c.self.invariant.0.covered) (some_sums forms reservations first count counts.1)
+    ∙ ap (λ (checks : List Check). broken checks amounts [] reservations) (some_checks forms first count))

@@ -9,7 +9,7 @@ use Rattle.escrow_bounds.proofs.place.Place.inf_sup.Goals as goal
 
 pub index-form-requires : goal.index-form-requires
 index-form-requires c =
-    let fit = columns_fit (kept_of c.self.inside) c.self.invariant in
+    let fit = columns_fit (kept_of c.self.inside) c.self.invariant.0 in
     let within : c.args.column < length c.self.inside.amounts.items = subst (λ (kept : Kept). c.args.column < length kept.amounts) (sym c.self.view_is) c.requires in
     omega (arith, fit, within)
 
@@ -20,4 +20,4 @@ returns c = λ reservations.
     let within : c.args.column < length c.self.inside.amounts.items = subst (λ (kept : Kept). c.args.column < length kept.amounts) (sym c.self.view_is) c.requires in
     subst (λ (kept : Kept). Counts kept reservations → (low ≡ least (unit_form (length kept.amounts) c.args.column) kept.amounts reservations) × (high ≡ greatest (unit_form (length kept.amounts) c.args.column) kept.amounts reservations))
     c.self.view_is
-    (λ counts. inf_sup_is (kept_of c.self.inside) c.args.column c.index-form.result.now c.deref.result.now reservations low high c.self.invariant within c.index-form.ensures c.deref.ensures.value counts c.extremes.ensures.least c.extremes.ensures.greatest)
+    (λ counts. inf_sup_is (kept_of c.self.inside) c.args.column c.index-form.result.now c.deref.result.now reservations low high c.self.invariant.0 within c.index-form.ensures c.deref.ensures.value counts c.extremes.ensures.least c.extremes.ensures.greatest)

@@ -13,4 +13,4 @@ returns c = λ form reservations.
     let high = c.extremes.result.1 in
     subst (λ (kept : Kept). slice_get kept.checks c.args.check ≡ Some form → Counts kept reservations → (low ≡ least form.check.coeffs kept.amounts reservations) × (high ≡ greatest form.check.coeffs kept.amounts reservations))
     c.self.view_is
-    (λ at counts. worst_is (kept_of c.self.inside) c.args.check c.index-form.result.now form c.deref.result.now reservations low high c.self.invariant c.index-form.ensures c.deref.ensures.value at counts c.extremes.ensures.least c.extremes.ensures.greatest)
+    (λ at counts. worst_is (kept_of c.self.inside) c.args.check c.index-form.result.now form c.deref.result.now reservations low high c.self.invariant.0 c.index-form.ensures c.deref.ensures.value at counts c.extremes.ensures.least c.extremes.ensures.greatest)

@@ -1,17 +1,8 @@
-use Rattle.std.proofs.Common.{◌≡◌, ◌+ℤ◌, Some, None, ◌∙◌, sym, arith}
-use Rattle.std.proofs.lemmas.Int.{ints}
-use Rattle.escrow_checks.specs.Form.{form}
-use Rattle.escrow_checks.proofs.ExtremesLemmas.{broken_by_spread}
+use Rattle.std.proofs.Common.{ℤ, List, ap, ◌∙◌}
+use Rattle.escrow_checks.specs.Grant.{broken_by}
 use Rattle.escrow_checks.proofs.check.Check.breach.Goals as goal
-
-pub returns-in_err-side : goal.returns-in_err-side
-returns-in_err-side c = λ reservations covered known.
-    let check = c.args.self.now in
-    let is : c.plus-with_new.result ≡ form check.coeffs c.args.amounts.now +ℤ form check.coeffs c.args.changes.now = omega (arith, ints) in
-    c.from_residual.ensures ∙ sym (broken_by_spread check c.args.amounts.now c.args.changes.now reservations c.args.spread.now c.plus-with_new.result c.around-least.result.0 c.around-least.result.1 covered known is c.around-least.ensures.least c.around-least.ensures.greatest None (sym c.in_err-side.was ∙ c.first_broken.ensures.first))
 
 pub returns : goal.returns
 returns c = λ reservations covered known.
-    let check = c.args.self.now in
-    let is : c.plus-with_new.result ≡ form check.coeffs c.args.amounts.now +ℤ form check.coeffs c.args.changes.now = omega (arith, ints) in
-    sym (broken_by_spread check c.args.amounts.now c.args.changes.now reservations c.args.spread.now c.plus-with_new.result c.around-least.result.0 c.around-least.result.1 covered known is c.around-least.ensures.least c.around-least.ensures.greatest (Some (c.in_ok-side.side, c.in_ok-side.worst, c.in_ok-side.limit)) (sym c.in_ok-side.was ∙ c.first_broken.ensures.first))
+    c.breach_from.ensures c.args.amounts.now reservations c.form.ensures.value covered known
+    ∙ ap (λ (changes : List ℤ). broken_by c.args.self.now c.args.amounts.now changes reservations) c.of.ensures
