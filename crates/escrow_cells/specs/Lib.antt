@@ -7,6 +7,7 @@ pub mod Numbered
 pub mod Query
 pub mod Read
 pub mod Recognised
+pub mod Span
 pub mod Step
 pub mod Store
 pub mod Tables
