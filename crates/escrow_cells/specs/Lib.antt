@@ -3,6 +3,7 @@ pub mod Failure
 pub mod Formats
 pub mod Inside
 pub mod Making
+pub mod NewCell
 pub mod Numbered
 pub mod Query
 pub mod Read

@@ -11,6 +11,7 @@ mod datum;
 pub mod failure;
 mod formats;
 mod migration;
+mod new_cell;
 mod numbered;
 mod read;
 mod recognise;

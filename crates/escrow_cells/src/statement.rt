@@ -4,26 +4,39 @@ ghost use Rattle.sqlite.specs.Held.{state};
 ghost use Rattle.escrow_cells.specs.declared.step.Step.TheVariants as step;
 ghost use Rattle.escrow_cells.specs.Step.{Does};
 ghost use Rattle.escrow_cells.specs.Inside.{Acts};
+ghost use Rattle.escrow_cells.specs.NewCell.{step_of};
 
 use crate::datum::Datum;
+use crate::new_cell::NewCell;
 use crate::step::Step;
 use sqlite::types::ToSql;
 use sqlite::{Alter, Error, Transaction, params};
 
 /// Puts a new cell.
-fn insert_cell<S: Alter>(
-    tx: &mut Transaction<'_, S>,
-    table: i64,
-    key: Datum<'_>,
-    place: i64,
-    value: Datum<'_>,
-) -> Result<usize, Error>
+fn insert_cell<S: Alter>(tx: &mut Transaction<'_, S>, cell: &NewCell<'_>) -> Result<usize, Error>
     ensures same_reference { tx.new.conn.ghost_name ≡ tx.old.conn.ghost_name }
-    ensures acts { Acts (state S.Store tx.old.conn.now) (state S.Store tx.new.conn.now) (is_ok result) (Does (step.InsertCell table key.entry place value.entry ∷ [])) }
+    ensures acts { Acts (state S.Store tx.old.conn.now) (state S.Store tx.new.conn.now) (is_ok result) (Does (step_of cell.now ∷ [])) }
 {
     tx.execute(
         "INSERT INTO CELL VALUES (?1, ?2, ?3, ?4)",
-        params![table, key, place, value],
+        params![cell.table, cell.key, cell.place, cell.value],
+    )
+}
+
+/// Puts two new cells.
+fn insert_two<S: Alter>(
+    tx: &mut Transaction<'_, S>,
+    a: &NewCell<'_>,
+    b: &NewCell<'_>,
+) -> Result<usize, Error>
+    ensures same_reference { tx.new.conn.ghost_name ≡ tx.old.conn.ghost_name }
+    ensures acts { Acts (state S.Store tx.old.conn.now) (state S.Store tx.new.conn.now) (is_ok result) (Does (step_of a.now ∷ step_of b.now ∷ [])) }
+{
+    tx.execute(
+        "INSERT INTO CELL VALUES (?1, ?2, ?3, ?4), (?5, ?6, ?7, ?8)",
+        params![
+            a.table, a.key, a.place, a.value, b.table, b.key, b.place, b.value
+        ],
     )
 }
 
@@ -92,10 +105,7 @@ fn delete_tab<S: Alter>(tx: &mut Transaction<'_, S>, id: i64) -> Result<usize, E
 }
 
 /// Does one step.
-pub(crate) fn do_step<S: Alter>(
-    tx: &mut Transaction<'_, S>,
-    step: &Step<'_>,
-) -> Result<usize, Error>
+fn do_step<S: Alter>(tx: &mut Transaction<'_, S>, step: &Step<'_>) -> Result<usize, Error>
     ensures same_reference { tx.new.conn.ghost_name ≡ tx.old.conn.ghost_name }
     ensures acts { Acts (state S.Store tx.old.conn.now) (state S.Store tx.new.conn.now) (is_ok result) (Does (step.now ∷ [])) }
 {
@@ -105,7 +115,15 @@ pub(crate) fn do_step<S: Alter>(
             key,
             place,
             value,
-        } => insert_cell(tx, table, key, place, value),
+        } => insert_cell(
+            tx,
+            &NewCell {
+                table,
+                key,
+                place,
+                value,
+            },
+        ),
         Step::SetCell {
             table,
             key,
@@ -117,4 +135,32 @@ pub(crate) fn do_step<S: Alter>(
         Step::InsertTab { id, name, text } => insert_tab(tx, id, name, text),
         Step::DeleteTab { id } => delete_tab(tx, id),
     }
+}
+
+/// Does steps, one after another; where they are two that put cells, as one statement.
+pub(crate) fn do_steps<S: Alter>(
+    tx: &mut Transaction<'_, S>,
+    steps: &[Step<'_>],
+) -> Result<usize, Error>
+    ensures same_reference { tx.new.conn.ghost_name ≡ tx.old.conn.ghost_name }
+    ensures acts { Acts (state S.Store tx.old.conn.now) (state S.Store tx.new.conn.now) (is_ok result) (Does steps.now) }
+{
+    if let [first, second] = steps {
+        if let (Some(a), Some(b)) = (NewCell::of(first), NewCell::of(second)) {
+            return insert_two(tx, &a, &b);
+        }
+    }
+    do_each(tx, steps)
+}
+
+/// Does steps, each as a statement.
+fn do_each<S: Alter>(tx: &mut Transaction<'_, S>, steps: &[Step<'_>]) -> Result<usize, Error>
+    ensures same_reference { tx.new.conn.ghost_name ≡ tx.old.conn.ghost_name }
+    ensures acts { Acts (state S.Store tx.old.conn.now) (state S.Store tx.new.conn.now) (is_ok result) (Does steps.now) }
+{
+    let mut changed: usize = 0;
+    for step in steps {
+        changed = changed.saturating_add(do_step(tx, step)?);
+    }
+    Ok(changed)
 }
