@@ -1,5 +1,5 @@
 -- What the two INSERTs of a step write.
-use Rattle.std.proofs.Common.{◌≡◌, ℕ, ℤ, Bool, true, false, cond, List, [], ◌∷◌, ◌++◌, map, drop, fold, codes, Ok, IsPermutation, refl, ap, ap₂, ◌∙◌, subst}
+use Rattle.std.proofs.Common.{◌≡◌, ◌+◌, ◌/◌, ℕ, ℤ, Bool, true, false, cond, List, [], ◌∷◌, ◌++◌, map, drop, fold, length, codes, Ok, IsPermutation, refl, sym, ap, ap₂, ◌∙◌, subst}
 use Rattle.std.proofs.lemmas.List.{map-append}
 use Rattle.std.proofs.lemmas.List.Sorted.{IsPermutation-map, IsPermutation-middle, IsPermutation-refl, IsPermutation-trans}
 use Rattle.sqlite_value.specs.declared.value.Value.{Value}
@@ -16,7 +16,8 @@ use Rattle.sqlite_rules.specs.Cast.{cast, cast_row}
 use Rattle.sqlite_rules.specs.Edit.{edit_of, numbered, with_rowid}
 use Rattle.sqlite_tied.specs.Compute.{everything}
 use Rattle.sqlite.specs.Listing.{understood}
-use Rattle.sqlite.specs.Effect.{Database}
+use Rattle.sqlite.specs.Effect.{Database, value_rows}
+use Rattle.sqlite.specs.Rows.{stamped}
 use Rattle.sqlite.specs.State.{State, Executes}
 use Rattle.escrow_cells.specs.declared.new_cell.NewCell.{NewCell}
 use Rattle.escrow_cells.specs.declared.step.Step.TheVariants as step
@@ -35,25 +36,46 @@ cell_insert = codes "INSERT INTO CELL VALUES (?1, ?2, ?3, ?4)"
 abbrev pub two_insert : List ℕ
 two_insert = codes "INSERT INTO CELL VALUES (?1, ?2, ?3, ?4), (?5, ?6, ?7, ?8)"
 
+abbrev pub three_insert : List ℕ
+three_insert = codes "INSERT INTO CELL VALUES (?1, ?2, ?3, ?4), (?5, ?6, ?7, ?8), (?9, ?10, ?11, ?12)"
+
+abbrev pub four_insert : List ℕ
+four_insert = codes "INSERT INTO CELL VALUES (?1, ?2, ?3, ?4), (?5, ?6, ?7, ?8), (?9, ?10, ?11, ?12), (?13, ?14, ?15, ?16)"
+
 abbrev pub tab_insert : List ℕ
 tab_insert = codes "INSERT INTO TAB VALUES (?1, ?2, ?3)"
 
-abbrev cell_terms : List Term
-cell_terms = lit Null ∷ col 0 0 ∷ col 0 1 ∷ col 0 2 ∷ col 0 3 ∷ []
+-- what is given of a cell, from a parameter on
+abbrev terms_from : ℕ → List Term
+terms_from at = lit Null ∷ col 0 at ∷ col 0 (at + 1) ∷ col 0 (at + 2) ∷ col 0 (at + 3) ∷ []
 
 abbrev two_terms : List Term
-two_terms = cell_terms ++ lit Null ∷ col 0 4 ∷ col 0 5 ∷ col 0 6 ∷ col 0 7 ∷ []
+two_terms = terms_from 0 ++ terms_from 4
+
+abbrev three_terms : List Term
+three_terms = two_terms ++ terms_from 8
+
+abbrev four_terms : List Term
+four_terms = three_terms ++ terms_from 12
 
 abbrev tab_terms : List Term
 tab_terms = col 0 0 ∷ lit Null ∷ col 0 1 ∷ col 0 2 ∷ []
 
-cell_statement : IsStatement cell_insert (Insert 2 (Values cell_terms 5))
+cell_statement : IsStatement cell_insert (Insert 2 (Values (terms_from 0) 5))
 unfolding understood everything
 cell_statement = record { is = λ _ _ _. refl; plain = λ _ _ _. (refl, refl) }
 
 two_statement : IsStatement two_insert (Insert 2 (Values two_terms 5))
 unfolding understood everything
 two_statement = record { is = λ _ _ _. refl; plain = λ _ _ _. (refl, refl) }
+
+three_statement : IsStatement three_insert (Insert 2 (Values three_terms 5))
+unfolding understood everything
+three_statement = record { is = λ _ _ _. refl; plain = λ _ _ _. (refl, refl) }
+
+four_statement : IsStatement four_insert (Insert 2 (Values four_terms 5))
+unfolding understood everything
+four_statement = record { is = λ _ _ _. refl; plain = λ _ _ _. (refl, refl) }
 
 tab_statement : IsStatement tab_insert (Insert 1 (Values tab_terms 4))
 unfolding understood everything
@@ -109,24 +131,35 @@ inserted old new news e =
     let shown : map cell_of (mades ++ rows) ≡ map given_of news ++ cells old = map-append cell_of mades rows ∙ ap (λ l. l ++ cells old) (made_cells rows news) in
     IsPermutation-trans _ _ _ (beside_others news (contents old)) (subst (λ l. IsPermutation l (cells new)) shown (IsPermutation-map cell_of _ _ put))
 
+-- TAB is as it was
+tabs_stay : (news : List NewCell) (c : Contents) → fold done c (map step_of news) ≡ record { cells = (fold done c (map step_of news)).cells; tabs = c.tabs }
+tabs_stay [] c = refl
+tabs_stay (new ∷ news) c = tabs_stay news (done c (step_of new))
+
 -- ---- the statements
 
-pub inserts_cell : (old new : State) (c : NewCell) (count : ℕ) → Executes cell_insert (given_of c) old new (Ok count) → Does (step_of c ∷ []) old.now new.now
-inserts_cell old new c count h it =
+inserts_cells : {text : List ℕ} {terms : List Term} → IsStatement text (Insert 2 (Values terms 5)) → (old new : State) (news : List NewCell) (params : Row)
+    → value_rows (stamped cell params) 5 (length terms / 5) terms ≡ rows_of news → (count : ℕ) → Executes text params old new (Ok count) → Does (map step_of news) old.now new.now
+inserts_cells {terms = terms} statement old new news params shown count h it =
     let has = it.tables.is in
-    let w = wrote_by cell_statement (given_of c) old new it.tables count h in
-    let given = inserts old new cell 2 (rw has refl) it.no_keys _ (given_of c) count (Values cell_terms 5) refl w in
-    let edits = subst (λ rows. Edits old.now new.now (edit_of old.now.trees cell [] Chosen 0 rows)) given.1.1 given.2 in
-    holds_cells old.now new.now _ it edits refl _ (inserted old.now new.now (c ∷ []) edits)
+    let w = wrote_by statement params old new it.tables count h in
+    let given = inserts old new cell 2 (rw has refl) it.no_keys _ params count (Values terms 5) refl w in
+    let edits = subst (λ rows. Edits old.now new.now (edit_of old.now.trees cell [] Chosen 0 rows)) (given.1.1 ∙ shown) given.2 in
+    subst (λ c. HoldsContents c old.now new.now) (sym (tabs_stay news (contents old.now))) (holds_cells old.now new.now _ it edits refl _ (inserted old.now new.now news edits))
+
+pub inserts_cell : (old new : State) (a : NewCell) (count : ℕ) → Executes cell_insert (given_of a) old new (Ok count) → Does (step_of a ∷ []) old.now new.now
+inserts_cell old new a = inserts_cells cell_statement old new (a ∷ []) (given_of a) refl
 
 pub inserts_two : (old new : State) (a b : NewCell) (count : ℕ) → Executes two_insert (given_of a ++ given_of b) old new (Ok count) → Does (step_of a ∷ step_of b ∷ []) old.now new.now
-inserts_two old new a b count h it =
-    let has = it.tables.is in
-    let params = given_of a ++ given_of b in
-    let w = wrote_by two_statement params old new it.tables count h in
-    let given = inserts old new cell 2 (rw has refl) it.no_keys _ params count (Values two_terms 5) refl w in
-    let edits = subst (λ rows. Edits old.now new.now (edit_of old.now.trees cell [] Chosen 0 rows)) given.1.1 given.2 in
-    holds_cells old.now new.now _ it edits refl _ (inserted old.now new.now (a ∷ b ∷ []) edits)
+inserts_two old new a b = inserts_cells two_statement old new (a ∷ b ∷ []) (given_of a ++ given_of b) refl
+
+pub inserts_three : (old new : State) (a b c : NewCell) (count : ℕ) → Executes three_insert (given_of a ++ given_of b ++ given_of c) old new (Ok count)
+    → Does (step_of a ∷ step_of b ∷ step_of c ∷ []) old.now new.now
+inserts_three old new a b c = inserts_cells three_statement old new (a ∷ b ∷ c ∷ []) (given_of a ++ given_of b ++ given_of c) refl
+
+pub inserts_four : (old new : State) (a b c d : NewCell) (count : ℕ) → Executes four_insert (given_of a ++ given_of b ++ given_of c ++ given_of d) old new (Ok count)
+    → Does (step_of a ∷ step_of b ∷ step_of c ∷ step_of d ∷ []) old.now new.now
+inserts_four old new a b c d = inserts_cells four_statement old new (a ∷ b ∷ c ∷ d ∷ []) (given_of a ++ given_of b ++ given_of c ++ given_of d) refl
 
 pub inserts_tab : (old new : State) (id : ℤ) (name ddl : List ℕ) (count : ℕ) → Executes tab_insert (Int id ∷ Text name ∷ Text ddl ∷ []) old new (Ok count)
     → IsStore old.now → HoldsContents (record { cells = cells old.now; tabs = (Int id ∷ Text name ∷ Text ddl ∷ []) ∷ tabs old.now }) old.now new.now

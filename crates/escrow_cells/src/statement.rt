@@ -40,6 +40,45 @@ fn insert_two<S: Alter>(
     )
 }
 
+/// Puts three new cells.
+fn insert_three<S: Alter>(
+    tx: &mut Transaction<'_, S>,
+    a: &NewCell<'_>,
+    b: &NewCell<'_>,
+    c: &NewCell<'_>,
+) -> Result<usize, Error>
+    ensures same_reference { tx.new.conn.ghost_name ≡ tx.old.conn.ghost_name }
+    ensures acts { Acts (state S.Store tx.old.conn.now) (state S.Store tx.new.conn.now) (is_ok result) (Does (step_of a.now ∷ step_of b.now ∷ step_of c.now ∷ [])) }
+{
+    tx.execute(
+        "INSERT INTO CELL VALUES (?1, ?2, ?3, ?4), (?5, ?6, ?7, ?8), (?9, ?10, ?11, ?12)",
+        params![
+            a.table, a.key, a.place, a.value, b.table, b.key, b.place, b.value, c.table, c.key,
+            c.place, c.value
+        ],
+    )
+}
+
+/// Puts four new cells.
+fn insert_four<S: Alter>(
+    tx: &mut Transaction<'_, S>,
+    a: &NewCell<'_>,
+    b: &NewCell<'_>,
+    c: &NewCell<'_>,
+    d: &NewCell<'_>,
+) -> Result<usize, Error>
+    ensures same_reference { tx.new.conn.ghost_name ≡ tx.old.conn.ghost_name }
+    ensures acts { Acts (state S.Store tx.old.conn.now) (state S.Store tx.new.conn.now) (is_ok result) (Does (step_of a.now ∷ step_of b.now ∷ step_of c.now ∷ step_of d.now ∷ [])) }
+{
+    tx.execute(
+        "INSERT INTO CELL VALUES (?1, ?2, ?3, ?4), (?5, ?6, ?7, ?8), (?9, ?10, ?11, ?12), (?13, ?14, ?15, ?16)",
+        params![
+            a.table, a.key, a.place, a.value, b.table, b.key, b.place, b.value, c.table, c.key,
+            c.place, c.value, d.table, d.key, d.place, d.value
+        ],
+    )
+}
+
 /// Puts another value in a cell that stands.
 fn set_cell<S: Alter>(
     tx: &mut Transaction<'_, S>,
@@ -137,7 +176,10 @@ fn do_step<S: Alter>(tx: &mut Transaction<'_, S>, step: &Step<'_>) -> Result<usi
     }
 }
 
-/// Does steps, one after another; where they are two that put cells, as one statement.
+/// The most new cells that one statement puts.
+pub(crate) const TOGETHER: usize = 4;
+
+/// Does steps, one after another; as one statement where they are a few, and all put cells.
 pub(crate) fn do_steps<S: Alter>(
     tx: &mut Transaction<'_, S>,
     steps: &[Step<'_>],
@@ -145,9 +187,24 @@ pub(crate) fn do_steps<S: Alter>(
     ensures same_reference { tx.new.conn.ghost_name ≡ tx.old.conn.ghost_name }
     ensures acts { Acts (state S.Store tx.old.conn.now) (state S.Store tx.new.conn.now) (is_ok result) (Does steps.now) }
 {
-    if let [first, second] = steps {
-        if let (Some(a), Some(b)) = (NewCell::of(first), NewCell::of(second)) {
+    if let [a, b] = steps {
+        if let (Some(a), Some(b)) = (NewCell::of(a), NewCell::of(b)) {
             return insert_two(tx, &a, &b);
+        }
+    }
+    if let [a, b, c] = steps {
+        if let (Some(a), Some(b), Some(c)) = (NewCell::of(a), NewCell::of(b), NewCell::of(c)) {
+            return insert_three(tx, &a, &b, &c);
+        }
+    }
+    if let [a, b, c, d] = steps {
+        if let (Some(a), Some(b), Some(c), Some(d)) = (
+            NewCell::of(a),
+            NewCell::of(b),
+            NewCell::of(c),
+            NewCell::of(d),
+        ) {
+            return insert_four(tx, &a, &b, &c, &d);
         }
     }
     do_each(tx, steps)

@@ -13,7 +13,7 @@ pub loop-some-init : goal.loop-some-init
 loop-some-init g c = record {
   can_next = search rules;
   is_finite = tt;
-  by_two = search rules;
+  by_four = search rules;
   same = refl;
   goes_on = ([], rw c.transaction-tx.ensures.begun (begun g.S.Store c.args.conn.now (Does []) does_none), search rules);
 }
@@ -26,7 +26,7 @@ loop-some-preserved g c =
     record {
       can_next = search rules;
       is_finite = tt;
-      by_two = steps.0 ∙ c.loop-some.invariant.by_two;
+      by_four = steps.0 ∙ c.loop-some.invariant.by_four;
       same = c.do_steps.ensures.same_reference ∙ c.loop-some.invariant.same;
       goes_on = (
         so_far.0 ++ some,

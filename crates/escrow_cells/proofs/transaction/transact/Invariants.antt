@@ -10,7 +10,7 @@ abbrev pub invariant-loop-some : goal.invariant-loop-some
 invariant-loop-some g l = record {
   can_next : (goal.iterator-loop-some g).can_next l.some-iterator;
   is_finite : (goal.iterator-loop-some g).is_finite l.some-iterator;
-  by_two : chunks_size l.some-iterator ≡ 2;
+  by_four : chunks_size l.some-iterator ≡ 4;
   same : l.tx.conn.ghost_name ≡ l.initial.tx.conn.ghost_name;
   goes_on : (done : List Step) × GoesOn (Does done) (state g.S.Store l.fn.conn) (state g.S.Store l.tx.conn.now) × (done ++ chunks_rest l.some-iterator ≡ l.steps);
 }
