@@ -1,6 +1,6 @@
 -- A transaction from its beginning to its end, over what connections show.
-use Rattle.std.proofs.Common.{◌≡◌, ℕ, Bool, List, [], ◌∷◌, take, length, get_or, ◌<◌, ◌≤◌, ◌+◌, true, false, IsTrue, Result, Ok, Err, OnOk, IfErr, is_ok, inl, inr, refl, sym, ap, subst, ◌∙◌, arith}
-use Rattle.std.proofs.lemmas.List.{take_more, take_all}
+use Rattle.std.proofs.Common.{◌≡◌, ℕ, Bool, List, [], ◌∷◌, ◌++◌, take, length, get_or, ◌<◌, ◌≤◌, ◌+◌, true, false, IsTrue, Result, Ok, Err, OnOk, IfErr, is_ok, inl, inr, refl, sym, ap, subst, ◌∙◌, arith}
+use Rattle.std.proofs.lemmas.List.{take_more}
 use Rattle.std.proofs.lemmas.Bool.{both_ways, false≢true}
 use Rattle.sqlite_trees.specs.declared.store.Store.{Ghosts}
 use Rattle.sqlite_trees.specs.Tree.{Trees}
@@ -14,7 +14,7 @@ use Rattle.escrow_cells.specs.declared.step.Step.{Step}
 use Rattle.escrow_cells.specs.Step.{Does}
 use Rattle.escrow_cells.specs.Calls.{Alters}
 use Rattle.escrow_cells.specs.Inside.{Acts, IsPending, GoesOn}
-use Rattle.escrow_cells.proofs.Steps.{does_more}
+use Rattle.escrow_cells.proofs.Steps.{does_more, does_none}
 
 -- a transaction has just begun
 pub begun : {S : Type 0} (g : Ghosts S) (old : Held S) (Makes : Database → Database → Type 0) → ((db : Database) → Makes db db) → GoesOn Makes (state g old) (state g (record old { in_transaction = true }))
@@ -57,16 +57,30 @@ module _ (A B C : Database → Database → Type 0) (joined : (x y z : Database)
         made = λ clean. joined _ _ _ (before.made (was clean)) (one.done refl clean (before.inside (was clean))).1;
       }
 
--- the step at a place is done after those before it
-pub goes_on : (steps : List Step) (at : ℕ) (some : Step) (old mid new : State) → at < length steps → GoesOn (Does (take at steps)) old mid → Acts mid new true (Does (get_or steps at some ∷ []))
-    → GoesOn (Does (take (at + 1) steps)) old new
-goes_on steps at some old mid new within before one =
-    subst (λ these. GoesOn (Does these) old new) (sym (take_more steps at some within))
-    (goes_then (Does (take at steps)) (Does (get_or steps at some ∷ [])) _ (λ x y z. does_more (take at steps) (get_or steps at some) x y z) old mid new before one)
+-- more steps are done after those before them
+pub goes_on : (done more : List Step) (old mid new : State) → GoesOn (Does done) old mid → Acts mid new true (Does more) → GoesOn (Does (done ++ more)) old new
+goes_on done more old mid new before one = goes_then (Does done) (Does more) _ (λ x y z. does_more done more x y z) old mid new before one
 
--- after the last step
-pub all_steps : (steps : List Step) (at : ℕ) (old last : State) → length steps ≤ at → GoesOn (Does (take at steps)) old last → GoesOn (Does steps) old last
-all_steps steps at old last past goes = subst (λ these. GoesOn (Does these) old last) (take_all at steps past) goes
+-- no step is done
+pub acts_none : (s : State) → Acts s s true (Does [])
+acts_none s = record {
+  done = λ _ clean inside. (inside, does_none s.now);
+  pending = record {
+    survives = record { clean = omega arith; shield = λ h. h; counts = omega arith; limit = refl; closes = λ _ h. inl h; crash = λ _ db h. inl h };
+    kept = λ _. record { was_open = λ h. h; committed = λ _. refl };
+  };
+}
+
+-- the step at a place is done after those before it
+pub acts_on : (steps : List Step) (at : ℕ) (some : Step) (old mid new : State) → at < length steps → Acts old mid true (Does (take at steps)) → Acts mid new true (Does (get_or steps at some ∷ []))
+    → Acts old new true (Does (take (at + 1) steps))
+acts_on steps at some old mid new within before one =
+    subst (λ these. Acts old new true (Does these)) (sym (take_more steps at some within))
+    (acts_then (Does (take at steps)) (Does (get_or steps at some ∷ [])) _ (λ x y z. does_more (take at steps) (get_or steps at some ∷ []) x y z) old mid new true before one)
+
+-- where one is not done, nothing is said of what they make
+pub acts_failed : (old mid new : State) (Makes : Database → Database → Type 0) → IsPending old mid → IsPending mid new → Acts old new false Makes
+acts_failed old mid new Makes before one = record { done = λ e. absurd (false≢true e); pending = pending_then old mid new before one }
 
 module _ (old last new : State) (settled : IsTrue old.is_open → old.now ≡ old.committed) (Makes : Database → Database → Type 0) where
   -- an error drops the transaction, which rolls back

@@ -1,10 +1,11 @@
 -- What the two INSERTs of a step write.
-use Rattle.std.proofs.Common.{◌≡◌, ℕ, ℤ, Bool, true, false, cond, List, [], ◌∷◌, codes, Ok, IsPermutation, refl, ◌∙◌, subst}
-use Rattle.std.proofs.lemmas.List.Sorted.{IsPermutation-map}
+use Rattle.std.proofs.Common.{◌≡◌, ◌+◌, ◌/◌, ℕ, ℤ, Bool, true, false, cond, List, [], ◌∷◌, ◌++◌, map, drop, fold, length, codes, Ok, IsPermutation, refl, sym, ap, ap₂, ◌∙◌, subst}
+use Rattle.std.proofs.lemmas.List.{map-append}
+use Rattle.std.proofs.lemmas.List.Sorted.{IsPermutation-map, IsPermutation-middle, IsPermutation-refl, IsPermutation-trans}
 use Rattle.sqlite_value.specs.declared.value.Value.{Value}
 use Rattle.sqlite_value.specs.declared.value.Value.TheVariants.{Null, Int, Text}
 use Rattle.sqlite_value.specs.Order.{Row}
-use Rattle.sqlite_trees.specs.Tree.{Trees}
+use Rattle.sqlite_trees.specs.Tree.{Trees, put_row}
 use Rattle.sqlite_sql.specs.Term.{Term, lit, col}
 use Rattle.sqlite_schema.specs.declared.schema.Kind.TheVariants.{Integer}
 use Rattle.sqlite_schema.specs.declared.schema.Table.{Table}
@@ -12,16 +13,18 @@ use Rattle.sqlite_schema.specs.declared.command.Source.TheVariants.{Values}
 use Rattle.sqlite_schema.specs.declared.command.Command.TheVariants.{Insert}
 use Rattle.sqlite_rules.specs.declared.error.Rowids.TheVariants.{Chosen}
 use Rattle.sqlite_rules.specs.Cast.{cast, cast_row}
-use Rattle.sqlite_rules.specs.Edit.{edit_of, with_rowid}
+use Rattle.sqlite_rules.specs.Edit.{edit_of, numbered, with_rowid}
 use Rattle.sqlite_tied.specs.Compute.{everything}
 use Rattle.sqlite.specs.Listing.{understood}
-use Rattle.sqlite.specs.Effect.{Database}
+use Rattle.sqlite.specs.Effect.{Database, value_rows}
+use Rattle.sqlite.specs.Rows.{stamped}
 use Rattle.sqlite.specs.State.{State, Executes}
-use Rattle.escrow_cells.specs.declared.datum.Datum.{Datum}
+use Rattle.escrow_cells.specs.declared.new_cell.NewCell.{NewCell}
 use Rattle.escrow_cells.specs.declared.step.Step.TheVariants as step
 use Rattle.escrow_cells.specs.Tables.{tab, cell}
 use Rattle.escrow_cells.specs.Store.{IsStore, tabs, cells}
-use Rattle.escrow_cells.specs.Step.{kept, HoldsContents, Does}
+use Rattle.escrow_cells.specs.Step.{Contents, contents, done, kept, HoldsContents, Does}
+use Rattle.escrow_cells.specs.NewCell.{step_of}
 use Rattle.escrow_cells.proofs.Inside.{Edits, IsStatement, inserts, wrote_by}
 use Rattle.escrow_cells.proofs.Columns.{cast_held}
 use Rattle.escrow_cells.proofs.Leaves.{cell_of, tab_of, holds_cells, holds_tabs}
@@ -30,18 +33,49 @@ use Rattle.escrow_cells.proofs.Makes.{put_beside}
 abbrev pub cell_insert : List ℕ
 cell_insert = codes "INSERT INTO CELL VALUES (?1, ?2, ?3, ?4)"
 
+abbrev pub two_insert : List ℕ
+two_insert = codes "INSERT INTO CELL VALUES (?1, ?2, ?3, ?4), (?5, ?6, ?7, ?8)"
+
+abbrev pub three_insert : List ℕ
+three_insert = codes "INSERT INTO CELL VALUES (?1, ?2, ?3, ?4), (?5, ?6, ?7, ?8), (?9, ?10, ?11, ?12)"
+
+abbrev pub four_insert : List ℕ
+four_insert = codes "INSERT INTO CELL VALUES (?1, ?2, ?3, ?4), (?5, ?6, ?7, ?8), (?9, ?10, ?11, ?12), (?13, ?14, ?15, ?16)"
+
 abbrev pub tab_insert : List ℕ
 tab_insert = codes "INSERT INTO TAB VALUES (?1, ?2, ?3)"
 
-abbrev cell_terms : List Term
-cell_terms = lit Null ∷ col 0 0 ∷ col 0 1 ∷ col 0 2 ∷ col 0 3 ∷ []
+-- what is given of a cell, from a parameter on
+abbrev terms_from : ℕ → List Term
+terms_from at = lit Null ∷ col 0 at ∷ col 0 (at + 1) ∷ col 0 (at + 2) ∷ col 0 (at + 3) ∷ []
+
+abbrev two_terms : List Term
+two_terms = terms_from 0 ++ terms_from 4
+
+abbrev three_terms : List Term
+three_terms = two_terms ++ terms_from 8
+
+abbrev four_terms : List Term
+four_terms = three_terms ++ terms_from 12
 
 abbrev tab_terms : List Term
 tab_terms = col 0 0 ∷ lit Null ∷ col 0 1 ∷ col 0 2 ∷ []
 
-cell_statement : IsStatement cell_insert (Insert 2 (Values cell_terms 5))
+cell_statement : IsStatement cell_insert (Insert 2 (Values (terms_from 0) 5))
 unfolding understood everything
 cell_statement = record { is = λ _ _ _. refl; plain = λ _ _ _. (refl, refl) }
+
+two_statement : IsStatement two_insert (Insert 2 (Values two_terms 5))
+unfolding understood everything
+two_statement = record { is = λ _ _ _. refl; plain = λ _ _ _. (refl, refl) }
+
+three_statement : IsStatement three_insert (Insert 2 (Values three_terms 5))
+unfolding understood everything
+three_statement = record { is = λ _ _ _. refl; plain = λ _ _ _. (refl, refl) }
+
+four_statement : IsStatement four_insert (Insert 2 (Values four_terms 5))
+unfolding understood everything
+four_statement = record { is = λ _ _ _. refl; plain = λ _ _ _. (refl, refl) }
 
 tab_statement : IsStatement tab_insert (Insert 1 (Values tab_terms 4))
 unfolding understood everything
@@ -61,25 +95,71 @@ same_rest : (b : Bool) (x y : Value) (values : Row) → cell_of (cond b (x ∷ v
 same_rest true x y values = refl
 same_rest false x y values = refl
 
-made_cell : (db : Trees) (t p : ℤ) (k v : Value) → cell_of (made db cell (Null ∷ Int t ∷ k ∷ Int p ∷ v ∷ [])) ≡ Int t ∷ k ∷ Int p ∷ v ∷ []
-made_cell db t p k v = same_rest _ _ (cast Integer Null) (cast Integer (Int t) ∷ k ∷ cast Integer (Int p) ∷ v ∷ []) ∙ rw (cast_held (Int t) refl, cast_held (Int p) refl)
+made_cell : (rows : List Row) (t p : ℤ) (k v : Value) → cell_of (with_rowid Chosen rows (cast_row cell (Null ∷ Int t ∷ k ∷ Int p ∷ v ∷ []))) ≡ Int t ∷ k ∷ Int p ∷ v ∷ []
+made_cell rows t p k v = same_rest _ _ (cast Integer Null) (cast Integer (Int t) ∷ k ∷ cast Integer (Int p) ∷ v ∷ []) ∙ rw (cast_held (Int t) refl, cast_held (Int p) refl)
 
 made_tab : (db : Trees) (id : ℤ) (name text : List ℕ) → tab_of (made db tab (Int id ∷ Null ∷ Text name ∷ Text text ∷ [])) ≡ Int id ∷ Text name ∷ Text text ∷ []
 made_tab db id name text = rw (cast_held (Int id) refl)
 
+-- ---- cells that are added
+
+-- what an INSERT is given of a cell
+abbrev pub given_of : NewCell → Row
+given_of c = Int c.table ∷ kept c.key ∷ Int c.place ∷ kept c.value ∷ []
+
+abbrev rows_of : List NewCell → List Row
+rows_of news = map (λ c. Null ∷ given_of c) news
+
+-- the rows that are made of cells have these
+made_cells : (rows : List Row) (news : List NewCell) → map cell_of (numbered Chosen rows (map (λ s. cast_row cell (drop 0 s)) (rows_of news))) ≡ map given_of news
+made_cells rows [] = refl
+made_cells rows (c ∷ news) =
+    let row = with_rowid Chosen rows (cast_row cell (Null ∷ given_of c)) in
+    ap₂ ◌∷◌ (made_cell rows c.table c.place (kept c.key) (kept c.value)) (made_cells (put_row row rows) news)
+
+-- the steps that put cells leave these beside the others
+beside_others : (news : List NewCell) (c : Contents) → IsPermutation (fold done c (map step_of news)).cells (map given_of news ++ c.cells)
+beside_others [] c = IsPermutation-refl c.cells
+beside_others (new ∷ news) c = IsPermutation-trans _ _ _ (beside_others news (done c (step_of new))) (IsPermutation-middle (map given_of news) (given_of new) c.cells)
+
+-- and so does an INSERT of them
+inserted : (old new : Database) (news : List NewCell) → Edits old new (edit_of old.trees cell [] Chosen 0 (rows_of news)) → IsPermutation (fold done (contents old) (map step_of news)).cells (cells new)
+inserted old new news e =
+    let rows = old.trees cell.tree in
+    let mades = numbered Chosen rows (map (λ s. cast_row cell (drop 0 s)) (rows_of news)) in
+    let put : IsPermutation (mades ++ rows) (new.trees cell.tree) = rw e.applies.rows (put_beside mades rows e.applies.fresh) in
+    let shown : map cell_of (mades ++ rows) ≡ map given_of news ++ cells old = map-append cell_of mades rows ∙ ap (λ l. l ++ cells old) (made_cells rows news) in
+    IsPermutation-trans _ _ _ (beside_others news (contents old)) (subst (λ l. IsPermutation l (cells new)) shown (IsPermutation-map cell_of _ _ put))
+
+-- TAB is as it was
+tabs_stay : (news : List NewCell) (c : Contents) → fold done c (map step_of news) ≡ record { cells = (fold done c (map step_of news)).cells; tabs = c.tabs }
+tabs_stay [] c = refl
+tabs_stay (new ∷ news) c = tabs_stay news (done c (step_of new))
+
 -- ---- the statements
 
-pub inserts_cell : (old new : State) (table place : ℤ) (key value : Datum) (count : ℕ) → Executes cell_insert (Int table ∷ kept key ∷ Int place ∷ kept value ∷ []) old new (Ok count)
-    → Does (step.InsertCell table key place value ∷ []) old.now new.now
-inserts_cell old new table place key value count h it =
+inserts_cells : {text : List ℕ} {terms : List Term} → IsStatement text (Insert 2 (Values terms 5)) → (old new : State) (news : List NewCell) (params : Row)
+    → value_rows (stamped cell params) 5 (length terms / 5) terms ≡ rows_of news → (count : ℕ) → Executes text params old new (Ok count) → Does (map step_of news) old.now new.now
+inserts_cells {terms = terms} statement old new news params shown count h it =
     let has = it.tables.is in
-    let params = Int table ∷ kept key ∷ Int place ∷ kept value ∷ [] in
-    let w = wrote_by cell_statement params old new it.tables count h in
-    let given = inserts old new cell 2 (rw has refl) it.no_keys _ params count (Values cell_terms 5) refl w in
-    let made_is = made_cell old.now.trees table place (kept key) (kept value) in
-    let edits = subst (λ rows. Edits old.now new.now (edit_of old.now.trees cell [] Chosen 0 rows)) given.1.1 given.2 in
-    let more = IsPermutation-map cell_of _ _ (added old.now new.now cell (Null ∷ params) edits) in
-    holds_cells old.now new.now _ it edits refl (params ∷ cells old.now) (subst (λ r. IsPermutation (r ∷ cells old.now) (cells new.now)) made_is more)
+    let w = wrote_by statement params old new it.tables count h in
+    let given = inserts old new cell 2 (rw has refl) it.no_keys _ params count (Values terms 5) refl w in
+    let edits = subst (λ rows. Edits old.now new.now (edit_of old.now.trees cell [] Chosen 0 rows)) (given.1.1 ∙ shown) given.2 in
+    subst (λ c. HoldsContents c old.now new.now) (sym (tabs_stay news (contents old.now))) (holds_cells old.now new.now _ it edits refl _ (inserted old.now new.now news edits))
+
+pub inserts_cell : (old new : State) (a : NewCell) (count : ℕ) → Executes cell_insert (given_of a) old new (Ok count) → Does (step_of a ∷ []) old.now new.now
+inserts_cell old new a = inserts_cells cell_statement old new (a ∷ []) (given_of a) refl
+
+pub inserts_two : (old new : State) (a b : NewCell) (count : ℕ) → Executes two_insert (given_of a ++ given_of b) old new (Ok count) → Does (step_of a ∷ step_of b ∷ []) old.now new.now
+inserts_two old new a b = inserts_cells two_statement old new (a ∷ b ∷ []) (given_of a ++ given_of b) refl
+
+pub inserts_three : (old new : State) (a b c : NewCell) (count : ℕ) → Executes three_insert (given_of a ++ given_of b ++ given_of c) old new (Ok count)
+    → Does (step_of a ∷ step_of b ∷ step_of c ∷ []) old.now new.now
+inserts_three old new a b c = inserts_cells three_statement old new (a ∷ b ∷ c ∷ []) (given_of a ++ given_of b ++ given_of c) refl
+
+pub inserts_four : (old new : State) (a b c d : NewCell) (count : ℕ) → Executes four_insert (given_of a ++ given_of b ++ given_of c ++ given_of d) old new (Ok count)
+    → Does (step_of a ∷ step_of b ∷ step_of c ∷ step_of d ∷ []) old.now new.now
+inserts_four old new a b c d = inserts_cells four_statement old new (a ∷ b ∷ c ∷ d ∷ []) (given_of a ++ given_of b ++ given_of c ++ given_of d) refl
 
 pub inserts_tab : (old new : State) (id : ℤ) (name ddl : List ℕ) (count : ℕ) → Executes tab_insert (Int id ∷ Text name ∷ Text ddl ∷ []) old new (Ok count)
     → IsStore old.now → HoldsContents (record { cells = cells old.now; tabs = (Int id ∷ Text name ∷ Text ddl ∷ []) ∷ tabs old.now }) old.now new.now

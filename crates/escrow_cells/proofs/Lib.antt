@@ -17,6 +17,7 @@ pub mod Recognising
 pub mod Resting
 pub mod Selects
 pub mod Rising
+pub mod Spans
 mod Steps
 pub mod Streaming
 mod Texts

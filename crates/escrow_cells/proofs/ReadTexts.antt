@@ -6,7 +6,7 @@ use Rattle.sqlite_value.specs.declared.keys.Key.{Key}
 use Rattle.sqlite_value.specs.Keys.{ascending}
 use Rattle.sqlite_sql.specs.Term.{Term, lit, col, op2}
 use Rattle.sqlite_sql.specs.declared.ops.BinaryOp.TheVariants.{Compare}
-use Rattle.sqlite_sql.specs.declared.ops.CompareOp.TheVariants.{Eq}
+use Rattle.sqlite_sql.specs.declared.ops.CompareOp.TheVariants.{Eq, Ge, Le}
 use Rattle.sqlite_sql.specs.Query.{Query, inner, end}
 use Rattle.sqlite_schema.specs.declared.schema.Table.{Table}
 use Rattle.sqlite_schema.specs.declared.schema.Index.{Index}
@@ -26,6 +26,9 @@ tabs_text = codes "SELECT ID, NAME, DDL FROM TAB ORDER BY ID"
 
 abbrev pub row_text : List ℕ
 row_text = codes "SELECT C, V FROM CELL WHERE TAB = ?1 AND K = ?2 ORDER BY C"
+
+abbrev pub span_text : List ℕ
+span_text = codes "SELECT C, V FROM CELL WHERE TAB = ?1 AND K = ?2 AND C >= ?3 AND C <= ?4 ORDER BY C"
 
 abbrev pub table_text : List ℕ
 table_text = codes "SELECT K, C, V FROM CELL WHERE TAB = ?1 ORDER BY K, C"
@@ -78,6 +81,9 @@ tabs_query = selection tab_tree [] (col 1 0 ∷ col 1 2 ∷ col 1 3 ∷ []) (by_
 abbrev pub row_query : Query
 row_query = selection cell_tree (is_given 1 0 ∷ is_given 2 1 ∷ []) (col 1 3 ∷ col 1 4 ∷ []) (by_column 3 ∷ [])
 
+abbrev pub span_query : Query
+span_query = selection cell_tree (is_given 1 0 ∷ is_given 2 1 ∷ op2 (Compare Ge Binary) (col 1 3) (col 0 2) ∷ op2 (Compare Le Binary) (col 1 3) (col 0 3) ∷ []) (col 1 3 ∷ col 1 4 ∷ []) (by_column 3 ∷ [])
+
 abbrev pub table_query : Query
 table_query = selection cell_tree (is_given 1 0 ∷ []) (col 1 2 ∷ col 1 3 ∷ col 1 4 ∷ []) (by_column 2 ∷ by_column 3 ∷ [])
 
@@ -112,6 +118,10 @@ tabs_select = record { command = λ _ _ _. refl; plain = λ _ _ _. (refl, refl);
 pub row_select : IsSelect row_text row_query (codes "C" ∷ codes "V" ∷ [])
 unfolding understood everything
 row_select = record { command = λ _ _ _. refl; plain = λ _ _ _. (refl, refl); unlisted = λ _ _ _. refl; bare = λ _ _. refl }
+
+pub span_select : IsSelect span_text span_query (codes "C" ∷ codes "V" ∷ [])
+unfolding understood everything
+span_select = record { command = λ _ _ _. refl; plain = λ _ _ _. (refl, refl); unlisted = λ _ _ _. refl; bare = λ _ _. refl }
 
 pub table_select : IsSelect table_text table_query (codes "K" ∷ codes "C" ∷ codes "V" ∷ [])
 unfolding understood everything

@@ -1,11 +1,11 @@
 -- What the answers of the queries are.
-use Rattle.std.proofs.Common.{◌≡◌, ℕ, Bool, true, false, ◌&&◌, List, [], ◌∷◌, Ordering, length, map, filter, refl, sym, ap, subst, ◌∙◌, IsPermutation, IsSorted, Result, Ok, Err, IfOk}
+use Rattle.std.proofs.Common.{◌≡◌, ℕ, ℤ, Bool, true, false, cond, ◌&&◌, List, [], ◌∷◌, Ordering, length, map, filter, refl, sym, ap, subst, ◌∙◌, IsPermutation, IsSorted, Result, Ok, Err, IfOk}
 use Rattle.std.proofs.Math.Path.{fun_ext}
 use Rattle.std.specs.Ordering.{on, then_cmp, ordering_then}
 use Rattle.std.proofs.lemmas.List.{length-map}
 use Rattle.std.proofs.lemmas.List.Sorted.{IsPermutation-map, length_permutation}
 use Rattle.sqlite_value.specs.declared.value.Value.{Value}
-use Rattle.sqlite_value.specs.declared.value.Value.TheVariants.{Null}
+use Rattle.sqlite_value.specs.declared.value.Value.TheVariants.{Null, Int}
 use Rattle.sqlite_value.specs.Order.{Row, column, value_cmp}
 use Rattle.sqlite_trees.specs.Tree.{rowid}
 use Rattle.sqlite_trees.proofs.ListLemmas.{map-map, filter-map}
@@ -18,9 +18,10 @@ use Rattle.escrow_cells.specs.Numbered.{AreIds}
 use Rattle.escrow_cells.specs.Store.{IsStore, HasTables, metas, cells, tabs}
 use Rattle.escrow_cells.specs.Step.{same, is_in, is_of}
 use Rattle.escrow_cells.specs.Read.{AreOfRow, AreOfTable, AreKeys, AreTabs, AreTablesOfCells}
+use Rattle.escrow_cells.specs.Span.{AreOfSpan, is_from, is_up_to, is_within}
 use Rattle.escrow_cells.specs.Tables.{beside, meta_tree, tab_tree, cell_tree}
 use Rattle.escrow_cells.proofs.Selects.{selected, then_equal, sorted_same}
-use Rattle.escrow_cells.proofs.ReadTexts.{IsSelect, ids_query, tabs_text, tabs_select, row_text, row_select, table_text, table_select, keys_text, keys_select, metas_text, metas_select, owners_text, owners_select}
+use Rattle.escrow_cells.proofs.ReadTexts.{IsSelect, ids_query, tabs_text, tabs_select, row_text, row_select, span_text, span_select, table_text, table_select, keys_text, keys_select, metas_text, metas_select, owners_text, owners_select}
 
 abbrev cell_of : Row → Row
 cell_of r = column r 1 ∷ column r 2 ∷ column r 3 ∷ column r 4 ∷ []
@@ -80,6 +81,34 @@ row_shown table key old new rows h store =
     record {
       same_cells = subst (IsPermutation (map pick (filter (is_of table key) (cells old.now)))) (sym a.shows)
           (permuted (old.now.trees cell_tree) a.taken _ (is_of table key) pick (λ r. ap (λ b. same (column r 1) table && b) (and_true _)) a.same);
+      in_order = subst (IsSorted by_first) (sym a.shows) (IsSorted-map by_first (λ r. pick (cell_of r)) a.taken by_place);
+    }
+
+filter_twice : {X : Type 0} (p q : X → Bool) (xs : List X) → filter (λ x. p x && q x) xs ≡ filter q (filter p xs)
+filter_twice p q [] = refl
+filter_twice p q (x ∷ xs) =
+    elim (p x) as (λ b. cond (b && q x) (x ∷ filter (λ y. p y && q y) xs) (filter (λ y. p y && q y) xs) ≡ filter q (cond b (x ∷ filter p xs) (filter p xs)))
+    [ true ↦ ap (λ l. cond (q x) (x ∷ l) l) (filter_twice p q xs) | false ↦ filter_twice p q xs ]
+
+four_tests : (a b c d : Bool) → (a && (b && (c && (d && true)))) ≡ ((a && b) && (c && d))
+four_tests true true c d = ap (λ e. c && e) (and_true d)
+four_tests true false c d = refl
+four_tests false b c d = refl
+
+pub span_shown : (first last : ℤ) (table key : Value) (old new : State) (rows : List Row) → Shown span_text (table ∷ key ∷ Int first ∷ Int last ∷ []) old new rows → IsStore old.now
+    → AreOfSpan first last table key (cells old.now) rows
+span_shown first last table key old new rows h store =
+    let has = store.tables in
+    let a = selected _ _ _ _ _ _ _ (answer_of span_select (table ∷ key ∷ Int first ∷ Int last ∷ []) old new rows has h) in
+    let pick : Row → Row = λ c. column c 2 ∷ column c 3 ∷ [] in
+    let within : Row → Bool = λ r. is_within first last (column r 0) in
+    let mine = filter (is_of table key) (cells old.now) in
+    let by_place = sorted_same _ (λ x y. value_cmp (column x 3) (column y 3)) (λ x y. then_equal _) a.taken a.sorted in
+    let tested = permuted (old.now.trees cell_tree) a.taken _ (λ c. is_of table key c && within (pick c)) pick (λ r. four_tests (is_in table (cell_of r)) (same (column r 2) key) (is_from first (column r 3)) (is_up_to last (column r 3))) a.same in
+    let outside : map pick (filter (λ c. is_of table key c && within (pick c)) (cells old.now)) ≡ filter within (map pick mine) =
+    ap (map pick) (filter_twice (is_of table key) (λ c. within (pick c)) (cells old.now)) ∙ sym (filter-map within pick mine) in
+    record {
+      same_cells = subst (IsPermutation (filter within (map pick mine))) (sym a.shows) (subst (λ l. IsPermutation l (map (λ r. pick (cell_of r)) a.taken)) outside tested);
       in_order = subst (IsSorted by_first) (sym a.shows) (IsSorted-map by_first (λ r. pick (cell_of r)) a.taken by_place);
     }
 

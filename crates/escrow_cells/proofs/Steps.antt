@@ -27,16 +27,20 @@ done_alike c d (step.DeleteTab id) h = record { cells = h.cells; tabs = IsPermut
 pub does_none : (db : Database) → Does [] db db
 does_none db h = record { store = h; cells_are = IsPermutation-refl _; tabs_are = IsPermutation-refl _; metas_are = refl }
 
--- one step more
-pub does_more : (steps : List Step) (s : Step) (old mid new : Database) → Does steps old mid → Does (s ∷ []) mid new → Does (steps ++ s ∷ []) old new
-does_more steps s old mid new before one h =
+all_alike : (c d : Contents) (steps : List Step) → AreAlike c d → AreAlike (fold done c steps) (fold done d steps)
+all_alike c d [] h = h
+all_alike c d (s ∷ steps) h = all_alike (done c s) (done d s) steps (done_alike c d s h)
+
+-- more steps
+pub does_more : (steps more : List Step) (old mid new : Database) → Does steps old mid → Does more mid new → Does (steps ++ more) old new
+does_more steps more old mid new before after h =
     let first = before h in
-    let last = one first.store in
-    let same = done_alike (fold done (contents old) steps) (contents mid) s (record { cells = first.cells_are; tabs = first.tabs_are }) in
-    let whole : HoldsContents (done (fold done (contents old) steps) s) old new = record {
+    let last = after first.store in
+    let same = all_alike (fold done (contents old) steps) (contents mid) more (record { cells = first.cells_are; tabs = first.tabs_are }) in
+    let whole : HoldsContents (fold done (fold done (contents old) steps) more) old new = record {
       store = last.store;
       cells_are = IsPermutation-trans _ _ _ same.cells last.cells_are;
       tabs_are = IsPermutation-trans _ _ _ same.tabs last.tabs_are;
       metas_are = last.metas_are ∙ first.metas_are;
     } in
-    subst (λ c. HoldsContents c old new) (sym (fold-append done (contents old) steps (s ∷ []))) whole
+    subst (λ c. HoldsContents c old new) (sym (fold-append done (contents old) steps more)) whole

@@ -3,10 +3,12 @@ pub mod Failure
 pub mod Formats
 pub mod Inside
 pub mod Making
+pub mod NewCell
 pub mod Numbered
 pub mod Query
 pub mod Read
 pub mod Recognised
+pub mod Span
 pub mod Step
 pub mod Store
 pub mod Tables

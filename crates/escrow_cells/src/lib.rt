@@ -11,6 +11,7 @@ mod datum;
 pub mod failure;
 mod formats;
 mod migration;
+mod new_cell;
 mod numbered;
 mod read;
 mod recognise;
@@ -25,7 +26,9 @@ pub use failure::failure_of;
 pub use formats::{FORMAT, FORMAT_BEFORE, Format};
 pub use migration::migrate;
 pub use numbered::are_numbered;
-pub use read::{cell_tables, count_keys, key_cells, metas, row_cells, table_cells, tabs};
+pub use read::{
+    cell_tables, count_keys, key_cells, metas, row_cells, span_cells, table_cells, tabs,
+};
 pub use recognise::is_store_schema;
 pub use sink::Sink;
 pub use step::Step;

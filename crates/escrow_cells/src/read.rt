@@ -8,6 +8,7 @@ ghost use Rattle.sqlite.specs.Values.{bound};
 ghost use Rattle.escrow_cells.specs.Step.{kept, same, is_in};
 ghost use Rattle.escrow_cells.specs.Store.{HasTables, IsStore, cells, metas, tabs};
 ghost use Rattle.escrow_cells.specs.Read.{AreOfRow, AreOfTable, AreKeys, AreTablesOfCells, AreTabs, Rests, Takes};
+ghost use Rattle.escrow_cells.specs.Span.{AreOfSpan};
 ghost use Rattle.escrow_cells.specs.Query.{OnlyReads};
 
 use crate::datum::Datum;
@@ -101,6 +102,26 @@ pub fn row_cells<S: Alter>(
         conn,
         "SELECT C, V FROM CELL WHERE TAB = ?1 AND K = ?2 ORDER BY C",
         params![table, key],
+    )
+}
+
+/// The cells of the row of a key from one place to another, in order of place: each has its place and its
+/// value.
+pub fn span_cells<S: Alter>(
+    conn: &mut Connection<S>,
+    table: i64,
+    key: Datum<'_>,
+    first: i64,
+    last: i64,
+) -> Result<Vec<Row>, Failure>
+    ensures rows { HasCleanDisk (state S.Store conn.new) → IfOk result (λ rows. IsStore (state S.Store conn.old).now → AreOfSpan first last (Int table) (kept key.entry) (cells (state S.Store conn.old).now) rows.items) }
+    ensures rests { conn.old.in_transaction ≡ false → Rests S.Store conn.old conn.new }
+    ensures is_open { HasCleanDisk (state S.Store conn.new) → OnOk result (IsTrue (state S.Store conn.new).is_open) }
+{
+    read_all(
+        conn,
+        "SELECT C, V FROM CELL WHERE TAB = ?1 AND K = ?2 AND C >= ?3 AND C <= ?4 ORDER BY C",
+        params![table, key, first, last],
     )
 }
 

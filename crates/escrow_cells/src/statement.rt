@@ -4,26 +4,78 @@ ghost use Rattle.sqlite.specs.Held.{state};
 ghost use Rattle.escrow_cells.specs.declared.step.Step.TheVariants as step;
 ghost use Rattle.escrow_cells.specs.Step.{Does};
 ghost use Rattle.escrow_cells.specs.Inside.{Acts};
+ghost use Rattle.escrow_cells.specs.NewCell.{step_of};
 
 use crate::datum::Datum;
+use crate::new_cell::NewCell;
 use crate::step::Step;
 use sqlite::types::ToSql;
 use sqlite::{Alter, Error, Transaction, params};
 
 /// Puts a new cell.
-fn insert_cell<S: Alter>(
-    tx: &mut Transaction<'_, S>,
-    table: i64,
-    key: Datum<'_>,
-    place: i64,
-    value: Datum<'_>,
-) -> Result<usize, Error>
+fn insert_cell<S: Alter>(tx: &mut Transaction<'_, S>, cell: &NewCell<'_>) -> Result<usize, Error>
     ensures same_reference { tx.new.conn.ghost_name ≡ tx.old.conn.ghost_name }
-    ensures acts { Acts (state S.Store tx.old.conn.now) (state S.Store tx.new.conn.now) (is_ok result) (Does (step.InsertCell table key.entry place value.entry ∷ [])) }
+    ensures acts { Acts (state S.Store tx.old.conn.now) (state S.Store tx.new.conn.now) (is_ok result) (Does (step_of cell.now ∷ [])) }
 {
     tx.execute(
         "INSERT INTO CELL VALUES (?1, ?2, ?3, ?4)",
-        params![table, key, place, value],
+        params![cell.table, cell.key, cell.place, cell.value],
+    )
+}
+
+/// Puts two new cells.
+fn insert_two<S: Alter>(
+    tx: &mut Transaction<'_, S>,
+    a: &NewCell<'_>,
+    b: &NewCell<'_>,
+) -> Result<usize, Error>
+    ensures same_reference { tx.new.conn.ghost_name ≡ tx.old.conn.ghost_name }
+    ensures acts { Acts (state S.Store tx.old.conn.now) (state S.Store tx.new.conn.now) (is_ok result) (Does (step_of a.now ∷ step_of b.now ∷ [])) }
+{
+    tx.execute(
+        "INSERT INTO CELL VALUES (?1, ?2, ?3, ?4), (?5, ?6, ?7, ?8)",
+        params![
+            a.table, a.key, a.place, a.value, b.table, b.key, b.place, b.value
+        ],
+    )
+}
+
+/// Puts three new cells.
+fn insert_three<S: Alter>(
+    tx: &mut Transaction<'_, S>,
+    a: &NewCell<'_>,
+    b: &NewCell<'_>,
+    c: &NewCell<'_>,
+) -> Result<usize, Error>
+    ensures same_reference { tx.new.conn.ghost_name ≡ tx.old.conn.ghost_name }
+    ensures acts { Acts (state S.Store tx.old.conn.now) (state S.Store tx.new.conn.now) (is_ok result) (Does (step_of a.now ∷ step_of b.now ∷ step_of c.now ∷ [])) }
+{
+    tx.execute(
+        "INSERT INTO CELL VALUES (?1, ?2, ?3, ?4), (?5, ?6, ?7, ?8), (?9, ?10, ?11, ?12)",
+        params![
+            a.table, a.key, a.place, a.value, b.table, b.key, b.place, b.value, c.table, c.key,
+            c.place, c.value
+        ],
+    )
+}
+
+/// Puts four new cells.
+fn insert_four<S: Alter>(
+    tx: &mut Transaction<'_, S>,
+    a: &NewCell<'_>,
+    b: &NewCell<'_>,
+    c: &NewCell<'_>,
+    d: &NewCell<'_>,
+) -> Result<usize, Error>
+    ensures same_reference { tx.new.conn.ghost_name ≡ tx.old.conn.ghost_name }
+    ensures acts { Acts (state S.Store tx.old.conn.now) (state S.Store tx.new.conn.now) (is_ok result) (Does (step_of a.now ∷ step_of b.now ∷ step_of c.now ∷ step_of d.now ∷ [])) }
+{
+    tx.execute(
+        "INSERT INTO CELL VALUES (?1, ?2, ?3, ?4), (?5, ?6, ?7, ?8), (?9, ?10, ?11, ?12), (?13, ?14, ?15, ?16)",
+        params![
+            a.table, a.key, a.place, a.value, b.table, b.key, b.place, b.value, c.table, c.key,
+            c.place, c.value, d.table, d.key, d.place, d.value
+        ],
     )
 }
 
@@ -92,10 +144,7 @@ fn delete_tab<S: Alter>(tx: &mut Transaction<'_, S>, id: i64) -> Result<usize, E
 }
 
 /// Does one step.
-pub(crate) fn do_step<S: Alter>(
-    tx: &mut Transaction<'_, S>,
-    step: &Step<'_>,
-) -> Result<usize, Error>
+fn do_step<S: Alter>(tx: &mut Transaction<'_, S>, step: &Step<'_>) -> Result<usize, Error>
     ensures same_reference { tx.new.conn.ghost_name ≡ tx.old.conn.ghost_name }
     ensures acts { Acts (state S.Store tx.old.conn.now) (state S.Store tx.new.conn.now) (is_ok result) (Does (step.now ∷ [])) }
 {
@@ -105,7 +154,15 @@ pub(crate) fn do_step<S: Alter>(
             key,
             place,
             value,
-        } => insert_cell(tx, table, key, place, value),
+        } => insert_cell(
+            tx,
+            &NewCell {
+                table,
+                key,
+                place,
+                value,
+            },
+        ),
         Step::SetCell {
             table,
             key,
@@ -117,4 +174,50 @@ pub(crate) fn do_step<S: Alter>(
         Step::InsertTab { id, name, text } => insert_tab(tx, id, name, text),
         Step::DeleteTab { id } => delete_tab(tx, id),
     }
+}
+
+/// The most new cells that one statement puts.
+pub(crate) const TOGETHER: usize = 4;
+
+/// Does steps, one after another; as one statement where they are a few, and all put cells.
+pub(crate) fn do_steps<S: Alter>(
+    tx: &mut Transaction<'_, S>,
+    steps: &[Step<'_>],
+) -> Result<usize, Error>
+    ensures same_reference { tx.new.conn.ghost_name ≡ tx.old.conn.ghost_name }
+    ensures acts { Acts (state S.Store tx.old.conn.now) (state S.Store tx.new.conn.now) (is_ok result) (Does steps.now) }
+{
+    if let [a, b] = steps {
+        if let (Some(a), Some(b)) = (NewCell::of(a), NewCell::of(b)) {
+            return insert_two(tx, &a, &b);
+        }
+    }
+    if let [a, b, c] = steps {
+        if let (Some(a), Some(b), Some(c)) = (NewCell::of(a), NewCell::of(b), NewCell::of(c)) {
+            return insert_three(tx, &a, &b, &c);
+        }
+    }
+    if let [a, b, c, d] = steps {
+        if let (Some(a), Some(b), Some(c), Some(d)) = (
+            NewCell::of(a),
+            NewCell::of(b),
+            NewCell::of(c),
+            NewCell::of(d),
+        ) {
+            return insert_four(tx, &a, &b, &c, &d);
+        }
+    }
+    do_each(tx, steps)
+}
+
+/// Does steps, each as a statement.
+fn do_each<S: Alter>(tx: &mut Transaction<'_, S>, steps: &[Step<'_>]) -> Result<usize, Error>
+    ensures same_reference { tx.new.conn.ghost_name ≡ tx.old.conn.ghost_name }
+    ensures acts { Acts (state S.Store tx.old.conn.now) (state S.Store tx.new.conn.now) (is_ok result) (Does steps.now) }
+{
+    let mut changed: usize = 0;
+    for step in steps {
+        changed = changed.saturating_add(do_step(tx, step)?);
+    }
+    Ok(changed)
 }

@@ -4,7 +4,7 @@ ghost use Rattle.escrow_cells.specs.Calls.{Alters};
 ghost use Rattle.escrow_cells.specs.Step.{Does};
 
 use crate::failure::failure_of;
-use crate::statement::do_step;
+use crate::statement::{TOGETHER, do_steps};
 use crate::step::Step;
 use escrow_num::Failure;
 use sqlite::{Alter, Connection, Error};
@@ -29,8 +29,8 @@ fn transact<S: Alter>(conn: &mut Connection<S>, steps: &[Step<'_>]) -> Result<()
     ensures mode { conn.new.in_transaction ≡ false }
 {
     let mut tx = conn.transaction();
-    for step in steps {
-        do_step(&mut tx, step)?;
+    for some in steps.chunks(TOGETHER) {
+        do_steps(&mut tx, some)?;
     }
     tx.commit()
 }

@@ -24,5 +24,6 @@ pub mod RowRead
 pub mod RowsRead
 pub mod Runs
 pub mod Same
+pub mod Spans
 pub mod TableRead
 pub mod ViewLemmas

@@ -1,7 +1,7 @@
 -- The cells of a key in an image are those of the row of its name.
 use Rattle.std.proofs.Common.{◌≡◌, Some, List, map, filter, flat_map, ap, ◌∙◌, subst, IsPermutation}
 use Rattle.std.specs.Prelude.{option_to_list}
-use Rattle.std.proofs.lemmas.List.Sorted.{IsPermutation-map, IsPermutation-trans}
+use Rattle.std.proofs.lemmas.List.Sorted.{IsPermutation-map}
 use Rattle.sqlite_value.specs.declared.value.Value.TheVariants as sql
 use Rattle.sqlite_value.specs.Order.{Row as SqlRow}
 use Rattle.sqlite_trees.proofs.ListLemmas.{all_weaker, IsPermutation-filter}
@@ -12,7 +12,6 @@ use Rattle.escrow_num.specs.Order.{same_row}
 use Rattle.escrow_num.proofs.Items.{all_has, find_has}
 use Rattle.escrow_num.proofs.Orders.{row_same}
 use Rattle.escrow_schema.specs.Fit.{IsRowOf}
-use Rattle.escrow_cells.specs.Read.{AreOfRow}
 use Rattle.escrow_cells.specs.Step.{is_of}
 use Rattle.escrow_cells.specs.Store.{cells}
 use Rattle.escrow_rows.specs.declared.stored.StoredTable.{StoredTable}
@@ -31,15 +30,14 @@ named_cells tables rows s key are of stands =
     (all_weaker (IsOfTables tables) _ (λ row has. is_of_row tables s key row are (stands_has tables s stands) has) rows of.of_tables)
     ∙ ap (flat_map (cells_of tables)) (rows_named rows (name_in s key) of.row_order)
 
--- cells that are read, each by its place and its value, are those of the row of a name
-pub read_named : (tables : List StoredTable) (rows : List Row) (s : StoredTable) (key : Value) (db : Database) (answer : List SqlRow)
-    → AreTables tables → AreRows tables rows → Stands tables s → IsPermutation (flat_map (cells_of tables) rows) (cells db) → AreOfRow (sql.Int s.id) (stored key) (cells db) answer
-    → IsPermutation (map in_place (flat_map (cells_of tables) (option_to_list (row_named rows (name_in s key))))) answer
-read_named tables rows s key db answer are of stands coded read =
+-- the cells of a key, each by its place and its value, are those of the row of a name
+pub placed_named : (tables : List StoredTable) (rows : List Row) (s : StoredTable) (key : Value) (db : Database)
+    → AreTables tables → AreRows tables rows → Stands tables s → IsPermutation (flat_map (cells_of tables) rows) (cells db)
+    → IsPermutation (map in_place (flat_map (cells_of tables) (option_to_list (row_named rows (name_in s key))))) (map in_place (filter (is_of (sql.Int s.id) (stored key)) (cells db)))
+placed_named tables rows s key db are of stands coded =
     let mine = is_of (sql.Int s.id) (stored key) in
-    let held = IsPermutation-map in_place (filter mine (flat_map (cells_of tables) rows)) (filter mine (cells db)) (IsPermutation-filter mine (flat_map (cells_of tables) rows) (cells db) coded) in
-    subst (λ (cs : List SqlRow). IsPermutation (map in_place cs) answer) (named_cells tables rows s key are of stands)
-    (IsPermutation-trans (map in_place (filter mine (flat_map (cells_of tables) rows))) (map in_place (filter mine (cells db))) answer held read.same_cells)
+    subst (λ (cs : List SqlRow). IsPermutation (map in_place cs) (map in_place (filter mine (cells db)))) (named_cells tables rows s key are of stands)
+    (IsPermutation-map in_place (filter mine (flat_map (cells_of tables) rows)) (filter mine (cells db)) (IsPermutation-filter mine (flat_map (cells_of tables) rows) (cells db) coded))
 
 -- the row of a name in a table that stands is one of that table, with its cells
 pub row_there : (tables : List StoredTable) (rows : List Row) (s : StoredTable) (key : Value) (row : Row) → AreRows tables rows → Stands tables s → row_named rows (name_in s key) ≡ Some row

@@ -1,5 +1,5 @@
 -- Helps: what private contracts say of cells that are read. Nothing that callers see rests on it.
-use Rattle.std.specs.Prelude.{◌≡◌, ◌≢◌, ℕ, pos, ◌+◌, Option, Some, None, option_map, List, [], ◌∷◌, map}
+use Rattle.std.specs.Prelude.{◌≡◌, ◌≢◌, ℕ, pos, ◌+◌, Option, Some, None, option_map, List, [], ◌∷◌, map, take, drop}
 use Rattle.sqlite_value.specs.declared.value.Value.TheVariants as sql
 use Rattle.sqlite_value.specs.Order.{Row as SqlRow}
 use Rattle.escrow_num.specs.declared.row.Row.{Row}
@@ -34,3 +34,11 @@ IsRowOfCells cells (Some some) = (some ≡ cells) × (cells ≢ [])
 -- the cells of the row of a key in a table, each by its place and its value, if it is there
 abbrev pub TellsCells : StoredTable → Value → Database → Option (List SqlRow) → Type 0
 TellsCells s key = Tells s (λ rows. option_map (λ row. placed 1 (values_of s.table row)) (row_named rows (name_in s key)))
+
+-- the values of a span of columns, each by its place: so many columns come before them, and so many they are
+abbrev pub placed_in : ℕ → ℕ → List Value → List SqlRow
+placed_in start many values = placed (start + 1) (take many (drop start values))
+
+-- so the cells of the row of a key in a span of columns, if the row is there
+abbrev pub TellsSpan : ℕ → ℕ → StoredTable → Value → Database → Option (List SqlRow) → Type 0
+TellsSpan start many s key = Tells s (λ rows. option_map (λ row. placed_in start many (values_of s.table row)) (row_named rows (name_in s key)))

@@ -20,6 +20,7 @@ mod plain;
 mod read;
 mod reader;
 mod redefine;
+mod span;
 mod store;
 mod stored;
 mod tables;

@@ -1,5 +1,5 @@
 //! What is read of the row of a key.
-ghost use Rattle.std.specs.Prelude.{◌≡◌, ◌++◌, ◌^◌, ◌<◌, ℤ, pos, [], ◌∷◌, length, List, IfOk, IfSome, OnOk};
+ghost use Rattle.std.specs.Prelude.{◌≡◌, ◌++◌, ◌^◌, ◌<◌, ◌+◌, ℤ, pos, [], ◌∷◌, length, List, IfOk, IfSome, OnOk};
 ghost use Rattle.escrow_num.specs.declared.value.Value.{Value as HeldValue};
 ghost use Rattle.sqlite_value.specs.Value.{owned};
 ghost use Rattle.sqlite_value.specs.declared.value.Value.TheVariants.{Int};
@@ -9,9 +9,10 @@ ghost use Rattle.escrow_rows.specs.Image.{stored};
 ghost use Rattle.escrow_rows.specs.Placed.{placed, IsRowOfCells};
 
 use crate::datum::{datum, held};
+use crate::span::{Span, reservable_span};
 use crate::store::RowStore;
 use crate::stored::StoredTable;
-use escrow_cells::{failure_of, row_cells};
+use escrow_cells::{failure_of, row_cells, span_cells};
 use escrow_num::{Amount, Failure, Seq, Value};
 use escrow_schema::Column;
 use sqlite::{Alter, Row};
@@ -19,16 +20,16 @@ use sqlite_value::value::ValueRef;
 use std::alloc::Global;
 
 impl<S: Alter> RowStore<S> {
-    ghost use Rattle.std.specs.Prelude.{◌≡◌, length, IsTrue, IfOk, IfSome};
+    ghost use Rattle.std.specs.Prelude.{◌≡◌, ◌<◌, ◌≤◌, ◌+◌, ◌^◌, length, IsTrue, IfOk, IfSome};
     ghost use Rattle.sqlite.specs.Held.{state};
     ghost use Rattle.sqlite.specs.State.{HasCleanDisk};
     ghost use Rattle.escrow_schema.specs.Column.{reservables};
     ghost use Rattle.escrow_schema.specs.Definition.{IsTable};
     ghost use Rattle.escrow_rows.specs.Answers.{Looks, TellsAmounts, TellsValues};
-    ghost use Rattle.escrow_rows.specs.Placed.{TellsCells};
+    ghost use Rattle.escrow_rows.specs.Placed.{TellsCells, TellsSpan};
 
     /// The amounts of the row of a key, one for each RESERVABLE column in column order, or `None` where no row
-    /// has the key. Its other values aren't copied.
+    /// has the key. Columns before the first of these and behind the last aren't read.
     pub fn amounts(
         &mut self,
         alloc: Global,
@@ -40,10 +41,13 @@ impl<S: Alter> RowStore<S> {
         ensures many { IfOk result (λ found. IfSome found (λ amounts. length amounts ≡ length (reservables table.now.table.columns))) }
         ensures looks { Looks (state S.Store self.old) (state S.Store self.new) }
     {
-        let Some(cells) = self.cells_of(table, key)? else {
+        let columns = table.table.columns.as_slice();
+        let span = reservable_span(columns);
+        let Some(cells) = self.cells_in(table, key, span)? else {
             return Ok(None);
         };
-        let amounts = read_amounts(alloc, table.table.columns.as_slice(), cells.as_slice())?;
+        let spanned = &columns[span.start..span.start + span.len];
+        let amounts = read_amounts(alloc, spanned, cells.as_slice(), span.start)?;
         Ok(Some(amounts))
     }
 
@@ -76,6 +80,27 @@ impl<S: Alter> RowStore<S> {
         let cells = row_cells(&mut self.conn, table.id, datum(key))?;
         some_cells(table.table.columns.len(), cells)
     }
+
+    /// The cells of the row of a key in some of its columns, each by its place and its value, or `None` where
+    /// there are none. A row that hasn't a cell for each of these is refused.
+    fn cells_in(
+        &mut self,
+        table: &StoredTable,
+        key: &Value,
+        span: Span,
+    ) -> Result<Option<Seq<Row>>, Failure>
+        requires some { 0 < span.len }
+        requires within { span.start + span.len ≤ length table.now.table.columns }
+        requires few { span.start + span.len < 2 ^ 63 }
+        ensures told { HasCleanDisk (state S.Store self.new) → IfOk result (λ found. IsTrue (state S.Store self.new).is_open × TellsSpan span.start span.len table.now key.now (state S.Store self.old).now found) }
+        ensures many { IfOk result (λ found. IfSome found (λ cells. length cells ≡ span.len)) }
+        ensures looks { Looks (state S.Store self.old) (state S.Store self.new) }
+    {
+        let first = span.start as i64 + 1;
+        let last = (span.start + span.len) as i64;
+        let cells = span_cells(&mut self.conn, table.id, datum(key), first, last)?;
+        some_cells(span.len, cells)
+    }
 }
 
 /// The cells of a row, if there are any, which have to be this many.
@@ -92,16 +117,22 @@ fn some_cells(many: usize, cells: Vec<Row>) -> Result<Option<Seq<Row>>, Failure>
     Ok(Some(Seq::from_vec(cells)))
 }
 
-/// The amounts in the cells of a row, one cell for each column.
-fn read_amounts(alloc: Global, columns: &[Column], cells: &[Row]) -> Result<Seq<Amount>, Failure>
-    requires { length cells.now ≡ length columns.now }
-    ensures told { IfOk result (λ amounts. (values : List HeldValue) → cells.now ≡ placed 1 values → amounts ≡ amounts_of columns.now values) }
+/// The amounts in the cells of columns, one cell for each column, behind so many others.
+fn read_amounts(
+    alloc: Global,
+    columns: &[Column],
+    cells: &[Row],
+    before: usize,
+) -> Result<Seq<Amount>, Failure>
+    requires many { length cells.now ≡ length columns.now }
+    requires few { before + length columns.now < 2 ^ 63 }
+    ensures told { IfOk result (λ amounts. (values : List HeldValue) → cells.now ≡ placed (before + 1) values → amounts ≡ amounts_of columns.now values) }
     ensures many { IfOk result (λ amounts. length amounts ≡ length (reservables columns.now)) }
 {
     let mut amounts = Seq::new(alloc);
     for (i, column) in columns.iter().enumerate() {
         if column.reservable {
-            push_amount(&mut amounts, &cells[i], i + 1)?;
+            push_amount(&mut amounts, &cells[i], before + i + 1)?;
         }
     }
     Ok(amounts)

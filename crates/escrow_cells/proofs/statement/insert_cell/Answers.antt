@@ -1,13 +1,11 @@
-use Rattle.std.proofs.Common.{[], ◌∷◌, ap, rules}
-use Rattle.sqlite_value.specs.declared.value.Value.TheVariants.{Int}
+use Rattle.std.proofs.Common.{ap, rules}
 use Rattle.sqlite.specs.Held.{state}
-use Rattle.escrow_cells.specs.Step.{kept}
-use Rattle.escrow_cells.proofs.Insert.{cell_insert, inserts_cell}
+use Rattle.escrow_cells.proofs.Insert.{cell_insert, given_of, inserts_cell}
 use Rattle.escrow_cells.proofs.Inside.{acts, bound_kept}
 use Rattle.escrow_cells.proofs.statement.insert_cell.Goals as goal
 
 pub returns-clause-acts : goal.returns-clause-acts
 returns-clause-acts g c =
     let a = c.args in
-    acts cell_insert (Int a.table ∷ kept a.key ∷ Int a.place ∷ kept a.value ∷ []) _ (state g.S.Store a.tx.now.conn.now) (state g.S.Store c.execute.new.self.conn.now) c.execute.result _ (λ outside. ap (state g.S.Store) (c.execute.ensures.ended outside).1) c.execute.ensures.survives
-    c.execute.ensures.runs (search (rules, bound_kept)) (inserts_cell _ _ a.table a.place a.key a.value)
+    acts cell_insert (given_of a.cell.now) _ (state g.S.Store a.tx.now.conn.now) (state g.S.Store c.execute.new.self.conn.now) c.execute.result _ (λ outside. ap (state g.S.Store) (c.execute.ensures.ended outside).1) c.execute.ensures.survives
+    c.execute.ensures.runs (search (rules, bound_kept)) (inserts_cell _ _ a.cell.now)

@@ -18,21 +18,21 @@ loop-i-preserved c =
       | then-column+in_ok-push_amount w ↦
           let pushed = w.in_ok-push_amount.ensures in
           let amount = pushed.0 in
-          let taken = reservable_taken columns cells i column within here long w.if-column.true in
+          let taken = reservable_taken columns cells c.args.before i column within here long w.if-column.true in
           let many = ap length taken in
           rw w.amounts-is (rw pushed.2 (record {
             long = long;
             told = λ values shown.
                 append_assoc so_far (amount ∷ []) (amounts_of (drop (i + 1) columns) (drop (i + 1) values))
-                ∙ ap (λ (rest : List ℤ). so_far ++ rest) (sym (amount_taken columns cells i column within here long w.index-cells-i.result amount w.if-column.true w.index-cells-i.is pushed.1 values shown))
+                ∙ ap (λ (rest : List ℤ). so_far ++ rest) (sym (amount_taken columns cells c.args.before i column within here long w.index-cells-i.result amount w.if-column.true w.index-cells-i.is pushed.1 values shown))
                 ∙ c.loop-i.invariant.told values shown;
             many = omega (arith, many, length-append so_far (amount ∷ []), c.loop-i.invariant.many);
           }))
       | else-column w ↦
-          let passed = ap length (reservable_passed columns cells i column within here long w.if-column.false) in
+          let passed = ap length (reservable_passed columns cells c.args.before i column within here long w.if-column.false) in
           rw w.amounts-is (record {
             long = long;
-            told = λ values shown. ap (λ (rest : List ℤ). so_far ++ rest) (sym (amount_passed columns cells i column within here long w.if-column.false values shown)) ∙ c.loop-i.invariant.told values shown;
+            told = λ values shown. ap (λ (rest : List ℤ). so_far ++ rest) (sym (amount_passed columns cells c.args.before i column within here long w.if-column.false values shown)) ∙ c.loop-i.invariant.told values shown;
             many = omega (arith, passed, c.loop-i.invariant.many);
           })
     ]

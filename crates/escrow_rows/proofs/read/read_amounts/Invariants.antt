@@ -8,6 +8,6 @@ use Rattle.escrow_rows.proofs.read.read_amounts.Given as goal
 abbrev pub invariant-loop-i : goal.invariant-loop-i
 invariant-loop-i l = record {
   long : length l.cells ≡ length l.columns;
-  told : (values : List Value) → l.cells ≡ placed 1 values → l.amounts ++ amounts_of (drop l.i l.columns) (drop l.i values) ≡ amounts_of l.columns values;
+  told : (values : List Value) → l.cells ≡ placed (l.before + 1) values → l.amounts ++ amounts_of (drop l.i l.columns) (drop l.i values) ≡ amounts_of l.columns values;
   many : length l.amounts + length (reservables (drop l.i l.columns)) ≡ length (reservables l.columns);
 }

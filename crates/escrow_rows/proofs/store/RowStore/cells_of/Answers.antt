@@ -8,5 +8,5 @@ returns-clause-told g c =
     λ clean.
     let table = c.args.table.now in
     let number = to_z-of_z w64 table.id (search rules) in
-    cells_told_of g.S.Store c.self.inside.conn c.args.self.now c.row_cells.new.conn c.self.view_is table c.args.key.now _ _ c.in_ok-cells.cells.items c.some_cells.result
-    c.requires number c.datum.ensures (c.in_ok-cells.ensures.is_open clean) (c.in_ok-cells.ensures.rows clean) c.some_cells.ensures.found
+    cells_told_of g.S.Store c.self.inside.conn c.args.self.now c.row_cells.new.conn c.self.view_is table c.args.key.now _ _ number c.datum.ensures (c.in_ok-cells.ensures.is_open clean)
+    c.in_ok-cells.cells.items c.some_cells.result c.some_cells.ensures.found c.requires (c.in_ok-cells.ensures.rows clean)

@@ -1,0 +1,40 @@
+ghost use Rattle.std.specs.Prelude.{◌≡◌, IfSome};
+ghost use Rattle.escrow_cells.specs.NewCell.{step_of};
+
+use crate::datum::Datum;
+use crate::step::Step;
+
+/// A new cell, as the step that puts it has it.
+#[derive(Clone, Copy, Debug)]
+pub(crate) struct NewCell<'a> {
+    /// The table's number.
+    pub(crate) table: i64,
+    /// The row's key.
+    pub(crate) key: Datum<'a>,
+    /// The column's place, from 1.
+    pub(crate) place: i64,
+    /// The value.
+    pub(crate) value: Datum<'a>,
+}
+
+impl<'a> NewCell<'a> {
+    /// The cell that a step puts, if it puts one.
+    pub(crate) fn of(step: &Step<'a>) -> Option<Self>
+        ensures { IfSome result (λ cell. step.now ≡ step_of cell) }
+    {
+        match *step {
+            Step::InsertCell {
+                table,
+                key,
+                place,
+                value,
+            } => Some(NewCell {
+                table,
+                key,
+                place,
+                value,
+            }),
+            _ => None,
+        }
+    }
+}
