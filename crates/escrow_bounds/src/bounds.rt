@@ -119,17 +119,6 @@ impl Bounds {
         self.places.get_index_of(row)
     }
 
-    /// Drops the place of a row where it counts nothing.
-    pub fn release(&mut self, row: &RowName)
-        ensures empty { is_counting (place_at self.old row.now) ≡ false → place_at self.new row.now ≡ None }
-        ensures counting { is_counting (place_at self.old row.now) ≡ true → self.new ≡ self.old }
-        ensures others { OthersStay row.now self.old self.new }
-    {
-        if let Some(index) = self.find(row) {
-            self.release_at(index);
-        }
-    }
-
     /// Drops the place at an index where it counts nothing.
     pub fn release_at(&mut self, index: usize)
         ensures empty { (row : RowName) → IsAt self.old row index → is_counting (place_at self.old row) ≡ false → place_at self.new row ≡ None }
@@ -217,19 +206,9 @@ impl Bounds {
         self.place(row).inf_sup(column)
     }
 
-    /// The grant rule: what changes of a row would break of the first check, in the table's order,
-    /// that they can break, over every choice of the reservations that the row's place counts which
-    /// holds them. `None` where they are granted.
-    pub fn verdict(&self, row: &RowName, changes: &[Amount]) -> Option<Breach>
-        requires { IsSome (place_at self.now row.now) }
-        ensures { (place : Kept) (reservations : List (List ℤ)) → place_at self.now row.now ≡ Some place → Counts place reservations
-            → result ≡ broken (checks_of place.checks) place.amounts changes.now reservations }
-    {
-        let index = self.find(row).unwrap();
-        self.verdict_at(index, changes)
-    }
-
-    /// The verdict on changes of the row whose place stands at an index.
+    /// The grant rule: what changes of the row whose place stands at an index would break of the first
+    /// check, in the table's order, that they can break, over every choice of the reservations that the
+    /// place counts which holds them. `None` where they are granted.
     pub fn verdict_at(&self, index: usize, changes: &[Amount]) -> Option<Breach>
         requires { (row : RowName) × IsAt self.now row index }
         ensures { (row : RowName) (place : Kept) (reservations : List (List ℤ)) → IsAt self.now row index → place_at self.now row ≡ Some place → Counts place reservations
@@ -262,20 +241,9 @@ impl Bounds {
         place.take_in(changes);
     }
 
-    /// Counts a reservation of a row no more, since its transaction has ended: one that the row's place
-    /// counts. A commit moves its changes into the committed amounts, of which one stays where the
+    /// Counts a reservation no more, since its transaction has ended: one that the place at an index counts,
+    /// which stays there. A commit moves its changes into the committed amounts, of which one stays where the
     /// sum would be no amount.
-    pub fn remove(&mut self, row: &RowName, changes: &[Amount], end: End)
-        requires { (place : Kept) × (before after : List (List ℤ))
-            × (place_at self.old row.now ≡ Some place) × Counts place (before ++ changes.now ∷ after) }
-        ensures gives { Becomes (GivesBack end changes.now) (place_at self.old row.now) (place_at self.new row.now) }
-        ensures others { OthersStay row.now self.old self.new }
-    {
-        let index = self.find(row).unwrap();
-        self.remove_at(index, changes, end);
-    }
-
-    /// Counts a reservation no more that the place at an index counts, which stays there.
     pub fn remove_at(&mut self, index: usize, changes: &[Amount], end: End)
         requires { (row : RowName) × (place : Kept) × (before after : List (List ℤ))
             × IsAt self.old row index × (place_at self.old row ≡ Some place) × Counts place (before ++ changes.now ∷ after) }
