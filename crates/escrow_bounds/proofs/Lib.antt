@@ -7,4 +7,5 @@ pub mod Kept
 pub mod LawLemmas
 pub mod Moving
 pub mod Reordering
+pub mod Standing
 pub mod Steps

@@ -1,4 +1,5 @@
 pub mod Altered
+pub mod At
 pub mod Columns
 pub mod Counts
 pub mod Ended

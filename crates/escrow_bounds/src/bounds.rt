@@ -1,11 +1,13 @@
-ghost use Rattle.std.specs.Prelude.{◌≡◌, ℤ, List, [], ◌∷◌, ◌++◌, ◌<◌, ◌≤◌, true, false, OnOk, OnErr, IsSome, Some, None, is_some, length, option_copied, option_map, slice_get, bytes_eq};
+ghost use Rattle.std.specs.Prelude.{◌≡◌, ℤ, List, [], ◌∷◌, ◌++◌, ◌<◌, ◌≤◌, true, false, IfOk, IfSome, OnOk, OnErr, IsSome, Some, None, is_some, length, option_copied, option_map, slice_get, bytes_eq};
 ghost use Rattle.std.specs.List.{AllByRecursion, list_any};
 ghost use Rattle.escrow_num.specs.declared.reservation.Reservation.{Reservation};
+ghost use Rattle.escrow_num.specs.declared.value.RowName.{RowName};
 ghost use Rattle.escrow_checks.specs.Extremes.{least, greatest};
 ghost use Rattle.escrow_checks.specs.Form.{IsCovered};
 ghost use Rattle.escrow_checks.specs.Grant.{broken};
 ghost use Rattle.escrow_checks.specs.declared.coefficients.TheConstants.Coefficients.{MAX_LEN};
 ghost use Rattle.escrow_checks.specs.declared.spread.TheConstants.Spread.{MAX_OPEN};
+ghost use Rattle.escrow_bounds.specs.At.{IsAt};
 ghost use Rattle.escrow_bounds.specs.Columns.{unit_form};
 ghost use Rattle.escrow_bounds.specs.Counts.{Counts, is_counting, IsNew, TakesIn, GivesBack};
 ghost use Rattle.escrow_bounds.specs.Ended.{AreEnded};
@@ -29,7 +31,7 @@ use std::marker::Model;
 /// Places of rows, each with the row's committed amounts, the number of its open reservations, and
 /// their worst-case sums under each check and each RESERVABLE column: sums and a number, no list.
 /// A place counts a list of reservations, in any order, where its sums and its number are theirs.
-/// A row without an open reservation needs no place. Only [`Bounds::reserve`] and
+/// A row without an open reservation needs no place. Only [`Bounds::reserve`], [`Bounds::make`] and
 /// [`Bounds::prepare`] take memory.
 #[derive(Debug)]
 pub struct Bounds {
@@ -82,20 +84,59 @@ impl Bounds {
         if self.has_place(row) {
             return Ok(());
         }
-        let alloc = *self.places.allocator();
-        let place = Place::new(alloc, amounts, checks)?;
-        self.places.insert(row.copy(alloc)?, place)?;
+        self.make(row, amounts, checks)?;
         Ok(())
     }
 
-    /// Drops the place of a row where it counts nothing.
-    pub fn release(&mut self, row: &RowName)
-        ensures empty { is_counting (place_at self.old row.now) ≡ false → place_at self.new row.now ≡ None }
-        ensures counting { is_counting (place_at self.old row.now) ≡ true → self.new ≡ self.old }
+    /// Makes a place for a row that has none, as [`Bounds::reserve`] does. Answers where it stands among
+    /// all.
+    pub fn make(
+        &mut self,
+        row: &RowName,
+        amounts: &[Amount],
+        checks: &[Check],
+    ) -> Result<usize, AllocError>
+        requires covered { AllByRecursion (λ check. IsCovered check.coeffs amounts.now) checks.now }
+        requires few { length amounts.now ≤ MAX_LEN }
+        requires new { place_at self.old row.now ≡ None }
+        ensures at { IfOk result (λ index. IsAt self.new row.now index) }
+        ensures made { OnOk result ((place : Kept) × (place_at self.new row.now ≡ Some place) × IsNew amounts.now checks.now place) }
         ensures others { OthersStay row.now self.old self.new }
+        ensures err { OnErr result (self.new ≡ self.old) }
     {
-        if !self.is_reserved(row) {
-            self.places.swap_remove(row);
+        let alloc = *self.places.allocator();
+        let place = Place::new(alloc, amounts, checks)?;
+        let (index, _) = self.places.insert_full(row.copy(alloc)?, place)?;
+        Ok(index)
+    }
+
+    /// Where the place of a row stands among all, if it has one. It stands there until one is made or
+    /// dropped.
+    pub fn find(&self, row: &RowName) -> Option<usize>
+        ensures found { is_some result ≡ is_some (place_at self.now row.now) }
+        ensures at { IfSome result (λ index. IsAt self.now row.now index) }
+    {
+        self.places.get_index_of(row)
+    }
+
+    /// Drops the place at an index where it counts nothing.
+    pub fn release_at(&mut self, index: usize)
+        ensures empty { (row : RowName) → IsAt self.old row index → is_counting (place_at self.old row) ≡ false → place_at self.new row ≡ None }
+        ensures counting { (row : RowName) → IsAt self.old row index → is_counting (place_at self.old row) ≡ true → self.new ≡ self.old }
+        ensures others { (row : RowName) → IsAt self.old row index → OthersStay row self.old self.new }
+    {
+        if !self.is_counting_at(index) {
+            self.places.swap_remove_index(index);
+        }
+    }
+
+    /// Whether the place at an index counts a reservation.
+    fn is_counting_at(&self, index: usize) -> bool
+        ensures { (row : RowName) → IsAt self.now row index → result ≡ is_counting (place_at self.now row) }
+    {
+        match self.places.get_index(index) {
+            Some((_, place)) => place.count() != 0,
+            None => false,
         }
     }
 
@@ -165,15 +206,16 @@ impl Bounds {
         self.place(row).inf_sup(column)
     }
 
-    /// The grant rule: what changes of a row would break of the first check, in the table's order,
-    /// that they can break, over every choice of the reservations that the row's place counts which
-    /// holds them. `None` where they are granted.
-    pub fn verdict(&self, row: &RowName, changes: &[Amount]) -> Option<Breach>
-        requires { IsSome (place_at self.now row.now) }
-        ensures { (place : Kept) (reservations : List (List ℤ)) → place_at self.now row.now ≡ Some place → Counts place reservations
+    /// The grant rule: what changes of the row whose place stands at an index would break of the first
+    /// check, in the table's order, that they can break, over every choice of the reservations that the
+    /// place counts which holds them. `None` where they are granted.
+    pub fn verdict_at(&self, index: usize, changes: &[Amount]) -> Option<Breach>
+        requires { (row : RowName) × IsAt self.now row index }
+        ensures { (row : RowName) (place : Kept) (reservations : List (List ℤ)) → IsAt self.now row index → place_at self.now row ≡ Some place → Counts place reservations
             → result ≡ broken (checks_of place.checks) place.amounts changes.now reservations }
     {
-        self.place(row).verdict(changes)
+        let (_, place) = self.places.get_index(index).unwrap();
+        place.verdict(changes)
     }
 
     /// Counts a new reservation of a row, whose place counts fewer than 16,384.
@@ -183,23 +225,34 @@ impl Bounds {
         ensures takes { Becomes (TakesIn changes.now) (place_at self.old row.now) (place_at self.new row.now) }
         ensures others { OthersStay row.now self.old self.new }
     {
-        if let Some(place) = self.places.get_mut(row) {
-            place.take_in(changes);
+        if let Some(index) = self.find(row) {
+            self.add_at(index, changes);
         }
     }
 
-    /// Counts a reservation of a row no more, since its transaction has ended: one that the row's place
-    /// counts. A commit moves its changes into the committed amounts, of which one stays where the
-    /// sum would be no amount.
-    pub fn remove(&mut self, row: &RowName, changes: &[Amount], end: End)
-        requires { (place : Kept) × (before after : List (List ℤ))
-            × (place_at self.old row.now ≡ Some place) × Counts place (before ++ changes.now ∷ after) }
-        ensures gives { Becomes (GivesBack end changes.now) (place_at self.old row.now) (place_at self.new row.now) }
-        ensures others { OthersStay row.now self.old self.new }
+    /// Counts a new reservation of the row whose place stands at an index, and counts fewer than 16,384.
+    pub fn add_at(&mut self, index: usize, changes: &[Amount])
+        requires placed { (row : RowName) × IsAt self.old row index }
+        requires room { (row : RowName) (place : Kept) → IsAt self.old row index → place_at self.old row ≡ Some place → place.count < MAX_OPEN }
+        ensures takes { (row : RowName) → IsAt self.old row index → Becomes (TakesIn changes.now) (place_at self.old row) (place_at self.new row) }
+        ensures others { (row : RowName) → IsAt self.old row index → OthersStay row self.old self.new }
     {
-        if let Some(place) = self.places.get_mut(row) {
-            place.give_back(changes, end);
-        }
+        let (_, place) = self.places.pair_mut(index);
+        place.take_in(changes);
+    }
+
+    /// Counts a reservation no more, since its transaction has ended: one that the place at an index counts,
+    /// which stays there. A commit moves its changes into the committed amounts, of which one stays where the
+    /// sum would be no amount.
+    pub fn remove_at(&mut self, index: usize, changes: &[Amount], end: End)
+        requires { (row : RowName) × (place : Kept) × (before after : List (List ℤ))
+            × IsAt self.old row index × (place_at self.old row ≡ Some place) × Counts place (before ++ changes.now ∷ after) }
+        ensures at { (row : RowName) → IsAt self.old row index → IsAt self.new row index }
+        ensures gives { (row : RowName) → IsAt self.old row index → Becomes (GivesBack end changes.now) (place_at self.old row) (place_at self.new row) }
+        ensures others { (row : RowName) → IsAt self.old row index → OthersStay row self.old self.new }
+    {
+        let (_, place) = self.places.pair_mut(index);
+        place.give_back(changes, end);
     }
 
     /// Counts reservations no more, since they have ended so, one after another: some of those that
@@ -225,9 +278,10 @@ impl Bounds {
         ensures ends { AreEnded end (r.now ∷ []) self.old self.new }
         ensures counting { AllCount self.old → AllCount self.new }
     {
+        let index = self.find(&r.row).unwrap();
         let amounts = deltas(r.changes.as_slice());
-        self.remove(&r.row, &amounts[..r.changes.len()], end);
-        self.release(&r.row);
+        self.remove_at(index, &amounts[..r.changes.len()], end);
+        self.release_at(index);
     }
 
     /// The place of a row.

@@ -19,22 +19,22 @@ pub fn nothing_counts()
     ensures { NothingCounts }
 {}
 
-/// `Bounds::reserve` leaves what is counted.
+/// `Bounds::make`, and so `Bounds::reserve`, leaves what is counted.
 pub fn reserve_counts()
     ensures { ReserveCounts }
 {}
 
-/// After `Bounds::add` one reservation more is counted, wherever it stands among the others.
+/// After `Bounds::add_at` one reservation more is counted, wherever it stands among the others.
 pub fn add_counts()
     ensures { AddCounts }
 {}
 
-/// After `Bounds::remove` one reservation less is counted, whichever of them it was.
+/// After `Bounds::remove_at` one reservation less is counted, whichever of them it was.
 pub fn remove_counts()
     ensures { RemoveCounts }
 {}
 
-/// `Bounds::release` leaves what is counted.
+/// `Bounds::release_at` leaves what is counted.
 pub fn release_counts()
     ensures { ReleaseCounts }
 {}

@@ -2,7 +2,7 @@
 //! can do to its checks is looked up, and no reservation is walked.
 //!
 //! Its one contract: the verdict on a new reservation is that of the grant rule, over every choice
-//! of the reservations that the row's place counts ([`Bounds::verdict`]).
+//! of the reservations that the row's place counts ([`Bounds::verdict_at`]).
 #![tactic(auto)]
 
 mod bounds;

@@ -1,10 +1,9 @@
 -- What is open, and the places that count it.
-use Rattle.std.specs.Prelude.{◌≡◌, ◌+◌, map, take, ◌<◌, ◌≤◌, ℕ, zero, suc, ℤ, Bool, true, false, not, nat_eq, is_some, option_map, unwrap_or, Option, Some, None, IsSome, List, [], ◌∷◌, ◌++◌, length, slice_get, ◌-◌, ◌==◌}
+use Rattle.std.specs.Prelude.{◌≡◌, ◌+◌, map, take, ◌<◌, ◌≤◌, ℕ, zero, suc, ℤ, Bool, true, false, not, nat_eq, is_some, option_map, unwrap_or, Option, Some, None, IsSome, List, [], ◌∷◌, ◌++◌, length, ◌==◌}
 use Rattle.std.specs.List.{AllByRecursion, list_any}
-use Rattle.std.proofs.Common.{inl, inr, refl, sym, ap, ap₂, subst, ◌∙◌, arith, cond, get_or, append-nil, length-append}
+use Rattle.std.proofs.Common.{inl, inr, refl, sym, ap, ap₂, subst, ◌∙◌, arith, cond, get_or, append-nil}
 use Rattle.std.proofs.lemmas.List.{map_more, map_push}
-use Rattle.std.proofs.lemmas.Bool.{cond-true, eq-eqb, or_left, or_right}
-use Rattle.std.proofs.lemmas.List.Elements.{filter-append}
+use Rattle.std.proofs.lemmas.Bool.{or_left, or_right}
 use Rattle.escrow_num.specs.declared.reservation.Reservation.{Reservation}
 use Rattle.escrow_num.specs.declared.reservation.Savepoint.{Savepoint}
 use Rattle.escrow_num.specs.declared.value.RowName.{RowName}
@@ -59,26 +58,6 @@ short_own session reservations short = all_filter IsShort (λ (r : Reservation).
 
 pub short_others : (session : ℕ) (reservations : List Reservation) → AllByRecursion IsShort reservations → AllByRecursion IsShort (others session reservations)
 short_others session reservations short = all_filter IsShort (λ (r : Reservation). not (r.session == session)) reservations short
-
--- the last reservation of a session
-own_last : (session : ℕ) (earlier : List Reservation) (r : Reservation) → r.session ≡ session → own session (earlier ++ r ∷ []) ≡ own session earlier ++ r ∷ []
-own_last session earlier r same =
-    filter-append (λ (x : Reservation). x.session == session) earlier (r ∷ [])
-    ∙ ap (λ (rs : List Reservation). own session earlier ++ rs) (cond-true (r.session == session) (r ∷ []) [] (eq-eqb r.session session same))
-
-get_end : (xs : List Reservation) (r : Reservation) → slice_get (xs ++ r ∷ []) (length xs) ≡ Some r
-get_end [] r = refl
-get_end (x ∷ xs) r = get_end xs r
-
-get_last : (xs : List Reservation) (r : Reservation) → slice_get (xs ++ r ∷ []) (length (xs ++ r ∷ []) - 1) ≡ Some r
-get_last xs r =
-    let at : length (xs ++ r ∷ []) - 1 ≡ length xs = omega (arith, length-append xs (r ∷ [])) in
-    ap (slice_get (xs ++ r ∷ [])) at ∙ get_end xs r
-
-pub last_is : (session : ℕ) (reservations earlier : List Reservation) (r : Reservation) → reservations ≡ earlier ++ r ∷ [] → r.session ≡ session
-    → slice_get (own session reservations) (length (own session reservations) - 1) ≡ Some r
-last_is session reservations earlier r is same =
-    rw (is, own_last session earlier r same) (get_last (own session earlier) r)
 
 -- a place counts no more than there are open reservations
 length-of_row : (row : RowName) (reservations : List Reservation) → length (of_row row reservations) ≤ length reservations

@@ -1,11 +1,10 @@
-ghost use Rattle.std.specs.Prelude.{◌≡◌, ◌++◌, ◌∷◌, [], ℕ, true, false, Some, None, List, length, map, option_copied, option_map};
+ghost use Rattle.std.specs.Prelude.{◌≡◌, ℕ, ℤ, true, Option, Some, None, is_some, List, length, map, option_map};
 ghost use Rattle.std.specs.List.{AllByRecursion};
 ghost use Rattle.escrow_num.specs.declared.reservation.Reservation.{Reservation as Held};
 ghost use Rattle.escrow_num.specs.declared.session.End.TheVariants.{Rollback};
 ghost use Rattle.escrow_num.specs.declared.value.RowName.{RowName as Row};
 ghost use Rattle.escrow_checks.specs.declared.check.Check.{Check as Form};
 ghost use Rattle.escrow_bounds.specs.Altered.{TableGoes, IsOver, IsWithout, ArePrepared};
-ghost use Rattle.escrow_bounds.specs.Counts.{is_counting};
 ghost use Rattle.escrow_bounds.specs.Ended.{AreEnded};
 ghost use Rattle.escrow_bounds.specs.Held.{of_row, AllCount, CountsAll};
 ghost use Rattle.escrow_bounds.specs.Places.{place_at, OthersStay};
@@ -15,7 +14,7 @@ ghost use Rattle.escrow_machine.specs.Walked.{IsShort};
 
 use escrow_bounds::{Addition, Bounds, deltas};
 use escrow_checks::Check;
-use escrow_num::{Amount, Changes, End, Name, Refusal, Reservation, RowName, Session};
+use escrow_num::{Amount, Changes, End, Name, Refusal, RowName, Session};
 use escrow_txn::TxnTable;
 use std::alloc::{AllocError, Global};
 use std::marker::Model;
@@ -47,6 +46,7 @@ impl Reserved {
     ghost use Rattle.escrow_checks.specs.Form.{IsCovered};
     ghost use Rattle.escrow_checks.specs.declared.coefficients.TheConstants.Coefficients.{MAX_LEN};
     ghost use Rattle.escrow_checks.specs.declared.spread.TheConstants.Spread.{MAX_OPEN};
+    ghost use Rattle.escrow_bounds.specs.At.{IsAt};
     ghost use Rattle.escrow_bounds.specs.Counts.{IsNew, TakesIn};
     ghost use Rattle.escrow_bounds.specs.Kept.{Kept};
     ghost use Rattle.escrow_bounds.specs.Places.{Becomes};
@@ -85,6 +85,15 @@ impl Reserved {
         self.bounds.is_reserved(row)
     }
 
+    /// Where the place of a row stands, if an open reservation, of any session, is of the row.
+    pub(crate) fn find(&self, row: &RowName) -> Option<usize>
+        requires { ArePlaced self.now.txns.reservations self.now.places }
+        ensures found { is_some result ≡ list_any (λ r. same_row r.row row.now) self.now.txns.reservations }
+        ensures at { IfSome result (λ at. IsAt self.now.places row.now at) }
+    {
+        self.bounds.find(row)
+    }
+
     /// Whether an open reservation, of any session, is of a row of a table.
     pub(crate) fn is_table_reserved(&self, table: Name) -> bool
         requires { ArePlaced self.now.txns.reservations self.now.places }
@@ -120,36 +129,40 @@ impl Reserved {
     }
 
     /// Makes a place for a row that has none, with its committed amounts and the checks of its table.
-    /// Want of memory is the only error, and leaves all places.
+    /// Answers where it stands. Want of memory is the only error, and leaves all places.
     pub(crate) fn make_place(
         &mut self,
         row: &RowName,
         amounts: &[Amount],
         checks: &[Check],
-    ) -> Result<(), AllocError>
+    ) -> Result<usize, AllocError>
         requires covered { AllByRecursion (λ check. IsCovered check.coeffs amounts.now) checks.now }
         requires few { length amounts.now ≤ MAX_LEN }
         requires new { place_at self.old.places row.now ≡ None }
         ensures txns { self.new.txns ≡ self.old.txns }
+        ensures at { IfOk result (λ at. IsAt self.new.places row.now at) }
         ensures made { OnOk result ((place : Kept) × (place_at self.new.places row.now ≡ Some place) × IsNew amounts.now checks.now place) }
         ensures others { OthersStay row.now self.old.places self.new.places }
         ensures err { OnErr result (self.new ≡ self.old) }
     {
-        self.bounds.reserve(row, amounts, checks)
+        self.bounds.make(row, amounts, checks)
     }
 
-    /// Grants a session a reservation of changes of a row that has a place, unless there is a reason against it: it
-    /// holds as many as it may, there are no more ids, or some choice of the open reservations, this one among them, would break
-    /// a check. A reason is answered however little memory there is; where there is none, want of memory is the only error. What is
-    /// granted takes the next id, and is the last of the open ones. Answers its id. Where it is refused nothing changes, but
-    /// that a place that counts nothing is given back, and no id is taken.
+    /// Grants a session a reservation of changes of a row, whose place stands at an index, unless there is a reason
+    /// against it: it holds as many as it may, there are no more ids, or some choice of the open reservations, this
+    /// one among them, would break a check. A reason is answered however little memory there is; where there is none,
+    /// want of memory is the only error. What is granted takes the next id, and is the last of the open ones. Answers
+    /// its id. Where it is refused nothing changes, but that a place that counts nothing is given back, and no id is
+    /// taken.
     pub(crate) fn grant(
         &mut self,
         session: Session,
         row: RowName,
+        at: usize,
         changes: Changes,
     ) -> Result<u64, Refusal>
         requires placed { IsSome (place_at self.old.places row) }
+        requires at { IsAt self.old.places row at }
         requires short { length changes ≤ MAX_LEN }
         requires room { grant_refusal session self.old.txns ≡ None → length self.old.txns.reservations < MAX_OPEN }
         ensures id { IfOk result (λ id. id ≡ self.old.txns.next_id) }
@@ -162,43 +175,34 @@ impl Reserved {
         ensures releases { OnErr result (Releases self.old.txns.reservations row self.old.places self.new.places) }
         ensures others { OthersStay row self.old.places self.new.places }
     {
-        if let Some(refusal) = self.refusal(session, &row, changes.as_slice()) {
-            give_back(&mut self.bounds, row);
+        let amounts = deltas(changes.as_slice());
+        let amounts = &amounts[..changes.len()];
+        if let Some(refusal) = self.refusal(session, at, amounts) {
+            self.bounds.release_at(at);
             return Err(refusal);
         }
         match self.txns.grant(session, row, changes) {
             Ok(id) => {
-                if let Some(r) = last_of(&self.txns, session) {
-                    let amounts = deltas(r.changes.as_slice());
-                    self.bounds.add(&r.row, &amounts[..r.changes.len()]);
-                }
+                self.bounds.add_at(at, amounts);
                 Ok(id)
             }
-            Err(failed) => {
-                give_back(&mut self.bounds, failed.value);
+            Err(_) => {
+                self.bounds.release_at(at);
                 Err(Refusal::Memory)
             }
         }
     }
 
-    /// Why a session isn't granted changes of a row that has a place, if it isn't.
-    fn refusal(
-        &self,
-        session: Session,
-        row: &RowName,
-        changes: &[Option<Amount>],
-    ) -> Option<Refusal>
-        requires placed { IsSome (place_at self.now.places row.now) }
-        requires short { length changes.now ≤ MAX_LEN }
-        ensures { (place : Kept) → place_at self.now.places row.now ≡ Some place → result ≡ reason_against session place row.now changes.now self.now.txns }
+    /// Why a session isn't granted changes of a row, whose place stands at an index, if it isn't.
+    fn refusal(&self, session: Session, at: usize, changes: &[Amount]) -> Option<Refusal>
+        requires { (row : Row) × IsAt self.now.places row at }
+        ensures { (row : Row) (place : Kept) (asked : List (Option ℤ)) → IsAt self.now.places row at → place_at self.now.places row ≡ Some place → changes.now ≡ deltas asked
+            → result ≡ reason_against session place row asked self.now.txns }
     {
         if let Some(refusal) = self.txns.grant_refusal(session) {
             return Some(refusal);
         }
-        let amounts = deltas(changes);
-        self.bounds
-            .verdict(row, &amounts[..changes.len()])
-            .map(Refusal::Check)
+        self.bounds.verdict_at(at, changes).map(Refusal::Check)
     }
 
     /// Ends a session's transaction: a commit moves its changes into the amounts of the places. A place
@@ -289,13 +293,6 @@ impl Reserved {
     }
 }
 
-/// The last reservation that a session holds.
-fn last_of(txns: &TxnTable, session: Session) -> Option<&Reservation>
-    ensures { (earlier : List Held) (r : Held) → txns.now.reservations ≡ earlier ++ r ∷ [] → r.session ≡ session → option_copied result ≡ Some r }
-{
-    txns.journal(session).all().last()
-}
-
 /// Counts the reservations of a session no more that came after its savepoint of a name, if there is one.
 fn release_after(txns: &TxnTable, bounds: &mut Bounds, session: Session, name: Name)
     requires counts { CountsAll bounds.old txns.now.reservations }
@@ -307,13 +304,4 @@ fn release_after(txns: &TxnTable, bounds: &mut Bounds, session: Session, name: N
     if let Some(later) = txns.after(session, name) {
         bounds.remove_all(later, End::Rollback);
     }
-}
-
-/// Gives back the place of a row, whose reservation was refused, if it counts nothing.
-fn give_back(bounds: &mut Bounds, row: RowName)
-    ensures empty { is_counting (place_at bounds.old row) ≡ false → place_at bounds.new row ≡ None }
-    ensures counting { is_counting (place_at bounds.old row) ≡ true → bounds.new ≡ bounds.old }
-    ensures others { OthersStay row bounds.old bounds.new }
-{
-    bounds.release(&row);
 }

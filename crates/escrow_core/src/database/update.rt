@@ -7,7 +7,7 @@ use sqlite::Alter;
 use std::alloc::Global;
 
 impl<S: Alter> Database<S> {
-    ghost use Rattle.std.specs.Prelude.{◌≡◌, ℕ, false, Some, IfOk, IfErr, IsTrue};
+    ghost use Rattle.std.specs.Prelude.{◌≡◌, ℕ, false, Some, IfOk, IfErr};
     ghost use Rattle.escrow_machine.specs.Asked.{plan_of};
     ghost use Rattle.escrow_schema.specs.Catalog.{place_named};
     ghost use Rattle.escrow_core.specs.Serves.{Serves};
@@ -50,7 +50,7 @@ impl<S: Alter> Database<S> {
     }
 
     /// A reservation of changes of the row of a key, if it stands. The committed row stays as it is. Where the
-    /// row has an open reservation the store isn't asked.
+    /// row has an open reservation the store isn't asked: its place keeps the amounts.
     fn reserve(
         &mut self,
         alloc: Global,
@@ -68,28 +68,12 @@ impl<S: Alter> Database<S> {
             table: text.table,
             key,
         };
-        if self.reserved.is_reserved(&name) {
-            return self.reserve_beside(session, text, name, changes);
-        }
-        self.reserve_first(alloc, session, text, place, name, changes)
-    }
-
-    /// A reservation of a row that has an open one, by the amounts that its place keeps.
-    fn reserve_beside(
-        &mut self,
-        session: Session,
-        text: &UpdateText,
-        name: RowName,
-        changes: Changes,
-    ) -> Result<Reply, Refusal>
-        requires table { name.table ≡ text.now.table }
-        requires plan { plan_of self.old.state text.now ≡ Some (Plan.Reserve name.key changes) }
-        requires beside { IsTrue (is_reserved self.old.state name) }
-        ensures { Serves S.Store session (Statement.Update text.now) self.old (answer_of result) self.new }
-    {
+        let Some(at) = self.reserved.find(&name) else {
+            return self.reserve_first(alloc, session, text, place, name, changes);
+        };
         // What its type knows of a session's number is told where the number is read.
         let _ = session.get();
-        let id = self.reserved.grant(session, name, changes)?;
+        let id = self.reserved.grant(session, name, at, changes)?;
         Ok(Reply::Reserved { id })
     }
 
@@ -115,8 +99,8 @@ impl<S: Alter> Database<S> {
         // What its type knows of a session's number is told where the number is read.
         let _ = session.get();
         let checks = self.tables.table(place).checks.as_slice();
-        self.reserved.make_place(&name, amounts.as_slice(), checks)?;
-        let id = self.reserved.grant(session, name, changes)?;
+        let at = self.reserved.make_place(&name, amounts.as_slice(), checks)?;
+        let id = self.reserved.grant(session, name, at, changes)?;
         Ok(Reply::Reserved { id })
     }
 

@@ -1,5 +1,5 @@
 //! Worst-case sums of a row, kept between calls.
-ghost use Rattle.std.specs.Prelude.{◌≡◌, ◌<◌, ◌≤◌, ℕ, ℤ, None, List, [], ◌∷◌, length};
+ghost use Rattle.std.specs.Prelude.{◌≡◌, ◌<◌, ◌≤◌, ℕ, ℤ, IsSome, None, List, [], ◌∷◌, length};
 ghost use Rattle.escrow_num.specs.declared.reservation.Reservation.{Reservation};
 ghost use Rattle.escrow_checks.specs.declared.coefficients.TheConstants.Coefficients.{MAX_LEN};
 ghost use Rattle.escrow_checks.specs.declared.spread.TheConstants.Spread.{MAX_OPEN};
@@ -9,7 +9,7 @@ ghost use Rattle.escrow_tests.specs.Placed.{AreTaken, HasChecks, IsPlaced};
 use crate::tests::checks::{amounts, check, columns, name, parts};
 use escrow_bounds::{Addition, Bounds, deltas};
 use escrow_checks::{Check, Coefficients};
-use escrow_num::{Amount, Changes, End, Reservation, RowName, Session, Side, Value};
+use escrow_num::{Amount, Breach, Changes, End, Reservation, RowName, Session, Side, Value};
 use std::alloc::Global;
 use std::process::Abort;
 
@@ -48,7 +48,16 @@ fn commit_first(bounds: &mut Bounds, row: &RowName, first: &[Amount], second: &[
     requires { IsPlaced bounds.old row.now (second.now ∷ first.now ∷ []) }
     ensures { IsPlaced bounds.new row.now (second.now ∷ []) }
 {
-    bounds.remove(row, first, End::Commit);
+    let at = bounds.find(row).unwrap();
+    bounds.remove_at(at, first, End::Commit);
+}
+
+/// What changes would break of the check, if they can break it.
+fn verdict(bounds: &Bounds, row: &RowName, changes: &[Amount]) -> Option<Breach>
+    requires { IsSome (place_at bounds.now row.now) }
+{
+    let at = bounds.find(row).unwrap();
+    bounds.verdict_at(at, changes)
 }
 
 /// The least and the greatest value of the check.
@@ -75,7 +84,7 @@ fn sums_are_kept_between_calls(rt: HostRuntime) {
     reserve(&rt, &mut bounds, &row, values.as_slice(), &check);
     add(&mut bounds, &row, a.as_slice());
     assert_eq!(rt; worst(&bounds, &row), (80, 90));
-    let breach = bounds.verdict(&row, more.as_slice());
+    let breach = verdict(&bounds, &row, more.as_slice());
     assert_eq!(rt; parts(&check, breach), Some((Side::High, 102, 100)));
     add(&mut bounds, &row, b.as_slice());
     assert_eq!(rt; worst(&bounds, &row), (80, 99));
@@ -90,7 +99,7 @@ fn are_placed(rt: &impl Abort, bounds: &Bounds, check: &Check, alloc: Global, pl
         assert_eq!(rt; bounds.has_place(&row), key < places, "{places}: {key}");
         if bounds.has_place(&row) {
             let change = amounts(rt, alloc, &[51i64.wrapping_sub(key), 0]);
-            let breach = bounds.verdict(&row, change.as_slice());
+            let breach = verdict(bounds, &row, change.as_slice());
             assert_eq!(rt;
                 parts(check, breach),
                 Some((Side::High, 102, 100)),

@@ -1,0 +1,81 @@
+-- Where the place of a row stands among all, and what is done there.
+use Rattle.std.specs.Prelude.{◌≡◌, ℕ, zero, suc, ◌<◌, false, Option, Some, None, option_map, IfSome, List, [], ◌∷◌, ◌++◌, length, position, slice_get}
+use Rattle.std.specs.List.{position_or_len}
+use Rattle.std.specs.Map.{keys_of}
+use Rattle.std.proofs.Common.{refl, sym, ap, subst, arith, ◌∙◌}
+use Rattle.std.proofs.lemmas.Map.Entries.{lookup_from_place}
+use Rattle.std.proofs.lemmas.Map.Made.{lookup_key_passes}
+use Rattle.std.proofs.lemmas.Option.{slice_get-map, slice_get_within}
+use Rattle.indexmap.specs.IndexMap.{IndexMap, IsUnique, insert_entry, with_value_at}
+use Rattle.indexmap.proofs.CallerLemmas.{keys-with_value_at, updates-with_value_at}
+use Rattle.indexmap.proofs.MapLemmas.{Found-position, absent_from_lookup, insert_entry-absent, or_len-absent}
+use Rattle.escrow_num.specs.declared.value.RowName.{RowName}
+use Rattle.escrow_num.specs.Equal.{same_row_equiv}
+use Rattle.escrow_num.specs.Order.{same_row}
+use Rattle.escrow_num.proofs.Orders.{row_same}
+use Rattle.escrow_bounds.specs.At.{IsAt}
+use Rattle.escrow_bounds.specs.Kept.{Kept}
+use Rattle.escrow_bounds.specs.Places.{Places, place_at, Becomes, OthersStay}
+
+some_same : {X : Type 0} {x y : X} → Some x ≡ Some y → x ≡ y
+some_same is = cc
+
+abbrev first : RowName × Kept → RowName
+first p = p.0
+
+get_end : (places : Places) (p : RowName × Kept) → slice_get (places ++ p ∷ []) (length places) ≡ Some p
+get_end [] p = refl
+get_end (q ∷ places) p = get_end places p
+
+there_is : (places : Places) (i : ℕ) → i < length places → (p : RowName × Kept) × (slice_get places i ≡ Some p)
+there_is [] i below = absurd (omega arith)
+there_is (p ∷ places) zero below = (p, refl)
+there_is (p ∷ places) (suc i) below = there_is places i (omega arith)
+
+-- the place that is found stands there
+pub found_at : (places : Places) (row : RowName) (found : Option ℕ) → found ≡ position (same_row row) (keys_of places) → IfSome found (λ i. IsAt places row i)
+found_at places row None is = tt
+found_at places row (Some i) is =
+    let found = Found-position (same_row row) places i (sym is) in
+    let entry = there_is places i found.within in
+    let key : option_map first (slice_get places i) ≡ Some (first entry.0) = ap (option_map first) entry.1 in
+    key ∙ ap Some (sym (row_same row (first entry.0) (lookup_key_passes (same_row row) places (first entry.0) (found.key ∙ slice_get-map first places i ∙ key))))
+
+-- a place that is made stands last
+pub made_at : (old new : Places) (row : RowName) (place : Kept) (i : ℕ) → place_at old row ≡ None → new ≡ insert_entry same_row old row place → i ≡ position_or_len (same_row row) (keys_of old) → IsAt new row i
+made_at old new row place i none is at =
+    let absent = absent_from_lookup (same_row row) old none in
+    let last : i ≡ length old = at ∙ or_len-absent (same_row row) old absent in
+    let more : new ≡ old ++ (row, place) ∷ [] = is ∙ insert_entry-absent same_row row place old absent in
+    let end : slice_get new i ≡ Some (row, place) = rw (more, last) (get_end old (row, place)) in
+    ap (option_map first) end
+
+module _ {S : Type 0} (m : IndexMap RowName Kept S) (i : ℕ) (key : RowName) (was : Kept) (unique : IsUnique same_row m) (at : slice_get m.entries i ≡ Some (key, was)) where
+  -- it is the one entry of its row
+  pub own_at : IsAt m.entries key i
+  own_at = ap (option_map first) at
+
+  own_key : (row : RowName) → IsAt m.entries row i → key ≡ row
+  own_key row is = some_same (sym own_at ∙ is)
+
+  pub own_place : (row : RowName) → IsAt m.entries row i → place_at m.entries row ≡ Some was
+  own_place row is = subst (λ (row : RowName). place_at m.entries row ≡ Some was) (own_key row is) (lookup_from_place same_row_equiv m.entries i key was unique at)
+
+  pub own_same : (row : RowName) (place : Kept) → IsAt m.entries row i → place_at m.entries row ≡ Some place → place ≡ was
+  own_same row place is before = some_same (sym before ∙ own_place row is)
+
+  -- what is written there is the row's, which stands there still
+  module _ (new : Kept) (row : RowName) (is : IsAt m.entries row i) where
+    pub still_at : IsAt (with_value_at m i new).entries row i
+    still_at = sym (slice_get-map first (with_value_at m i new).entries i) ∙ ap (λ (rows : List RowName). slice_get rows i) (keys-with_value_at m i new) ∙ slice_get-map first m.entries i ∙ is
+
+    pub written : (Step : Kept → Kept → Type 0) → Step was new → Becomes Step (place_at m.entries row) (place_at (with_value_at m i new).entries row)
+    written Step step = λ old before. (
+      new,
+      subst (λ (row : RowName). place_at (with_value_at m i new).entries row ≡ Some new) (own_key row is) (updates-with_value_at m i new same_row_equiv unique key was at).1,
+      subst (λ (kept : Kept). Step kept new) (sym (own_same row old is before)) step,
+    )
+
+    pub others_stay : OthersStay row m.entries (with_value_at m i new).entries
+    others_stay = λ other apart.
+        (updates-with_value_at m i new same_row_equiv unique key was at).2 other (subst (λ (row : RowName). same_row row other ≡ false) (sym (own_key row is)) apart)

@@ -1,0 +1,76 @@
+use Rattle.std.specs.Prelude.{Option, IsSome, is_some}
+use Rattle.std.proofs.Common.{refl, sym, ap, ◌∙◌}
+use Rattle.escrow_num.specs.Session.{IsSession}
+use Rattle.escrow_bounds.specs.Places.{place_at}
+use Rattle.escrow_machine.specs.Asked.{row_name}
+use Rattle.escrow_machine.specs.State.{State}
+use Rattle.escrow_core.specs.Inside.{seen_of}
+use Rattle.escrow_core.proofs.Places.{from_some, reserved_placed}
+use Rattle.escrow_core.proofs.Serving.{left_by}
+use Rattle.escrow_core.proofs.Updating.{IsPlanned, beside_granted, beside_refused, grant_keeps, room_for_one, short_plan}
+use Rattle.escrow_core.proofs.database.Database.reserve.Given as given
+use Rattle.escrow_core.proofs.database.Database.reserve.Goals as goal
+use Rattle.escrow_core.proofs.database.Database.reserve.Goals.{After-grant}
+
+-- what is planned, of a row that has a place
+planned : (g : given.Over) (c : After-grant g) → IsPlanned (seen_of c.self.inside.tables c.self.inside.reserved.txns).state c.args.text.now (row_name c.args.text.now.table c.args.key) c.args.changes
+planned g c = record {
+  table = refl;
+  plan = rw (← c.self.view_is) at c.requires.plan;
+}
+
+there : (g : given.Over) (c : After-grant g) → IsSome (place_at c.self.inside.reserved.places (row_name c.args.text.now.table c.args.key))
+there g c =
+    reserved_placed c.self.inside.reserved.txns.reservations c.self.inside.reserved.places (row_name c.args.text.now.table c.args.key) c.self.invariant.keeps.placed
+    (sym c.find.ensures.found ∙ ap (λ (found : Option _). is_some found) c.in-Some.is)
+
+pub grant-requires-clause-placed : goal.grant-requires-clause-placed
+grant-requires-clause-placed g c =
+    reserved_placed c.self.inside.reserved.txns.reservations c.self.inside.reserved.places (row_name c.args.text.now.table c.args.key) c.self.invariant.keeps.placed
+    (sym c.find.ensures.found ∙ ap (λ (found : Option _). is_some found) c.in-Some.is)
+
+pub grant-requires-clause-short : goal.grant-requires-clause-short
+grant-requires-clause-short g c =
+    let s : State = (seen_of c.self.inside.tables c.self.inside.reserved.txns).state in
+    short_plan s c.args.text.now c.args.key c.args.changes c.self.invariant.keeps.kept.orderly (rw (← c.self.view_is) at c.requires.plan)
+
+pub grant-requires-clause-room : goal.grant-requires-clause-room
+grant-requires-clause-room g c =
+    let s : State = (seen_of c.self.inside.tables c.self.inside.reserved.txns).state in
+    let of_session : IsSession c.args.session = rw c.get.ensures.value at c.get.ensures.within in
+    room_for_one s c.args.session c.args.text.now c.args.key c.args.changes c.self.invariant.keeps.kept.orderly of_session (rw (← c.self.view_is) at c.requires.plan)
+
+pub returns-in_err-id : goal.returns-in_err-id
+returns-in_err-id g c =
+    let d = seen_of c.self.inside.tables c.self.inside.reserved.txns in
+    let places = c.self.inside.reserved.places in
+    let name = row_name c.args.text.now.table c.args.key in
+    let at_grant = (goal.at.returns-in_err-id g c).After-grant in
+    rw (← c.self.view_is, c.in_err-id.ensures.refused, left_by _ _ c.from_residual.ensures.1)
+    (from_some (place_at places name) (there g at_grant) (λ place at.
+    beside_refused g.S.Store c.args.session c.args.text.now name c.args.changes d places (planned g at_grant) c.self.invariant.keeps place at c.in_err-id.field-0.0 (c.in_err-id.ensures.only place at)))
+
+pub invariant_of-self-2 : goal.invariant_of-self-2
+invariant_of-self-2 g c = record {
+  keeps = (let d = seen_of c.self.inside.tables c.self.inside.reserved.txns in
+      let places = c.self.inside.reserved.places in
+      let name = row_name c.args.text.now.table c.args.key in
+      let at_grant = (goal.at.invariant_of-self-2 g c).After-grant in
+      let of_session : IsSession c.args.session = rw c.get.ensures.value at c.get.ensures.within in
+      rw c.in_ok-id.ensures.granted
+      (from_some (place_at places name) (there g at_grant) (λ place at.
+      grant_keeps g.S.Store c.args.session c.args.text.now name c.args.changes d places c.grant.new.self.places (planned g at_grant) c.self.invariant.keeps.kept of_session place at
+      (λ other _. c.self.invariant.keeps.placed other) c.self.invariant.keeps.of_tables c.self.invariant.keeps.amounts (c.in_ok-id.ensures.free place at) c.in_ok-id.ensures.takes c.in_ok-id.ensures.others)));
+  known = c.self.invariant.known;
+  read = c.self.invariant.read;
+}
+
+pub returns : goal.returns
+returns g c =
+    let d = seen_of c.self.inside.tables c.self.inside.reserved.txns in
+    let places = c.self.inside.reserved.places in
+    let name = row_name c.args.text.now.table c.args.key in
+    let at_grant = (goal.at.returns g c).After-grant in
+    rw (← c.self.view_is, c.in_ok-id.ensures.id, c.in_ok-id.ensures.granted)
+    (from_some (place_at places name) (there g at_grant) (λ place at.
+    beside_granted g.S.Store c.args.session c.args.text.now name c.args.changes d places (planned g at_grant) c.self.invariant.keeps place at (c.in_ok-id.ensures.free place at)))
