@@ -1,4 +1,4 @@
-use Rattle.std.proofs.Common.{ℤ, List, ◌∷◌, ◌++◌, subst}
+use Rattle.std.proofs.Common.{◌∷◌, ◌++◌, subst}
 use Rattle.escrow_bounds.specs.Counts.{Counts, GivesBack}
 use Rattle.escrow_bounds.specs.Kept.{Kept}
 use Rattle.escrow_bounds.proofs.Standing.{own_same, still_at, written, others_stay}
