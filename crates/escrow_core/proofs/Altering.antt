@@ -1,5 +1,5 @@
 -- ALTER TABLE: what refuses it, what the rows of its table could break, and what it makes of a database.
-use Rattle.std.specs.Prelude.{◌≡◌, ◌+◌, ◌≤◌, ◌-◌, ℕ, zero, suc, ℤ, true, false, is_none, option_map, option_and_then, unwrap_or, Option, Some, None, IsSomeAnd, Result, List, [], ◌∷◌, ◌++◌, length, map, take, drop, remove, bytes_eq}
+use Rattle.std.specs.Prelude.{◌≡◌, ◌+◌, ◌≤◌, ℕ, zero, suc, ℤ, true, false, is_none, option_map, option_and_then, unwrap_or, Option, Some, None, IsSomeAnd, Result, List, [], ◌∷◌, ◌++◌, length, map, take, drop, remove, bytes_eq}
 use Rattle.std.specs.List.{AllByRecursion, list_any}
 use Rattle.std.specs.Result.{IsErrAnd}
 use Rattle.std.proofs.Common.{inl, inr, refl, sym, ap, ap₂, subst, ◌∙◌, arith, append_assoc, length-append}

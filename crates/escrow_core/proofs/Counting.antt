@@ -13,10 +13,11 @@ use Rattle.escrow_num.specs.declared.refusal.Refusal.TheVariants as refusal
 use Rattle.escrow_num.proofs.Items.{Has, all_filter, has_all, has_filter}
 use Rattle.escrow_num.proofs.Orders.{same_row_itself}
 use Rattle.escrow_checks.specs.declared.coefficients.TheConstants.Coefficients.{MAX_LEN}
+use Rattle.escrow_checks.specs.declared.check.Check.{Check}
 use Rattle.escrow_checks.specs.Grant.{broken}
 use Rattle.escrow_bounds.specs.Counts.{Counts, TakesIn, is_counting}
 use Rattle.escrow_bounds.specs.Held.{of_row, AllCount, CountsAll}
-use Rattle.escrow_bounds.specs.Kept.{Kept, checks_of}
+use Rattle.escrow_bounds.specs.Kept.{Kept}
 use Rattle.escrow_bounds.specs.Places.{Places, place_at, Becomes, OthersStay}
 use Rattle.escrow_bounds.proofs.Counting.{counting_is, placed_is}
 use Rattle.escrow_bounds.proofs.LawLemmas.{add_counts}
@@ -27,7 +28,7 @@ use Rattle.escrow_journal.specs.Savepoints.{savepoint_of, after, is_after, not_a
 use Rattle.escrow_machine.specs.Walked.{IsShort}
 use Rattle.escrow_machine.proofs.Choices.{append_all}
 use Rattle.escrow_machine.proofs.Refusals.{passed}
-use Rattle.escrow_core.specs.Reserved.{AreAmounts, AreCounted, ArePlaced, Releases, reason_against}
+use Rattle.escrow_core.specs.Reserved.{AreAmounts, AreCounted, ArePlaced, Releases, reason_by}
 use Rattle.escrow_core.proofs.Places.{some_same}
 
 not_zero : (n : ℕ) → not (nat_eq n 0) ≡ true → 0 < n
@@ -80,9 +81,9 @@ released_is reservations row old new counts empty counting = record {
 }
 
 -- nothing in the table of transactions refuses what nothing refuses
-pub free_of : (session : ℕ) (place : Kept) (row : RowName) (changes : List (Option ℤ)) (o : Open) → reason_against session place row changes o ≡ None → grant_refusal session o ≡ None
-free_of session place row changes o none =
-    (passed (grant_refusal session o) (option_map refusal.Check (broken (checks_of place.checks) place.amounts (deltas changes) (of_row row o.reservations)) ∷ []) none).first
+pub free_of : (session : ℕ) (checks : List Check) (amounts changes : List ℤ) (reservations : List (List ℤ)) (o : Open) → reason_by session checks amounts changes reservations o ≡ None
+    → grant_refusal session o ≡ None
+free_of session checks amounts changes reservations o none = (passed (grant_refusal session o) (option_map refusal.Check (broken checks amounts changes reservations) ∷ []) none).first
 
 -- one more is counted, the last
 pub granted_counts : (session : ℕ) (row : RowName) (changes : List (Option ℤ)) (o : Open) (old new : Places) → CountsAll old o.reservations → AllByRecursion IsShort o.reservations → length changes ≤ MAX_LEN

@@ -1,5 +1,5 @@
 -- The places of the rows that are reserved, as the state of a database changes.
-use Rattle.std.specs.Prelude.{◌≡◌, ◌==◌, ◌+ℤ◌, ◌||◌, ℕ, ℤ, neg_ℤ, int_le, Bool, true, false, Option, Some, None, is_some, option_map, IsSome, IsSomeAnd, List, [], ◌∷◌, ◌++◌, length, map, bytes_eq}
+use Rattle.std.specs.Prelude.{◌≡◌, ◌==◌, ◌+ℤ◌, ◌||◌, ℕ, ℤ, neg_ℤ, int_le, Bool, true, false, Option, Some, None, is_some, option_map, Result, Ok, Err, OnErr, IsSome, IsSomeAnd, List, [], ◌∷◌, ◌++◌, length, map, bytes_eq}
 use Rattle.std.specs.List.{AllByRecursion, list_any}
 use Rattle.std.proofs.Common.{inl, inr, refl, sym, ap, ap₂, subst, ◌∙◌, cond, append-nil, append_assoc}
 use Rattle.std.proofs.lemmas.Bool.{and_from, cases_Bool, cond-false, cond-true, or_cases, or_left, or_right}
@@ -36,6 +36,7 @@ use Rattle.escrow_bounds.specs.Moved.{all_moved, amounts_after_all}
 use Rattle.escrow_bounds.specs.Places.{Places, place_at, Becomes, OthersStay}
 use Rattle.escrow_journal.specs.Open.{Open, granted}
 use Rattle.escrow_journal.specs.Reservations.{own}
+use Rattle.escrow_bounds.proofs.LawLemmas.{other_way}
 use Rattle.escrow_bounds.proofs.Moving.{length-all_moved}
 use Rattle.escrow_schema.specs.Rows.{row_named, row_after, changes_to, applied, HasTable}
 use Rattle.escrow_machine.specs.State.{State, is_reserved}
@@ -96,6 +97,18 @@ any_weaker p q (x ∷ xs) weaker any =
 pub none_placed : (reservations : List Reservation) (places : Places) (row : RowName) → ArePlaced reservations places
     → list_any (λ r. same_row r.row row) reservations ≡ false → place_at places row ≡ None
 none_placed reservations places row placed free = none_there (place_at places row) (placed row ∙ free)
+
+-- what holds at all holds where there is an error
+pub on_err : {A E : Type 0} (P : Type 0) (result : Result A E) → P → OnErr result P
+on_err P (Ok x) holds = tt
+on_err P (Err e) holds = holds
+
+-- a place in front of others is that of its row, and the other rows have the places that they had
+pub put_at : (row : RowName) (place : Kept) (places : Places) → place_at ((row, place) ∷ places) row ≡ Some place
+put_at row place places = cond-true (same_row row row) (Some place) (place_at places row) (same_row_itself row)
+
+pub put_others : (row : RowName) (place : Kept) (places : Places) → OthersStay row places ((row, place) ∷ places)
+put_others row place places = λ other differs. cond-false (same_row other row) (Some place) (place_at places other) (other_way row other differs)
 
 -- a place that was made for such a row, and given back, leaves each row the place that it had
 pub refused_same : (reservations : List Reservation) (row : RowName) (old mid new : Places) → list_any (λ r. same_row r.row row) reservations ≡ false → place_at old row ≡ None

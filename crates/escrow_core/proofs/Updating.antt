@@ -25,12 +25,13 @@ use Rattle.escrow_checks.specs.declared.check.Check.{Check}
 use Rattle.escrow_checks.specs.declared.coefficients.TheConstants.Coefficients.{MAX_LEN}
 use Rattle.escrow_checks.specs.declared.spread.TheConstants.Spread.{MAX_OPEN}
 use Rattle.escrow_checks.specs.Grant.{broken}
-use Rattle.escrow_bounds.specs.Counts.{TakesIn}
+use Rattle.escrow_bounds.specs.Counts.{IsNew, TakesIn}
 use Rattle.escrow_bounds.specs.Held.{of_row}
 use Rattle.escrow_bounds.specs.Kept.{Kept, checks_of}
 use Rattle.escrow_bounds.specs.Places.{Places, place_at, Becomes, OthersStay}
 use Rattle.escrow_bounds.proofs.LawLemmas.{same_grant_rule}
 use Rattle.escrow_schema.specs.Catalog.{table_named}
+use Rattle.escrow_schema.specs.Column.{reservables}
 use Rattle.escrow_schema.specs.Definition.{IsTable}
 use Rattle.escrow_schema.specs.declared.plan.Plan.{Plan}
 use Rattle.escrow_schema.specs.declared.plan.Plan.TheVariants as plan
@@ -59,11 +60,11 @@ use Rattle.escrow_machine.proofs.TurnUpdate.{reserved_valid, replaced_valid}
 use Rattle.escrow_machine.proofs.ValidPlain.{same_test, values_both}
 use Rattle.escrow_machine.proofs.ValidUpdate.{granted_orderly}
 use Rattle.escrow_core.specs.Inside.{amounts_named, AreOfTables, HaveAmounts, IsOfTable, Keeps}
-use Rattle.escrow_core.specs.Reserved.{reason_against}
+use Rattle.escrow_core.specs.Reserved.{reason_against, reason_by}
 use Rattle.escrow_core.specs.Seen.{Seen, IsKept}
 use Rattle.escrow_core.specs.Serves.{Serves}
 use Rattle.escrow_core.specs.Serving.{Looks}
-use Rattle.escrow_core.proofs.Places.{becomes_some, granted_placed, same_amounts, same_placed, same_tables, some_of, some_same, taken_amounts, taken_tables}
+use Rattle.escrow_core.proofs.Places.{becomes_some, granted_placed, made_amounts, made_tables, put_at, put_others, same_amounts, same_placed, same_tables, some_of, some_same, taken_amounts, taken_tables}
 use Rattle.escrow_core.proofs.Planned.{planned_in, plan_refused, plan_accepted, planned_early}
 use Rattle.escrow_core.proofs.Served.{refused_serves, update_serves}
 use Rattle.escrow_core.proofs.Serving.{MayWrite, accepted_step, after_look, fails, look_failed, look_refused, served, served_beside, survives_itself}
@@ -192,17 +193,16 @@ no_failure false true o r is = subst (λ (q : Refusal). failure_of_refusal q ≡
 no_failure false false (Some breach) r is = subst (λ (q : Refusal). failure_of_refusal q ≡ None) (some_same is) refl
 no_failure false false None r is = absurd (cc)
 
--- the first reason against it is that by its row's place
-reason_is : (s : State) (session : ℕ) (name : RowName) (table : TableDef) (place : Kept) (changes : List (Option ℤ))
-    → table_named s.catalog name.table ≡ Some table → IsTable table → IsOfTable table place → amounts_named s.rows name ≡ Some place.amounts
-    → first_refusal (update_refusals s session name.table (plan.Reserve name.key changes)) ≡ reason_against session place name changes (open_in s)
-reason_is s session name table place changes named is_table of_table has =
-    let row = standing s.rows name place.amounts has in
+-- the first reason against it is that by its row's amounts and the checks of its table
+reason_is : (s : State) (session : ℕ) (name : RowName) (table : TableDef) (amounts : List ℤ) (changes : List (Option ℤ))
+    → table_named s.catalog name.table ≡ Some table → IsTable table → length amounts ≡ length (reservables table.columns) → amounts_named s.rows name ≡ Some amounts
+    → first_refusal (update_refusals s session name.table (plan.Reserve name.key changes)) ≡ reason_by session table.checks amounts (deltas changes) (of_row name s.reservations) (open_in s)
+reason_is s session name table amounts changes named is_table many has =
+    let row = standing s.rows name amounts has in
     let reason = grant_refusal session (open_in s) in
     let breach : List ℤ → RowName → Option Refusal = λ zs n. option_map refusal.Check (broken table.checks zs (deltas changes) (map (changes_at n) s.reservations)) in
-    let same : broken table.checks place.amounts (deltas changes) (map (changes_at name) s.reservations) ≡ broken (checks_of place.checks) place.amounts (deltas changes) (of_row name s.reservations) =
-    same_grant_rule table.checks place.amounts (deltas changes) name s.reservations (covered table place.amounts is_table of_table.amounts)
-    ∙ ap (λ (checks : List Check). broken checks place.amounts (deltas changes) (of_row name s.reservations)) (sym of_table.checks) in
+    let same : broken table.checks amounts (deltas changes) (map (changes_at name) s.reservations) ≡ broken table.checks amounts (deltas changes) (of_row name s.reservations) =
+    same_grant_rule table.checks amounts (deltas changes) name s.reservations (covered table amounts is_table many) in
     rw (row.found, named) refl ∙ ap₂ (λ (zs : List ℤ) (n : RowName). first_refusal (reason ∷ breach zs n ∷ [])) row.has row.named
     ∙ ap (λ (o : Option Breach). first_refusal (reason ∷ option_map refusal.Check o ∷ [])) same
 
@@ -229,13 +229,26 @@ module _ (s : State) (session : ℕ) (text : UpdateText) (name : RowName) (chang
   fails_so : (f : Failure) → fails_for s session (statement.Update text) f ≡ true → IsRefusal s session (statement.Update text) (refusal_for f)
   fails_so f takes = fails s session (statement.Update text) f passes takes
 
+  module _ (table : TableDef) (amounts : List ℤ) (orderly : HasOrder s) (named : table_named s.catalog name.table ≡ Some table)
+      (many : length amounts ≡ length (reservables table.columns)) (has : amounts_named s.rows name ≡ Some amounts) where
+    by_row : first_refusal (update_refusals s session text.table (plan.Reserve name.key changes)) ≡ reason_by session table.checks amounts (deltas changes) (of_row name s.reservations) (open_in s)
+    by_row = refusals_are ∙ reason_is s session name table amounts changes named (is_table_found s orderly name.table table named) many has
+
+    -- refused for it
+    pub row_refuses : (r : Refusal) → reason_by session table.checks amounts (deltas changes) (of_row name s.reservations) (open_in s) ≡ Some r → IsRefusal s session (statement.Update text) r
+    row_refuses r first = plan_refused s session text (plan.Reserve name.key changes) r planned.plan (by_row ∙ first)
+
+    -- or granted
+    pub row_accepts : reason_by session table.checks amounts (deltas changes) (of_row name s.reservations) (open_in s) ≡ None → IsAccepted s session (statement.Update text)
+    row_accepts none = plan_accepted s session text (plan.Reserve name.key changes) planned.plan (by_row ∙ none)
+
   module _ (place : Kept) (orderly : HasOrder s) (of_table : IsSomeAnd (table_named s.catalog name.table) (λ table. IsOfTable table place))
       (has : amounts_named s.rows name ≡ Some place.amounts) where
     by_place : first_refusal (update_refusals s session text.table (plan.Reserve name.key changes)) ≡ reason_against session place name changes (open_in s)
     by_place =
-        refusals_are
-        ∙ some_of (λ (table : TableDef). IsOfTable table place) (table_named s.catalog name.table) of_table (λ table named is.
-        reason_is s session name table place changes named (is_table_found s orderly name.table table named) is has)
+        some_of (λ (table : TableDef). IsOfTable table place) (table_named s.catalog name.table) of_table (λ table named is.
+        by_row table place.amounts orderly named is.amounts has
+        ∙ ap (λ (checks : List Check). reason_by session checks place.amounts (deltas changes) (of_row name s.reservations) (open_in s)) (sym is.checks))
 
     -- refused for it, or for want of memory
     pub place_refuses : (r : Refusal) → (reason_against session place name changes (open_in s) ≡ Some r) ⊎ (r ≡ refusal.Memory) → IsRefusal s session (statement.Update text) r
@@ -315,21 +328,24 @@ module _ {S : Type 0} (g : Ghosts S) (session : ℕ) (text : UpdateText) (name :
         (λ clean. plan_refused old.state session text (plan.Reserve name.key changes) refusal.NoSuchRow planned.plan
         (refusals_are old.state session text name changes planned ∙ rw (no_row old.state.rows name (read clean)) refl))
 
-    module _ (place : Kept) (orderly : HasOrder mid.state) (of_table : IsSomeAnd (table_named mid.state.catalog name.table) (λ table. IsOfTable table place))
-        (read : HasCleanDisk (state g mid.store) → amounts_named mid.state.rows name ≡ Some place.amounts) where
+    module _ (table : TableDef) (amounts : List ℤ) (orderly : HasOrder mid.state) (named : table_named mid.state.catalog name.table ≡ Some table)
+        (many : length amounts ≡ length (reservables table.columns)) (read : HasCleanDisk (state g mid.store) → amounts_named mid.state.rows name ≡ Some amounts) where
       planned_now : IsPlanned mid.state text name changes
       planned_now = still_planned old.state mid.state text name changes looks.same planned
 
+      abbrev why : Option Refusal
+      why = reason_by session table.checks amounts (deltas changes) (of_row name mid.state.reservations) (open_in mid.state)
+
       -- refused
-      pub first_refused : (r : Refusal) → (reason_against session place name changes (open_in mid.state) ≡ Some r) ⊎ (r ≡ refusal.Memory)
-          → Serves g session (statement.Update text) old (reply.Refused r) mid
-      first_refused r why =
+      pub first_refused : (r : Refusal) → (why ≡ Some r) ⊎ (r ≡ refusal.Memory) → Serves g session (statement.Update text) old (reply.Refused r) mid
+      first_refused r (inl is) =
           look_refused g session (statement.Update text) old mid r looks asks early
           (λ clean. subst (λ (s : State). IsRefusal s session (statement.Update text) r) looks.same
-          (place_refuses mid.state session text name changes planned_now place orderly of_table (read clean) r why))
+          (row_refuses mid.state session text name changes planned_now table amounts orderly named many (read clean) r is))
+      first_refused r (inr is) = subst (λ (q : Refusal). Serves g session (statement.Update text) old (reply.Refused q) mid) (sym is) (first_fails failure.Memory)
 
       -- granted: the store stays
-      pub first_granted : (HasCleanDisk (state g mid.store) → IsTrue (state g old.store).is_open → IsTrue (state g mid.store).is_open) → reason_against session place name changes (open_in mid.state) ≡ None
+      pub first_granted : (HasCleanDisk (state g mid.store) → IsTrue (state g old.store).is_open → IsTrue (state g mid.store).is_open) → why ≡ None
           → Serves g session (statement.Update text) old (reply.Reserved mid.state.next_id) (record { store = mid.store; state = with_open mid.state (txn.granted session name changes (open_in mid.state)) })
       first_granted stays none =
           let new : Seen S = record { store = mid.store; state = with_open mid.state (txn.granted session name changes (open_in mid.state)) } in
@@ -337,7 +353,7 @@ module _ {S : Type 0} (g : Ghosts S) (session : ℕ) (text : UpdateText) (name :
           after_look g session (statement.Update text) old mid new (reply.Reserved mid.state.next_id) looks stays asks early
           (served g session (statement.Update text) mid new (reply.Reserved mid.state.next_id) (asks_first mid.state session text name changes planned_now still_first)
           (passes mid.state session text name changes planned_now)
-          (λ clean. grant_step mid.state session text name changes planned_now (place_accepts mid.state session text name changes planned_now place orderly of_table (read clean) none))
+          (λ clean. grant_step mid.state session text name changes planned_now (row_accepts mid.state session text name changes planned_now table amounts orderly named many (read clean) none))
           (λ is. absurd (false≢true is)) (survives_itself (state g mid.store) _) (λ writes. absurd (false≢true writes)))
 
 -- WHAT A GRANT KEEPS
@@ -371,6 +387,23 @@ module _ {S : Type 0} (g : Ghosts S) (session : ℕ) (text : UpdateText) (name :
         of_tables = taken_tables s.catalog name (deltas changes) old new there becomes others of_tables;
         amounts = λ clean. taken_amounts s.rows name (deltas changes) old new there becomes others (amounts clean);
       }
+
+-- where its row has none, and gets one of its table, with its amounts
+pub first_keeps : {S : Type 0} (g : Ghosts S) (session : ℕ) (text : UpdateText) (name : RowName) (changes : List (Option ℤ)) (d : Seen S) (old new : Places)
+    → IsPlanned d.state text name changes → Keeps g d old → IsSession session → (table : TableDef) (amounts : List ℤ) (place : Kept)
+    → table_named d.state.catalog name.table ≡ Some table → length amounts ≡ length (reservables table.columns)
+    → (HasCleanDisk (state g d.store) → amounts_named d.state.rows name ≡ Some amounts) → IsNew amounts table.checks place
+    → reason_by session table.checks amounts (deltas changes) (of_row name d.state.reservations) (open_in d.state) ≡ None
+    → Becomes (TakesIn (deltas changes)) (Some place) (place_at new name) → OthersStay name old new
+    → Keeps g (record { store = d.store; state = with_open d.state (txn.granted session name changes (open_in d.state)) }) new
+first_keeps g session text name changes d old new planned keeps of_session table amounts place named many read is_new none becomes others =
+    let at = put_at name place old in
+    let put = put_others name place old in
+    grant_keeps g session text name changes d ((name, place) ∷ old) new planned keeps.kept of_session place at
+    (λ other differs. ap (λ (p : Option Kept). is_some p) (put other differs) ∙ keeps.placed other)
+    (made_tables d.state.catalog name table amounts place old ((name, place) ∷ old) named many at is_new put keeps.of_tables)
+    (λ clean. made_amounts d.state.rows name amounts table.checks place old ((name, place) ∷ old) (read clean) at is_new put (keeps.amounts clean))
+    (rw (is_new.checks_are, is_new.amounts_are) none) (rw at becomes) (λ other differs. others other differs ∙ sym (put other differs))
 
 -- where each row has the place that it had, what is kept stays
 pub same_keeps : {S : Type 0} (g : Ghosts S) (d : Seen S) (old new : Places) → Keeps g d old → ((row : RowName) → place_at new row ≡ place_at old row) → Keeps g d new

@@ -8,6 +8,7 @@ use Rattle.escrow_num.specs.declared.value.RowName.{RowName}
 use Rattle.escrow_num.specs.Order.{same_row}
 use Rattle.escrow_num.specs.Refusal.{first_refusal}
 use Rattle.escrow_num.specs.Reservation.{deltas}
+use Rattle.escrow_checks.specs.declared.check.Check.{Check}
 use Rattle.escrow_checks.specs.Grant.{broken}
 use Rattle.escrow_bounds.specs.Held.{of_row, CountsAll}
 use Rattle.escrow_bounds.specs.Kept.{Kept, checks_of}
@@ -33,6 +34,14 @@ pub record AreCounted (r : Reserved) : Type 0 where
 -- just the rows that have an open reservation have a place
 abbrev pub ArePlaced : List Reservation → Places → Type 0
 ArePlaced reservations places = (row : RowName) → is_some (place_at places row) ≡ list_any (λ r. same_row r.row row) reservations
+
+-- why a session isn't granted changes of a row with these amounts, of which such reservations are open, by the checks
+-- of its table
+abbrev pub reason_by : ℕ → List Check → List ℤ → List ℤ → List (List ℤ) → Open → Option Refusal
+reason_by session checks amounts changes reservations o = first_refusal (
+    grant_refusal session o
+    ∷ option_map refusal.Check (broken checks amounts changes reservations)
+    ∷ [])
 
 -- why a session isn't granted changes of a row, by its place: it holds as many reservations as it may, there are no
 -- more ids, or the first check that they could break

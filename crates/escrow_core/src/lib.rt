@@ -6,6 +6,7 @@
 //! where the statement may fail, and the state is equal.
 #![tactic(auto)]
 
+mod breach;
 mod database;
 mod recent;
 mod reserved;

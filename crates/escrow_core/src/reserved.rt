@@ -12,6 +12,7 @@ ghost use Rattle.escrow_journal.specs.Open.{cut_back};
 ghost use Rattle.escrow_journal.specs.Reservations.{own};
 ghost use Rattle.escrow_machine.specs.Walked.{IsShort};
 
+use crate::breach::first_breach;
 use escrow_bounds::{Addition, Bounds, deltas};
 use escrow_checks::Check;
 use escrow_num::{Amount, Changes, End, Name, Refusal, RowName, Session};
@@ -51,7 +52,7 @@ impl Reserved {
     ghost use Rattle.escrow_bounds.specs.Kept.{Kept};
     ghost use Rattle.escrow_bounds.specs.Places.{Becomes};
     ghost use Rattle.escrow_journal.specs.Open.{ended, grant_refusal, granted, released, saved, savepoint_refusal};
-    ghost use Rattle.escrow_core.specs.Reserved.{AreAmounts, AreCounted, ArePlaced, Releases, nothing, reason_against};
+    ghost use Rattle.escrow_core.specs.Reserved.{AreAmounts, AreCounted, ArePlaced, Releases, nothing, reason_against, reason_by};
 
     /// Nothing is open. Out of memory is the only error.
     pub(crate) fn new(alloc: Global) -> Result<Self, AllocError>
@@ -128,32 +129,67 @@ impl Reserved {
         self.bounds.amounts(row).unwrap()
     }
 
-    /// Makes a place for a row that has none, with its committed amounts and the checks of its table.
-    /// Answers where it stands. Want of memory is the only error, and leaves all places.
-    pub(crate) fn make_place(
+    /// Grants a session the first open reservation of a row, of changes of its committed amounts, unless there is a
+    /// reason against it: it holds as many as it may, there are no more ids, or the changes would break a check of the
+    /// row's table. A reason is answered however little memory there is; where there is none, want of memory is the
+    /// only error. What is granted takes the next id, and is the last of the open ones; the row gets a place, which
+    /// counts it. Answers its id. Where it is refused no id is taken, and each row has the place that it had.
+    pub(crate) fn grant_first(
         &mut self,
-        row: &RowName,
+        session: Session,
+        row: RowName,
         amounts: &[Amount],
         checks: &[Check],
-    ) -> Result<usize, AllocError>
+        changes: Changes,
+    ) -> Result<u64, Refusal>
         requires covered { AllByRecursion (λ check. IsCovered check.coeffs amounts.now) checks.now }
         requires few { length amounts.now ≤ MAX_LEN }
-        requires new { place_at self.old.places row.now ≡ None }
-        ensures txns { self.new.txns ≡ self.old.txns }
-        ensures at { IfOk result (λ at. IsAt self.new.places row.now at) }
-        ensures made { OnOk result ((place : Kept) × (place_at self.new.places row.now ≡ Some place) × IsNew amounts.now checks.now place) }
-        ensures others { OthersStay row.now self.old.places self.new.places }
-        ensures err { OnErr result (self.new ≡ self.old) }
+        requires new { place_at self.old.places row ≡ None }
+        requires short { length changes ≤ MAX_LEN }
+        requires room { grant_refusal session self.old.txns ≡ None → length self.old.txns.reservations < MAX_OPEN }
+        ensures id { IfOk result (λ id. id ≡ self.old.txns.next_id) }
+        ensures free { OnOk result (reason_by session checks.now amounts.now (deltas changes) (of_row row self.old.txns.reservations) self.old.txns ≡ None) }
+        ensures granted { OnOk result (self.new.txns ≡ granted session row changes self.old.txns) }
+        ensures made { OnOk result ((place : Kept) × IsNew amounts.now checks.now place × Becomes (TakesIn (deltas changes)) (Some place) (place_at self.new.places row)) }
+        ensures others { OthersStay row self.old.places self.new.places }
+        ensures against { IfSome (reason_by session checks.now amounts.now (deltas changes) (of_row row self.old.txns.reservations) self.old.txns) (λ e. result ≡ Err e) }
+        ensures only { IfErr result (λ e. (reason_by session checks.now amounts.now (deltas changes) (of_row row self.old.txns.reservations) self.old.txns ≡ Some e) ⊎ (e ≡ Refusal.Memory)) }
+        ensures refused { OnErr result (self.new.txns ≡ self.old.txns) }
+        ensures same { OnErr result ((other : Row) → place_at self.new.places other ≡ place_at self.old.places other) }
     {
-        self.bounds.make(row, amounts, checks)
+        let added = deltas(changes.as_slice());
+        let added = &added[..changes.len()];
+        if let Some(refusal) = self.first_refusal(session, amounts, checks, added) {
+            return Err(refusal);
+        }
+        let at = self.bounds.make(&row, amounts, checks)?;
+        Ok(self.hold(session, row, at, changes, added)?)
     }
 
-    /// Grants a session a reservation of changes of a row, whose place stands at an index, unless there is a reason
-    /// against it: it holds as many as it may, there are no more ids, or some choice of the open reservations, this
-    /// one among them, would break a check. A reason is answered however little memory there is; where there is none,
-    /// want of memory is the only error. What is granted takes the next id, and is the last of the open ones. Answers
-    /// its id. Where it is refused nothing changes, but that a place that counts nothing is given back, and no id is
-    /// taken.
+    /// Why a session isn't granted the first open reservation of a row, of changes of its committed amounts, if it
+    /// isn't, by the checks of its table.
+    fn first_refusal(
+        &self,
+        session: Session,
+        amounts: &[Amount],
+        checks: &[Check],
+        changes: &[Amount],
+    ) -> Option<Refusal>
+        requires { AllByRecursion (λ check. IsCovered check.coeffs amounts.now) checks.now }
+        ensures { (row : Row) → place_at self.now.places row ≡ None
+            → result ≡ reason_by session checks.now amounts.now changes.now (of_row row self.now.txns.reservations) self.now.txns }
+    {
+        if let Some(refusal) = self.txns.grant_refusal(session) {
+            return Some(refusal);
+        }
+        first_breach(checks, amounts, changes).map(Refusal::Check)
+    }
+
+    /// Grants a session one more reservation of changes of a row that has open ones, and whose place stands at an
+    /// index, unless there is a reason against it: it holds as many as it may, there are no more ids, or some choice
+    /// of the open reservations, this one among them, would break a check. A reason is answered however little memory
+    /// there is; where there is none, want of memory is the only error. What is granted takes the next id, and is the
+    /// last of the open ones. Answers its id. Where it is refused nothing changes.
     pub(crate) fn grant(
         &mut self,
         session: Session,
@@ -161,6 +197,7 @@ impl Reserved {
         at: usize,
         changes: Changes,
     ) -> Result<u64, Refusal>
+        requires reserved { list_any (λ r. same_row r.row row) self.old.txns.reservations ≡ true }
         requires placed { IsSome (place_at self.old.places row) }
         requires at { IsAt self.old.places row at }
         requires short { length changes ≤ MAX_LEN }
@@ -169,28 +206,17 @@ impl Reserved {
         ensures free { OnOk result ((place : Kept) → place_at self.old.places row ≡ Some place → reason_against session place row changes self.old.txns ≡ None) }
         ensures granted { OnOk result (self.new.txns ≡ granted session row changes self.old.txns) }
         ensures takes { OnOk result (Becomes (TakesIn (deltas changes)) (place_at self.old.places row) (place_at self.new.places row)) }
+        ensures others { OthersStay row self.old.places self.new.places }
         ensures against { (place : Kept) → place_at self.old.places row ≡ Some place → IfSome (reason_against session place row changes self.old.txns) (λ e. result ≡ Err e) }
         ensures only { IfErr result (λ e. (place : Kept) → place_at self.old.places row ≡ Some place → (reason_against session place row changes self.old.txns ≡ Some e) ⊎ (e ≡ Refusal.Memory)) }
-        ensures refused { OnErr result (self.new.txns ≡ self.old.txns) }
-        ensures releases { OnErr result (Releases self.old.txns.reservations row self.old.places self.new.places) }
-        ensures others { OthersStay row self.old.places self.new.places }
+        ensures unchanged { OnErr result (self.new ≡ self.old) }
     {
-        let amounts = deltas(changes.as_slice());
-        let amounts = &amounts[..changes.len()];
-        if let Some(refusal) = self.refusal(session, at, amounts) {
-            self.bounds.release_at(at);
+        let added = deltas(changes.as_slice());
+        let added = &added[..changes.len()];
+        if let Some(refusal) = self.refusal(session, at, added) {
             return Err(refusal);
         }
-        match self.txns.grant(session, row, changes) {
-            Ok(id) => {
-                self.bounds.add_at(at, amounts);
-                Ok(id)
-            }
-            Err(_) => {
-                self.bounds.release_at(at);
-                Err(Refusal::Memory)
-            }
-        }
+        Ok(self.hold(session, row, at, changes, added)?)
     }
 
     /// Why a session isn't granted changes of a row, whose place stands at an index, if it isn't.
@@ -203,6 +229,42 @@ impl Reserved {
             return Some(refusal);
         }
         self.bounds.verdict_at(at, changes).map(Refusal::Check)
+    }
+
+    /// Holds a reservation of changes of a row that nothing but memory refuses: it is the last of its session, with
+    /// the next id, and the row's place, which stands at an index, counts what it adds. Answers its id. Want of memory
+    /// is the only error: no id is taken, and nothing changes, but that a place that counts nothing is given back.
+    fn hold(
+        &mut self,
+        session: Session,
+        row: RowName,
+        at: usize,
+        changes: Changes,
+        added: &[Amount],
+    ) -> Result<u64, AllocError>
+        requires free { grant_refusal session self.old.txns ≡ None }
+        requires placed { IsSome (place_at self.old.places row) }
+        requires at { IsAt self.old.places row at }
+        requires short { length changes ≤ MAX_LEN }
+        requires added { added.now ≡ deltas changes }
+        requires room { length self.old.txns.reservations < MAX_OPEN }
+        ensures id { IfOk result (λ id. id ≡ self.old.txns.next_id) }
+        ensures granted { OnOk result (self.new.txns ≡ granted session row changes self.old.txns) }
+        ensures takes { OnOk result (Becomes (TakesIn (deltas changes)) (place_at self.old.places row) (place_at self.new.places row)) }
+        ensures others { OthersStay row self.old.places self.new.places }
+        ensures refused { OnErr result (self.new.txns ≡ self.old.txns) }
+        ensures releases { OnErr result (Releases self.old.txns.reservations row self.old.places self.new.places) }
+    {
+        match self.txns.grant(session, row, changes) {
+            Ok(id) => {
+                self.bounds.add_at(at, added);
+                Ok(id)
+            }
+            Err(_) => {
+                self.bounds.release_at(at);
+                Err(AllocError)
+            }
+        }
     }
 
     /// Ends a session's transaction: a commit moves its changes into the amounts of the places. A place

@@ -4,7 +4,7 @@ ghost use Rattle.escrow_schema.specs.Column.{reservables};
 ghost use Rattle.escrow_schema.specs.Definition.{IsTable};
 ghost use Rattle.escrow_schema.specs.Print.{declared_checks};
 
-use crate::database::insert::first_breach;
+use crate::breach::first_breach;
 use crate::reserved::Reserved;
 use escrow_bounds::Addition;
 use escrow_num::{Breach, Row};
@@ -103,6 +103,6 @@ impl RowJudge for AddedJudge<'_> {
             return self.addition.breach(&row.name, first, count);
         }
         let checks = self.added.table.checks.as_slice();
-        first_breach(&checks[first..first + count], row.amounts.as_slice())
+        first_breach(&checks[first..first + count], row.amounts.as_slice(), &[])
     }
 }

@@ -1,16 +1,14 @@
 ghost use Rattle.std.specs.Prelude.{◌≡◌, [], ◌∷◌, nat_le, option_map};
 ghost use Rattle.escrow_num.specs.Refusal.{first_refusal, refuse_if};
-ghost use Rattle.std.specs.List.{AllByRecursion};
-ghost use Rattle.escrow_checks.specs.Form.{IsCovered};
 ghost use Rattle.escrow_checks.specs.Grant.{broken};
 ghost use Rattle.escrow_schema.specs.Definition.{IsTable};
 ghost use Rattle.escrow_schema.specs.Fit.{IsRowOf};
 ghost use Rattle.escrow_schema.specs.declared.table.TheConstants.TableDef.{MAX_ROWS};
 
+use crate::breach::first_breach;
 use crate::database::Database;
-use escrow_checks::{Check, Spread};
 use escrow_machine::Reply;
-use escrow_num::{Amount, Breach, Refusal, Row, Session};
+use escrow_num::{Refusal, Row, Session};
 use escrow_schema::{TableDef, fit_row};
 use escrow_sql::{InsertText, Statement};
 use sqlite::Alter;
@@ -86,19 +84,5 @@ fn row_refusal(table: &TableDef, count: usize, row: &Row) -> Option<Refusal>
     if count >= TableDef::MAX_ROWS {
         return Some(Refusal::TableFull);
     }
-    first_breach(table.checks.as_slice(), row.amounts.as_slice()).map(Refusal::Check)
-}
-
-/// What amounts break of the first check that they don't meet, or `None`.
-pub(super) fn first_breach(checks: &[Check], amounts: &[Amount]) -> Option<Breach>
-    requires { AllByRecursion (λ check. IsCovered check.coeffs amounts.now) checks.now }
-    ensures { result ≡ broken checks.now amounts.now [] [] }
-{
-    for check in checks {
-        let breach = check.breach(amounts, &[], &Spread::new());
-        if breach.is_some() {
-            return breach;
-        }
-    }
-    None
+    first_breach(table.checks.as_slice(), row.amounts.as_slice(), &[]).map(Refusal::Check)
 }

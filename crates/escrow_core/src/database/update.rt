@@ -99,8 +99,9 @@ impl<S: Alter> Database<S> {
         // What its type knows of a session's number is told where the number is read.
         let _ = session.get();
         let checks = self.tables.table(place).checks.as_slice();
-        let at = self.reserved.make_place(&name, amounts.as_slice(), checks)?;
-        let id = self.reserved.grant(session, name, at, changes)?;
+        let id = self
+            .reserved
+            .grant_first(session, name, amounts.as_slice(), checks, changes)?;
         Ok(Reply::Reserved { id })
     }
 

@@ -24,6 +24,9 @@ there g c =
     reserved_placed c.self.inside.reserved.txns.reservations c.self.inside.reserved.places (row_name c.args.text.now.table c.args.key) c.self.invariant.keeps.placed
     (sym c.find.ensures.found ∙ ap (λ (found : Option _). is_some found) c.in-Some.is)
 
+pub grant-requires-clause-reserved : goal.grant-requires-clause-reserved
+grant-requires-clause-reserved g c = sym c.find.ensures.found ∙ ap (λ (found : Option _). is_some found) c.in-Some.is
+
 pub grant-requires-clause-placed : goal.grant-requires-clause-placed
 grant-requires-clause-placed g c =
     reserved_placed c.self.inside.reserved.txns.reservations c.self.inside.reserved.places (row_name c.args.text.now.table c.args.key) c.self.invariant.keeps.placed
@@ -46,7 +49,7 @@ returns-in_err-id g c =
     let places = c.self.inside.reserved.places in
     let name = row_name c.args.text.now.table c.args.key in
     let at_grant = (goal.at.returns-in_err-id g c).After-grant in
-    rw (← c.self.view_is, c.in_err-id.ensures.refused, left_by _ _ c.from_residual.ensures.1)
+    rw (← c.self.view_is, c.in_err-id.ensures.unchanged, left_by _ _ c.from_residual.ensures.1)
     (from_some (place_at places name) (there g at_grant) (λ place at.
     beside_refused g.S.Store c.args.session c.args.text.now name c.args.changes d places (planned g at_grant) c.self.invariant.keeps place at c.in_err-id.field-0.0 (c.in_err-id.ensures.only place at)))
 

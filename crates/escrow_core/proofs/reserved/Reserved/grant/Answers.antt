@@ -1,93 +1,30 @@
-use Rattle.std.specs.Prelude.{◌≡◌, None, length, take}
-use Rattle.std.proofs.Common.{sym, ap, subst, arith, ◌∙◌}
+use Rattle.std.specs.Prelude.{◌≡◌, None, take}
+use Rattle.std.proofs.Common.{sym}
 use Rattle.escrow_num.specs.Reservation.{deltas}
-use Rattle.escrow_bounds.specs.Counts.{TakesIn}
-use Rattle.escrow_bounds.specs.Held.{CountsJust, of_row}
-use Rattle.escrow_bounds.specs.Places.{Becomes, place_at}
+use Rattle.escrow_bounds.specs.Held.{of_row}
+use Rattle.escrow_bounds.specs.Kept.{checks_of}
+use Rattle.escrow_bounds.specs.Places.{place_at}
 use Rattle.escrow_bounds.proofs.Ending.{shown_is}
-use Rattle.escrow_bounds.proofs.LawLemmas.{release_counts}
 use Rattle.escrow_journal.specs.Open.{grant_refusal}
-use Rattle.escrow_core.specs.Reserved.{Reserved}
-use Rattle.escrow_core.proofs.Counting.{few_counted, free_of, granted_counts, released_is}
+use Rattle.escrow_core.proofs.Counting.{free_of}
 use Rattle.escrow_core.proofs.Places.{from_some}
 use Rattle.escrow_core.proofs.reserved.Reserved.grant.Goals as goal
-use Rattle.escrow_core.proofs.reserved.Reserved.grant.Goals.{After-refusal, in-Err, in-Ok}
+use Rattle.escrow_core.proofs.reserved.Reserved.grant.Goals.{After-refusal, In_default}
 
 -- what is counted is what is asked
-asked : (c : After-refusal) → take c.len.result c.deltas-amounts.result ≡ deltas c.args.changes
-asked c = shown_is c.deltas-amounts.result c.len.result c.as_slice.result.now c.args.changes c.len.ensures c.as_slice.ensures c.deltas-amounts.ensures
+asked : (c : After-refusal) → take c.len.result c.deltas-added.result ≡ deltas c.args.changes
+asked c = shown_is c.deltas-added.result c.len.result c.as_slice.result.now c.args.changes c.len.ensures c.as_slice.ensures c.deltas-added.ensures
 
-pub invariant_of-self : goal.invariant_of-self
-invariant_of-self c =
-    let at = rw (← c.self.view_is) at c.requires.at in
-    record {
-      counts = release_counts c.self.inside.bounds c.release_at.new.self c.args.row c.self.inside.txns.reservations c.self.invariant.counts
-          (c.release_at.ensures.empty c.args.row at) (c.release_at.ensures.counting c.args.row at) (c.release_at.ensures.others c.args.row at);
-      short = c.self.invariant.short;
-    }
+-- where no reason is against it, none is in the table of transactions
+left : (c : In_default) → grant_refusal c.args.session c.args.self.now.txns ≡ None
+left c =
+    let is = asked (goal.at.In_default c).After-refusal in
+    let now = c.args.self.now in
+    from_some (place_at now.places c.args.row) c.requires.placed (λ place found.
+    free_of c.args.session (checks_of place.checks) place.amounts (deltas c.args.changes) (of_row c.args.row now.txns.reservations) now.txns (sym (c.in_default.ensures c.args.row place c.args.changes c.requires.at found is)))
 
-pub returns-in-Some-clause-releases : goal.returns-in-Some-clause-releases
-returns-in-Some-clause-releases c =
-    let at = rw (← c.self.view_is) at c.requires.at in
-    rw (← c.self.view_is)
-    (released_is c.self.inside.txns.reservations c.args.row c.self.inside.bounds c.release_at.new.self c.self.invariant.counts (c.release_at.ensures.empty c.args.row at) (c.release_at.ensures.counting c.args.row at))
+pub hold-requires-clause-free : goal.hold-requires-clause-free
+hold-requires-clause-free c = left (goal.at.hold-requires-clause-free c).In_default
 
-pub grant-requires : goal.grant-requires
-grant-requires c =
-    let is = asked (goal.at.grant-requires c).After-refusal in
-    ap (λ (r : Reserved). grant_refusal c.args.session r.txns) c.self.view_is
-    ∙ from_some (place_at c.args.self.now.places c.args.row) c.requires.placed (λ place found.
-    free_of c.args.session place c.args.row c.args.changes c.args.self.now.txns (sym (c.in_default.ensures c.args.row place c.args.changes c.requires.at found is)))
-
-pub add_at-requires-clause-placed : goal.add_at-requires-clause-placed
-add_at-requires-clause-placed c = (c.args.row, rw (← c.self.view_is) at c.requires.at)
-
-pub add_at-requires-clause-room : goal.add_at-requires-clause-room
-add_at-requires-clause-room c = λ row place at found.
-    let reservations = c.self.inside.txns.reservations in
-    let is = asked (goal.at.add_at-requires-clause-room c).After-refusal in
-    let few = few_counted row reservations place (subst (λ p. CountsJust p (of_row row reservations)) found (c.self.invariant.counts row)) in
-    let left : grant_refusal c.args.session c.args.self.now.txns ≡ None =
-    from_some (place_at c.args.self.now.places c.args.row) c.requires.placed (λ kept held.
-    free_of c.args.session kept c.args.row c.args.changes c.args.self.now.txns (sym (c.in_default.ensures c.args.row kept c.args.changes c.requires.at held is))) in
-    let room = c.requires.room left in
-    let same : length reservations ≡ length c.args.self.now.txns.reservations = ap (λ (r : Reserved). length r.txns.reservations) c.self.view_is in
-    omega (arith, few, room, same)
-
-pub invariant_of-self-in-Ok : goal.invariant_of-self-in-Ok
-invariant_of-self-in-Ok c =
-    let there = rw (← c.self.view_is) at c.requires.placed in
-    let at = rw (← c.self.view_is) at c.requires.at in
-    let is = asked (goal.at.invariant_of-self-in-Ok c).After-refusal in
-    let takes : Becomes (TakesIn (deltas c.args.changes)) (place_at c.self.inside.bounds c.args.row) (place_at c.add_at.new.self c.args.row) = rw is at (c.add_at.ensures.takes c.args.row at) in
-    rw c.in-Ok.ensures.granted
-    (granted_counts c.args.session c.args.row c.args.changes c.self.inside.txns c.self.inside.bounds c.add_at.new.self c.self.invariant.counts c.self.invariant.short c.requires.short there takes (c.add_at.ensures.others c.args.row at))
-
-pub invariant_of-self-in-Err : goal.invariant_of-self-in-Err
-invariant_of-self-in-Err c =
-    let at = rw (← c.self.view_is) at c.requires.at in
-    rw c.in-Err.ensures.unchanged (record {
-      counts = release_counts c.self.inside.bounds c.release_at-in-Err.new.self c.args.row c.self.inside.txns.reservations c.self.invariant.counts
-          (c.release_at-in-Err.ensures.empty c.args.row at) (c.release_at-in-Err.ensures.counting c.args.row at) (c.release_at-in-Err.ensures.others c.args.row at);
-      short = c.self.invariant.short;
-    })
-
-pub returns-clause-takes : goal.returns-clause-takes
-returns-clause-takes c =
-    let at = rw (← c.self.view_is) at c.requires.at in
-    let is = asked (goal.at.returns-clause-takes c).After-refusal in
-    elim c.match-grant.branch [
-      | in-Ok w ↦ rw (w.result-is, w.self-is, ← c.self.view_is) (rw is at (w.add_at.ensures.takes c.args.row at))
-      | in-Err w ↦ rw w.result-is tt
-    ]
-
-pub returns-clause-releases : goal.returns-clause-releases
-returns-clause-releases c =
-    let at = rw (← c.self.view_is) at c.requires.at in
-    elim c.match-grant.branch [
-      | in-Ok w ↦ rw w.result-is tt
-      | in-Err w ↦
-          let release = w.release_at-in-Err in
-          rw (w.result-is, w.self-is, ← c.self.view_is)
-          (released_is c.self.inside.txns.reservations c.args.row c.self.inside.bounds release.new.self c.self.invariant.counts (release.ensures.empty c.args.row at) (release.ensures.counting c.args.row at))
-    ]
+pub hold-requires-clause-room : goal.hold-requires-clause-room
+hold-requires-clause-room c = c.requires.room (left (goal.at.hold-requires-clause-room c).In_default)
