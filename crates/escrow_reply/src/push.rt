@@ -50,7 +50,10 @@ fn push_whole(line: &mut Vec<u8>, number: i128) -> Result<(), AllocError>
     ensures room { TakesRoom result line.old line.new 40 }
 {
     let mut digits = Buffer::new();
-    push_text(line, digits.format(number))
+    match i64::try_from(number) {
+        Ok(small) => push_text(line, digits.format(small)),
+        Err(_) => push_text(line, digits.format(number)),
+    }
 }
 
 /// Words and units of a scale behind them.

@@ -58,69 +58,67 @@ fn push_named_count(
     push_counted(line, " ", count)
 }
 
-/// A refusal's number and its words.
+/// A refusal's number, and the words for it.
 fn push_refused(line: &mut Vec<u8>, refusal: &Refusal) -> Result<(), AllocError>
     ensures text { OnOk result (line.new.items ≡ line.old.items ++ reply_text (Reply.Refused refusal.now)) }
     ensures room { TakesRoom result line.old line.new 174 }
 {
     push_counted(line, "ERR ", u64::from(refusal.number()))?;
-    push_text(line, " ")?;
     push_refusal(line, refusal)
 }
 
-/// The words for a refusal.
+/// The words for a refusal, behind a space.
 fn push_refusal(line: &mut Vec<u8>, refusal: &Refusal) -> Result<(), AllocError>
-    ensures text { OnOk result (line.new.items ≡ line.old.items ++ refusal_text refusal.now) }
-    ensures room { TakesRoom result line.old line.new 129 }
+    ensures text { OnOk result (line.new.items ≡ line.old.items ++ (codes " " ++ refusal_text refusal.now)) }
+    ensures room { TakesRoom result line.old line.new 130 }
 {
     match refusal {
-        Refusal::Syntax { column } => { push_counted(line, "syntax column ", u64::from(*column)) }
-        Refusal::Line => push_text(line, "line"),
-        Refusal::TableExists => push_text(line, "table exists"),
-        Refusal::NoSuchTable => push_text(line, "no such table"),
-        Refusal::BadDefinition => push_text(line, "bad definition"),
-        Refusal::BadValue => push_text(line, "bad value"),
-        Refusal::BadAssignment => push_text(line, "bad assignment"),
-        Refusal::NotTheKey => push_text(line, "not the key"),
-        Refusal::TransactionOpen => push_text(line, "transaction open"),
-        Refusal::NoSuchConstraint => push_text(line, "no such constraint"),
-        Refusal::RowExists => push_text(line, "row exists"),
-        Refusal::NoSuchRow => push_text(line, "no such row"),
-        Refusal::RowReserved => push_text(line, "row reserved"),
-        Refusal::TableReserved => push_text(line, "table reserved"),
-        Refusal::TableFull => push_text(line, "table full"),
-        Refusal::TooManyTables => push_text(line, "too many tables"),
+        Refusal::Syntax { column } => { push_counted(line, " syntax column ", u64::from(*column)) }
+        Refusal::Line => push_text(line, " line"),
+        Refusal::TableExists => push_text(line, " table exists"),
+        Refusal::NoSuchTable => push_text(line, " no such table"),
+        Refusal::BadDefinition => push_text(line, " bad definition"),
+        Refusal::BadValue => push_text(line, " bad value"),
+        Refusal::BadAssignment => push_text(line, " bad assignment"),
+        Refusal::NotTheKey => push_text(line, " not the key"),
+        Refusal::TransactionOpen => push_text(line, " transaction open"),
+        Refusal::NoSuchConstraint => push_text(line, " no such constraint"),
+        Refusal::RowExists => push_text(line, " row exists"),
+        Refusal::NoSuchRow => push_text(line, " no such row"),
+        Refusal::RowReserved => push_text(line, " row reserved"),
+        Refusal::TableReserved => push_text(line, " table reserved"),
+        Refusal::TableFull => push_text(line, " table full"),
+        Refusal::TooManyTables => push_text(line, " too many tables"),
         Refusal::Check(breach) => push_breach(line, breach),
-        Refusal::TooManyReservations => push_text(line, "too many reservations"),
-        Refusal::NoSuchSavepoint => push_text(line, "no such savepoint"),
-        Refusal::TooManySavepoints => push_text(line, "too many savepoints"),
-        Refusal::NoMoreIds => push_text(line, "no more ids"),
-        Refusal::Memory => push_text(line, "memory"),
-        Refusal::TranscriptFull => push_text(line, "transcript full"),
-        Refusal::Store => push_text(line, "store"),
-        Refusal::ForeignStore => push_text(line, "foreign store"),
-        Refusal::UnknownVersion => push_text(line, "unknown version"),
+        Refusal::TooManyReservations => push_text(line, " too many reservations"),
+        Refusal::NoSuchSavepoint => push_text(line, " no such savepoint"),
+        Refusal::TooManySavepoints => push_text(line, " too many savepoints"),
+        Refusal::NoMoreIds => push_text(line, " no more ids"),
+        Refusal::Memory => push_text(line, " memory"),
+        Refusal::TranscriptFull => push_text(line, " transcript full"),
+        Refusal::Store => push_text(line, " store"),
+        Refusal::ForeignStore => push_text(line, " foreign store"),
+        Refusal::UnknownVersion => push_text(line, " unknown version"),
     }
 }
 
-/// A limit that could be broken: the check, the side, the worst value and the limit.
+/// A limit that could be broken, behind a space: the check, the side, the worst value and the limit.
 fn push_breach(line: &mut Vec<u8>, breach: &Breach) -> Result<(), AllocError>
-    ensures text { OnOk result (line.new.items ≡ line.old.items ++ breach_text breach.now) }
-    ensures room { TakesRoom result line.old line.new 129 }
+    ensures text { OnOk result (line.new.items ≡ line.old.items ++ (codes " " ++ breach_text breach.now)) }
+    ensures room { TakesRoom result line.old line.new 130 }
 {
-    push_bytes(line, breach.check.as_bytes())?;
-    push_text(line, side_words(breach.side))?;
-    push_measure(line, " ", breach.worst, breach.scale)?;
+    push_named(line, " ", breach.check)?;
+    push_measure(line, side_words(breach.side), breach.worst, breach.scale)?;
     push_measure(line, " limit ", breach.limit, breach.scale)
 }
 
-/// The word for a side, behind a space.
+/// The word for a side, between two spaces.
 fn side_words(side: Side) -> &'static str
-    ensures text { result.now ≡ codes " " ++ side_text side }
-    ensures short { length result.now ≤ 5 }
+    ensures text { result.now ≡ codes " " ++ side_text side ++ codes " " }
+    ensures short { length result.now ≤ 6 }
 {
     match side {
-        Side::Low => " low",
-        Side::High => " high",
+        Side::Low => " low ",
+        Side::High => " high ",
     }
 }
