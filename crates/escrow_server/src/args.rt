@@ -170,7 +170,7 @@ a reply can't be written, memory is short, a phase has too many sessions or a
 history doesn't fit, 2 for wrong arguments, 3 when a store can't be opened, in
 which case nothing was read.
 
-escrowd 0.10. Later versions add statements, answer those of this one as it
+escrowd 1.0. Later versions add statements, answer those of this one as it
 does, and read the stores that it wrote.";
 
 /// The arguments that the values ask, or what is wrong with a value.
