@@ -1,5 +1,6 @@
 -- A narrow entry's fields.
-use Rattle.std.proofs.Common.{◌≡◌, ℕ, ℤ, int_cmp, true, false, ◌<◌, ◌≤◌, List, [], ◌∷◌, length, take, drop, get_or, arith}
+use Rattle.std.proofs.Common.{◌≡◌, ℕ, ◌-◌, ℤ, int_cmp, true, false, ◌<◌, ◌≤◌, List, [], ◌∷◌, length, take, drop, get_or, arith}
+use Rattle.std.proofs.lemmas.List.{take_rest}
 use Rattle.std.proofs.lemmas.Bool.{le-ltb}
 use Rattle.std.proofs.lemmas.Bool.Decides.{nat_tests}
 use Rattle.sqlite_format.specs.Varint.{varint_len, varint_value}
@@ -32,13 +33,13 @@ unfolding decode
 narrow_fields entry some narrow =
     rw (narrow_len entry some narrow, narrow_value entry some narrow, le-ltb (length entry) 1 some)
 
--- the first field, where its type takes a byte
+-- the first field, where its type takes a byte, and those behind it
 pub narrow_first : (types body : List ℕ) → 1 ≤ length types → get_or types 0 0 < 128
-    → values_of types body ≡ serial_value (get_or types 0 0) (take (serial_size (get_or types 0 0)) body) ∷ values_of (drop 1 types) (drop (serial_size (get_or types 0 0)) body)
+    → values_of types body ≡ serial_value (get_or types 0 0) (take (serial_size (get_or types 0 0)) body) ∷ values_of (take (length types - 1) (drop 1 types)) (drop (serial_size (get_or types 0 0)) body)
 narrow_first types body some narrow =
     let len = narrow_len types some narrow in
     let value = narrow_value types some narrow in
-    rw (← value, ← len) (values_of-step types body (omega arith))
+    rw (take_rest types 1, ← value, ← len) (values_of-step types body (omega arith))
 
 -- no type, no field
 pub no_fields : (types body : List ℕ) → length types ≡ 0 → values_of types body ≡ []

@@ -1,5 +1,5 @@
 -- What a store shows after a write.
-use Rattle.std.proofs.Common.{Result, Ok, Err, OnOk, IfErr, ◌≡◌, ◌≢◌, ℕ, ◌^◌, ◌<◌, true, false, List, [], ◌∷◌, map, get_or, set, cond, eqb, unwrap_or, refl, sym, ap, ◌∙◌, arith, eq-eqb, ne_eqb, inl, inr}
+use Rattle.std.proofs.Common.{Result, Ok, Err, IfErr, ◌≡◌, ◌≢◌, ℕ, ◌^◌, ◌<◌, true, false, List, [], ◌∷◌, map, get_or, set, cond, eqb, unwrap_or, refl, sym, ap, ◌∙◌, arith, eq-eqb, ne_eqb, inl, inr}
 use Rattle.std.proofs.lemmas.Bool.{cases_eq}
 use Rattle.std.proofs.lemmas.List.{map-set, length-map}
 use mathlib.Core.Path.{fun_ext}
@@ -11,7 +11,7 @@ use Rattle.sqlite_trees.specs.declared.store.Shape.{Shape}
 use Rattle.sqlite_trees.specs.declared.store.Shape.TheVariants.{Absent, Table}
 use Rattle.sqlite_record.specs.Refusal.{IsRefusal}
 use Rattle.sqlite_trees.specs.Tree.{Trees, with_tree, put_row}
-use Rattle.sqlite_trees.specs.View.{View, KeepsSchema, SetsTree, OnlyWrites, IsFailure, HasCause}
+use Rattle.sqlite_trees.specs.View.{View, SetsTree, OnlyWrites, IsFailure, HasCause}
 use Rattle.sqlite_trees.specs.Objects.{catalog_tree, version_tree, with_version, description, set_at, SetsObject, object_row, Relists}
 use Rattle.sqlite_trees.specs.Listing.{Heading, no_heading, objects_from, shape_in, reals_in, reals_unless_absent, objects_from-set}
 use Rattle.sqlite_trees.proofs.StoreLemmas.{named, under_version, versioned_edit, versioned_object, get_or-set_cases, present_reals}
@@ -102,25 +102,9 @@ module _ (old new : BlockStore) (tree : ℕ) (it : Held) (low : tree < 2 ^ 32) (
             ∙ (λ i. record (block_view old) { trees = trees i; shape = kinds i; reals = set_at (all_reals (trees_of (current old))) tree (real i); cursors = (block_view new).cursors });
       }
 
-module _ (old new : BlockStore) (tree : ℕ) (edit : List Row → List Row) where
-  pub write_frame : SetsTree (block_view old) (block_view new) tree edit → OnlyWrites (block_view old) (block_view new)
-  write_frame h = λ i. record (h.is i) { trees = (block_view new).trees; cursors = (block_view new).cursors }
-
-  -- a write keeps what memory alone holds, and the last commit
-  pub write_keeps : (r : Result (Unit {0}) StoreError) → OnOk r (SetsTree (block_view old) (block_view new) tree edit) → IfErr r (IsFailure (block_view old) (block_view new))
-      → KeepsSchema (block_view old) (block_view new) × ((block_view new).committed ≡ (block_view old).committed)
-  write_keeps (Ok x) h _ = (
-    record {
-      shape = ap (λ (v : View). v.shape) h.is;
-      reals = ap (λ (v : View). v.reals) h.is;
-      committed_shape = ap (λ (v : View). v.committed_shape) h.is;
-      committed_reals = ap (λ (v : View). v.committed_reals) h.is;
-      numbered = refl;
-    },
-    ap (λ (v : View). v.committed) h.is,
-  )
-  write_keeps (Err e) _ h =
-      (record { shape = h.kept.shape; reals = h.kept.reals; committed_shape = h.kept.committed_shape; committed_reals = h.kept.committed_reals; numbered = refl }, h.kept.committed refl)
+-- a write leaves all but trees and cursors
+pub write_frame : (old new : View) (tree : ℕ) (edit : List Row → List Row) → SetsTree old new tree edit → OnlyWrites old new
+write_frame old new tree edit h = λ i. record (h.is i) { trees = new.trees; cursors = new.cursors }
 
 -- what the transaction sees after one of its trees was edited
 pub edit_shown : (s : BlockStore) (made done : Forest) (t : ℕ) (edit : List Row → List Row) → t < 2 ^ 32

@@ -5,7 +5,7 @@ ghost use Rattle.escrow_memory.specs.Children.{children_rows, AreCounted};
 ghost use Rattle.escrow_memory.specs.Rows.{spliced, entry_rows, next_rows};
 
 use crate::child::Child;
-use crate::node::Node;
+use crate::node::{Change, Node};
 use crate::probe::Probe;
 use std::alloc::{AllocError, Global};
 use std::mem;
@@ -118,7 +118,7 @@ fn splice_child<N: Node>(
     ensures rows { OnOk result (children_rows N.rows children.new.items ≡ spliced (length (children_rows N.rows (take place children.old.items)) + at) cut (entry_rows new.entry) (children_rows N.rows children.old.items)) }
     ensures counted { OnOk result (AreCounted N.rows children.new.items) }
 {
-    let next = children[place].splice(alloc, at, cut, new)?;
+    let next = children[place].splice(alloc, Change { at, cut, new })?;
     add_next(alloc, children, place, next)?;
     if children[place].len == 0 {
         children.remove(place);
@@ -255,10 +255,9 @@ impl<N: Node> Node for Branch<N> {
     fn splice(
         &mut self,
         alloc: Global,
-        at: usize,
-        cut: usize,
-        new: Option<&[u8]>,
+        change: Change<'_>,
     ) -> Result<Option<Branch<N>>, AllocError> {
+        let Change { at, cut, new } = change;
         let branch = mem::replace(self, Branch::new(alloc));
         let (branch, place) = branch.edited(alloc, at, cut, new)?;
         let (first, second) = branch.divided(place)?;

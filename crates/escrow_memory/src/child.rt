@@ -2,7 +2,7 @@
 ghost use Rattle.std.specs.Prelude.{◌≡◌, ◌+◌, ◌≤◌, ◌++◌, length, IfOk, OnOk};
 ghost use Rattle.escrow_memory.specs.Rows.{spliced, entry_rows, next_rows};
 
-use crate::node::Node;
+use crate::node::{Change, Node};
 use std::alloc::{AllocError, Global};
 use std::sync::Arc;
 
@@ -41,20 +41,17 @@ impl<N: Node> Child<N> {
     pub(crate) fn splice(
         &mut self,
         alloc: Global,
-        at: usize,
-        cut: usize,
-        new: Option<&[u8]>,
+        change: Change<'_>,
     ) -> Result<Option<N>, AllocError>
-        requires within { at + cut ≤ length (N.rows self.old.node.value) }
-        requires one { cut ≤ 1 }
-        ensures ok { IfOk result (λ next. N.rows self.new.node.value ++ next_rows N.rows next ≡ spliced at cut (entry_rows new.entry) (N.rows self.old.node.value)) }
+        requires { change.at + change.cut ≤ length (N.rows self.old.node.value) }
+        ensures ok { IfOk result (λ next. N.rows self.new.node.value ++ next_rows N.rows next ≡ spliced change.entry.at change.entry.cut (entry_rows change.entry.new) (N.rows self.old.node.value)) }
         ensures len { OnOk result (self.new.len ≡ length (N.rows self.new.node.value)) }
     {
         let next = match Arc::get_mut(&mut self.node) {
-            Some(node) => node.splice(alloc, at, cut, new)?,
+            Some(node) => node.splice(alloc, change)?,
             None => {
                 let mut copy = self.node.copy(alloc)?;
-                let next = copy.splice(alloc, at, cut, new)?;
+                let next = copy.splice(alloc, change)?;
                 self.node = Arc::new(alloc, copy)?;
                 next
             }

@@ -4,7 +4,7 @@ ghost use Rattle.sqlite_record.specs.Record.{decode};
 ghost use Rattle.escrow_memory.specs.Slot.{slot_row, IsWithin};
 ghost use Rattle.escrow_memory.specs.Rows.{spliced, entry_rows, next_rows};
 
-use crate::node::Node;
+use crate::node::{Change, Node};
 use crate::probe::Probe;
 use crate::slot::Slot;
 use std::alloc::{AllocError, Global};
@@ -178,13 +178,8 @@ impl Node for Leaf {
         Ok(Leaf { bytes, slots })
     }
 
-    fn splice(
-        &mut self,
-        alloc: Global,
-        at: usize,
-        cut: usize,
-        new: Option<&[u8]>,
-    ) -> Result<Option<Leaf>, AllocError> {
+    fn splice(&mut self, alloc: Global, change: Change<'_>) -> Result<Option<Leaf>, AllocError> {
+        let Change { at, cut, new } = change;
         let leaf = mem::replace(self, Leaf::new(alloc)).edited(at, cut, new)?;
         let (first, second) = leaf.divided(alloc, at)?;
         *self = first;

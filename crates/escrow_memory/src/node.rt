@@ -8,6 +8,15 @@ ghost use Rattle.escrow_memory.specs.Probe.{passes};
 use crate::probe::Probe;
 use std::alloc::{AllocError, Global};
 
+/// What is done to a node: entries are taken out at a place, one at most, and a new one is put in there, or none.
+#[derive(Clone, Copy, Debug)]
+pub(crate) struct Change<'a> {
+    pub(crate) at: usize,
+    pub(crate) cut: usize,
+    pub(crate) new: Option<&'a [u8]>,
+    pub ghost one: { cut ≤ 1 },
+}
+
 /// A run of a tree's entries, in order. An entry is a row in SQLite's record format.
 pub(crate) trait Node: Sized + Drop {
     // the rows that its entries read as
@@ -45,18 +54,11 @@ pub(crate) trait Node: Sized + Drop {
     fn copy(&self, alloc: Global) -> Result<Self, AllocError>
         ensures { IfOk result (λ node. rows node ≡ rows self.now) };
 
-    /// Takes out an entry at a place, or none, and puts a new one there, or none. A node that
-    /// became too large is divided: its second part is answered. An error leaves it empty.
-    fn splice(
-        &mut self,
-        alloc: Global,
-        at: usize,
-        cut: usize,
-        new: Option<&[u8]>,
-    ) -> Result<Option<Self>, AllocError>
-        requires within { at + cut ≤ length (rows self.old) }
-        requires one { cut ≤ 1 }
-        ensures ok { IfOk result (λ next. rows self.new ++ next_rows rows next ≡ spliced at cut (entry_rows new.entry) (rows self.old)) }
+    /// Makes a change. A node that became too large is divided: its second part is answered. An
+    /// error leaves it empty.
+    fn splice(&mut self, alloc: Global, change: Change<'_>) -> Result<Option<Self>, AllocError>
+        requires { change.at + change.cut ≤ length (rows self.old) }
+        ensures ok { IfOk result (λ next. rows self.new ++ next_rows rows next ≡ spliced change.entry.at change.entry.cut (entry_rows change.entry.new) (rows self.old)) }
         ensures err { OnErr result (rows self.new ≡ []) };
 
     /// Takes the entries of the node behind it. An error leaves it empty.

@@ -57,13 +57,13 @@ impl BlockStore {
     ghost use Rattle.std.specs.Prelude.{IfErr, unwrap_or};
     ghost use Rattle.escrow_memory.specs.declared.forest.Forest.{Forest as ForestValue};
     ghost use Rattle.sqlite_trees.specs.Tree.{order_of, sought};
-    ghost use Rattle.sqlite_trees.specs.View.{SetsTree, IsFailure, HasCause, IsStorable};
+    ghost use Rattle.sqlite_trees.specs.View.{IsClean, SetsTree, OnlyWrites, KeepsSchema, IsQuiet, IsFailure, HasCause, IsStorable};
     ghost use Rattle.sqlite_trees.specs.Objects.{catalog_tree, version_tree, version_rows, set_at, Relists};
     ghost use Rattle.escrow_memory.specs.Edit.{edited, Fits, Storable, Writes};
     ghost use Rattle.sqlite_record.specs.Refusal.{IsRefusal};
     ghost use Rattle.escrow_memory.specs.Held.{headings, rows_of, shape_of};
     ghost use Rattle.escrow_memory.specs.Trees.{held};
-    ghost use Rattle.escrow_memory.specs.Store.{trees_of, current, left_of, block_view, SetsCursor, Steps, IsReplaced};
+    ghost use Rattle.escrow_memory.specs.Store.{trees_of, current, left_of, block_view, over_blocks, SetsCursor, Steps, IsReplaced};
 
     /// A store with an empty tree for each object, listed as it. Want of memory is the only error.
     pub fn new(alloc: Global, schema: &[Object<'_>]) -> Result<BlockStore, AllocError>
@@ -197,11 +197,14 @@ impl BlockStore {
         Ok(())
     }
 
-    /// Makes a write in the tree with this number. An error but `Unstorable` leaves a transaction that can only be rolled back, whole
-    /// or to a savepoint.
+    /// Makes a write in the tree with this number, as [`Store`] asks of its four. An error but `Unstorable` leaves a transaction that
+    /// can only be rolled back, whole or to a savepoint.
     fn write(&mut self, tree: u32, edit: Edit<'_>) -> Result<(), StoreError>
         requires { Fits edit ((block_view self.old).shape tree) }
-        ensures ok { OnOk result (SetsTree (block_view self.old) (block_view self.new) tree (edited edit.entry)) }
+        ensures ok { OnOk result (IsClean (block_view self.new) → SetsTree (block_view self.old) (block_view self.new) tree (edited edit.entry)) }
+        ensures frame { OnOk result (IsClean (block_view self.new) → OnlyWrites (block_view self.old) (block_view self.new)) }
+        ensures schema { KeepsSchema (block_view self.old) (block_view self.new) }
+        ensures quiet { IsQuiet block_view over_blocks.faults over_blocks.recovers over_blocks.is_shielded self.old self.new }
         ensures err { IfErr result (IsFailure (block_view self.old) (block_view self.new)) }
         ensures cause { (reals : ℕ) → IfErr result (HasCause (block_view self.old) ⊥ (¬ Storable reals edit.entry)) }
     {

@@ -21,21 +21,42 @@ rest-moved zero rest some = absurd (omega arith)
 rest-moved (suc k) rest some = let e : suc k - 1 ≡ k = omega arith in rw e refl
 
 -- one more digit of a number is written
-pub decimal-moved : (n : ℕ) (behind : List ℕ) → 10 ≤ n → n < 10 ^ 64 → decimal (n / 10) ++ (48 + n % 10) ∷ behind ≡ decimal n ++ behind
+decimal-moved : (n : ℕ) (behind : List ℕ) → 10 ≤ n → n < 10 ^ 64 → decimal (n / 10) ++ (48 + n % 10) ∷ behind ≡ decimal n ++ behind
 decimal-moved n behind great small =
     sym (append_assoc (decimal (n / 10)) ((48 + n % 10) ∷ []) behind) ∙ ap (λ (ds : List ℕ). ds ++ behind) (sym (decimal_step_wide n great small))
 
-pub decimal-longer : (n : ℕ) → 10 ≤ n → n < 10 ^ 64 → length (decimal n) ≡ length (decimal (n / 10)) + 1
+decimal-longer : (n : ℕ) → 10 ≤ n → n < 10 ^ 64 → length (decimal n) ≡ length (decimal (n / 10)) + 1
 decimal-longer n great small = ap length (decimal_step_wide n great small) ∙ length-append (decimal (n / 10)) ((48 + n % 10) ∷ [])
 
 -- a number has a digit
-pub decimal-some : (n : ℕ) → n < 10 ^ 64 → 0 < length (decimal n)
+decimal-some : (n : ℕ) → n < 10 ^ 64 → 0 < length (decimal n)
 decimal-some n small =
     decimal_by_steps_wide (λ m ds. 0 < length ds) (λ m h. omega arith) (λ m ds h some. omega (arith, length-append ds ((48 + m % 10) ∷ []))) n small
 
 -- the last digit of all
 pub decimal-last : (n : ℕ) (behind : List ℕ) → n < 10 → (48 + n) ∷ behind ≡ decimal n ++ behind
 decimal-last n behind small = ap (λ (ds : List ℕ). ds ++ behind) (sym (decimal_digit n small))
+
+-- a number is written before an end, but for its first digits, those of `rest`, which are to end at a place
+pub record IsWritten (bytes : List ℕ) (number end : ℕ) (now : List ℕ) (rest at : ℕ) : Type 0 where
+  pub place : at + length (decimal number) ≡ end + length (decimal rest)
+  pub room : length (decimal rest) ≤ at
+  pub within : at ≤ end
+  pub written : decimal rest ++ drop at now ≡ decimal number ++ drop end bytes
+
+pub has_place : {bytes : List ℕ} {number end : ℕ} {now : List ℕ} {rest at : ℕ} → IsWritten bytes number end now rest at → rest < 10 ^ 64 → 0 < at
+has_place {rest = rest} h small = omega (arith, decimal-some rest small, h.room)
+
+pub digit_written : {bytes : List ℕ} {number end : ℕ} {now next : List ℕ} {rest at before : ℕ} → IsWritten bytes number end now rest at → 10 ≤ rest → rest < 10 ^ 64
+    → before + 1 ≡ at → drop before next ≡ (48 + rest % 10) ∷ drop at now → IsWritten bytes number end next (rest / 10) before
+digit_written {now = now} {rest = rest} {at = at} h great small start put =
+    let longer = decimal-longer rest great small in
+    record {
+      place = omega (arith, longer, h.place);
+      room = omega (arith, longer, h.room);
+      within = omega (arith, h.within);
+      written = ap (λ (ds : List ℕ). decimal (rest / 10) ++ ds) put ∙ decimal-moved rest (drop at now) great small ∙ h.written;
+    }
 
 -- the whole part is no greater than the number
 pub before-small : (digits n : ℕ) → before_last digits n ≤ n

@@ -1,13 +1,8 @@
-use Rattle.std.proofs.Common.{◌≡◌, ◌+◌, ◌≤◌, ◌++◌, decimal, drop, length}
+use Rattle.escrow_num.proofs.ScaledLemmas.{IsWritten}
 use Rattle.escrow_num.proofs.scaled.put_number.Given as goal
 
 abbrev pub invariant-loop-rest : goal.invariant-loop-rest
-invariant-loop-rest l = record {
-  place : l.at + length (decimal l.fn.number) ≡ l.fn.end + length (decimal l.rest);
-  room : length (decimal l.rest) ≤ l.at;
-  within : l.at ≤ l.fn.end;
-  written : decimal l.rest ++ drop l.at l.bytes ≡ decimal l.fn.number ++ drop l.fn.end l.fn.bytes;
-}
+invariant-loop-rest l = IsWritten l.fn.bytes l.fn.number l.fn.end l.bytes l.rest l.at
 
 abbrev pub decreases-loop-rest : goal.decreases-loop-rest
 decreases-loop-rest l = l.rest

@@ -1,32 +1,16 @@
-use Rattle.std.proofs.Common.{◌<◌, ◌/◌, ◌^◌, ◌++◌, List, ℕ, ap, arith, decimal, drop, length, ◌∙◌}
+use Rattle.std.proofs.Common.{ap, arith, drop, length, ◌∙◌}
 use Rattle.std.proofs.lemmas.Fmt.{decimal_digit}
-use Rattle.escrow_num.proofs.ScaledLemmas.{decimal-last, decimal-longer, decimal-moved, decimal-some}
+use Rattle.escrow_num.proofs.ScaledLemmas.{decimal-last, has_place, digit_written}
 use Rattle.escrow_num.proofs.scaled.put_small.Goals as goal
 
 pub put-at-requires : goal.put-at-requires
-put-at-requires c =
-    let small : c.loop-rest.rest < 10 ^ 64 = omega arith in
-    let some = decimal-some c.loop-rest.rest small in
-    (omega (arith, some), omega arith)
+put-at-requires c = (has_place c.loop-rest.invariant (omega arith), omega arith)
 
 pub loop-rest-preserved : goal.loop-rest-preserved
-loop-rest-preserved c =
-    let small : c.loop-rest.rest < 10 ^ 64 = omega arith in
-    let longer = decimal-longer c.loop-rest.rest c.loop-rest-test.true small in
-    record {
-      place = omega (arith, longer);
-      room = omega (arith, longer);
-      within = omega arith;
-      written =
-          ap (λ (ds : List ℕ). decimal (c.loop-rest.rest / 10) ++ ds) c.put-at.ensures.written ∙
-          decimal-moved c.loop-rest.rest (drop c.loop-rest.at c.loop-rest.bytes) c.loop-rest-test.true small ∙ c.loop-rest.invariant.written;
-    }
+loop-rest-preserved c = digit_written c.loop-rest.invariant c.loop-rest-test.true (omega arith) c.put-at.ensures.start c.put-at.ensures.written
 
 pub put-requires : goal.put-requires
-put-requires c =
-    let small : c.loop-rest.rest < 10 ^ 64 = omega arith in
-    let some = decimal-some c.loop-rest.rest small in
-    (omega (arith, some), omega arith)
+put-requires c = (has_place c.loop-rest.invariant (omega arith), omega arith)
 
 pub returns-clause-start : goal.returns-clause-start
 returns-clause-start c = omega (arith, ap length (decimal_digit c.loop-rest.rest c.loop-rest-test.false))

@@ -3,7 +3,7 @@ use Rattle.escrow_memory.specs.declared.store.BlockStore.{BlockStore}
 use Rattle.escrow_memory.specs.Edit.{edited}
 use Rattle.escrow_memory.specs.Store.{trees_of, current, block_view}
 use Rattle.escrow_memory.proofs.Forests.{shape_named}
-use Rattle.escrow_memory.proofs.Views.{written, edit_shown, cause_of}
+use Rattle.escrow_memory.proofs.Views.{written, edit_shown, write_frame, cause_of}
 use Rattle.escrow_memory.proofs.store.BlockStore.write.Goals as goal
 
 pub edit-done-requires-clause-fits : goal.edit-done-requires-clause-fits
@@ -18,7 +18,7 @@ pub returns-in_err-encode-clause-cause : goal.returns-in_err-encode-clause-cause
 returns-in_err-encode-clause-cause c reals = let cause = cause_of (block_view c.args.self.now) _ _ (c.in_err-encode.ensures.err reals) in search rules
 
 pub returns-clause-ok : goal.returns-clause-ok
-returns-clause-ok c =
+returns-clause-ok c _ =
     let s = c.args.self.now in
     let seen : trees_of c.in_ok-forest.forest ≡ trees_of (current s) = c.in_ok-forest.ensures.trees ∙ ap (λ (x : BlockStore). trees_of (current x)) c.encode.ensures.rest in
     let number : c.in_ok-forest.forest.version ≡ (current s).version = c.in_ok-forest.ensures.version ∙ ap (λ (x : BlockStore). (current x).version) c.encode.ensures.rest in
@@ -29,3 +29,6 @@ returns-clause-ok c =
     let mid = c.take_changed.new.self in
     let new : BlockStore = record { alloc = mid.alloc; base = mid.base; changed = Some c.edit-done.new.self; marks = mid.marks; cursors = c.clear.new.self; is_broken = false; types = mid.types; bytes = mid.bytes } in
     record { sound = c.if-self.false; is = written s new _ _ _ base marks c.if-self.false refl (ap (λ x. x.trees) shown) (ap (λ x. x.shape) shown) (ap (λ x. x.reals) shown) }
+
+pub returns-clause-frame : goal.returns-clause-frame
+returns-clause-frame c clean = write_frame _ _ _ _ (returns-clause-ok c clean)
