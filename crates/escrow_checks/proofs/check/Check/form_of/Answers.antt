@@ -1,6 +1,5 @@
-use Rattle.std.proofs.Common.{◌≡◌, ℤ, pos, ◌+ℤ◌, ◌*ℤ◌, take, ap, ap₂, sym, ◌∙◌, to_z, of_z, arith}
+use Rattle.std.proofs.Common.{◌≡◌, ℤ, pos, ◌+ℤ◌, ◌*ℤ◌, ap, ap₂, sym, ◌∙◌, to_z, of_z, arith}
 use Rattle.std.specs.Int.{w128}
-use Rattle.std.specs.List.{fold}
 use Rattle.std.proofs.lemmas.Int.{ints, to_z-of_z}
 use Rattle.std.proofs.lemmas.List.Sums.{fold_more}
 use Rattle.escrow_checks.specs.Contribution.{IsContribution}
