@@ -13,21 +13,17 @@ use Rattle.escrow_checks.specs.Spread.{IsSpread}
 use Rattle.escrow_bounds.specs.declared.tracked.Tracked.{Tracked}
 use Rattle.escrow_bounds.specs.Counts.{HaveSums}
 use Rattle.escrow_bounds.specs.Kept.{checks_of}
+use Rattle.escrow_bounds.specs.Recounting.{counted_before, counted_after, AreRecounted}
+use Rattle.escrow_bounds.specs.declared.tracked.Counting.{Counting}
 use Rattle.escrow_bounds.proofs.Steps.{AllStepped}
 
 -- ---- one form
 
--- the same check, with one more reservation counted
-abbrev pub StepIn : List ℤ → Tracked → Tracked → Type 0
-StepIn changes old new =
+-- the same check, with one more reservation counted, or one of them no more
+abbrev pub Recount : Counting → List ℤ → Tracked → Tracked → Type 0
+Recount kind changes old new =
     (new.check ≡ old.check)
-    × ((before after : List (List ℤ)) → IsSpread old.check.coeffs (before ++ after) old.spread → IsSpread old.check.coeffs (before ++ changes ∷ after) new.spread)
-
--- the same check, with one of its reservations counted no more
-abbrev pub StepOut : List ℤ → Tracked → Tracked → Type 0
-StepOut changes old new =
-    (new.check ≡ old.check)
-    × ((before after : List (List ℤ)) → IsSpread old.check.coeffs (before ++ changes ∷ after) old.spread → IsSpread old.check.coeffs (before ++ after) new.spread)
+    × ((before after : List (List ℤ)) → IsSpread old.check.coeffs (counted_before kind before changes after) old.spread → IsSpread old.check.coeffs (counted_after kind before changes after) new.spread)
 
 -- what all forms have, the one at a place has
 pub sums_at : (forms : List Tracked) (reservations : List (List ℤ)) (place : ℕ) (form : Tracked) → place < length forms → form ≡ get_or forms place form → HaveSums forms reservations
@@ -36,9 +32,6 @@ sums_at forms reservations place form below at sums =
     all_at (λ (other : Tracked). IsSpread other.check.coeffs reservations other.spread) forms place form below at sums
 
 -- ---- all forms
-
-abbrev Same : Tracked → Tracked → Type 0
-Same old new = new.check ≡ old.check
 
 checks_same : (Step : Tracked → Tracked → Type 0) → ((x y : Tracked) → Step x y → y.check ≡ x.check) → (old new : List Tracked) → AllStepped Step old new → checks_of new ≡ checks_of old
 checks_same Step is [] [] all = refl
@@ -54,21 +47,14 @@ sums_after Step reservations after is [] (y ∷ ys) all sums = absurd all
 sums_after Step reservations after is (x ∷ xs) [] all sums = absurd all
 sums_after Step reservations after is (x ∷ xs) (y ∷ ys) all sums = (is x y all.0 sums.0, sums_after Step reservations after is xs ys all.1 sums.1)
 
-pub in_checks : (changes : List ℤ) (old new : List Tracked) → AllStepped (StepIn changes) old new → checks_of new ≡ checks_of old
-in_checks changes old new all = checks_same (StepIn changes) (λ x y step. step.0) old new all
-
-pub out_checks : (changes : List ℤ) (old new : List Tracked) → AllStepped (StepOut changes) old new → checks_of new ≡ checks_of old
-out_checks changes old new all = checks_same (StepOut changes) (λ x y step. step.0) old new all
-
-pub in_sums : (changes : List ℤ) (old new : List Tracked) (before after : List (List ℤ)) → AllStepped (StepIn changes) old new → HaveSums old (before ++ after) → HaveSums new (before ++ changes ∷ after)
-in_sums changes old new before after all sums =
-    sums_after (StepIn changes) (before ++ after) (before ++ changes ∷ after)
-    (λ x y step known. subst (λ (check : Check). IsSpread check.coeffs (before ++ changes ∷ after) y.spread) (sym step.0) (step.1 before after known)) old new all sums
-
-pub out_sums : (changes : List ℤ) (old new : List Tracked) (before after : List (List ℤ)) → AllStepped (StepOut changes) old new → HaveSums old (before ++ changes ∷ after) → HaveSums new (before ++ after)
-out_sums changes old new before after all sums =
-    sums_after (StepOut changes) (before ++ changes ∷ after) (before ++ after)
-    (λ x y step known. subst (λ (check : Check). IsSpread check.coeffs (before ++ after) y.spread) (sym step.0) (step.1 before after known)) old new all sums
+pub are_recounted : (kind : Counting) (changes : List ℤ) (old new : List Tracked) → AllStepped (Recount kind changes) old new → AreRecounted kind changes old new
+are_recounted kind changes old new all = (
+  checks_same (Recount kind changes) (λ x y step. step.0) old new all,
+  λ before after sums.
+      let reservations = counted_after kind before changes after in
+      sums_after (Recount kind changes) (counted_before kind before changes after) reservations
+      (λ x y step known. subst (λ (check : Check). IsSpread check.coeffs reservations y.spread) (sym step.0) (step.1 before after known)) old new all sums,
+)
 
 -- ---- one more form
 

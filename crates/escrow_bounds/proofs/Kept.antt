@@ -1,5 +1,5 @@
 -- What is kept of a row, when one more reservation is counted, or one less.
-use Rattle.std.proofs.Common.{◌≡◌, ℕ, zero, suc, ◌+◌, ◌-◌, ℤ, pos, ◌<◌, Vec, List, [], ◌∷◌, ◌++◌, length, get_or, refl, sym, ap, ◌∙◌, subst, arith, length-append}
+use Rattle.std.proofs.Common.{◌≡◌, ℕ, zero, suc, ◌+◌, ℤ, pos, ◌<◌, Vec, List, [], ◌∷◌, ◌++◌, length, get_or, refl, sym, ap, ◌∙◌, subst, arith, length-append}
 use Rattle.std.specs.List.{AllByRecursion}
 use Rattle.std.specs.Prelude.{Some, slice_get, replicate}
 use Rattle.std.specs.Vec.{with_items}
@@ -13,10 +13,13 @@ use Rattle.escrow_checks.specs.Form.{IsCovered}
 use Rattle.escrow_checks.specs.Spread.{IsSpread}
 use Rattle.escrow_bounds.specs.declared.tracked.Tracked.{Tracked}
 use Rattle.escrow_bounds.specs.Columns.{unit_form, column_check, column_checks}
-use Rattle.escrow_bounds.specs.Counts.{HaveSums, Counts, TakesIn, GivesBack}
+use Rattle.escrow_bounds.specs.Counts.{Counts, GivesBack}
 use Rattle.escrow_bounds.specs.Inside.{IsPlace}
 use Rattle.escrow_bounds.specs.Kept.{Kept, checks_of}
 use Rattle.escrow_bounds.specs.Moved.{all_moved, amounts_after}
+use Rattle.escrow_bounds.specs.Recounting.{counted_before, counted_after, AreRecounted, CanRecount, HasRoom, IsRecounted}
+use Rattle.escrow_bounds.specs.declared.tracked.Counting.{Counting}
+use Rattle.escrow_bounds.specs.declared.tracked.Counting.TheVariants as counting
 use Rattle.escrow_bounds.proofs.Moving.{length-all_moved}
 use Rattle.escrow_bounds.proofs.Forms.{sums_at, check_at, covered_at}
 
@@ -28,36 +31,31 @@ lent {X} R held shown new is many holds = subst (λ (xs : List X). R held.items 
 
 -- ---- counting
 
--- the same checks, with one more reservation counted
-abbrev pub TakesForms : List ℤ → List Tracked → List Tracked → Type 0
-TakesForms changes old new = (checks_of new ≡ checks_of old) × ((before after : List (List ℤ)) → HaveSums old (before ++ after) → HaveSums new (before ++ changes ∷ after))
-
--- the same checks, with one of their reservations counted no more
-abbrev pub GivesForms : List ℤ → List Tracked → List Tracked → Type 0
-GivesForms changes old new = (checks_of new ≡ checks_of old) × ((before after : List (List ℤ)) → HaveSums old (before ++ changes ∷ after) → HaveSums new (before ++ after))
-
 -- one more stands among others
-length-put : (before after : List (List ℤ)) (changes : List ℤ) → length (before ++ changes ∷ after) ≡ length (before ++ after) + 1
+pub length-put : (before after : List (List ℤ)) (changes : List ℤ) → length (before ++ changes ∷ after) ≡ length (before ++ after) + 1
 length-put before after changes = omega (arith, length-append before (changes ∷ after), length-append before after)
 
-pub takes_in : (changes : List ℤ) (old new : Kept) → new.amounts ≡ old.amounts → new.count ≡ old.count + 1 → TakesForms changes old.checks new.checks → TakesForms changes old.columns new.columns
-    → TakesIn changes old new
-takes_in changes old new amounts count checks columns = record {
+-- what is counted of a place that has room for changes, or counts them
+pub recountable : (kind : Counting) (changes : List ℤ) (place : Kept) → IsPlace place → CanRecount kind changes place
+    → (before : List (List ℤ)) × (after : List (List ℤ)) × Counts place (counted_before kind before changes after) × HasRoom kind (before ++ after)
+recountable counting.In changes place is room = ([], is.reservations, is.counts, omega (arith, is.counts.0, room))
+recountable counting.Out changes place is given = (given.0, given.1, given.2, tt)
+
+pub recounted : (kind : Counting) (changes : List ℤ) (old new : Kept) → new.amounts ≡ old.amounts
+    → ((before : List (List ℤ)) (changes : List ℤ) (after : List (List ℤ)) → old.count ≡ length (counted_before kind before changes after) → new.count ≡ length (counted_after kind before changes after))
+    → AreRecounted kind changes old.checks new.checks → AreRecounted kind changes old.columns new.columns → IsRecounted kind changes old new
+recounted kind changes old new amounts number checks columns = record {
   amounts = amounts;
   checks = checks.0;
-  counts = λ before after known. (omega (arith, length-put before after changes, known.0, count), checks.1 before after known.1, columns.1 before after known.2);
+  counts = λ before after known. (number before changes after known.0, checks.1 before after known.1, columns.1 before after known.2);
 }
 
-pub gives_back : (changes : List ℤ) (old new : Kept) → new.amounts ≡ old.amounts → new.count ≡ old.count - 1 → GivesForms changes old.checks new.checks → GivesForms changes old.columns new.columns
-    → GivesBack ends.Rollback changes old new
-gives_back changes old new amounts count checks columns = record {
-  amounts = amounts;
-  checks = checks.0;
-  counts = λ before after known. (omega (arith, length-put before after changes, known.0, count), checks.1 before after known.1, columns.1 before after known.2);
-}
+-- it is counted no more
+pub gives_back : (changes : List ℤ) (old new : Kept) → IsRecounted counting.Out changes old new → GivesBack ends.Rollback changes old new
+gives_back changes old new given = record { amounts = given.amounts; checks = given.checks; counts = given.counts }
 
 -- and then its changes are moved into the amounts
-pub gives_committed : (changes : List ℤ) (old mid new : Kept) → GivesBack ends.Rollback changes old mid → new ≡ record mid { amounts = all_moved mid.amounts changes } → GivesBack ends.Commit changes old new
+pub gives_committed : (changes : List ℤ) (old mid new : Kept) → IsRecounted counting.Out changes old mid → new ≡ record mid { amounts = all_moved mid.amounts changes } → GivesBack ends.Commit changes old new
 gives_committed changes old mid new given is = subst (GivesBack ends.Commit changes old) (sym is) (record {
   amounts = ap (λ (amounts : List ℤ). all_moved amounts changes) given.amounts;
   checks = given.checks;
@@ -84,17 +82,10 @@ pub length-after : (end : End) (amounts changes : List ℤ) → length (amounts_
 length-after ends.Commit amounts changes = length-all_moved amounts changes
 length-after ends.Rollback amounts changes = refl
 
-pub place_takes : (changes : List ℤ) (old new : Kept) → IsPlace old → new.amounts ≡ old.amounts → new.count ≡ old.count + 1 → TakesForms changes old.checks new.checks → TakesForms changes old.columns new.columns
-    → IsPlace new
-place_takes changes old new place amounts count checks columns =
-    let taken = takes_in changes old new amounts count checks columns in
-    place_kept old new (changes ∷ place.reservations) place (ap length amounts) checks.0 columns.0 (taken.counts [] place.reservations place.counts)
-
-pub place_gives : (changes : List ℤ) (before after : List (List ℤ)) (old new : Kept) → IsPlace old → Counts old (before ++ changes ∷ after) → new.amounts ≡ old.amounts → new.count ≡ old.count - 1
-    → GivesForms changes old.checks new.checks → GivesForms changes old.columns new.columns → IsPlace new
-place_gives changes before after old new place counted amounts count checks columns =
-    let given = gives_back changes old new amounts count checks columns in
-    place_kept old new (before ++ after) place (ap length amounts) checks.0 columns.0 (given.counts before after counted)
+pub place_recounted : (kind : Counting) (changes : List ℤ) (before after : List (List ℤ)) (old new : Kept) → IsPlace old → Counts old (counted_before kind before changes after)
+    → IsRecounted kind changes old new → checks_of new.columns ≡ checks_of old.columns → IsPlace new
+place_recounted kind changes before after old new place counted is columns =
+    place_kept old new (counted_after kind before changes after) place (ap length is.amounts) is.checks columns (is.counts before after counted)
 
 -- ---- columns
 

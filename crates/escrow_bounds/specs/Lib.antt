@@ -10,3 +10,4 @@ pub mod Kept
 pub mod Laws
 pub mod Moved
 pub mod Places
+pub mod Recounting

@@ -11,10 +11,11 @@ ghost use Rattle.escrow_bounds.specs.Counts.{HaveSums, Counts, IsNew, TakesIn, G
 ghost use Rattle.escrow_bounds.specs.Held.{of_row};
 ghost use Rattle.escrow_bounds.specs.Kept.{checks_of};
 ghost use Rattle.escrow_bounds.specs.Moved.{moved, all_moved, amounts_after_all};
+ghost use Rattle.escrow_bounds.specs.Recounting.{CanRecount, IsRecounted};
 ghost use Rattle.escrow_bounds.specs.declared.tracked.Tracked.{Tracked};
 
 use crate::changes::deltas;
-use crate::tracked::{Tracked, all_values, first_breach, give_back, push_check, revalue, take_in};
+use crate::tracked::{Counting, Tracked, all_values, first_breach, push_check, recount, revalue};
 use escrow_checks::{Check, Coefficients, Sparse};
 use escrow_num::{Amount, Breach, End, Name, Reservation, RowName, Scale, Span, Wide};
 use std::alloc::{AllocError, Global};
@@ -155,10 +156,7 @@ impl Place {
         requires { self.old.count < MAX_OPEN }
         ensures { TakesIn changes.now self.old self.new }
     {
-        let changes = Sparse::of(changes);
-        take_in(&mut self.checks, &changes);
-        take_in(&mut self.columns, &changes);
-        self.count += 1;
+        self.recount(changes, Counting::In);
     }
 
     /// Counts one of its reservations no more, and moves its changes into the committed amounts
@@ -167,22 +165,22 @@ impl Place {
         requires { (before after : List (List ℤ)) × Counts self.old (before ++ changes.now ∷ after) }
         ensures { GivesBack end changes.now self.old self.new }
     {
-        self.forget(changes);
+        self.recount(changes, Counting::Out);
         match end {
             End::Commit => self.commit(changes),
             End::Rollback => {}
         }
     }
 
-    /// Counts one of its reservations no more.
-    fn forget(&mut self, changes: &[Amount])
-        requires { (before after : List (List ℤ)) × Counts self.old (before ++ changes.now ∷ after) }
-        ensures { GivesBack End.Rollback changes.now self.old self.new }
+    /// Counts one more reservation, or one of them no more.
+    fn recount(&mut self, changes: &[Amount], counting: Counting)
+        requires { CanRecount counting changes.now self.old }
+        ensures { IsRecounted counting changes.now self.old self.new }
     {
         let changes = Sparse::of(changes);
-        give_back(&mut self.checks, &changes);
-        give_back(&mut self.columns, &changes);
-        self.count -= 1;
+        recount(&mut self.checks, &changes, counting);
+        recount(&mut self.columns, &changes, counting);
+        self.count = counting.number(self.count);
     }
 
     /// Moves changes into the committed amounts.

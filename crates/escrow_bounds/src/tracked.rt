@@ -1,16 +1,55 @@
-ghost use Rattle.std.specs.Prelude.{◌≡◌, ℤ, List, [], ◌∷◌, ◌++◌, ◌<◌, IfOk, OnOk, length, map};
+ghost use Rattle.std.specs.Prelude.{◌≡◌, ℤ, List, [], ◌∷◌, ◌++◌, IfOk, OnOk, length, map};
 ghost use Rattle.std.specs.List.{AllByRecursion};
 ghost use Rattle.escrow_checks.specs.Contribution.{IsContribution};
 ghost use Rattle.escrow_checks.specs.Form.{form, IsCovered};
 ghost use Rattle.escrow_checks.specs.Grant.{broken};
 ghost use Rattle.escrow_checks.specs.Spread.{IsSpread};
-ghost use Rattle.escrow_checks.specs.declared.spread.TheConstants.Spread.{MAX_OPEN};
 ghost use Rattle.escrow_bounds.specs.Counts.{HaveSums};
 ghost use Rattle.escrow_bounds.specs.Kept.{checks_of};
+ghost use Rattle.escrow_bounds.specs.Recounting.{counted_before, counted_after, AreRecounted, HasRoom};
 
 use escrow_checks::{Check, Sparse, Spread};
 use escrow_num::{Amount, Breach, Span, Wide};
 use std::alloc::{AllocError, Global};
+
+/// Whether one more reservation is counted, or one of them no more.
+#[derive(Clone, Copy)]
+pub(crate) enum Counting {
+    /// One more.
+    In,
+    /// One no more.
+    Out,
+}
+
+impl Counting {
+    /// How many are counted then.
+    pub(crate) fn number(self, count: usize) -> usize
+        requires { (before : List (List ℤ)) × (changes : List ℤ) × (after : List (List ℤ))
+            × (count ≡ length (counted_before self before changes after)) × HasRoom self (before ++ after) }
+        ensures { (before : List (List ℤ)) (changes : List ℤ) (after : List (List ℤ))
+            → count ≡ length (counted_before self before changes after) → result ≡ length (counted_after self before changes after) }
+    {
+        match self {
+            Counting::In => count + 1,
+            Counting::Out => count - 1,
+        }
+    }
+
+    /// Their spread then, where the one contributes so much to the form.
+    pub(crate) fn spread(self, spread: Spread, contribution: Wide) -> Spread
+        requires within { IsContribution contribution }
+        requires counted { (coeffs : List ℤ) × (before : List (List ℤ)) × (changes : List ℤ) × (after : List (List ℤ))
+            × IsSpread coeffs (counted_before self before changes after) spread × (contribution ≡ form coeffs changes) × HasRoom self (before ++ after) }
+        ensures { (coeffs : List ℤ) (before : List (List ℤ)) (changes : List ℤ) (after : List (List ℤ))
+            → IsSpread coeffs (counted_before self before changes after) spread → contribution ≡ form coeffs changes
+            → IsSpread coeffs (counted_after self before changes after) result }
+    {
+        match self {
+            Counting::In => spread.with(contribution),
+            Counting::Out => spread.without(contribution),
+        }
+    }
+}
 
 /// A check of a row with the spread of the open reservations that are counted.
 #[derive(Clone, Copy, Debug)]
@@ -22,26 +61,16 @@ pub struct Tracked {
 }
 
 impl Tracked {
-    /// Counts one more reservation.
-    fn take_in(&mut self, changes: &Sparse<'_>)
-        requires { (reservations : List (List ℤ)) × IsSpread self.old.check.coeffs reservations self.old.spread × (length reservations < MAX_OPEN) }
+    /// Counts one more reservation, or one of them no more.
+    fn recount(&mut self, changes: &Sparse<'_>, counting: Counting)
+        requires { (before : List (List ℤ)) × (after : List (List ℤ))
+            × IsSpread self.old.check.coeffs (counted_before counting before changes.now after) self.old.spread × HasRoom counting (before ++ after) }
         ensures check { self.new.check ≡ self.old.check }
-        ensures added { (before after : List (List ℤ)) → IsSpread self.old.check.coeffs (before ++ after) self.old.spread
-            → IsSpread self.old.check.coeffs (before ++ changes.now ∷ after) self.new.spread }
+        ensures counted { (before after : List (List ℤ)) → IsSpread self.old.check.coeffs (counted_before counting before changes.now after) self.old.spread
+            → IsSpread self.old.check.coeffs (counted_after counting before changes.now after) self.new.spread }
     {
         let contribution = self.check.form_of(changes);
-        self.spread = self.spread.with(contribution);
-    }
-
-    /// Counts one of its reservations no more.
-    fn give_back(&mut self, changes: &Sparse<'_>)
-        requires { (before after : List (List ℤ)) × IsSpread self.old.check.coeffs (before ++ changes.now ∷ after) self.old.spread }
-        ensures check { self.new.check ≡ self.old.check }
-        ensures removed { (before after : List (List ℤ)) → IsSpread self.old.check.coeffs (before ++ changes.now ∷ after) self.old.spread
-            → IsSpread self.old.check.coeffs (before ++ after) self.new.spread }
-    {
-        let contribution = self.check.form_of(changes);
-        self.spread = self.spread.without(contribution);
+        self.spread = counting.spread(self.spread, contribution);
     }
 }
 
@@ -60,25 +89,13 @@ pub(crate) fn push_check(forms: &mut Vec<Tracked>, check: Check) -> Result<(), A
     Ok(())
 }
 
-/// Counts one more reservation in each form.
-pub(crate) fn take_in(forms: &mut [Tracked], changes: &Sparse<'_>)
-    requires { (reservations : List (List ℤ)) × HaveSums forms.old reservations × (length reservations < MAX_OPEN) }
-    ensures checks { checks_of forms.new ≡ checks_of forms.old }
-    ensures sums { (before after : List (List ℤ)) → HaveSums forms.old (before ++ after) → HaveSums forms.new (before ++ changes.now ∷ after) }
+/// Counts one more reservation in each form, or one of them no more.
+pub(crate) fn recount(forms: &mut [Tracked], changes: &Sparse<'_>, counting: Counting)
+    requires { (before : List (List ℤ)) × (after : List (List ℤ)) × HaveSums forms.old (counted_before counting before changes.now after) × HasRoom counting (before ++ after) }
+    ensures { AreRecounted counting changes.now forms.old forms.new }
 {
     for form in forms.iter_mut() {
-        form.take_in(changes);
-    }
-}
-
-/// Counts one of its reservations no more in each form.
-pub(crate) fn give_back(forms: &mut [Tracked], changes: &Sparse<'_>)
-    requires { (before after : List (List ℤ)) × HaveSums forms.old (before ++ changes.now ∷ after) }
-    ensures checks { checks_of forms.new ≡ checks_of forms.old }
-    ensures sums { (before after : List (List ℤ)) → HaveSums forms.old (before ++ changes.now ∷ after) → HaveSums forms.new (before ++ after) }
-{
-    for form in forms.iter_mut() {
-        form.give_back(changes);
+        form.recount(changes, counting);
     }
 }
 

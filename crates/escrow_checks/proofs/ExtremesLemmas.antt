@@ -57,23 +57,26 @@ least_step f d falls = omega (arith, ints, clamps)
 greatest_step : (f d rises : ℤ) → int_max (f +ℤ rises) ((f +ℤ d) +ℤ rises) ≡ f +ℤ (int_max (pos 0) d +ℤ rises)
 greatest_step f d rises = omega (arith, ints, clamps)
 
-pub least_is : (coeffs amounts : List ℤ) (reservations : List (List ℤ)) → length coeffs ≤ length amounts → least coeffs amounts reservations ≡ form coeffs amounts +ℤ falls coeffs reservations
-least_is coeffs amounts [] fits = omega (arith, ints)
-least_is coeffs amounts (changes ∷ reservations) fits =
+extreme_is : (extreme : List ℤ → ℤ) (pick : ℤ → ℤ → ℤ) (sums : List ℤ → List (List ℤ) → ℤ)
+    → ((coeffs amounts : List ℤ) → extreme (outcomes coeffs amounts []) ≡ form coeffs amounts +ℤ sums coeffs [])
+    → ((xs ys : List ℤ) → 0 < length xs → 0 < length ys → extreme (xs ++ ys) ≡ pick (extreme xs) (extreme ys))
+    → ((coeffs changes : List ℤ) (reservations : List (List ℤ)) (f : ℤ) → pick (f +ℤ sums coeffs reservations) ((f +ℤ form coeffs changes) +ℤ sums coeffs reservations) ≡ f +ℤ sums coeffs (changes ∷ reservations))
+    → (coeffs amounts : List ℤ) (reservations : List (List ℤ)) → length coeffs ≤ length amounts → extreme (outcomes coeffs amounts reservations) ≡ form coeffs amounts +ℤ sums coeffs reservations
+extreme_is extreme pick sums none append step coeffs amounts [] fits = none coeffs amounts
+extreme_is extreme pick sums none append step coeffs amounts (changes ∷ reservations) fits =
     let with_new = changed amounts changes in
-    ap smallest (outcomes-cons coeffs amounts changes reservations)
-    ∙ smallest-append (outcomes coeffs amounts reservations) (outcomes coeffs with_new reservations) (some_outcome coeffs amounts reservations) (some_outcome coeffs with_new reservations)
-    ∙ ap₂ int_min (least_is coeffs amounts reservations fits) (least_is coeffs with_new reservations (omega (arith, length-changed amounts changes)) ∙ ap (λ z. z +ℤ falls coeffs reservations) (form-changed coeffs amounts changes fits))
-    ∙ least_step (form coeffs amounts) (form coeffs changes) (falls coeffs reservations)
+    let kept = extreme_is extreme pick sums none append step coeffs amounts reservations fits in
+    let applied = extreme_is extreme pick sums none append step coeffs with_new reservations (omega (arith, length-changed amounts changes)) in
+    ap extreme (outcomes-cons coeffs amounts changes reservations)
+    ∙ append (outcomes coeffs amounts reservations) (outcomes coeffs with_new reservations) (some_outcome coeffs amounts reservations) (some_outcome coeffs with_new reservations)
+    ∙ ap₂ pick kept (applied ∙ ap (λ z. z +ℤ sums coeffs reservations) (form-changed coeffs amounts changes fits))
+    ∙ step coeffs changes reservations (form coeffs amounts)
+
+pub least_is : (coeffs amounts : List ℤ) (reservations : List (List ℤ)) → length coeffs ≤ length amounts → least coeffs amounts reservations ≡ form coeffs amounts +ℤ falls coeffs reservations
+least_is = extreme_is smallest int_min falls (λ coeffs amounts. omega (arith, ints)) smallest-append (λ coeffs changes reservations f. least_step f (form coeffs changes) (falls coeffs reservations))
 
 pub greatest_is : (coeffs amounts : List ℤ) (reservations : List (List ℤ)) → length coeffs ≤ length amounts → greatest coeffs amounts reservations ≡ form coeffs amounts +ℤ rises coeffs reservations
-greatest_is coeffs amounts [] fits = omega (arith, ints)
-greatest_is coeffs amounts (changes ∷ reservations) fits =
-    let with_new = changed amounts changes in
-    ap largest (outcomes-cons coeffs amounts changes reservations)
-    ∙ largest-append (outcomes coeffs amounts reservations) (outcomes coeffs with_new reservations) (some_outcome coeffs amounts reservations) (some_outcome coeffs with_new reservations)
-    ∙ ap₂ int_max (greatest_is coeffs amounts reservations fits) (greatest_is coeffs with_new reservations (omega (arith, length-changed amounts changes)) ∙ ap (λ z. z +ℤ rises coeffs reservations) (form-changed coeffs amounts changes fits))
-    ∙ greatest_step (form coeffs amounts) (form coeffs changes) (rises coeffs reservations)
+greatest_is = extreme_is largest int_max rises (λ coeffs amounts. omega (arith, ints)) largest-append (λ coeffs changes reservations f. greatest_step f (form coeffs changes) (rises coeffs reservations))
 
 -- ---- the extremes by a spread
 

@@ -57,25 +57,24 @@ given_first f x xs z e = (x, (0, omega arith, refl), sym e)
 given_later : {A : Type 0} (f : A → ℤ) (x : A) (xs : List A) (y z : ℤ) → z ≡ y → GivenBy f xs y → GivenBy f (x ∷ xs) z
 given_later f x xs y z e h = (h.0, Contains-append_right (x ∷ []) xs h.0 h.1, h.2 ∙ sym e)
 
-smallest_given : {A : Type 0} (f : A → ℤ) (xs : List A) → 0 < length xs → GivenBy f xs (smallest (map f xs))
-smallest_given f [] h = absurd (omega arith)
-smallest_given f (x ∷ []) h = given_first f x [] (f x) refl
-smallest_given f (x ∷ y ∷ xs) h =
-    let rest = smallest (map f (y ∷ xs)) in
-    elim (int_min_one (f x) rest) [
-      | inl e ↦ given_first f x (y ∷ xs) (int_min (f x) rest) e
-      | inr e ↦ given_later f x (y ∷ xs) rest (int_min (f x) rest) e (smallest_given f (y ∷ xs) (omega arith))
+-- an extreme that is one of two each time is that of an element
+extreme_given : {A : Type 0} (extreme : List ℤ → ℤ) (pick : ℤ → ℤ → ℤ) → ((x : ℤ) → extreme (x ∷ []) ≡ x) → ((x y : ℤ) (zs : List ℤ) → extreme (x ∷ y ∷ zs) ≡ pick x (extreme (y ∷ zs))) → ((x y : ℤ) → (pick x y ≡ x) ⊎ (pick x y ≡ y))
+    → (f : A → ℤ) (xs : List A) → 0 < length xs → GivenBy f xs (extreme (map f xs))
+extreme_given extreme pick one more either f [] h = absurd (omega arith)
+extreme_given extreme pick one more either f (x ∷ []) h = given_first f x [] (extreme (f x ∷ [])) (one (f x))
+extreme_given extreme pick one more either f (x ∷ y ∷ xs) h =
+    let rest = extreme (map f (y ∷ xs)) in
+    let picks = more (f x) (f y) (map f xs) in
+    elim (either (f x) rest) [
+      | inl e ↦ given_first f x (y ∷ xs) (extreme (map f (x ∷ y ∷ xs))) (picks ∙ e)
+      | inr e ↦ given_later f x (y ∷ xs) rest (extreme (map f (x ∷ y ∷ xs))) (picks ∙ e) (extreme_given extreme pick one more either f (y ∷ xs) (omega arith))
     ]
 
+smallest_given : {A : Type 0} (f : A → ℤ) (xs : List A) → 0 < length xs → GivenBy f xs (smallest (map f xs))
+smallest_given f xs h = extreme_given smallest int_min (λ x. refl) (λ x y zs. refl) int_min_one f xs h
+
 largest_given : {A : Type 0} (f : A → ℤ) (xs : List A) → 0 < length xs → GivenBy f xs (largest (map f xs))
-largest_given f [] h = absurd (omega arith)
-largest_given f (x ∷ []) h = given_first f x [] (f x) refl
-largest_given f (x ∷ y ∷ xs) h =
-    let rest = largest (map f (y ∷ xs)) in
-    elim (int_max_one (f x) rest) [
-      | inl e ↦ given_first f x (y ∷ xs) (int_max (f x) rest) e
-      | inr e ↦ given_later f x (y ∷ xs) rest (int_max (f x) rest) e (largest_given f (y ∷ xs) (omega arith))
-    ]
+largest_given f xs h = extreme_given largest int_max (λ x. refl) (λ x y zs. refl) int_max_one f xs h
 
 -- ---- of a form, over the choices of the open reservations
 

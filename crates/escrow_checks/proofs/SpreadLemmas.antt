@@ -1,5 +1,5 @@
 -- The two sums of a spread, with one reservation more or less, and their bounds.
-use Rattle.std.proofs.Common.{◌≡◌, ◌<◌, ℤ, pos, ◌+ℤ◌, ◌-ℤ◌, ◌≤ℤ◌, ◌<ℤ◌, List, [], ◌∷◌, ◌++◌, length, arith}
+use Rattle.std.proofs.Common.{◌≡◌, ◌<◌, ℤ, pos, ◌+ℤ◌, ◌-ℤ◌, List, [], ◌∷◌, ◌++◌, length, arith}
 use Rattle.std.specs.Int.{int_min, int_max}
 use Rattle.std.proofs.lemmas.Int.{ints, clamps}
 use Rattle.std.proofs.lemmas.List.{append-nil}
@@ -55,18 +55,10 @@ HasSums coeffs reservations low high = (low ≡ falls coeffs reservations) × (h
 
 -- ---- one reservation more, which contributes z
 
--- where it lowers the form, the falls have z, and else the rises
-pub lowered : (coeffs : List ℤ) (before after : List (List ℤ)) (changes : List ℤ) (spread : Spread) (low high z : ℤ) → IsContribution z → z ≡ form coeffs changes → z <ℤ pos 0
-    → low ≡ spread.falls +ℤ z → high ≡ spread.rises → IsSpread coeffs (before ++ after) spread → HasSums coeffs (before ++ changes ∷ after) low high
-lowered coeffs before after changes spread low high z within same below is_low is_high known = (
-  omega (arith, ints, clamps, falls-put coeffs before after changes, known.0),
-  omega (arith, ints, clamps, rises-put coeffs before after changes, known.1),
-  contributions-put coeffs before after changes known.2 (omega (arith, ints, within), omega (arith, ints, within)),
-)
-
-pub raised : (coeffs : List ℤ) (before after : List (List ℤ)) (changes : List ℤ) (spread : Spread) (low high z : ℤ) → IsContribution z → z ≡ form coeffs changes → pos 0 ≤ℤ z
-    → low ≡ spread.falls → high ≡ spread.rises +ℤ z → IsSpread coeffs (before ++ after) spread → HasSums coeffs (before ++ changes ∷ after) low high
-raised coeffs before after changes spread low high z within same above is_low is_high known = (
+-- each sum has its part of z
+pub with_one : (coeffs : List ℤ) (before after : List (List ℤ)) (changes : List ℤ) (spread : Spread) (low high z : ℤ) → IsContribution z → z ≡ form coeffs changes
+    → low ≡ spread.falls +ℤ int_min (pos 0) z → high ≡ spread.rises +ℤ int_max (pos 0) z → IsSpread coeffs (before ++ after) spread → HasSums coeffs (before ++ changes ∷ after) low high
+with_one coeffs before after changes spread low high z within same is_low is_high known = (
   omega (arith, ints, clamps, falls-put coeffs before after changes, known.0),
   omega (arith, ints, clamps, rises-put coeffs before after changes, known.1),
   contributions-put coeffs before after changes known.2 (omega (arith, ints, within), omega (arith, ints, within)),
@@ -76,29 +68,21 @@ raised coeffs before after changes spread low high z within same above is_low is
 abbrev pub HasRoom : Spread → Type 0
 HasRoom spread = (coeffs : List ℤ) × (reservations : List (List ℤ)) × IsSpread coeffs reservations spread × (length reservations < MAX_OPEN)
 
-pub fall_more : (spread : Spread) (z : ℤ) → HasRoom spread → IsContribution z → z <ℤ pos 0 → IsFall MAX_OPEN (spread.falls +ℤ z)
-fall_more spread z room within below =
+pub fall_more : (spread : Spread) (z : ℤ) → HasRoom spread → IsContribution z → IsFall MAX_OPEN (spread.falls +ℤ int_min (pos 0) z)
+fall_more spread z room within =
     let known = falls_within room.0 room.1 room.2.2 in
-    (omega (arith, ints, known, within, room.2.0, room.3), omega (arith, ints, known, room.2.0))
+    (omega (arith, ints, clamps, known, within, room.2.0, room.3), omega (arith, ints, clamps, known, room.2.0))
 
-pub rise_more : (spread : Spread) (z : ℤ) → HasRoom spread → IsContribution z → pos 0 ≤ℤ z → IsRise MAX_OPEN (spread.rises +ℤ z)
-rise_more spread z room within above =
+pub rise_more : (spread : Spread) (z : ℤ) → HasRoom spread → IsContribution z → IsRise MAX_OPEN (spread.rises +ℤ int_max (pos 0) z)
+rise_more spread z room within =
     let known = rises_within room.0 room.1 room.2.2 in
-    (omega (arith, ints, known, room.2.1), omega (arith, ints, known, within, room.2.1, room.3))
+    (omega (arith, ints, clamps, known, room.2.1), omega (arith, ints, clamps, known, within, room.2.1, room.3))
 
 -- ---- one reservation less, which contributed z
 
-pub unlowered : (coeffs : List ℤ) (before after : List (List ℤ)) (changes : List ℤ) (spread : Spread) (low high z : ℤ) → z ≡ form coeffs changes → z <ℤ pos 0
-    → low ≡ spread.falls -ℤ z → high ≡ spread.rises → IsSpread coeffs (before ++ changes ∷ after) spread → HasSums coeffs (before ++ after) low high
-unlowered coeffs before after changes spread low high z same below is_low is_high known = (
-  omega (arith, ints, clamps, falls-put coeffs before after changes, known.0),
-  omega (arith, ints, clamps, rises-put coeffs before after changes, known.1),
-  contributions-left coeffs before after changes known.2,
-)
-
-pub unraised : (coeffs : List ℤ) (before after : List (List ℤ)) (changes : List ℤ) (spread : Spread) (low high z : ℤ) → z ≡ form coeffs changes → pos 0 ≤ℤ z
-    → low ≡ spread.falls → high ≡ spread.rises -ℤ z → IsSpread coeffs (before ++ changes ∷ after) spread → HasSums coeffs (before ++ after) low high
-unraised coeffs before after changes spread low high z same above is_low is_high known = (
+pub without_one : (coeffs : List ℤ) (before after : List (List ℤ)) (changes : List ℤ) (spread : Spread) (low high z : ℤ) → z ≡ form coeffs changes
+    → low ≡ spread.falls -ℤ int_min (pos 0) z → high ≡ spread.rises -ℤ int_max (pos 0) z → IsSpread coeffs (before ++ changes ∷ after) spread → HasSums coeffs (before ++ after) low high
+without_one coeffs before after changes spread low high z same is_low is_high known = (
   omega (arith, ints, clamps, falls-put coeffs before after changes, known.0),
   omega (arith, ints, clamps, rises-put coeffs before after changes, known.1),
   contributions-left coeffs before after changes known.2,
@@ -108,15 +92,15 @@ unraised coeffs before after changes spread low high z same above is_low is_high
 abbrev pub HasOne : Spread → ℤ → Type 0
 HasOne spread z = (coeffs : List ℤ) × (before : List (List ℤ)) × (changes : List ℤ) × (after : List (List ℤ)) × IsSpread coeffs (before ++ changes ∷ after) spread × (z ≡ form coeffs changes)
 
-pub fall_less : (spread : Spread) (z : ℤ) → HasOne spread z → IsFall MAX_OPEN spread.falls → z <ℤ pos 0 → IsFall MAX_OPEN (spread.falls -ℤ z)
-fall_less spread z one known below =
+pub fall_less : (spread : Spread) (z : ℤ) → HasOne spread z → IsFall MAX_OPEN spread.falls → IsFall MAX_OPEN (spread.falls -ℤ int_min (pos 0) z)
+fall_less spread z one known =
     let others = falls_within one.0 (one.1 ++ one.3) (contributions-left one.0 one.1 one.3 one.2 one.4.2) in
-    (omega (arith, ints, known), omega (arith, ints, clamps, falls-put one.0 one.1 one.3 one.2, others, one.4.0, one.5))
+    (omega (arith, ints, clamps, known), omega (arith, ints, clamps, falls-put one.0 one.1 one.3 one.2, others, one.4.0, one.5))
 
-pub rise_less : (spread : Spread) (z : ℤ) → HasOne spread z → IsRise MAX_OPEN spread.rises → pos 0 ≤ℤ z → IsRise MAX_OPEN (spread.rises -ℤ z)
-rise_less spread z one known above =
+pub rise_less : (spread : Spread) (z : ℤ) → HasOne spread z → IsRise MAX_OPEN spread.rises → IsRise MAX_OPEN (spread.rises -ℤ int_max (pos 0) z)
+rise_less spread z one known =
     let others = rises_within one.0 (one.1 ++ one.3) (contributions-left one.0 one.1 one.3 one.2 one.4.2) in
-    (omega (arith, ints, clamps, rises-put one.0 one.1 one.3 one.2, others, one.4.1, one.5), omega (arith, ints, known))
+    (omega (arith, ints, clamps, rises-put one.0 one.1 one.3 one.2, others, one.4.1, one.5), omega (arith, ints, clamps, known))
 
 -- ---- a reservation that changes nothing adds nothing
 

@@ -1,7 +1,7 @@
 -- Terms one by one: their sums, and the columns that they name.
 use Rattle.std.proofs.Common.{◌≡◌, ℕ, ◌+◌, ◌*◌, ◌^◌, ◌<◌, ◌≤◌, Bool, ◌&&◌, ℤ, pos, neg_ℤ, ◌+ℤ◌, ◌≤ℤ◌, to_z, of_z, SFits, List, [], ◌∷◌, ◌++◌, length, drop, get_or, refl, ap, ap₂, ◌∙◌, sym, arith}
 use Rattle.std.specs.List.{list_all, flat_map}
-use Rattle.std.proofs.lemmas.List.{at_drop_more}
+use Rattle.std.proofs.lemmas.List.{at_drop_more, at_drop_all}
 use Rattle.std.proofs.lemmas.List.Folds.{list_all-append}
 use Rattle.std.proofs.lemmas.Grind.{flat_map-append}
 use Rattle.std.specs.Int.{w128}
@@ -19,18 +19,25 @@ pub total-next : (worth : Term → ℤ) (terms : List Term) (i : ℕ) (t : Term)
 total-next worth terms i t below is =
     at_drop_more (total worth) terms i t below ∙ ap (λ (u : Term). worth u +ℤ total worth (drop (i + 1) terms)) (sym is)
 
--- a sum of the terms so far, in 128 bits, with the next term's amount
+-- a number is the sum of the terms so far
+abbrev pub IsSumTo : (Term → ℤ) → List Term → ℕ → ℤ → Type 0
+IsSumTo worth terms i sum = (sum +ℤ total worth (drop i terms) ≡ total worth terms) × (neg_ℤ (pos (10 ^ 15 * i)) ≤ℤ sum) × (sum ≤ℤ pos (10 ^ 15 * i))
+
+-- with the next term's amount it is, in 128 bits, that of one term more
 pub sum_next : (worth : Term → ℤ) (terms : List Term) (i : ℕ) (t : Term) (held sum w next : ℤ) → i < length terms → t ≡ get_or terms i t → w ≡ worth t → IsAmount w → held ≡ sum → IsTermSum sum → next ≡ sum +ℤ w
-    → held +ℤ total worth (drop i terms) ≡ total worth terms → neg_ℤ (pos (10 ^ 15 * i)) ≤ℤ held → held ≤ℤ pos (10 ^ 15 * i)
-    → (to_z w128 (of_z w128 next) +ℤ total worth (drop (i + 1) terms) ≡ total worth terms) × (neg_ℤ (pos (10 ^ 15 * (i + 1))) ≤ℤ to_z w128 (of_z w128 next)) × (to_z w128 (of_z w128 next) ≤ℤ pos (10 ^ 15 * (i + 1)))
-sum_next worth terms i t held sum w next below is same within is_held small adds rest low high =
+    → IsSumTo worth terms i held → IsSumTo worth terms (i + 1) (to_z w128 (of_z w128 next))
+sum_next worth terms i t held sum w next below is same within is_held small adds before =
     let size : unsigned_abs next ≤ 10 ^ 15 * 2 ^ 65 = grind (arith, ints, within, small, adds) in
     let fits : SFits w128 next = fits_signed_from_abs w128 next (omega arith) in
     rw (to_z-of_z w128 next fits) (
-      omega (arith, ints, total-next worth terms i t below is),
-      omega (arith, ints, within),
-      omega (arith, ints, within),
+      omega (arith, ints, before.0, total-next worth terms i t below is),
+      omega (arith, ints, before.1, within),
+      omega (arith, ints, before.2, within),
     )
+
+-- past the last term it is their total
+pub sum_all : (worth : Term → ℤ) (terms : List Term) (i : ℕ) (sum : ℤ) → length terms ≤ i → IsSumTo worth terms i sum → sum ≡ total worth terms
+sum_all worth terms i sum past known = omega (arith, ints, at_drop_all (total worth) terms i past, known.0)
 
 -- a test of each name that terms have, term by term
 list_all-columns : (test : List ℕ → Bool) (terms : List Term) → list_all test (flat_map columns_in terms) ≡ list_all (λ term. list_all test (columns_in term)) terms

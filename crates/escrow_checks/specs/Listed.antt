@@ -1,14 +1,17 @@
--- Helps: which amounts are listed, as those that aren't zero.
-use Rattle.std.specs.Prelude.{◌≡◌, ℤ, pos, ◌+ℤ◌, ◌*ℤ◌, ◌≤◌, List, length, slice_index_or}
+-- Helps: which amounts are listed, by their columns, as those that aren't zero.
+use Rattle.std.specs.Prelude.{◌≡◌, ℕ, ℤ, pos, ◌+ℤ◌, ◌*ℤ◌, ◌≤◌, List, length, slice_index_or}
 use Rattle.std.specs.List.{fold}
 use Rattle.escrow_checks.specs.Form.{form}
 use Rattle.escrow_checks.specs.declared.coefficients.TheConstants.Coefficients.{MAX_LEN}
-use Rattle.escrow_checks.specs.declared.sparse.Entry.{Entry}
 
 -- a sum with the product of one column's coefficient and amount
-abbrev pub with_entry : List ℤ → ℤ → Entry → ℤ
-with_entry coeffs sum entry = sum +ℤ (slice_index_or coeffs entry.column (pos 0) *ℤ entry.amount)
+abbrev pub with_column : List ℤ → List ℤ → ℤ → ℕ → ℤ
+with_column coeffs amounts sum column = sum +ℤ (slice_index_or coeffs column (pos 0) *ℤ slice_index_or amounts column (pos 0))
 
--- each form of the amounts is its sum over those that are listed
-abbrev pub AreListed : List ℤ → List Entry → Type 0
-AreListed amounts entries = (coeffs : List ℤ) → length coeffs ≤ MAX_LEN → fold (with_entry coeffs) (pos 0) entries ≡ form coeffs amounts
+-- each form of some amounts is the sum over these columns of all amounts
+abbrev pub SumsTo : List ℤ → List ℕ → List ℤ → Type 0
+SumsTo amounts columns some = (coeffs : List ℤ) → length coeffs ≤ MAX_LEN → fold (with_column coeffs amounts) (pos 0) columns ≡ form coeffs some
+
+-- each form of the amounts is its sum over the columns that are listed
+abbrev pub AreListed : List ℤ → List ℕ → Type 0
+AreListed amounts columns = SumsTo amounts columns amounts

@@ -58,10 +58,11 @@ impl Check {
         ensures within { IsContribution result }
     {
         let coeffs = self.coeffs.as_slice();
-        let listed = amounts.entries();
+        let row = amounts.amounts();
+        let listed = amounts.columns();
         let mut sum = 0;
-        for entry in listed {
-            sum += product(coefficient_at(coeffs, entry.column), entry.amount);
+        for column in listed {
+            sum += product(coefficient_at(coeffs, *column), amount_at(row, *column));
         }
         Wide::new(sum).unwrap()
     }
@@ -143,12 +144,22 @@ impl Copied for Check {
 }
 
 /// The coefficient of the column at an index, which is zero where there is none.
-fn coefficient_at(coeffs: &[Amount], column: usize) -> Amount
+fn coefficient_at(coeffs: &[Amount], column: u8) -> Amount
     requires { AreCoefficients coeffs.now }
     ensures value { result ≡ slice_index_or coeffs.now column (pos 0) }
     ensures within { IsCoefficient result }
 {
-    coeffs.get(column).copied().unwrap_or(Amount::ZERO)
+    amount_at(coeffs, column)
+}
+
+/// The amount of the column at an index, which is zero where there is none.
+fn amount_at(amounts: &[Amount], column: u8) -> Amount
+    ensures { result ≡ slice_index_or amounts.now column (pos 0) }
+{
+    amounts
+        .get(usize::from(column))
+        .copied()
+        .unwrap_or(Amount::ZERO)
 }
 
 /// A coefficient times an amount.

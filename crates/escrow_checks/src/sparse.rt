@@ -7,19 +7,12 @@ use crate::coefficients::Coefficients;
 use escrow_num::Amount;
 use std::marker::Model;
 
-/// An amount that isn't zero, with the index of its column.
-#[derive(Clone, Copy)]
-pub(crate) struct Entry {
-    pub(crate) column: usize,
-    pub(crate) amount: Amount,
-}
-
-/// Amounts of a row, or changes of them, with a list of those that aren't zero, in place: it is made
-/// once, and the form of each check is summed over it. Contracts see the amounts.
+/// Amounts of a row, or changes of them, with the columns of those that aren't zero, in place. These
+/// are found once, and the form of each check is summed over them. Contracts see the amounts.
 #[derive(Drop)]
 pub struct Sparse<'a> {
     amounts: &'a [Amount],
-    entries: [Entry; Coefficients::MAX_LEN],
+    columns: [u8; Coefficients::MAX_LEN],
     count: usize,
 }
 
@@ -32,38 +25,42 @@ impl<'a> Model for Sparse<'a> {
 
     ghost view = { λ s. s.amounts.now };
 
-    ghost invariant = { λ s. (s.count ≤ MAX_LEN) × (length s.entries ≡ MAX_LEN) × AreListed s.amounts.now (take s.count s.entries) };
+    ghost invariant = { λ s. (s.count ≤ MAX_LEN) × (length s.columns ≡ MAX_LEN) × AreListed s.amounts.now (take s.count s.columns) };
 }
 
 impl<'a> Sparse<'a> {
-    /// The amounts with their list.
+    /// The amounts with these columns.
     pub fn of(amounts: &'a [Amount]) -> Self
         ensures { result ≡ amounts.now }
     {
-        let mut entries = [Entry {
-            column: 0,
-            amount: Amount::ZERO,
-        }; Coefficients::MAX_LEN];
+        let mut columns = [0; Coefficients::MAX_LEN];
         let mut count = 0;
         for column in 0..amounts.len().min(Coefficients::MAX_LEN) {
             let amount = amounts[column];
             if amount.get() != 0 {
-                entries[count] = Entry { column, amount };
+                columns[count] = column as u8;
                 count += 1;
             }
         }
         Sparse {
             amounts,
-            entries,
+            columns,
             count,
         }
     }
 
-    /// The amounts that aren't zero, of the columns for which a check can have a coefficient.
-    pub(crate) fn entries(&self) -> &[Entry]
+    /// All amounts.
+    pub(crate) fn amounts(&self) -> &[Amount]
+        ensures { result.now ≡ self.now }
+    {
+        self.amounts
+    }
+
+    /// The columns whose amounts aren't zero, among those for which a check can have a coefficient.
+    pub(crate) fn columns(&self) -> &[u8]
         ensures few { length result.now ≤ MAX_LEN }
         ensures listed { AreListed self.now result.now }
     {
-        &self.entries[..self.count]
+        &self.columns[..self.count]
     }
 }

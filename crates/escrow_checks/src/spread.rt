@@ -1,4 +1,5 @@
-ghost use Rattle.std.specs.Prelude.{◌≡◌, ℤ, ◌+ℤ◌, ◌≤ℤ◌, ◌<◌, List, [], ◌∷◌, ◌++◌, length};
+ghost use Rattle.std.specs.Prelude.{◌≡◌, ℤ, pos, ◌+ℤ◌, ◌≤ℤ◌, ◌<◌, List, [], ◌∷◌, ◌++◌, length};
+ghost use Rattle.std.specs.Int.{int_min, int_max};
 ghost use Rattle.escrow_checks.specs.Contribution.{IsContribution, IsFormWithNew, IsFall, IsRise};
 ghost use Rattle.escrow_checks.specs.Form.{form};
 ghost use Rattle.escrow_checks.specs.declared.spread.TheConstants.Spread.{MAX_OPEN};
@@ -44,16 +45,10 @@ impl Spread {
             → IsSpread coeffs (before ++ after) self → contribution ≡ form coeffs changes
             → IsSpread coeffs (before ++ changes ∷ after) result }
     {
-        if contribution < Wide::ZERO {
-            Spread {
-                falls: self.falls.plus(contribution),
-                rises: self.rises,
-            }
-        } else {
-            Spread {
-                falls: self.falls,
-                rises: self.rises.plus(contribution),
-            }
+        let (fall, rise) = by_sign(contribution);
+        Spread {
+            falls: self.falls.plus(fall),
+            rises: self.rises.plus(rise),
         }
     }
 
@@ -66,16 +61,10 @@ impl Spread {
             → IsSpread coeffs (before ++ changes ∷ after) self → contribution ≡ form coeffs changes
             → IsSpread coeffs (before ++ after) result }
     {
-        if contribution < Wide::ZERO {
-            Spread {
-                falls: self.falls.minus(contribution),
-                rises: self.rises,
-            }
-        } else {
-            Spread {
-                falls: self.falls,
-                rises: self.rises.minus(contribution),
-            }
+        let (fall, rise) = by_sign(contribution);
+        Spread {
+            falls: self.falls.minus(fall),
+            rises: self.rises.minus(rise),
         }
     }
 
@@ -87,5 +76,17 @@ impl Spread {
         ensures ordered { result.0 ≤ℤ result.1 }
     {
         (value.plus(self.falls), value.plus(self.rises))
+    }
+}
+
+/// How far a contribution lowers a form, and how far it raises it: one of the two is zero.
+fn by_sign(contribution: Wide) -> (Wide, Wide)
+    ensures fall { result.0 ≡ int_min (pos 0) contribution }
+    ensures rise { result.1 ≡ int_max (pos 0) contribution }
+{
+    if contribution < Wide::ZERO {
+        (contribution, Wide::ZERO)
+    } else {
+        (Wide::ZERO, contribution)
     }
 }

@@ -56,34 +56,13 @@ pub(super) fn number_sum(terms: &[Term]) -> Parts
     ensures value { millionths result ≡ total number_in terms.now }
     ensures within { AreTermSums result }
 {
-    Parts {
-        whole: wholes_sum(terms),
-        rest: rest_sum(terms),
-    }
-}
-
-/// The sum of the wholes of the numbers among terms.
-fn wholes_sum(terms: &[Term]) -> i128
-    ensures value { result ≡ total wholes_in terms.now }
-    ensures within { IsTermSum result }
-{
-    let mut sum = 0;
+    let mut whole = 0;
+    let mut rest = 0;
     for term in terms {
-        sum = plus(sum, wholes_in(term));
+        whole = plus(whole, wholes_in(term));
+        rest = plus(rest, rest_in(term));
     }
-    sum
-}
-
-/// The sum of the millionths beside these wholes.
-fn rest_sum(terms: &[Term]) -> i128
-    ensures value { result ≡ total rest_in terms.now }
-    ensures within { IsTermSum result }
-{
-    let mut sum = 0;
-    for term in terms {
-        sum = plus(sum, rest_in(term));
-    }
-    sum
+    Parts { whole, rest }
 }
 
 /// What a term adds to the coefficient of a column.

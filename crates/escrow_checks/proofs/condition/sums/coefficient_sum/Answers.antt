@@ -13,5 +13,4 @@ loop-term-preserved c =
     let within : IsAmount c.coefficient_in.result = (omega (arith, ints, c.coefficient_in.type_inv), omega (arith, ints, c.coefficient_in.type_inv)) in
     let small : IsTermSum c.loop-term.sum = (omega (arith, ints), omega (arith, ints)) in
     let adds : c.plus-sum.result ≡ c.loop-term.sum +ℤ c.coefficient_in.result = omega (arith, ints, c.plus-sum.ensures, c.loop-term.sum-is) in
-    let after = sum_next (coefficient_in c.args.column.now) c.args.terms.now c.loop-term.term-index c.term-item.result (to_z w128 c.loop-term.sum-bits) c.loop-term.sum c.coefficient_in.result c.plus-sum.result c.loop-term-test.true c.term-item.is c.coefficient_in.ensures within c.loop-term.sum-is small adds before.rest before.low before.high in
-    record { rest = after.0; low = after.1; high = after.2 }
+    sum_next (coefficient_in c.args.column.now) c.args.terms.now c.loop-term.term-index c.term-item.result (to_z w128 c.loop-term.sum-bits) c.loop-term.sum c.coefficient_in.result c.plus-sum.result c.loop-term-test.true c.term-item.is c.coefficient_in.ensures within c.loop-term.sum-is small adds before

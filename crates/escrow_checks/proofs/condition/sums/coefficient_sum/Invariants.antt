@@ -1,11 +1,6 @@
-use Rattle.std.proofs.Common.{◌≡◌, ◌*◌, ◌^◌, pos, neg_ℤ, ◌+ℤ◌, ◌≤ℤ◌, drop}
 use Rattle.escrow_checks.specs.Checks.{coefficient_in}
-use Rattle.escrow_checks.specs.Condition.{total}
+use Rattle.escrow_checks.proofs.TermLemmas.{IsSumTo}
 use Rattle.escrow_checks.proofs.condition.sums.coefficient_sum.Given as goal
 
 abbrev pub invariant-loop-term : goal.invariant-loop-term
-invariant-loop-term l = record {
-  rest : l.sum +ℤ total (coefficient_in l.column) (drop l.term-index l.terms) ≡ total (coefficient_in l.column) l.terms;
-  low : neg_ℤ (pos (10 ^ 15 * l.term-index)) ≤ℤ l.sum;
-  high : l.sum ≤ℤ pos (10 ^ 15 * l.term-index);
-}
+invariant-loop-term l = IsSumTo (coefficient_in l.column) l.terms l.term-index l.sum

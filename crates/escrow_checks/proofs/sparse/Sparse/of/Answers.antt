@@ -13,7 +13,7 @@ pub loop-column-preserved : goal.loop-column-preserved
 loop-column-preserved c =
     let i = c.loop-column.column in
     let count = c.loop-column.count in
-    let entries = c.loop-column.entries in
+    let columns = c.loop-column.columns in
     let amounts = c.args.amounts.now in
     let amount = c.index-amounts-column.result in
     let is = c.index-amounts-column.is in
@@ -21,18 +21,18 @@ loop-column-preserved c =
     let below : i < length amounts = omega arith in
     elim c.if-get-ne0.branch [
       | then-get-ne0 w ↦
-          let room : count < length entries = omega arith in
-          rw (w.entries-is, w.count-is) (record {
+          let room : count < length columns = omega arith in
+          rw (w.columns-is, w.count-is) (record {
             few = omega arith;
-            long = length-set entries count _ ∙ before.long;
-            listed = listed_more amounts entries count i amount below is room before.listed;
+            long = length-set columns count _ ∙ before.long;
+            listed = listed_more amounts columns count i below room before.listed;
           })
       | else-get-ne0 w ↦
           let none : amount ≡ pos 0 = omega (arith, ints, w.if-get-ne0.false) in
-          rw (w.entries-is, w.count-is) (record { few = omega arith; long = before.long; listed = listed_past amounts (take count entries) i amount below is none before.listed })
+          rw (w.columns-is, w.count-is) (record { few = omega arith; long = before.long; listed = listed_past amounts (take count columns) i amount below is none before.listed })
     ]
 
 pub invariant_of-result : goal.invariant_of-result
 invariant_of-result c =
     let before = c.loop-column.invariant in
-    (omega arith, before.long, listed_all c.args.amounts.now (take c.loop-column.count c.loop-column.entries) c.loop-column.column (omega arith) before.listed)
+    (omega arith, before.long, listed_all c.args.amounts.now (take c.loop-column.count c.loop-column.columns) c.loop-column.column (omega arith) before.listed)
