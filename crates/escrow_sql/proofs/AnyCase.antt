@@ -1,5 +1,5 @@
 -- Names and reserved words as they are written, in any case of their letters.
-use Rattle.std.proofs.Common.{◌≡◌, ℕ, ◌≤◌, ◌<◌, Bool, true, false, List, [], ◌∷◌, ◌+◌, ◌*◌, ◌%◌, Option, Some, None, length, map, bytes_eq, slice_index, get_or, ◌↔◌, arith, refl, sym, ap, ap₂, ◌∙◌}
+use Rattle.std.proofs.Common.{◌≡◌, ◌≢◌, ℕ, ◌≤◌, ◌<◌, Bool, true, false, List, [], ◌∷◌, ◌+◌, ◌*◌, ◌%◌, Option, Some, None, length, map, bytes_eq, slice_index, get_or, ◌↔◌, arith, refl, sym, ap, ap₂, ◌∙◌}
 use Rattle.std.specs.Prelude.{IsTrue, slice_get}
 use Rattle.std.specs.Char.{to_ascii_lowercase, to_ascii_uppercase}
 use Rattle.std.specs.List.{find}
@@ -82,6 +82,12 @@ is_written w text r test =
     same_answer r (bytes_eq (spelling w) (map to_ascii_uppercase text))
     (λ h. decides.1 (sym (spelled_in_upper_case w) ∙ (sym (upper_of_lower (spelling w)) ∙ (ap (map to_ascii_uppercase) (test.0 h) ∙ upper_of_lower text))))
     (λ h. test.1 (ap (map to_ascii_lowercase) (decides.0 h) ∙ lower_of_upper text))
+
+-- what has another length is not the word
+pub is_another : (w : Word) (text : List ℕ) → length (spelling w) ≢ length text → false ≡ bytes_eq (spelling w) (map to_ascii_uppercase text)
+is_another w text differ =
+    same_answer false (bytes_eq (spelling w) (map to_ascii_uppercase text)) (λ h. absurd (cc))
+    (λ h. absurd (differ (ap (λ (bytes : List ℕ). length bytes) ((bytes_eq-Decides (spelling w) (map to_ascii_uppercase text)).0 h) ∙ length-map text to_ascii_uppercase)))
 
 -- where the only candidate is spelled so it is the reserved word, and else there is none
 pub is_reserved : (text : List ℕ) (w : Word) → bytes_eq (spelling w) text ≡ true → Some w ≡ reserved text

@@ -1,8 +1,9 @@
 -- The numbers of classes tell classes apart.
-use Rattle.std.proofs.Common.{◌≡◌, ℕ, pos, List, [], ◌∷◌, ◌++◌, get_or, refl, sym, ap, ap₂, ◌∙◌}
+use Rattle.std.proofs.Common.{◌≡◌, ℕ, ℤ, pos, ◌≤◌, List, [], get_or, refl, sym, ap, ap₂, ◌∙◌, arith}
 use Rattle.std.specs.Prelude.{map}
 use Rattle.std.proofs.Math.ListN.{get_or-map}
 use Rattle.escrow_sql.specs.Classes.{class_number, number_of}
+use Rattle.escrow_sql.specs.Sort.{IsSort, kind_at}
 use Rattle.escrow_sql.specs.Token.{class_of}
 use Rattle.escrow_sql.specs.Word.{reserved_words}
 use Rattle.escrow_sql.specs.declared.token.Symbol.{Symbol}
@@ -12,26 +13,20 @@ use Rattle.escrow_sql.specs.declared.token.Kind.TheVariants as kind
 use Rattle.escrow_sql.specs.declared.word.Word.{Word}
 use Rattle.escrow_sql.specs.declared.word.Word.TheVariants as word
 
--- the classes in the order of their numbers
-abbrev classes : List Kind
-classes =
-    (kind.Name [] ∷ kind.Number (pos 0) ∷ kind.Decimal (pos 0) ∷ kind.Text [] ∷ map kind.Symbol (symbol.Open ∷ symbol.Close ∷ symbol.Comma ∷ symbol.Semicolon ∷ symbol.Star ∷ symbol.Plus ∷ symbol.Minus ∷ symbol.Equal ∷ symbol.Below ∷ symbol.AtMost ∷ symbol.Above ∷ symbol.AtLeast ∷ []))
-    ++ map kind.Word reserved_words
-
--- each class is found by its number
-symbol_found : (s : Symbol) → get_or classes (class_number (kind.Symbol s)) (kind.Name []) ≡ kind.Symbol s
-symbol_found symbol.Open = refl
-symbol_found symbol.Close = refl
-symbol_found symbol.Comma = refl
-symbol_found symbol.Semicolon = refl
-symbol_found symbol.Star = refl
-symbol_found symbol.Plus = refl
-symbol_found symbol.Minus = refl
-symbol_found symbol.Equal = refl
-symbol_found symbol.Below = refl
-symbol_found symbol.AtMost = refl
-symbol_found symbol.Above = refl
-symbol_found symbol.AtLeast = refl
+-- the kind of a symbol's class is the symbol
+pub symbol_kind : (s : Symbol) (bytes : List ℕ) (n : ℤ) → kind_at (class_number (kind.Symbol s)) bytes n ≡ kind.Symbol s
+symbol_kind symbol.Open bytes n = refl
+symbol_kind symbol.Close bytes n = refl
+symbol_kind symbol.Comma bytes n = refl
+symbol_kind symbol.Semicolon bytes n = refl
+symbol_kind symbol.Star bytes n = refl
+symbol_kind symbol.Plus bytes n = refl
+symbol_kind symbol.Minus bytes n = refl
+symbol_kind symbol.Equal bytes n = refl
+symbol_kind symbol.Below bytes n = refl
+symbol_kind symbol.AtMost bytes n = refl
+symbol_kind symbol.Above bytes n = refl
+symbol_kind symbol.AtLeast bytes n = refl
 
 -- each reserved word is found by its number
 word_found : (w : Word) → get_or reserved_words (number_of w) word.Add ≡ w
@@ -78,17 +73,36 @@ each_word f g same w =
     let first : f word.Add ≡ g word.Add = ap (λ xs. get_or xs 0 (f word.Add)) same in
     ap f (sym (word_found w)) ∙ (sym (get_or-map f reserved_words n word.Add) ∙ (ap₂ (λ xs d. get_or xs n d) same first ∙ (get_or-map g reserved_words n word.Add ∙ ap g (word_found w))))
 
-found : (k : Kind) → get_or classes (class_number k) (kind.Name []) ≡ class_of k
+-- the kind of a reserved word's class is the word
+pub word_kind : (w : Word) (bytes : List ℕ) (n : ℤ) → kind_at (class_number (kind.Word w)) bytes n ≡ kind.Word w
+word_kind w bytes n = each_word (λ v. kind_at (class_number (kind.Word v)) bytes n) kind.Word refl w
+
+-- the fields of a lexeme that is a symbol or a reserved word
+bare_sort : (class : ℕ) → 4 ≤ class → class_number (kind_at class [] (pos 0)) ≡ class → IsSort class [] (pos 0)
+bare_sort class bare e = record {
+  numbered = e;
+  name = λ h. absurd (omega (arith, h, bare));
+  decimal = λ h. absurd (omega (arith, h, bare));
+  text = λ h. absurd (omega (arith, h, bare));
+}
+
+pub symbol_sort : (s : Symbol) → IsSort (class_number (kind.Symbol s)) [] (pos 0)
+symbol_sort s = bare_sort _ (omega arith) (ap class_number (symbol_kind s [] (pos 0)))
+
+pub word_sort : (w : Word) → IsSort (class_number (kind.Word w)) [] (pos 0)
+word_sort w = bare_sort _ (omega arith) (ap class_number (word_kind w [] (pos 0)))
+
+found : (k : Kind) → class_of (kind_at (class_number k) [] (pos 0)) ≡ class_of k
 found (kind.Name name) = refl
 found (kind.Number n) = refl
 found (kind.Decimal d) = refl
 found (kind.Text text) = refl
-found (kind.Symbol s) = symbol_found s
-found (kind.Word w) = each_word (λ v. get_or classes (class_number (kind.Word v)) (kind.Name [])) kind.Word refl w
+found (kind.Symbol s) = ap class_of (symbol_kind s [] (pos 0))
+found (kind.Word w) = ap class_of (word_kind w [] (pos 0))
 
 -- one number, one class
 pub same_class : (k l : Kind) → class_number k ≡ class_number l → class_of k ≡ class_of l
-same_class k l e = sym (found k) ∙ (ap (λ (n : ℕ). get_or classes n (kind.Name [])) e ∙ found l)
+same_class k l e = sym (found k) ∙ (ap (λ (n : ℕ). class_of (kind_at n [] (pos 0))) e ∙ found l)
 
 number_of_class : (k : Kind) → class_number (class_of k) ≡ class_number k
 number_of_class (kind.Name name) = refl

@@ -11,6 +11,7 @@ pub mod Parser
 pub mod Parts
 pub mod Predictive
 pub mod Scan
+pub mod Sort
 pub mod Statement
 pub mod Token
 pub mod Word

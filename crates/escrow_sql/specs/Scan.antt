@@ -1,6 +1,7 @@
 -- Helps: how the lexer goes through a text, from left to right. Contracts of public calls rest on Lex.
-use Rattle.std.specs.Prelude.{ℕ, zero, suc, ◌+◌, ◌-◌, ◌==◌, Bool, true, false, ◌<◌, ◌≤◌, if◌then◌else◌, Option, Some, None, option_map, Result, Ok, Err, List, [], ◌∷◌, take, position}
-use Rattle.escrow_sql.specs.Lex.{is_forbidden, plain_piece, with_token}
+use Rattle.std.specs.Prelude.{ℕ, ℤ, zero, suc, ◌+◌, ◌-◌, ◌==◌, Bool, true, false, ◌<◌, ◌≤◌, if◌then◌else◌, Option, Some, None, option_map, Result, Ok, Err, List, [], ◌∷◌, take, position}
+use Rattle.escrow_num.specs.Decimal.{millionths_of}
+use Rattle.escrow_sql.specs.Lex.{behind_digits, front_digits, is_forbidden, plain_piece, with_token}
 use Rattle.escrow_sql.specs.declared.lexer.piece.Piece.{Piece}
 use Rattle.escrow_sql.specs.declared.lexer.piece.Piece.TheVariants as piece
 use Rattle.escrow_sql.specs.declared.token.Kind.TheVariants as kind
@@ -33,6 +34,10 @@ text_from body (Some len) = closed_text body len (position is_forbidden (take (l
 -- the text at the front, of which these bytes stand behind the opening quote
 unfoldable pub text_piece : List ℕ → Piece
 text_piece body = text_from body (text_rest false body)
+
+-- the millionths of the number with a point at the front, where it is a decimal
+abbrev pub point_millionths : List ℕ → Option ℤ
+point_millionths bytes = millionths_of (front_digits bytes) (behind_digits bytes)
 
 -- what the bytes begin with
 abbrev pub piece_of : ℕ → List ℕ → Piece

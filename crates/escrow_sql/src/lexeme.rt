@@ -1,45 +1,111 @@
-ghost use Rattle.std.specs.Prelude.{◌≡◌, ◌==◌, false, IfOk, MatchOption};
+ghost use Rattle.std.specs.Prelude.{◌≡◌, ◌==◌, ◌≤◌, false, IfOk, MatchOption};
 ghost use Rattle.escrow_sql.specs.Classes.{class_number};
 ghost use Rattle.escrow_sql.specs.declared.token.Kind.TheVariants as kind;
 
-use crate::token::{Kind, Symbol, Token};
-use crate::word::Word;
-use crate::written::{WrittenName, WrittenText};
+use crate::lexer::number;
+use crate::token::{Kind, SYMBOLS, Symbol, Token};
+use crate::word::{WORDS, Word};
+use crate::written;
+use crate::written::WrittenName;
 use escrow_num::{Amount, Decimal, Text};
 use std::alloc::{AllocError, Global};
 use std::marker::Model;
 
-/// What a lexeme is, with what it holds. Names and texts stay in the statement's text.
+/// What a lexeme is, with what it holds: its class says which of the fields count. Contracts see it
+/// as the kind of a token.
 #[derive(Debug, Drop)]
-pub(crate) enum Sort<'a> {
-    /// A reserved word.
-    Word(Word),
-    /// A name.
-    Name(WrittenName<'a>),
-    /// A number that is written without a point. It is not negative.
-    Number(Amount),
-    /// A number that is written with a point, in millionths. It is not negative.
-    Decimal(Decimal),
-    /// A text in quotes.
-    Text(WrittenText<'a>),
-    /// A symbol.
-    Symbol(Symbol),
+pub(crate) struct Sort<'a> {
+    /// The number of its class.
+    class: usize,
+    /// The bytes that write a name, a number with a point or a text. They stay in the statement's text.
+    bytes: &'a [u8],
+    /// The number that is written without a point.
+    number: Amount,
 }
 
-impl Sort<'_> {
-    ghost use Rattle.escrow_sql.specs.Lexeme.{kind_of};
+impl<'a> Model for Sort<'a> {
+    ghost use Rattle.escrow_sql.specs.Sort.{IsSort, kind_at};
+    ghost use Rattle.escrow_sql.specs.declared.token.Kind.{Kind};
 
-    /// The number of its class: what it is, without what it holds.
-    fn class(&self) -> u8
-        ensures { result ≡ class_number (kind_of self.now) }
+    ghost Value = { Kind };
+
+    ghost view = { λ s. kind_at s.class s.bytes.now s.number };
+
+    ghost invariant = { λ s. IsSort s.class s.bytes.now s.number };
+}
+
+impl<'a> Sort<'a> {
+    ghost use Rattle.std.specs.Prelude.{map, pos};
+    ghost use Rattle.std.specs.Char.{to_ascii_uppercase};
+    ghost use Rattle.std.specs.Option.{IsSome, unwrap_or};
+    ghost use Rattle.escrow_num.specs.Name.{IsName};
+    ghost use Rattle.escrow_sql.specs.Scan.{point_millionths, undoubled};
+
+    /// A reserved word.
+    pub(crate) fn word(word: Word) -> Self
+        ensures { result ≡ kind.Word word }
     {
-        match self {
-            Sort::Name(_) => Kind::NAME,
-            Sort::Number(_) => Kind::NUMBER,
-            Sort::Decimal(_) => Kind::DECIMAL,
-            Sort::Text(_) => Kind::TEXT,
-            Sort::Symbol(symbol) => Kind::Symbol(*symbol).class(),
-            Sort::Word(word) => Kind::Word(*word).class(),
+        Sort {
+            class: Kind::Word(word).class(),
+            bytes: &[],
+            number: Amount::ZERO,
+        }
+    }
+
+    /// A symbol.
+    pub(crate) fn symbol(symbol: Symbol) -> Self
+        ensures { result ≡ kind.Symbol symbol }
+    {
+        Sort {
+            class: Kind::Symbol(symbol).class(),
+            bytes: &[],
+            number: Amount::ZERO,
+        }
+    }
+
+    /// The name that the bytes write.
+    pub(crate) fn name(bytes: &'a [u8]) -> Self
+        requires { IsName (map to_ascii_uppercase bytes.now) }
+        ensures { result ≡ kind.Name (map to_ascii_uppercase bytes.now) }
+    {
+        Sort {
+            class: Kind::NAME,
+            bytes,
+            number: Amount::ZERO,
+        }
+    }
+
+    /// A number without a point. It is not negative.
+    pub(crate) fn number(number: Amount) -> Self
+        ensures { result ≡ kind.Number number }
+    {
+        Sort {
+            class: Kind::NUMBER,
+            bytes: &[],
+            number,
+        }
+    }
+
+    /// The number with a point at the front of the bytes.
+    pub(crate) fn decimal(bytes: &'a [u8]) -> Self
+        requires { IsSome (point_millionths bytes.now) }
+        ensures { result ≡ kind.Decimal (unwrap_or (point_millionths bytes.now) (pos 0)) }
+    {
+        Sort {
+            class: Kind::DECIMAL,
+            bytes,
+            number: Amount::ZERO,
+        }
+    }
+
+    /// The text that stands so between its quotes.
+    pub(crate) fn text(raw: &'a str) -> Self
+        ensures { result ≡ kind.Text (undoubled false raw.now) }
+    {
+        Sort {
+            class: Kind::TEXT,
+            bytes: raw.as_bytes(),
+            number: Amount::ZERO,
         }
     }
 }
@@ -51,36 +117,22 @@ pub(crate) struct Lexeme<'a> {
     sort: Sort<'a>,
     start: usize,
     end: usize,
-    /// The class of its sort, which the parser asks for most.
-    class: u8,
 }
 
 impl<'a> Model for Lexeme<'a> {
-    ghost use Rattle.std.specs.Prelude.{◌≡◌};
-    ghost use Rattle.escrow_sql.specs.Classes.{class_number};
-    ghost use Rattle.escrow_sql.specs.Lexeme.{kind_of};
     ghost use Rattle.escrow_sql.specs.declared.token.Token.{Token};
 
     ghost Value = { Token };
 
-    ghost view = { λ l. record { kind = kind_of l.sort; start = l.start; end = l.end } };
-
-    ghost invariant = { λ l. l.class ≡ class_number (kind_of l.sort) };
+    ghost view = { λ l. record { kind = l.sort; start = l.start; end = l.end } };
 }
 
 impl<'a> Lexeme<'a> {
-    ghost use Rattle.escrow_sql.specs.Lexeme.{kind_of};
-
     /// The lexeme of this sort that takes the bytes from `start` to `end`.
     pub(crate) fn new(sort: Sort<'a>, start: usize, end: usize) -> Self
-        ensures { result ≡ record { kind = kind_of sort.entry; start = start; end = end } }
+        ensures { result ≡ record { kind = sort.entry; start = start; end = end } }
     {
-        Lexeme {
-            class: sort.class(),
-            sort,
-            start,
-            end,
-        }
+        Lexeme { sort, start, end }
     }
 
     /// Where its first byte is, from 0.
@@ -91,49 +143,52 @@ impl<'a> Lexeme<'a> {
     }
 
     /// The number of its class.
-    pub(crate) fn class(&self) -> u8
+    pub(crate) fn class(&self) -> usize
         ensures { result ≡ class_number self.now.kind }
     {
-        self.class
+        self.sort.class
     }
 
     /// The name that it is, if it is one.
     pub(crate) fn name(&self) -> Option<WrittenName<'a>>
         ensures { MatchOption result ((class_number self.now.kind == 0) ≡ false) (λ n. self.now.kind ≡ kind.Name n) }
     {
-        match &self.sort {
-            Sort::Name(name) => Some(name.copied()),
-            _ => None,
+        if self.sort.class != Kind::NAME {
+            return None;
         }
+        Some(WrittenName::new(self.sort.bytes))
     }
 
     /// The number without a point that it is, if it is one.
     pub(crate) fn number(&self) -> Option<Amount>
         ensures { MatchOption result ((class_number self.now.kind == 1) ≡ false) (λ n. self.now.kind ≡ kind.Number n) }
     {
-        match &self.sort {
-            Sort::Number(number) => Some(*number),
-            _ => None,
+        if self.sort.class != Kind::NUMBER {
+            return None;
         }
+        Some(self.sort.number)
     }
 
     /// The number with a point that it is, if it is one.
     pub(crate) fn decimal(&self) -> Option<Decimal>
         ensures { MatchOption result ((class_number self.now.kind == 2) ≡ false) (λ d. self.now.kind ≡ kind.Decimal d) }
     {
-        match &self.sort {
-            Sort::Decimal(number) => Some(*number),
-            _ => None,
+        if self.sort.class != Kind::DECIMAL {
+            return None;
         }
+        number::decimal_of(self.sort.bytes)
     }
 
     /// A copy of the text that it is, if it is one.
     pub(crate) fn text(&self, alloc: Global) -> Result<Option<Text>, AllocError>
         ensures { IfOk result (λ o. MatchOption o ((class_number self.now.kind == 3) ≡ false) (λ t. self.now.kind ≡ kind.Text t)) }
     {
-        match &self.sort {
-            Sort::Text(text) => Ok(Some(text.copy(alloc)?)),
-            _ => Ok(None),
+        if self.sort.class != Kind::TEXT {
+            return Ok(None);
+        }
+        match str::from_utf8(self.sort.bytes) {
+            Ok(raw) => Ok(Some(written::text_of(alloc, raw)?)),
+            Err(_) => unreachable!(),
         }
     }
 
@@ -141,18 +196,32 @@ impl<'a> Lexeme<'a> {
     pub(crate) fn token(&self, alloc: Global) -> Result<Token, AllocError>
         ensures { IfOk result (λ t. t ≡ self.now) }
     {
-        let kind = match &self.sort {
-            Sort::Word(word) => Kind::Word(*word),
-            Sort::Name(name) => Kind::Name(name.name()),
-            Sort::Number(number) => Kind::Number(*number),
-            Sort::Decimal(number) => Kind::Decimal(*number),
-            Sort::Text(text) => Kind::Text(text.copy(alloc)?),
-            Sort::Symbol(symbol) => Kind::Symbol(*symbol),
+        let kind = if let Some(name) = self.name() {
+            Kind::Name(name.name())
+        } else if let Some(number) = self.number() {
+            Kind::Number(number)
+        } else if let Some(number) = self.decimal() {
+            Kind::Decimal(number)
+        } else if let Some(text) = self.text(alloc)? {
+            Kind::Text(text)
+        } else {
+            self.bare_kind()
         };
         Ok(Token {
             kind,
             start: self.start,
             end: self.end,
         })
+    }
+
+    /// The symbol or the reserved word that it is.
+    fn bare_kind(&self) -> Kind
+        requires { 4 ≤ class_number self.now.kind }
+        ensures { result ≡ self.now.kind }
+    {
+        match self.sort.class - 4 {
+            symbol if symbol < SYMBOLS.len() => Kind::Symbol(SYMBOLS[symbol]),
+            other => Kind::Word(WORDS[other - SYMBOLS.len()]),
+        }
     }
 }

@@ -8,7 +8,7 @@ ghost use Rattle.escrow_sql.specs.declared.fault.ParseFault.TheVariants.{Memory}
 ghost use Rattle.escrow_sql.specs.declared.token.Token.{Token};
 
 mod name;
-mod number;
+pub(crate) mod number;
 mod piece;
 mod scan;
 mod symbol;

@@ -49,6 +49,22 @@ pub enum Kind {
     Symbol(Symbol),
 }
 
+/// The symbols, in the order above.
+pub(crate) const SYMBOLS: &[Symbol] = &[
+    Symbol::Open,
+    Symbol::Close,
+    Symbol::Comma,
+    Symbol::Semicolon,
+    Symbol::Star,
+    Symbol::Plus,
+    Symbol::Minus,
+    Symbol::Equal,
+    Symbol::Below,
+    Symbol::AtMost,
+    Symbol::Above,
+    Symbol::AtLeast,
+];
+
 impl Symbol {
     ghost use Rattle.escrow_sql.specs.Classes.{symbol_number};
 
@@ -64,19 +80,19 @@ impl Kind {
     ghost use Rattle.escrow_sql.specs.Classes.{class_number};
 
     /// The class of names.
-    pub(crate) const NAME: u8 = 0;
+    pub(crate) const NAME: usize = 0;
 
     /// The class of numbers without a point.
-    pub(crate) const NUMBER: u8 = 1;
+    pub(crate) const NUMBER: usize = 1;
 
     /// The class of numbers with a point.
-    pub(crate) const DECIMAL: u8 = 2;
+    pub(crate) const DECIMAL: usize = 2;
 
     /// The class of texts.
-    pub(crate) const TEXT: u8 = 3;
+    pub(crate) const TEXT: usize = 3;
 
     /// The number of the token's class: what it is, without what it holds.
-    pub(crate) fn class(&self) -> u8
+    pub(crate) fn class(&self) -> usize
         ensures { result ≡ class_number self.now }
     {
         match self {
@@ -84,8 +100,8 @@ impl Kind {
             Kind::Number(_) => Kind::NUMBER,
             Kind::Decimal(_) => Kind::DECIMAL,
             Kind::Text(_) => Kind::TEXT,
-            Kind::Symbol(symbol) => 4 + symbol.number(),
-            Kind::Word(word) => 16 + word.number(),
+            Kind::Symbol(symbol) => 4 + usize::from(symbol.number()),
+            Kind::Word(word) => 16 + usize::from(word.number()),
         }
     }
 }

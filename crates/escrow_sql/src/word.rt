@@ -77,7 +77,7 @@ pub enum Word {
 }
 
 /// The reserved words, in the alphabet's order.
-const WORDS: &[Word] = &[
+pub(crate) const WORDS: &[Word] = &[
     Word::Add,
     Word::Alter,
     Word::And,
@@ -199,10 +199,14 @@ impl Word {
     }
 
     /// Whether the bytes write the word, in any case of their letters.
+    #[tactic(auto, using(crate::proofs::AnyCase::is_another))]
     fn is_written(self, text: &[u8]) -> bool
         ensures { result ≡ bytes_eq (spelling self) (map to_ascii_uppercase text.now) }
     {
         let spelling = self.spelling().as_bytes();
+        if spelling.len() != text.len() {
+            return false;
+        }
         spelling == text || spelling.eq_ignore_ascii_case(text)
     }
 

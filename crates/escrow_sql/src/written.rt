@@ -49,36 +49,12 @@ impl<'a> WrittenName<'a> {
     }
 }
 
-/// A text as a statement writes it, each quote in it twice. Contracts see each once.
-#[derive(Debug, Drop)]
-pub(crate) struct WrittenText<'a> {
-    raw: &'a str,
-}
-
-impl<'a> Model for WrittenText<'a> {
-    ghost use Rattle.std.specs.Prelude.{List, ℕ, false};
-    ghost use Rattle.escrow_sql.specs.Scan.{undoubled};
-
-    ghost Value = { List ℕ };
-
-    ghost view = { λ t. undoubled false t.raw.now };
-}
-
-impl<'a> WrittenText<'a> {
-    /// The text that stands so between its quotes.
-    pub(crate) fn new(raw: &'a str) -> Self
-        ensures { result ≡ undoubled false raw.now }
-    {
-        WrittenText { raw }
-    }
-
-    /// The text itself.
-    pub(crate) fn copy(&self, alloc: Global) -> Result<Text, AllocError>
-        ensures { IfOk result (λ t. t ≡ self.now) }
-    {
-        let copy = copy_undoubled(alloc, self.raw)?;
-        Ok(Text::from_string(copy))
-    }
+/// The text that stands so between its quotes, each quote in it twice.
+pub(crate) fn text_of(alloc: Global, raw: &str) -> Result<Text, AllocError>
+    ensures { IfOk result (λ t. t ≡ undoubled false raw.now) }
+{
+    let copy = copy_undoubled(alloc, raw)?;
+    Ok(Text::from_string(copy))
 }
 
 /// A copy of the text, each doubled quote once.

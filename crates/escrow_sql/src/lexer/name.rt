@@ -7,7 +7,6 @@ ghost use Rattle.escrow_sql.specs.Lexeme.{piece_of_scan};
 use crate::lexeme::Sort;
 use crate::lexer::scan::Scan;
 use crate::word::Word;
-use crate::written::WrittenName;
 use escrow_num::Name;
 
 /// For each byte whether a name may go on with it.
@@ -59,8 +58,8 @@ pub(super) fn read_name(bytes: &[u8]) -> Scan<'_>
     }
     let written = &bytes[..len];
     let sort = match Word::written(written) {
-        Some(word) => Sort::Word(word),
-        None => Sort::Name(WrittenName::new(written)),
+        Some(word) => Sort::word(word),
+        None => Sort::name(written),
     };
     Scan::Lexeme(sort, len)
 }

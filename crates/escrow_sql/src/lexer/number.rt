@@ -2,9 +2,9 @@ ghost use Rattle.std.specs.Prelude.{◌≡◌, ◌<◌, ◌+◌, pos, SomeIff, l
 ghost use Rattle.std.specs.List.{prefix_len};
 ghost use Rattle.std.specs.Char.{is_ascii_digit};
 ghost use Rattle.escrow_num.specs.Amount.{IsAmount, number_of};
-ghost use Rattle.escrow_num.specs.Decimal.{millionths_of};
 ghost use Rattle.escrow_sql.specs.Lex.{front_digits, number_piece, point_digits, point_piece, whole_piece};
 ghost use Rattle.escrow_sql.specs.Lexeme.{piece_of_scan};
+ghost use Rattle.escrow_sql.specs.Scan.{point_millionths};
 
 use crate::lexeme::Sort;
 use crate::lexer::scan::Scan;
@@ -56,17 +56,26 @@ fn whole_number(digits: &[u8]) -> Scan<'_>
     ensures { piece_of_scan result ≡ whole_piece digits.now }
 {
     match value_of(digits) {
-        Some(value) => Scan::Lexeme(Sort::Number(value), digits.len()),
+        Some(value) => Scan::Lexeme(Sort::number(value), digits.len()),
         None => Scan::Fault(0),
     }
 }
 
-/// The number of digits in front of a point and behind it, which takes so many bytes.
-fn point_number<'a>(len: usize, front: &'a [u8], behind: &'a [u8]) -> Scan<'a>
-    ensures { piece_of_scan result ≡ point_piece len (millionths_of front.now behind.now) }
+/// The number with a point at the front of the bytes.
+pub(crate) fn decimal_of(bytes: &[u8]) -> Option<Decimal>
+    ensures { result ≡ point_millionths bytes.now }
 {
-    match Decimal::of_digits(front, behind) {
-        Some(value) => Scan::Lexeme(Sort::Decimal(value), len),
+    let front = front_digits(bytes);
+    let behind = point_digits(&bytes[front.len()..]);
+    Decimal::of_digits(front, behind)
+}
+
+/// The number with a point at the front of the bytes, which takes so many of them.
+fn point_number(len: usize, bytes: &[u8]) -> Scan<'_>
+    ensures { piece_of_scan result ≡ point_piece len (point_millionths bytes.now) }
+{
+    match decimal_of(bytes) {
+        Some(_) => Scan::Lexeme(Sort::decimal(bytes), len),
         None => Scan::Fault(0),
     }
 }
@@ -81,6 +90,6 @@ pub(super) fn read_number(bytes: &[u8]) -> Scan<'_>
     if behind.is_empty() {
         whole_number(front)
     } else {
-        point_number(front.len() + 1 + behind.len(), front, behind)
+        point_number(front.len() + 1 + behind.len(), bytes)
     }
 }

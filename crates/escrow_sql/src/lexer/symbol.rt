@@ -27,7 +27,7 @@ pub(super) fn read_symbol<'a>(first: u8, next: &'a [u8]) -> Scan<'a>
         b'>' => (Symbol::Above, 1),
         _ => return Scan::Fault(0),
     };
-    Scan::Lexeme(Sort::Symbol(symbol), len)
+    Scan::Lexeme(Sort::symbol(symbol), len)
 }
 
 /// Whether the bytes begin with this one.

@@ -5,7 +5,6 @@ ghost use Rattle.escrow_sql.specs.Lexeme.{piece_of_scan};
 
 use crate::lexeme::Sort;
 use crate::lexer::scan::Scan;
-use crate::written::WrittenText;
 
 /// How many bytes a text takes behind its opening quote, or `None` where it has no end.
 fn quoted_len(body: &[u8]) -> Option<usize>
@@ -49,5 +48,5 @@ pub(super) fn read_text(body: &str) -> Scan<'_>
     if let Some(place) = forbidden_place(raw.as_bytes()) {
         return Scan::Fault(1 + place);
     }
-    Scan::Lexeme(Sort::Text(WrittenText::new(raw)), 1 + len)
+    Scan::Lexeme(Sort::text(raw), 1 + len)
 }

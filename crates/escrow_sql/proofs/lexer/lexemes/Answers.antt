@@ -1,5 +1,5 @@
 use Rattle.std.proofs.Common.{◌≡◌, ℕ, Result, Ok, Err, List, ◌++◌, ◌∷◌, [], ◌+◌, arith, subst, ap, ◌∙◌}
-use Rattle.escrow_sql.specs.Lexeme.{kind_of, piece_of_scan}
+use Rattle.escrow_sql.specs.Lexeme.{piece_of_scan}
 use Rattle.escrow_sql.specs.Lex.{IsLexed}
 use Rattle.escrow_sql.specs.Scan.{IsWithin}
 use Rattle.escrow_sql.specs.declared.token.Token.{Token}
@@ -22,12 +22,12 @@ pub loop-at-preserved : goal.loop-at-preserved
 loop-at-preserved c =
     let is = ap piece_of_scan c.in-Lexeme.is in
     let w = subst (IsWithin _) is c.piece_at.ensures.within in
-    let grown : c.push.new.self ≡ c.loop-at.lexemes ++ record { kind = kind_of c.in-Lexeme.sort; start = c.loop-at.at; end = c.loop-at.at + c.in-Lexeme.len } ∷ [] =
+    let grown : c.push.new.self ≡ c.loop-at.lexemes ++ record { kind = c.in-Lexeme.sort; start = c.loop-at.at; end = c.loop-at.at + c.in-Lexeme.len } ∷ [] =
     c.in_ok-push-in-Lexeme.ensures.ok ∙ ap (λ (t : Token). c.loop-at.lexemes ++ t ∷ []) c.new.ensures in
     record {
       within = omega (arith, w);
       short = c.loop-at.invariant.short;
-      same = rw grown (after-one c.loop-at.lexemes c.args.text.now c.loop-at.at c.in-Lexeme.len (kind_of c.in-Lexeme.sort) _ _ (omega arith) w.0 is c.piece_at.ensures.value c.loop-at.invariant.same);
+      same = rw grown (after-one c.loop-at.lexemes c.args.text.now c.loop-at.at c.in-Lexeme.len c.in-Lexeme.sort _ _ (omega arith) w.0 is c.piece_at.ensures.value c.loop-at.invariant.same);
     }
 
 pub returns-clause-spans : goal.returns-clause-spans

@@ -9,4 +9,4 @@ pub returns-in-Some-forbidden_place : goal.returns-in-Some-forbidden_place
 returns-in-Some-forbidden_place c = forbidden_text c.args.body.now c.in-Some.len _ (search rules) (search rules)
 
 pub returns : goal.returns
-returns c = whole_text c.args.body.now _ c.in-Some.len (search rules) (search rules) (search rules)
+returns c = rw c.text.ensures (whole_text c.args.body.now _ c.in-Some.len (search rules) (search rules) (search rules))
