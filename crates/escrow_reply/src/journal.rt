@@ -1,52 +1,30 @@
-ghost use Rattle.std.specs.Prelude.{◌≡◌, ◌++◌, ◌∷◌, [], map, OnOk};
+ghost use Rattle.std.specs.Prelude.{◌≡◌, ◌++◌, OnOk};
 ghost use Rattle.std.specs.List.{flat_map};
-ghost use Rattle.escrow_reply.specs.Text.{with_prefix, entry_text, change_text, signed_text};
+ghost use Rattle.escrow_reply.specs.Text.{change_text, signed_text};
 
+use crate::line::Shown;
 use crate::push::{push_bytes, push_counted, push_number, push_text, push_units};
 use crate::values::push_value;
 use escrow_machine::{ColumnChange, JournalEntry};
 use escrow_num::{Amount, Scale, Wide};
 use std::alloc::AllocError;
 
-/// A line for each open reservation.
-pub(crate) fn push_entry_lines(
-    lines: &mut Vec<u8>,
-    prefix: &[u8],
-    entries: &[JournalEntry],
-) -> Result<(), AllocError>
-    ensures { OnOk result (lines.new.items ≡ lines.old.items ++ with_prefix prefix.now (map entry_text entries.now)) }
-{
-    for entry in entries {
-        push_entry_line(lines, prefix, entry)?;
-    }
-    Ok(())
-}
-
-/// A line of an open reservation.
-fn push_entry_line(
-    lines: &mut Vec<u8>,
-    prefix: &[u8],
-    entry: &JournalEntry,
-) -> Result<(), AllocError>
-    ensures { OnOk result (lines.new.items ≡ lines.old.items ++ with_prefix prefix.now (entry_text entry.now ∷ [])) }
-{
-    push_bytes(lines, prefix)?;
-    push_entry(lines, entry)?;
-    push_text(lines, "\n")
-}
-
 /// An open reservation's id, its session, its row, and its changes.
-#[tactic(auto, unfolding(crate::specs::Text::entry_text))]
-fn push_entry(line: &mut Vec<u8>, entry: &JournalEntry) -> Result<(), AllocError>
-    ensures { OnOk result (line.new.items ≡ line.old.items ++ entry_text entry.now) }
-{
-    push_number(line, entry.id)?;
-    push_counted(line, " session ", u64::from(entry.session.get()))?;
-    push_text(line, " ")?;
-    push_bytes(line, entry.row.table.as_bytes())?;
-    push_text(line, " ")?;
-    push_value(line, &entry.row.key, entry.key_scale)?;
-    push_changes(line, entry.changes.as_slice())
+impl Shown for JournalEntry {
+    ghost use Rattle.escrow_reply.specs.Text.{entry_text};
+
+    ghost text = { entry_text };
+
+    #[tactic(auto, unfolding(crate::specs::Text::entry_text))]
+    fn push_to(&self, line: &mut Vec<u8>) -> Result<(), AllocError> {
+        push_number(line, self.id)?;
+        push_counted(line, " session ", u64::from(self.session.get()))?;
+        push_text(line, " ")?;
+        push_bytes(line, self.row.table.as_bytes())?;
+        push_text(line, " ")?;
+        push_value(line, &self.row.key, self.key_scale)?;
+        push_changes(line, self.changes.as_slice())
+    }
 }
 
 /// The changes of columns, one behind the other.

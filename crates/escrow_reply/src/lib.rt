@@ -7,6 +7,7 @@
 
 mod bounds;
 mod journal;
+mod line;
 mod lines;
 mod push;
 mod short;

@@ -1,10 +1,9 @@
-ghost use Rattle.std.specs.Prelude.{◌≡◌, ◌++◌, ◌∷◌, [], map, IfOk, OnOk};
-ghost use Rattle.escrow_reply.specs.Text.{rendered, rendered_whole, database_prefix, prefix_of, with_prefix, reply_lines, shown_lines, header_text, row_text};
+ghost use Rattle.std.specs.Prelude.{◌≡◌, ◌++◌, map, IfOk, OnOk};
+ghost use Rattle.escrow_reply.specs.Text.{rendered, rendered_whole, database_prefix, prefix_of, with_prefix, reply_lines, shown_lines, row_text};
 
-use crate::bounds::{push_check_lines, push_column_lines};
-use crate::journal::push_entry_lines;
+use crate::line::{push_line, push_lines};
 use crate::push::{push_bytes, push_number, push_text};
-use crate::values::{push_header, push_row};
+use crate::values::Row;
 use crate::words::push_words;
 use escrow_machine::{Heading, Reply};
 use escrow_num::{Seq, Session, Value};
@@ -86,39 +85,17 @@ fn push_shown(lines: &mut Vec<u8>, prefix: &[u8], reply: &Reply) -> Result<(), A
 {
     match reply {
         Reply::Rows { columns, rows } => {
-            push_header_line(lines, prefix, columns.as_slice())?;
+            push_line(lines, prefix, &columns.as_slice())?;
             push_row_lines(lines, prefix, columns.as_slice(), rows.as_slice())
         }
-        Reply::Table(text) => push_line(lines, prefix, text.as_str()),
+        Reply::Table(text) => push_line(lines, prefix, &text.as_str()),
         Reply::Bounds { columns, checks } => {
-            push_column_lines(lines, prefix, columns.as_slice())?;
-            push_check_lines(lines, prefix, checks.as_slice())
+            push_lines(lines, prefix, columns.as_slice())?;
+            push_lines(lines, prefix, checks.as_slice())
         }
-        Reply::Journal(entries) => push_entry_lines(lines, prefix, entries.as_slice()),
+        Reply::Journal(entries) => push_lines(lines, prefix, entries.as_slice()),
         _ => Ok(()),
     }
-}
-
-/// A line of a text.
-fn push_line(lines: &mut Vec<u8>, prefix: &[u8], text: &str) -> Result<(), AllocError>
-    ensures { OnOk result (lines.new.items ≡ lines.old.items ++ with_prefix prefix.now (text.now ∷ [])) }
-{
-    push_bytes(lines, prefix)?;
-    push_text(lines, text)?;
-    push_text(lines, "\n")
-}
-
-/// A line of the columns' names.
-fn push_header_line(
-    lines: &mut Vec<u8>,
-    prefix: &[u8],
-    headings: &[Heading],
-) -> Result<(), AllocError>
-    ensures { OnOk result (lines.new.items ≡ lines.old.items ++ with_prefix prefix.now (header_text headings.now ∷ [])) }
-{
-    push_bytes(lines, prefix)?;
-    push_header(lines, headings)?;
-    push_text(lines, "\n")
 }
 
 /// A line for each row under the headings.
@@ -131,21 +108,8 @@ fn push_row_lines(
     ensures { OnOk result (lines.new.items ≡ lines.old.items ++ with_prefix prefix.now (map (row_text headings.now) rows.now)) }
 {
     for row in rows {
-        push_row_line(lines, prefix, headings, row.as_slice())?;
+        let values = row.as_slice();
+        push_line(lines, prefix, &Row { headings, values })?;
     }
     Ok(())
-}
-
-/// A line of a row's values.
-fn push_row_line(
-    lines: &mut Vec<u8>,
-    prefix: &[u8],
-    headings: &[Heading],
-    values: &[Value],
-) -> Result<(), AllocError>
-    ensures { OnOk result (lines.new.items ≡ lines.old.items ++ with_prefix prefix.now (row_text headings.now values.now ∷ [])) }
-{
-    push_bytes(lines, prefix)?;
-    push_row(lines, headings, values)?;
-    push_text(lines, "\n")
 }

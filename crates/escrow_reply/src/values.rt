@@ -2,6 +2,7 @@ ghost use Rattle.std.specs.Prelude.{◌≡◌, ◌++◌, ◌∷◌, [], OnOk};
 ghost use Rattle.escrow_sql.specs.Lex.{doubled};
 ghost use Rattle.escrow_reply.specs.Text.{header_text, quoted, row_text, scale_at, value_text};
 
+use crate::line::Shown;
 use crate::push::{push_bytes, push_text, push_units};
 use escrow_machine::Heading;
 use escrow_num::{Scale, Value, Wide};
@@ -10,8 +11,18 @@ use std::alloc::AllocError;
 /// What stands between two columns.
 const BAR: &str = " | ";
 
+impl Shown for &[Heading] {
+    ghost use Rattle.escrow_reply.specs.Text.{header_text};
+
+    ghost text = { λ headings. header_text headings.now };
+
+    fn push_to(&self, line: &mut Vec<u8>) -> Result<(), AllocError> {
+        push_header(line, self)
+    }
+}
+
 /// The names of columns, with a bar between each two.
-pub(crate) fn push_header(line: &mut Vec<u8>, headings: &[Heading]) -> Result<(), AllocError>
+fn push_header(line: &mut Vec<u8>, headings: &[Heading]) -> Result<(), AllocError>
     ensures { OnOk result (line.new.items ≡ line.old.items ++ header_text headings.now) }
 {
     let [first, others @ ..] = headings else {
@@ -25,12 +36,25 @@ pub(crate) fn push_header(line: &mut Vec<u8>, headings: &[Heading]) -> Result<()
     Ok(())
 }
 
+/// The values of a row, and the headings that they stand under.
+#[derive(Drop)]
+pub(crate) struct Row<'a> {
+    pub(crate) headings: &'a [Heading],
+    pub(crate) values: &'a [Value],
+}
+
+impl Shown for Row<'_> {
+    ghost use Rattle.escrow_reply.specs.Text.{row_text};
+
+    ghost text = { λ row. row_text row.headings.now row.values.now };
+
+    fn push_to(&self, line: &mut Vec<u8>) -> Result<(), AllocError> {
+        push_row(line, self.headings, self.values)
+    }
+}
+
 /// The values of a row under the headings, with a bar between each two.
-pub(crate) fn push_row(
-    line: &mut Vec<u8>,
-    headings: &[Heading],
-    values: &[Value],
-) -> Result<(), AllocError>
+fn push_row(line: &mut Vec<u8>, headings: &[Heading], values: &[Value]) -> Result<(), AllocError>
     ensures { OnOk result (line.new.items ≡ line.old.items ++ row_text headings.now values.now) }
 {
     if values.is_empty() {

@@ -441,18 +441,9 @@ no_restart databases content found few is none place restarts =
     no_place databases (database_name place) found (is ∙ restart_found databases content place few restarts) none place restarts.within refl
 
 -- the parts that are found behind `@restart`
-record Named (databases : ℕ) (bytes : List ℕ) (place : ℕ) : Type 0 where
-  pub within : place < databases
-  pub front : List ℕ
-  pub back : List ℕ
-  pub apart : 0 < length front
-  pub front_blank : AllPass is_blank front
-  pub back_blank : AllPass is_blank back
-  pub parts : bytes ≡ front ++ (database_name place ++ back)
-
 named_made : (databases : ℕ) (bytes : List ℕ) (place : ℕ) (none : Bool)
     → (prefix_len is_blank bytes == 0 || not (list_all is_blank (drop (word_len (after_blanks bytes)) (after_blanks bytes)))) ≡ none
-    → (if none then None else database_place databases (take (word_len (after_blanks bytes)) (after_blanks bytes))) ≡ Some place → Named databases bytes place
+    → (if none then None else database_place databases (take (word_len (after_blanks bytes)) (after_blanks bytes))) ≡ Some place → IsRestart databases (codes "@restart" ++ bytes) place
 named_made databases bytes place true is found = absurd (cc)
 named_made databases bytes place false is found =
     let n = prefix_len is_blank bytes in
@@ -471,25 +462,16 @@ named_made databases bytes place false is found =
           let below : k < n = omega (arith, inside, length-take n bytes) in
           ap is_blank (get_or-take n bytes k d below) ∙ prefix_len_passes is_blank bytes k d below;
       back_blank = AllPass-from_list_all is_blank (drop (word_len named) named) (not-false (list_all is_blank (drop (word_len named) named)) parts.1);
-      parts = sym (take-append-drop n bytes) ∙ ap (λ (m : List ℕ). take n bytes ++ m)
-          (sym (take-append-drop (word_len named) named) ∙ ap (λ (name : List ℕ). name ++ drop (word_len named) named) here.1);
+      parts = ap (λ (rest : List ℕ). codes "@restart" ++ rest) (sym (take-append-drop n bytes) ∙ ap (λ (m : List ℕ). take n bytes ++ m)
+          (sym (take-append-drop (word_len named) named) ∙ ap (λ (name : List ℕ). name ++ drop (word_len named) named) here.1));
     }
 
 restart_by : (databases : ℕ) (content : List ℕ) (place : ℕ) (starts : Bool) → starts_with nat_eq content (codes "@restart") ≡ starts
     → (if starts then named_place databases (drop 8 content) else None) ≡ Some place → IsRestart databases content place
 restart_by databases content place false is found = absurd (cc)
 restart_by databases content place true is found =
-    let named = named_made databases (drop 8 content) place _ refl found in
-    record {
-      within = named.within;
-      front = named.front;
-      back = named.back;
-      apart = named.apart;
-      front_blank = named.front_blank;
-      back_blank = named.back_blank;
-      parts = (starts_is same_byte content (codes "@restart") (starts_with nat_eq content (codes "@restart")) refl).0 is
-          ∙ ap (λ (rest : List ℕ). codes "@restart" ++ rest) named.parts;
-    }
+    let whole : content ≡ codes "@restart" ++ drop 8 content = (starts_is same_byte content (codes "@restart") (starts_with nat_eq content (codes "@restart")) refl).0 is in
+    subst (λ (c : List ℕ). IsRestart databases c place) (sym whole) (named_made databases (drop 8 content) place _ refl found)
 
 pub restart_made : (databases : ℕ) (content : List ℕ) (found : Option ℕ) (place : ℕ) → found ≡ restart_of databases content → found ≡ Some place → IsRestart databases content place
 restart_made databases content found place is some = restart_by databases content place (starts_with nat_eq content (codes "@restart")) refl (sym is ∙ some)

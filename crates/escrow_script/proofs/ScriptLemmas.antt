@@ -3,7 +3,6 @@ use Rattle.std.proofs.Common.{◌≡◌, ℕ, zero, suc, ◌+◌, ◌-◌, ◌�
 use Rattle.std.specs.Prelude.{⊤}
 use Rattle.std.specs.List.{slice_range, position_or_len}
 use Rattle.std.proofs.Math.Seq.{take-append-add}
-use Rattle.std.proofs.Math.ListN.{drop_of_length-le}
 use Rattle.std.proofs.lemmas.Bool.{ltb-true, ltb-false, eqb-true, eqb-false, not-true, not-false}
 use Rattle.std.proofs.lemmas.List.{nil_from_length, take_all, take_min, drop-take, drop-drop, length-take, length-drop}
 use Rattle.escrow_script.specs.Line.{onto_first, lines_of}
@@ -163,36 +162,22 @@ turn_takes found seen unread rest line kept bytes remaining is_true moved is_lin
     let taken = takes_line seen unread kept bytes remaining below (kept_more seen line front kept is_line moved.is_kept) h in
     subst (λ (r : List ℕ). TakesLine true bytes (left r remaining) kept) (sym moved.is_rest) taken
 
--- how a line stands of which these bytes were seen, with nothing unread
-pub record Stands (seen kept rest : List ℕ) (bytes remaining : Option (List ℕ)) : Type 0 where
-  pub is_kept : kept ≡ take (MAX_LINE + 1) seen
-  pub is_rest : rest ≡ []
-  pub goes_on : Continues seen bytes (left [] remaining)
-
--- a turn that finds none leaves nothing unread
-pub turn_goes_on : (found : Bool) (seen unread rest line kept : List ℕ) (bytes remaining : Option (List ℕ)) → found ≡ false → Moves found unread rest line kept
-    → line ≡ take (MAX_LINE + 1) seen → Continues seen bytes (left unread remaining) → Stands (seen ++ unread) kept rest bytes remaining
-turn_goes_on found seen unread rest line kept bytes remaining is_false moved is_line h =
-    let place = position_or_len is_feed unread in
-    let above : length unread ≤ place = ltb-false place (length unread) (sym moved.is_found ∙ is_false) in
-    let front : take place unread ≡ unread = take_all place unread above in
-    record {
-      is_kept = kept_more seen line unread kept is_line (moved.is_kept ∙ ap (λ (b : List ℕ). take (MAX_LINE + 1) (line ++ b)) front);
-      is_rest = moved.is_rest ∙ drop_of_length-le unread (omega arith);
-      goes_on = continues_whole seen unread bytes remaining above h;
-    }
-
 -- how a line stands of which these bytes were seen
 pub record Reads (seen line unread : List ℕ) (bytes remaining : Option (List ℕ)) : Type 0 where
   pub is_line : line ≡ take (MAX_LINE + 1) seen
   pub goes_on : Continues seen bytes (left unread remaining)
 
-pub turn_reads : (seen kept rest line unread : List ℕ) (bytes old new : Option (List ℕ)) → Stands seen kept rest bytes old → line ≡ kept → Consumes old new unread
-    → Reads seen line unread bytes new
-turn_reads seen kept rest line unread bytes old new stands same read = record {
-  is_line = same ∙ stands.is_kept;
-  goes_on = continues_read seen unread bytes old new read stands.goes_on;
-}
+-- a turn that finds none leaves nothing unread, and reads on
+pub turn_reads : (found : Bool) (seen unread rest line kept longer more : List ℕ) (bytes old new : Option (List ℕ)) → found ≡ false → Moves found unread rest line kept
+    → line ≡ take (MAX_LINE + 1) seen → Continues seen bytes (left unread old) → longer ≡ kept → Consumes old new more → Reads (seen ++ unread) longer more bytes new
+turn_reads found seen unread rest line kept longer more bytes old new is_false moved is_line h same read =
+    let place = position_or_len is_feed unread in
+    let above : length unread ≤ place = ltb-false place (length unread) (sym moved.is_found ∙ is_false) in
+    let front : take place unread ≡ unread = take_all place unread above in
+    record {
+      is_line = same ∙ kept_more seen line unread kept is_line (moved.is_kept ∙ ap (λ (b : List ℕ). take (MAX_LINE + 1) (line ++ b)) front);
+      goes_on = continues_read (seen ++ unread) more bytes old new read (continues_whole seen unread bytes old above h);
+    }
 
 -- a read that gives nothing ends the script
 pub turn_ends : (found : Bool) (seen line unread : List ℕ) (bytes remaining : Option (List ℕ)) → Reads seen line unread bytes remaining

@@ -1,9 +1,9 @@
-use Rattle.std.proofs.Common.{◌≡◌, ◌++◌, ℕ, length, arith, not, sym, subst, ◌∙◌}
+use Rattle.std.proofs.Common.{◌≡◌, ◌++◌, ℕ, length, arith, ap, not, sym, subst, ◌∙◌}
 use Rattle.std.proofs.lemmas.Bool.{true≢false}
 use Rattle.std.proofs.lemmas.List.{nil_from_length}
 use Rattle.escrow_script.specs.Script.{Spends}
 use Rattle.std.specs.Prelude.{vec_len}
-use Rattle.escrow_script.proofs.ScriptLemmas.{in_hand_taken, turn_takes, turn_goes_on, turn_reads, turn_ends, some_by_test, none_by_test, none_in_hand, spends_more, spends_none, spends_read, takes_none}
+use Rattle.escrow_script.proofs.ScriptLemmas.{in_hand_taken, turn_takes, turn_reads, turn_ends, some_by_test, none_by_test, none_in_hand, spends_more, spends_none, spends_read, takes_none}
 use Rattle.escrow_script.proofs.script.Script.next_line.Goals as goal
 
 pub returns-then-self-clause-taken : goal.returns-then-self-clause-taken
@@ -28,31 +28,23 @@ returns-then-branch-clause-taken g c =
 
 pub returns-then-branch-eq0-clause-taken : goal.returns-then-branch-eq0-clause-taken
 returns-then-branch-eq0-clause-taken g c =
-    let rem = g.R.Read.remaining in
     let turn = c.in_ok-take_front.ensures in
     let read = c.in_ok-fill.ensures in
     let so_far = c.loop-self.invariant.so_far in
-    let stands = turn_goes_on c.in_ok-take_front.field-0 so_far.0 c.loop-self.self.unread c.take_front.new.self.unread c.loop-self.self.line.items c.take_front.new.self.line.items
-    _ (rem c.loop-self.reader) c.if-branch.false turn.moved so_far.1 so_far.2 in
-    let same : c.fill.new.self.line.items ≡ c.take_front.new.self.line.items = cc in
-    let reads = turn_reads (so_far.0 ++ c.loop-self.self.unread) c.take_front.new.self.line.items c.take_front.new.self.unread c.fill.new.self.line.items c.fill.new.self.unread
-    _ (rem c.loop-self.reader) (rem c.fill.new.reader) stands same read.read in
+    let reads = turn_reads c.in_ok-take_front.field-0 so_far.0 c.loop-self.self.unread c.take_front.new.self.unread c.loop-self.self.line.items c.take_front.new.self.line.items c.fill.new.self.line.items
+    c.fill.new.self.unread _ (g.R.Read.remaining c.loop-self.reader) (g.R.Read.remaining c.fill.new.reader) c.if-branch.false turn.moved so_far.1 so_far.2 (ap (λ v. v.items) read.line) read.read in
     turn_ends (not c.is_empty.result) (so_far.0 ++ c.loop-self.self.unread) c.fill.new.self.line.items c.fill.new.self.unread
-    _ (rem c.fill.new.reader) reads (omega arith) (read.end c.if-branch-eq0.true)
+    _ (g.R.Read.remaining c.fill.new.reader) reads (omega arith) (read.end c.if-branch-eq0.true)
     (some_by_test c.is_empty.result (vec_len c.fill.new.self.line) (length c.fill.new.self.line.items) c.is_empty.ensures c.fill.new.self.line.ok.0)
     (none_by_test c.is_empty.result (vec_len c.fill.new.self.line) (length c.fill.new.self.line.items) c.is_empty.ensures c.fill.new.self.line.ok.0)
 
 pub loop-self-preserved : goal.loop-self-preserved
 loop-self-preserved g c =
-    let rem = g.R.Read.remaining in
     let turn = c.in_ok-take_front.ensures in
     let read = c.in_ok-fill.ensures in
     let so_far = c.loop-self.invariant.so_far in
-    let stands = turn_goes_on c.in_ok-take_front.field-0 so_far.0 c.loop-self.self.unread c.take_front.new.self.unread c.loop-self.self.line.items c.take_front.new.self.line.items
-    _ (rem c.loop-self.reader) c.if-branch.false turn.moved so_far.1 so_far.2 in
-    let same : c.fill.new.self.line.items ≡ c.take_front.new.self.line.items = cc in
-    let reads = turn_reads (so_far.0 ++ c.loop-self.self.unread) c.take_front.new.self.line.items c.take_front.new.self.unread c.fill.new.self.line.items c.fill.new.self.unread
-    _ (rem c.loop-self.reader) (rem c.fill.new.reader) stands same read.read in
+    let reads = turn_reads c.in_ok-take_front.field-0 so_far.0 c.loop-self.self.unread c.take_front.new.self.unread c.loop-self.self.line.items c.take_front.new.self.line.items c.fill.new.self.line.items
+    c.fill.new.self.unread _ (g.R.Read.remaining c.loop-self.reader) (g.R.Read.remaining c.fill.new.reader) c.if-branch.false turn.moved so_far.1 so_far.2 (ap (λ v. v.items) read.line) read.read in
     let same_len : vec_len c.fill.new.self.line ≡ vec_len c.take_front.new.self.line = cc in
     record {
       so_far = (so_far.0 ++ c.loop-self.self.unread, reads.is_line, reads.goes_on);
