@@ -166,8 +166,8 @@ ids_shown tree it old new of_tree rows h has =
 pub keys_count : (table place : Value) (all rows : List Row) → AreKeys table place all rows → length rows ≡ length (filter (λ c. is_in table c && same (column c 2) place) all)
 keys_count table place all rows h = length_permutation _ rows h.same_keys ∙ simp length-map
 
--- what is known of each answer, of one that was read whole
-pub all_answers : {X E : Type 0} (items : X → List Row) (sql : List ℕ) (ps qs : Row) (old new : State) (Premise : Type 0) (Answers : List Row → Type 0)
-    → ((rows : List Row) → Shown sql qs old new rows → Premise → Answers rows) → (r : Result X E) → IfOk r (λ x. Shown sql ps old new (items x)) → ps ≡ qs → IfOk r (λ x. Premise → Answers (items x))
-all_answers items sql ps qs old new Premise Answers answers (Ok x) h e = answers (items x) (subst (λ params. Shown sql params old new (items x)) e h)
-all_answers items sql ps qs old new Premise Answers answers (Err error) h e = tt
+-- what is known of each answer, of one that was read whole. The parameters are equal to those that it speaks of.
+pub all_answers : {X E : Type 0} (items : X → List Row) (sql : List ℕ) {ps qs : Row} (old new : State) {Premise : Type 0} {Answers : List Row → Type 0} (r : Result X E)
+    → ((rows : List Row) → Shown sql qs old new rows → Premise → Answers rows) → IfOk r (λ x. Shown sql ps old new (items x)) → ps ≡ qs → IfOk r (λ x. Premise → Answers (items x))
+all_answers items sql old new (Ok x) answers h e = answers (items x) (subst (λ params. Shown sql params old new (items x)) e h)
+all_answers items sql old new (Err error) answers h e = tt
