@@ -20,10 +20,9 @@ use sqlite_value::value::ValueRef;
 use std::alloc::Global;
 
 impl<S: Alter> RowStore<S> {
-    ghost use Rattle.std.specs.Prelude.{◌≡◌, ◌<◌, ◌≤◌, ◌+◌, ◌^◌, length, IsTrue, IfOk, IfSome};
+    ghost use Rattle.std.specs.Prelude.{◌≤◌, IsTrue};
     ghost use Rattle.sqlite.specs.Held.{state};
     ghost use Rattle.sqlite.specs.State.{HasCleanDisk};
-    ghost use Rattle.escrow_schema.specs.Column.{reservables};
     ghost use Rattle.escrow_schema.specs.Definition.{IsTable};
     ghost use Rattle.escrow_rows.specs.Answers.{Looks, TellsAmounts, TellsValues};
     ghost use Rattle.escrow_rows.specs.Placed.{TellsCells, TellsSpan};
