@@ -1,5 +1,5 @@
 -- A transaction from its beginning to its end, over what connections show.
-use Rattle.std.proofs.Common.{◌≡◌, ℕ, Bool, List, [], ◌∷◌, ◌++◌, take, length, get_or, ◌<◌, ◌≤◌, ◌+◌, true, false, IsTrue, Result, Ok, Err, OnOk, IfErr, is_ok, inl, inr, refl, sym, ap, subst, ◌∙◌, arith}
+use Rattle.std.proofs.Common.{◌≡◌, ℕ, Bool, List, [], ◌∷◌, ◌++◌, take, length, get_or, ◌<◌, ◌+◌, true, false, IsTrue, Result, Ok, Err, OnOk, IfErr, is_ok, inl, inr, refl, sym, ap, subst, ◌∙◌, arith}
 use Rattle.std.proofs.lemmas.List.{take_more}
 use Rattle.std.proofs.lemmas.Bool.{both_ways, false≢true}
 use Rattle.sqlite_trees.specs.declared.store.Store.{Ghosts}

@@ -23,7 +23,8 @@ use Rattle.escrow_cells.specs.Step.{kept, same, is_in, is_of, Does, HoldsContent
 use Rattle.escrow_cells.proofs.Inside.{Edits, IsStatement, deletes, wrote_by}
 use Rattle.escrow_cells.proofs.Makes.{left_is}
 use Rattle.escrow_cells.proofs.Leaves.{cell_of, tab_of, holds_cells, holds_tabs}
-use Rattle.escrow_cells.proofs.Matches.{equals, plain_query, passes, matched}
+use Rattle.escrow_cells.proofs.Matches.{plain_query, passes, matched}
+use Rattle.escrow_cells.proofs.ReadTexts.{is_given}
 
 abbrev pub row_text : List ℕ
 row_text = codes "DELETE FROM CELL WHERE TAB = ?1 AND K = ?2"
@@ -35,13 +36,13 @@ abbrev pub tab_text : List ℕ
 tab_text = codes "DELETE FROM TAB WHERE ID = ?1"
 
 abbrev of_key : List Term
-of_key = equals 1 0 ∷ equals 2 1 ∷ []
+of_key = is_given 1 0 ∷ is_given 2 1 ∷ []
 
 abbrev of_table : List Term
-of_table = equals 1 0 ∷ []
+of_table = is_given 1 0 ∷ []
 
 abbrev of_id : List Term
-of_id = equals 0 0 ∷ []
+of_id = is_given 0 0 ∷ []
 
 abbrev rowids : List Term
 rowids = col 1 0 ∷ []

@@ -20,7 +20,6 @@ use Rattle.sqlite.specs.Effect.{Database, value_rows}
 use Rattle.sqlite.specs.Rows.{stamped}
 use Rattle.sqlite.specs.State.{State, Executes}
 use Rattle.escrow_cells.specs.declared.new_cell.NewCell.{NewCell}
-use Rattle.escrow_cells.specs.declared.step.Step.TheVariants as step
 use Rattle.escrow_cells.specs.Tables.{tab, cell}
 use Rattle.escrow_cells.specs.Store.{IsStore, tabs, cells}
 use Rattle.escrow_cells.specs.Step.{Contents, contents, done, kept, HoldsContents, Does}
@@ -61,21 +60,17 @@ four_terms = three_terms ++ terms_from 12
 abbrev tab_terms : List Term
 tab_terms = col 0 0 ∷ lit Null ∷ col 0 1 ∷ col 0 2 ∷ []
 
-cell_statement : IsStatement cell_insert (Insert 2 (Values (terms_from 0) 5))
-unfolding understood everything
-cell_statement = record { is = λ _ _ _. refl; plain = λ _ _ _. (refl, refl) }
+abbrev PutsCells : List ℕ → List Term → Type 0
+PutsCells text terms = IsStatement text (Insert 2 (Values terms 5))
 
-two_statement : IsStatement two_insert (Insert 2 (Values two_terms 5))
+cell_statements : PutsCells cell_insert (terms_from 0) × PutsCells two_insert two_terms × PutsCells three_insert three_terms × PutsCells four_insert four_terms
 unfolding understood everything
-two_statement = record { is = λ _ _ _. refl; plain = λ _ _ _. (refl, refl) }
-
-three_statement : IsStatement three_insert (Insert 2 (Values three_terms 5))
-unfolding understood everything
-three_statement = record { is = λ _ _ _. refl; plain = λ _ _ _. (refl, refl) }
-
-four_statement : IsStatement four_insert (Insert 2 (Values four_terms 5))
-unfolding understood everything
-four_statement = record { is = λ _ _ _. refl; plain = λ _ _ _. (refl, refl) }
+cell_statements = (
+  record { is = λ _ _ _. refl; plain = λ _ _ _. (refl, refl) },
+  record { is = λ _ _ _. refl; plain = λ _ _ _. (refl, refl) },
+  record { is = λ _ _ _. refl; plain = λ _ _ _. (refl, refl) },
+  record { is = λ _ _ _. refl; plain = λ _ _ _. (refl, refl) },
+)
 
 tab_statement : IsStatement tab_insert (Insert 1 (Values tab_terms 4))
 unfolding understood everything
@@ -138,7 +133,7 @@ tabs_stay (new ∷ news) c = tabs_stay news (done c (step_of new))
 
 -- ---- the statements
 
-inserts_cells : {text : List ℕ} {terms : List Term} → IsStatement text (Insert 2 (Values terms 5)) → (old new : State) (news : List NewCell) (params : Row)
+inserts_cells : {text : List ℕ} {terms : List Term} → PutsCells text terms → (old new : State) (news : List NewCell) (params : Row)
     → value_rows (stamped cell params) 5 (length terms / 5) terms ≡ rows_of news → (count : ℕ) → Executes text params old new (Ok count) → Does (map step_of news) old.now new.now
 inserts_cells {terms = terms} statement old new news params shown count h it =
     let has = it.tables.is in
@@ -148,18 +143,18 @@ inserts_cells {terms = terms} statement old new news params shown count h it =
     subst (λ c. HoldsContents c old.now new.now) (sym (tabs_stay news (contents old.now))) (holds_cells old.now new.now _ it edits refl _ (inserted old.now new.now news edits))
 
 pub inserts_cell : (old new : State) (a : NewCell) (count : ℕ) → Executes cell_insert (given_of a) old new (Ok count) → Does (step_of a ∷ []) old.now new.now
-inserts_cell old new a = inserts_cells cell_statement old new (a ∷ []) (given_of a) refl
+inserts_cell old new a = inserts_cells cell_statements.0 old new (a ∷ []) (given_of a) refl
 
 pub inserts_two : (old new : State) (a b : NewCell) (count : ℕ) → Executes two_insert (given_of a ++ given_of b) old new (Ok count) → Does (step_of a ∷ step_of b ∷ []) old.now new.now
-inserts_two old new a b = inserts_cells two_statement old new (a ∷ b ∷ []) (given_of a ++ given_of b) refl
+inserts_two old new a b = inserts_cells cell_statements.1 old new (a ∷ b ∷ []) (given_of a ++ given_of b) refl
 
 pub inserts_three : (old new : State) (a b c : NewCell) (count : ℕ) → Executes three_insert (given_of a ++ given_of b ++ given_of c) old new (Ok count)
     → Does (step_of a ∷ step_of b ∷ step_of c ∷ []) old.now new.now
-inserts_three old new a b c = inserts_cells three_statement old new (a ∷ b ∷ c ∷ []) (given_of a ++ given_of b ++ given_of c) refl
+inserts_three old new a b c = inserts_cells cell_statements.2 old new (a ∷ b ∷ c ∷ []) (given_of a ++ given_of b ++ given_of c) refl
 
 pub inserts_four : (old new : State) (a b c d : NewCell) (count : ℕ) → Executes four_insert (given_of a ++ given_of b ++ given_of c ++ given_of d) old new (Ok count)
     → Does (step_of a ∷ step_of b ∷ step_of c ∷ step_of d ∷ []) old.now new.now
-inserts_four old new a b c d = inserts_cells four_statement old new (a ∷ b ∷ c ∷ d ∷ []) (given_of a ++ given_of b ++ given_of c ++ given_of d) refl
+inserts_four old new a b c d = inserts_cells cell_statements.3 old new (a ∷ b ∷ c ∷ d ∷ []) (given_of a ++ given_of b ++ given_of c ++ given_of d) refl
 
 pub inserts_tab : (old new : State) (id : ℤ) (name ddl : List ℕ) (count : ℕ) → Executes tab_insert (Int id ∷ Text name ∷ Text ddl ∷ []) old new (Ok count)
     → IsStore old.now → HoldsContents (record { cells = cells old.now; tabs = (Int id ∷ Text name ∷ Text ddl ∷ []) ∷ tabs old.now }) old.now new.now

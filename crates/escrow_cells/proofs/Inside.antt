@@ -1,6 +1,5 @@
 -- What a statement does inside a transaction.
-use Rattle.std.proofs.Common.{◌≡◌, ℕ, List, [], ◌∷◌, ◌⊎◌, true, false, cond, Option, ℤ, slice_get, Some, None, Ok, Err, Result, is_ok, IsTrue, refl, sym, ap, ◌∙◌, subst, subst₂, inl, inr}
-use Rattle.std.proofs.lemmas.Bool.{cases_Bool, false≢true}
+use Rattle.std.proofs.Common.{◌≡◌, ℕ, Bool, List, [], ◌∷◌, ◌⊎◌, false, cond, Option, ℤ, slice_get, Some, None, Ok, Err, Result, refl, sym, ap, ◌∙◌, subst, subst₂, inl, inr}
 use Rattle.std.specs.List.{AllByRecursion, flat_map, filter_map}
 use Rattle.sqlite_value.specs.Order.{Row}
 use Rattle.sqlite_trees.specs.Tree.{Trees}
@@ -18,46 +17,32 @@ use Rattle.sqlite_rules.specs.declared.error.Rowids.TheVariants.{Chosen, Above, 
 use Rattle.sqlite_rules.specs.Calls.{ids_of}
 use Rattle.sqlite_rules.specs.Edit.{Edit, edit_of, taken_by, Applies}
 use Rattle.sqlite_rules.specs.Action.{works, work_for}
-use Rattle.sqlite.specs.declared.error.Error.{Error}
 use Rattle.sqlite.specs.Effect.{Database, IsDatabase, Answers, IsSource}
 use Rattle.sqlite.specs.Does.{Tally, OnRows, WritesRows}
 use Rattle.sqlite.specs.Listing.{understood}
 use Rattle.sqlite.specs.Rows.{Task, Counts, Inserts, Sourced, Written, Edited, rowids_for, count_of, stamped}
-use Rattle.sqlite.specs.State.{State, HasCleanDisk, KeepsCommit, Survives, Executes, ExecutesInside, Writes as Wrote, Runs, mode_of}
+use Rattle.sqlite.specs.State.{State, Executes, Writes as HasWritten, Runs, mode_of}
 use Rattle.sqlite.specs.Values.{bound_value}
-use Rattle.sqlite.proofs.InsideLemmas.{inside_keeps}
 use Rattle.sqlite.proofs.Callers.{IsPlain, command_of, one_step, runs_as, statement_of}
 use Rattle.escrow_cells.specs.declared.datum.Datum.{Datum}
 use Rattle.escrow_cells.specs.declared.datum.Datum.TheVariants as datum
 use Rattle.escrow_cells.specs.Step.{kept}
 use Rattle.escrow_cells.specs.Store.{HasTables}
 use Rattle.escrow_cells.specs.Tables.{beside}
-use Rattle.escrow_cells.specs.Inside.{Acts}
-
-module _ (sql : List ℕ) (params : Row) (old new : State) where
-  -- inside a transaction nothing is committed, and outside of one nothing is done
-  pub keeps_commit : (r : Result ℕ Error) → (old.in_transaction ≡ false → new ≡ old) → (IsTrue old.in_transaction → ExecutesInside 0 sql params old new r) → KeepsCommit old new
-  keeps_commit r ended runs = elim (cases_Bool old.in_transaction) [
-    | inl inside ↦ inside_keeps old new 0 false sql params r (runs inside)
-    | inr outside ↦ rw (ended outside) (record { was_open = λ h. h; committed = λ _. refl })
-  ]
+use Rattle.escrow_cells.specs.Inside.{Acts, Wrote}
 
 -- a parameter is bound as it is kept
 pub bound_kept : (d : Datum) → bound_value (kept d) ≡ kept d
 bound_kept (datum.Number n) = refl
 bound_kept (datum.Text t) = refl
 
--- what a statement makes that is done inside a transaction, under parameters that are equal to those it has
-pub acts : (sql : List ℕ) (params given : Row) (old new : State) (r : Result ℕ Error) (Makes : Database → Database → Type 0) → (old.in_transaction ≡ false → new ≡ old) → Survives old new (λ _. ⊥)
-    → (HasCleanDisk new → IsTrue old.in_transaction → ExecutesInside 0 sql given old new r) → given ≡ params → ((n : ℕ) → Executes sql params old new (Ok n) → Makes old.now new.now) → Acts old new (is_ok r) Makes
-acts sql params given old new r Makes ended survives runs same makes = record {
-  done = λ ok clean inside. by r ok (subst (λ (ps : Row). ExecutesInside 0 sql ps old new r) same (runs clean inside));
-  pending = record { survives = survives; kept = λ clean. keeps_commit sql given old new r ended (runs clean) };
+-- what a statement makes that was executed inside a transaction, under parameters that are equal to those it has
+pub acts : {sql : List ℕ} {params given : Row} {old new : State} {is_done : Bool} {Makes : Database → Database → Type 0} → ((n : ℕ) → Executes sql params old new (Ok n) → Makes old.now new.now)
+    → Wrote sql given old new is_done → given ≡ params → Acts old new is_done Makes
+acts {sql = sql} {old = old} {new = new} makes it same = record {
+  done = λ ok clean inside. let ran = it.done ok clean inside in (ran.0, makes ran.1 (subst (λ (ps : Row). Executes sql ps old new (Ok ran.1)) same ran.2));
+  pending = it.pending;
 }
-  where
-    by : (r : Result ℕ Error) → is_ok r ≡ true → ExecutesInside 0 sql params old new r → IsTrue new.in_transaction × Makes old.now new.now
-    by (Ok n) ok h = (h.1.mode, makes n h.0)
-    by (Err e) ok h = absurd (false≢true ok)
 
 -- a text is that of a statement that does a command, whatever objects stand after the three tables
 pub record IsStatement (text : List ℕ) (command : Command) : Type 0 where
@@ -138,7 +123,7 @@ module _ (old new : State) (table : Table) (at : ℕ) (got : slice_get old.now.s
         applies = rw db (applied old.now.schema Enforced old.now.trees next edit none made);
       }
 
-  pub updates : (q : Program) → Wrote old new None (Update at q) text params count
+  pub updates : (q : Program) → HasWritten old new None (Update at q) text params count
       → (rows : List Row) × Answers old.now q params rows × Edits old.now new.now (edit_of old.now.trees table (ids_of rows) Given 1 rows)
   updates q w =
       let all = concluded task (Update at q) old old.now.trees w.tally new.now (rw got at w.changed) in
@@ -146,7 +131,7 @@ module _ (old new : State) (table : Table) (at : ℕ) (got : slice_get old.now.s
       let written = went queried.2 in
       (queried.0, queried.1, edits _ all.0 written.0 w.sound written.1 (ap (λ (it : Written). it.trees) (same_value written.2)) all.2)
 
-  pub deletes : (q : Program) → Wrote old new None (Delete at q) text params count
+  pub deletes : (q : Program) → HasWritten old new None (Delete at q) text params count
       → (rows : List Row) × Answers old.now q params rows × Edits old.now new.now (edit_of old.now.trees table (ids_of rows) Given 0 [])
   deletes q w =
       let all = concluded task (Delete at q) old old.now.trees w.tally new.now (rw got at w.changed) in
@@ -154,7 +139,7 @@ module _ (old new : State) (table : Table) (at : ℕ) (got : slice_get old.now.s
       let written = went queried.2 in
       (queried.0, queried.1, edits _ all.0 written.0 w.sound written.1 (ap (λ (it : Written). it.trees) (same_value written.2)) all.2)
 
-  pub inserts : (from : Source) → table.is_counted ≡ false → Wrote old new None (Insert at from) text params count
+  pub inserts : (from : Source) → table.is_counted ≡ false → HasWritten old new None (Insert at from) text params count
       → (rows : List Row) × IsSource old.now (stamped table params) from rows × Edits old.now new.now (edit_of old.now.trees table [] Chosen 0 rows)
   inserts from plain w =
       let all = concluded task (Insert at from) old old.now.trees w.tally new.now (rw got at w.changed) in

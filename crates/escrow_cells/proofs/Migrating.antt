@@ -26,7 +26,7 @@ use Rattle.sqlite.specs.State.{State, Executes}
 use Rattle.sqlite.proofs.Callers.{one_permutation}
 use Rattle.escrow_cells.specs.declared.formats.TheConstants.{FORMAT}
 use Rattle.escrow_cells.specs.Tables.{meta}
-use Rattle.escrow_cells.specs.Store.{NumbersDiffer, Migrates, format}
+use Rattle.escrow_cells.specs.Store.{NumbersDiffer, Migrates}
 use Rattle.escrow_cells.specs.Step.{same}
 use Rattle.escrow_cells.specs.Inside.{Acts, GoesOn}
 use Rattle.escrow_cells.proofs.AllOrNone.{begun, goes_then}

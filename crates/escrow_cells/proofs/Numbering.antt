@@ -146,7 +146,6 @@ numbers_tell rows answer ids rise is = (λ h. there (sym is ∙ h), λ numbered.
         numbers_rise None answer (numbered_permuted (map id_of rows) answer ids.same_ids (ids_numbered rows numbered)) up (above_none answer)
 
 -- the same of the answer to a query
-pub rise_tells : {E : Type 0} (text : List ℕ) (tree : ℕ) (old new : State) → ((rows : List Row) → Shown text [] old new rows → HasTables old.now.schema → AreIds (old.now.trees tree) rows)
-    → (r : Result Bool E) → IfOk r (λ rise. (rows : List Row) × Shown text [] old new rows × (rise ≡ (with_numbers (rising None) rows).rise))
-    → IfOk r (λ are. HasTables old.now.schema → (IsTrue are ↔ NumbersDiffer (old.now.trees tree)))
-rise_tells text tree old new shown r = IfOk-weaker r _ _ (λ rise h has. numbers_tell (old.now.trees tree) h.0 (shown h.0 h.1 has) rise h.2)
+pub rise_tells : {E : Type 0} (text : List ℕ) {tree : ℕ} (old new : State) (r : Result Bool E) → ((rows : List Row) → Shown text [] old new rows → HasTables old.now.schema → AreIds (old.now.trees tree) rows)
+    → IfOk r (λ rise. (rows : List Row) × Shown text [] old new rows × (rise ≡ (with_numbers (rising None) rows).rise)) → IfOk r (λ are. HasTables old.now.schema → (IsTrue are ↔ NumbersDiffer (old.now.trees tree)))
+rise_tells text {tree = tree} old new r shown = IfOk-weaker r _ _ (λ rise h has. numbers_tell (old.now.trees tree) h.0 (shown h.0 h.1 has) rise h.2)

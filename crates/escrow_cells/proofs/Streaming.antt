@@ -77,9 +77,9 @@ module _ {S K : Type 0} (g : Ghosts S) (HasTaken : K → K → List Row → Type
   stopped_rests now sink so_far settled outside = rests_from g first now settled (so_far.mode outside) so_far.survives (λ clean. inl (so_far.unchanged clean))
 
 -- What is known of each answer is known of the rows that were taken. The parameters are equal to those that it speaks of.
-pub taken_answers : {X E K : Type 0} (HasTaken : K → K → List Row → Type 0) (sql : List ℕ) (ps qs : Row) (old new : State) (fresh last : K) (Premise : Type 0) (Answers : List Row → Type 0)
-    → ((rows : List Row) → Shown sql qs old new rows → Premise → Answers rows) → (r : Result X E) → OnOk r (Takes HasTaken (Shown sql ps old new) fresh last) → ps ≡ qs → OnOk r (Premise → Takes HasTaken Answers fresh last)
-taken_answers HasTaken sql ps qs old new fresh last Premise Answers answers (Ok x) h e = λ given begun before taken.
+pub taken_answers : {X E K : Type 0} (HasTaken : K → K → List Row → Type 0) (sql : List ℕ) {ps qs : Row} (old new : State) (fresh last : K) {Premise : Type 0} {Answers : List Row → Type 0} (r : Result X E)
+    → ((rows : List Row) → Shown sql qs old new rows → Premise → Answers rows) → OnOk r (Takes HasTaken (Shown sql ps old new) fresh last) → ps ≡ qs → OnOk r (Premise → Takes HasTaken Answers fresh last)
+taken_answers HasTaken sql old new fresh last (Ok x) answers h e = λ given begun before taken.
     let it = h begun before taken in
     (it.0, answers it.0 (subst (λ params. Shown sql params old new it.0) e it.1) given, it.2)
-taken_answers HasTaken sql ps qs old new fresh last Premise Answers answers (Err error) h e = tt
+taken_answers HasTaken sql old new fresh last (Err error) answers h e = tt

@@ -29,13 +29,14 @@ use Rattle.escrow_cells.proofs.Inside.{IsStatement, updates, wrote_by}
 use Rattle.escrow_cells.proofs.Makes.{put_beside, left_is}
 use Rattle.escrow_cells.proofs.Columns.{IsWritten, all_written}
 use Rattle.escrow_cells.proofs.Leaves.{cell_of, holds_cells}
-use Rattle.escrow_cells.proofs.Matches.{equals, plain_query, passes, matched}
+use Rattle.escrow_cells.proofs.Matches.{plain_query, passes, matched}
+use Rattle.escrow_cells.proofs.ReadTexts.{is_given}
 
 abbrev pub set_text : List ℕ
 set_text = codes "UPDATE CELL SET V = ?4 WHERE TAB = ?1 AND K = ?2 AND C = ?3"
 
 abbrev at_tests : List Term
-at_tests = equals 1 0 ∷ equals 2 1 ∷ equals 3 2 ∷ []
+at_tests = is_given 1 0 ∷ is_given 2 1 ∷ is_given 3 2 ∷ []
 
 -- the rowid, and then the row with the new value
 abbrev set_terms : List Term

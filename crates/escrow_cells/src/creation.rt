@@ -5,62 +5,34 @@ ghost use Rattle.escrow_cells.specs.Calls.{Alters};
 ghost use Rattle.escrow_cells.specs.Tables.{no_schema};
 ghost use Rattle.escrow_cells.specs.Store.{MakesStore};
 ghost use Rattle.escrow_cells.specs.Inside.{Acts};
-ghost use Rattle.escrow_cells.specs.Making.{with_meta, with_tab, with_cell, Extends, Fills};
+ghost use Rattle.escrow_cells.specs.Making.{Fills};
 
 use crate::failure::failure_of;
+use crate::statement::write;
 use escrow_num::Failure;
 use sqlite::{Alter, Connection, Error, Transaction};
 
-/// Makes META.
-fn create_meta<S: Alter>(tx: &mut Transaction<'_, S>) -> Result<usize, Error>
-    ensures same_reference { tx.new.conn.ghost_name ≡ tx.old.conn.ghost_name }
-    ensures acts { Acts (state S.Store tx.old.conn.now) (state S.Store tx.new.conn.now) (is_ok result) (Extends no_schema with_meta) }
-{
-    tx.execute(
-        "CREATE TABLE META(K TEXT NOT NULL PRIMARY KEY, V INTEGER NOT NULL) STRICT",
-        &[],
-    )
-}
-
-/// Makes TAB, behind META.
-fn create_tab<S: Alter>(tx: &mut Transaction<'_, S>) -> Result<usize, Error>
-    ensures same_reference { tx.new.conn.ghost_name ≡ tx.old.conn.ghost_name }
-    ensures acts { Acts (state S.Store tx.old.conn.now) (state S.Store tx.new.conn.now) (is_ok result) (Extends with_meta with_tab) }
-{
-    tx.execute(
-        "CREATE TABLE TAB(ID INTEGER PRIMARY KEY, NAME TEXT NOT NULL UNIQUE, DDL TEXT NOT NULL) STRICT",
-        &[],
-    )
-}
-
-/// Makes CELL, behind TAB.
-fn create_cell<S: Alter>(tx: &mut Transaction<'_, S>) -> Result<usize, Error>
-    ensures same_reference { tx.new.conn.ghost_name ≡ tx.old.conn.ghost_name }
-    ensures acts { Acts (state S.Store tx.old.conn.now) (state S.Store tx.new.conn.now) (is_ok result) (Extends with_tab with_cell) }
-{
-    tx.execute(
-        "CREATE TABLE CELL(TAB INTEGER NOT NULL, K ANY NOT NULL, C INTEGER NOT NULL, V ANY NOT NULL, PRIMARY KEY(TAB, K, C)) STRICT",
-        &[],
-    )
-}
-
-/// Puts into META that the store has the known format.
-fn insert_format<S: Alter>(tx: &mut Transaction<'_, S>) -> Result<usize, Error>
-    ensures same_reference { tx.new.conn.ghost_name ≡ tx.old.conn.ghost_name }
-    ensures acts { Acts (state S.Store tx.old.conn.now) (state S.Store tx.new.conn.now) (is_ok result) (Fills with_cell) }
-{
-    tx.execute("INSERT INTO META VALUES ('format', 2)", &[])
-}
-
 /// Makes what an empty store has.
-fn make_tables<S: Alter>(tx: &mut Transaction<'_, S>) -> Result<usize, Error>
+fn make_tables<S: Alter>(tx: &mut Transaction<'_, S>) -> Result<(), Error>
     ensures same_reference { tx.new.conn.ghost_name ≡ tx.old.conn.ghost_name }
     ensures acts { Acts (state S.Store tx.old.conn.now) (state S.Store tx.new.conn.now) (is_ok result) (Fills no_schema) }
 {
-    create_meta(tx)?;
-    create_tab(tx)?;
-    create_cell(tx)?;
-    insert_format(tx)
+    write(
+        tx,
+        "CREATE TABLE META(K TEXT NOT NULL PRIMARY KEY, V INTEGER NOT NULL) STRICT",
+        &[],
+    )?;
+    write(
+        tx,
+        "CREATE TABLE TAB(ID INTEGER PRIMARY KEY, NAME TEXT NOT NULL UNIQUE, DDL TEXT NOT NULL) STRICT",
+        &[],
+    )?;
+    write(
+        tx,
+        "CREATE TABLE CELL(TAB INTEGER NOT NULL, K ANY NOT NULL, C INTEGER NOT NULL, V ANY NOT NULL, PRIMARY KEY(TAB, K, C)) STRICT",
+        &[],
+    )?;
+    write(tx, "INSERT INTO META VALUES ('format', 2)", &[])
 }
 
 /// Makes an empty store of a database without objects, in one transaction: all of it, or nothing. A

@@ -6,15 +6,16 @@ ghost use Rattle.escrow_cells.specs.Store.{Migrates};
 ghost use Rattle.escrow_cells.specs.Inside.{Acts};
 
 use crate::failure::failure_of;
+use crate::statement::write;
 use escrow_num::Failure;
 use sqlite::{Alter, Connection, Error, Transaction};
 
 /// Puts into META that the store has the known format.
-fn update_format<S: Alter>(tx: &mut Transaction<'_, S>) -> Result<usize, Error>
+fn update_format<S: Alter>(tx: &mut Transaction<'_, S>) -> Result<(), Error>
     ensures same_reference { tx.new.conn.ghost_name ≡ tx.old.conn.ghost_name }
     ensures acts { Acts (state S.Store tx.old.conn.now) (state S.Store tx.new.conn.now) (is_ok result) Migrates }
 {
-    tx.execute("UPDATE META SET V = 2 WHERE K = 'format'", &[])
+    write(tx, "UPDATE META SET V = 2 WHERE K = 'format'", &[])
 }
 
 /// Brings a store of whatever format to the known one, in one transaction: its tables and cells stay. A

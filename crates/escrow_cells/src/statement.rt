@@ -1,23 +1,38 @@
 //! The statements that write, each inside a transaction.
 ghost use Rattle.std.specs.Prelude.{◌≡◌, [], ◌∷◌, is_ok};
 ghost use Rattle.sqlite.specs.Held.{state};
+ghost use Rattle.sqlite.specs.Values.{bound};
 ghost use Rattle.escrow_cells.specs.declared.step.Step.TheVariants as step;
 ghost use Rattle.escrow_cells.specs.Step.{Does};
-ghost use Rattle.escrow_cells.specs.Inside.{Acts};
+ghost use Rattle.escrow_cells.specs.Inside.{Acts, Wrote};
 ghost use Rattle.escrow_cells.specs.NewCell.{step_of};
 
 use crate::datum::Datum;
 use crate::new_cell::NewCell;
 use crate::step::Step;
-use sqlite::types::ToSql;
+use sqlite::types::{ToSql, ValueRef};
 use sqlite::{Alter, Error, Transaction, params};
 
+/// Executes a statement that writes.
+pub(crate) fn write<S: Alter>(
+    tx: &mut Transaction<'_, S>,
+    sql: &str,
+    params: &[ValueRef<'_>],
+) -> Result<(), Error>
+    ensures same_reference { tx.new.conn.ghost_name ≡ tx.old.conn.ghost_name }
+    ensures wrote { Wrote sql.now (bound params.now) (state S.Store tx.old.conn.now) (state S.Store tx.new.conn.now) (is_ok result) }
+{
+    tx.execute(sql, params)?;
+    Ok(())
+}
+
 /// Puts a new cell.
-fn insert_cell<S: Alter>(tx: &mut Transaction<'_, S>, cell: &NewCell<'_>) -> Result<usize, Error>
+fn insert_cell<S: Alter>(tx: &mut Transaction<'_, S>, cell: &NewCell<'_>) -> Result<(), Error>
     ensures same_reference { tx.new.conn.ghost_name ≡ tx.old.conn.ghost_name }
     ensures acts { Acts (state S.Store tx.old.conn.now) (state S.Store tx.new.conn.now) (is_ok result) (Does (step_of cell.now ∷ [])) }
 {
-    tx.execute(
+    write(
+        tx,
         "INSERT INTO CELL VALUES (?1, ?2, ?3, ?4)",
         params![cell.table, cell.key, cell.place, cell.value],
     )
@@ -28,11 +43,12 @@ fn insert_two<S: Alter>(
     tx: &mut Transaction<'_, S>,
     a: &NewCell<'_>,
     b: &NewCell<'_>,
-) -> Result<usize, Error>
+) -> Result<(), Error>
     ensures same_reference { tx.new.conn.ghost_name ≡ tx.old.conn.ghost_name }
     ensures acts { Acts (state S.Store tx.old.conn.now) (state S.Store tx.new.conn.now) (is_ok result) (Does (step_of a.now ∷ step_of b.now ∷ [])) }
 {
-    tx.execute(
+    write(
+        tx,
         "INSERT INTO CELL VALUES (?1, ?2, ?3, ?4), (?5, ?6, ?7, ?8)",
         params![
             a.table, a.key, a.place, a.value, b.table, b.key, b.place, b.value
@@ -46,11 +62,12 @@ fn insert_three<S: Alter>(
     a: &NewCell<'_>,
     b: &NewCell<'_>,
     c: &NewCell<'_>,
-) -> Result<usize, Error>
+) -> Result<(), Error>
     ensures same_reference { tx.new.conn.ghost_name ≡ tx.old.conn.ghost_name }
     ensures acts { Acts (state S.Store tx.old.conn.now) (state S.Store tx.new.conn.now) (is_ok result) (Does (step_of a.now ∷ step_of b.now ∷ step_of c.now ∷ [])) }
 {
-    tx.execute(
+    write(
+        tx,
         "INSERT INTO CELL VALUES (?1, ?2, ?3, ?4), (?5, ?6, ?7, ?8), (?9, ?10, ?11, ?12)",
         params![
             a.table, a.key, a.place, a.value, b.table, b.key, b.place, b.value, c.table, c.key,
@@ -66,11 +83,12 @@ fn insert_four<S: Alter>(
     b: &NewCell<'_>,
     c: &NewCell<'_>,
     d: &NewCell<'_>,
-) -> Result<usize, Error>
+) -> Result<(), Error>
     ensures same_reference { tx.new.conn.ghost_name ≡ tx.old.conn.ghost_name }
     ensures acts { Acts (state S.Store tx.old.conn.now) (state S.Store tx.new.conn.now) (is_ok result) (Does (step_of a.now ∷ step_of b.now ∷ step_of c.now ∷ step_of d.now ∷ [])) }
 {
-    tx.execute(
+    write(
+        tx,
         "INSERT INTO CELL VALUES (?1, ?2, ?3, ?4), (?5, ?6, ?7, ?8), (?9, ?10, ?11, ?12), (?13, ?14, ?15, ?16)",
         params![
             a.table, a.key, a.place, a.value, b.table, b.key, b.place, b.value, c.table, c.key,
@@ -86,11 +104,12 @@ fn set_cell<S: Alter>(
     key: Datum<'_>,
     place: i64,
     value: Datum<'_>,
-) -> Result<usize, Error>
+) -> Result<(), Error>
     ensures same_reference { tx.new.conn.ghost_name ≡ tx.old.conn.ghost_name }
     ensures acts { Acts (state S.Store tx.old.conn.now) (state S.Store tx.new.conn.now) (is_ok result) (Does (step.SetCell table key.entry place value.entry ∷ [])) }
 {
-    tx.execute(
+    write(
+        tx,
         "UPDATE CELL SET V = ?4 WHERE TAB = ?1 AND K = ?2 AND C = ?3",
         params![table, key, place, value],
     )
@@ -101,22 +120,23 @@ fn delete_row<S: Alter>(
     tx: &mut Transaction<'_, S>,
     table: i64,
     key: Datum<'_>,
-) -> Result<usize, Error>
+) -> Result<(), Error>
     ensures same_reference { tx.new.conn.ghost_name ≡ tx.old.conn.ghost_name }
     ensures acts { Acts (state S.Store tx.old.conn.now) (state S.Store tx.new.conn.now) (is_ok result) (Does (step.DeleteRow table key.entry ∷ [])) }
 {
-    tx.execute(
+    write(
+        tx,
         "DELETE FROM CELL WHERE TAB = ?1 AND K = ?2",
         params![table, key],
     )
 }
 
 /// Takes out the cells of a table.
-fn delete_cells<S: Alter>(tx: &mut Transaction<'_, S>, table: i64) -> Result<usize, Error>
+fn delete_cells<S: Alter>(tx: &mut Transaction<'_, S>, table: i64) -> Result<(), Error>
     ensures same_reference { tx.new.conn.ghost_name ≡ tx.old.conn.ghost_name }
     ensures acts { Acts (state S.Store tx.old.conn.now) (state S.Store tx.new.conn.now) (is_ok result) (Does (step.DeleteCells table ∷ [])) }
 {
-    tx.execute("DELETE FROM CELL WHERE TAB = ?1", params![table])
+    write(tx, "DELETE FROM CELL WHERE TAB = ?1", params![table])
 }
 
 /// Puts a new table.
@@ -125,26 +145,27 @@ fn insert_tab<S: Alter>(
     id: i64,
     name: &str,
     text: &str,
-) -> Result<usize, Error>
+) -> Result<(), Error>
     ensures same_reference { tx.new.conn.ghost_name ≡ tx.old.conn.ghost_name }
     ensures acts { Acts (state S.Store tx.old.conn.now) (state S.Store tx.new.conn.now) (is_ok result) (Does (step.InsertTab id name.entry text.entry ∷ [])) }
 {
-    tx.execute(
+    write(
+        tx,
         "INSERT INTO TAB VALUES (?1, ?2, ?3)",
         params![id, name, text],
     )
 }
 
 /// Takes out a table's name and text.
-fn delete_tab<S: Alter>(tx: &mut Transaction<'_, S>, id: i64) -> Result<usize, Error>
+fn delete_tab<S: Alter>(tx: &mut Transaction<'_, S>, id: i64) -> Result<(), Error>
     ensures same_reference { tx.new.conn.ghost_name ≡ tx.old.conn.ghost_name }
     ensures acts { Acts (state S.Store tx.old.conn.now) (state S.Store tx.new.conn.now) (is_ok result) (Does (step.DeleteTab id ∷ [])) }
 {
-    tx.execute("DELETE FROM TAB WHERE ID = ?1", params![id])
+    write(tx, "DELETE FROM TAB WHERE ID = ?1", params![id])
 }
 
 /// Does one step.
-fn do_step<S: Alter>(tx: &mut Transaction<'_, S>, step: &Step<'_>) -> Result<usize, Error>
+fn do_step<S: Alter>(tx: &mut Transaction<'_, S>, step: &Step<'_>) -> Result<(), Error>
     ensures same_reference { tx.new.conn.ghost_name ≡ tx.old.conn.ghost_name }
     ensures acts { Acts (state S.Store tx.old.conn.now) (state S.Store tx.new.conn.now) (is_ok result) (Does (step.now ∷ [])) }
 {
@@ -183,7 +204,7 @@ pub(crate) const TOGETHER: usize = 4;
 pub(crate) fn do_steps<S: Alter>(
     tx: &mut Transaction<'_, S>,
     steps: &[Step<'_>],
-) -> Result<usize, Error>
+) -> Result<(), Error>
     ensures same_reference { tx.new.conn.ghost_name ≡ tx.old.conn.ghost_name }
     ensures acts { Acts (state S.Store tx.old.conn.now) (state S.Store tx.new.conn.now) (is_ok result) (Does steps.now) }
 {
@@ -211,13 +232,12 @@ pub(crate) fn do_steps<S: Alter>(
 }
 
 /// Does steps, each as a statement.
-fn do_each<S: Alter>(tx: &mut Transaction<'_, S>, steps: &[Step<'_>]) -> Result<usize, Error>
+fn do_each<S: Alter>(tx: &mut Transaction<'_, S>, steps: &[Step<'_>]) -> Result<(), Error>
     ensures same_reference { tx.new.conn.ghost_name ≡ tx.old.conn.ghost_name }
     ensures acts { Acts (state S.Store tx.old.conn.now) (state S.Store tx.new.conn.now) (is_ok result) (Does steps.now) }
 {
-    let mut changed: usize = 0;
     for step in steps {
-        changed = changed.saturating_add(do_step(tx, step)?);
+        do_step(tx, step)?;
     }
-    Ok(changed)
+    Ok(())
 }

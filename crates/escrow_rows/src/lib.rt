@@ -8,7 +8,6 @@
 mod all_values;
 mod amounts;
 mod cell;
-mod count;
 mod datum;
 mod delete;
 mod insert;

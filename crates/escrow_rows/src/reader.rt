@@ -16,7 +16,6 @@ use std::alloc::Global;
 use std::mem;
 
 impl<S: Alter> RowStore<S> {
-    ghost use Rattle.std.specs.Prelude.{IsTrue, IfOk};
     ghost use Rattle.sqlite.specs.Held.{state};
     ghost use Rattle.sqlite.specs.State.{HasCleanDisk};
     ghost use Rattle.escrow_schema.specs.Definition.{IsTable};

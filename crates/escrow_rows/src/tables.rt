@@ -5,19 +5,19 @@ ghost use Rattle.escrow_rows.specs.Listing.{listed_row};
 use crate::listed::ListedTable;
 use crate::store::RowStore;
 use crate::stored::StoredTable;
-use escrow_cells::{Step, failure_of, run, tabs};
+use escrow_cells::{Step, count_keys, failure_of, run, tabs};
 use escrow_num::{Failure, Text};
 use escrow_schema::print_table;
 use sqlite::{Alter, Row};
 use std::alloc::Global;
 
 impl<S: Alter> RowStore<S> {
-    ghost use Rattle.std.specs.Prelude.{IsTrue, IfOk, is_ok};
+    ghost use Rattle.std.specs.Prelude.{IsTrue, is_ok};
     ghost use Rattle.sqlite.specs.Held.{state};
     ghost use Rattle.sqlite.specs.State.{HasCleanDisk};
     ghost use Rattle.escrow_schema.specs.Definition.{IsTable};
     ghost use Rattle.escrow_cells.specs.Calls.{Looks, Alters};
-    ghost use Rattle.escrow_rows.specs.Answers.{TellsTables};
+    ghost use Rattle.escrow_rows.specs.Answers.{TellsCount, TellsTables};
     ghost use Rattle.escrow_rows.specs.Changes.{Creates, Drops};
 
     /// Puts a new table, without rows.
@@ -56,6 +56,14 @@ impl<S: Alter> RowStore<S> {
     {
         let rows = tabs(&mut self.conn)?;
         listed_tables(alloc, rows.as_slice())
+    }
+
+    /// How many rows a table has: each has one cell at the first place. Takes no memory of its own.
+    pub fn count(&mut self, table: &StoredTable) -> Result<usize, Failure>
+        ensures told { HasCleanDisk (state S.Store self.new) → IfOk result (λ n. IsTrue (state S.Store self.new).is_open × TellsCount table.now (state S.Store self.old).now n) }
+        ensures looks { Looks (state S.Store self.old) (state S.Store self.new) }
+    {
+        count_keys(&mut self.conn, table.id, 1)
     }
 }
 

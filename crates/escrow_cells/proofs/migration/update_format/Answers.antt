@@ -1,11 +1,7 @@
-use Rattle.std.proofs.Common.{[], ap, rules}
-use Rattle.sqlite.specs.Held.{state}
+use Rattle.std.proofs.Common.{rules}
 use Rattle.escrow_cells.proofs.Inside.{acts}
-use Rattle.escrow_cells.proofs.Migrating.{format_update, updates_format}
+use Rattle.escrow_cells.proofs.Migrating.{updates_format}
 use Rattle.escrow_cells.proofs.migration.update_format.Goals as goal
 
 pub returns-clause-acts : goal.returns-clause-acts
-returns-clause-acts g c =
-    let a = c.args in
-    acts format_update ([]) _ (state g.S.Store a.tx.now.conn.now) (state g.S.Store c.execute.new.self.conn.now) c.execute.result _ (λ outside. ap (state g.S.Store) (c.execute.ensures.ended outside).1) c.execute.ensures.survives
-    c.execute.ensures.runs (search rules) (updates_format _ _)
+returns-clause-acts g c = acts (updates_format _ _) c.write.ensures.wrote (search rules)

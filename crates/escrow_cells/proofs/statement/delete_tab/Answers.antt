@@ -1,12 +1,7 @@
-use Rattle.std.proofs.Common.{[], ◌∷◌, ap, rules}
-use Rattle.sqlite_value.specs.declared.value.Value.TheVariants.{Int}
-use Rattle.sqlite.specs.Held.{state}
-use Rattle.escrow_cells.proofs.Delete.{tab_text, deletes_tab}
+use Rattle.std.proofs.Common.{rules}
+use Rattle.escrow_cells.proofs.Delete.{deletes_tab}
 use Rattle.escrow_cells.proofs.Inside.{acts}
 use Rattle.escrow_cells.proofs.statement.delete_tab.Goals as goal
 
 pub returns-clause-acts : goal.returns-clause-acts
-returns-clause-acts g c =
-    let a = c.args in
-    acts tab_text (Int a.id ∷ []) _ (state g.S.Store a.tx.now.conn.now) (state g.S.Store c.execute.new.self.conn.now) c.execute.result _ (λ outside. ap (state g.S.Store) (c.execute.ensures.ended outside).1) c.execute.ensures.survives
-    c.execute.ensures.runs (search rules) (deletes_tab a.id _ _)
+returns-clause-acts g c = acts (deletes_tab c.args.id _ _) c.write.ensures.wrote (search rules)

@@ -1,13 +1,7 @@
-use Rattle.std.proofs.Common.{[], ◌∷◌, ap, rules}
-use Rattle.sqlite_value.specs.declared.value.Value.TheVariants.{Int}
-use Rattle.sqlite.specs.Held.{state}
-use Rattle.escrow_cells.specs.Step.{kept}
+use Rattle.std.proofs.Common.{rules}
 use Rattle.escrow_cells.proofs.Inside.{acts, bound_kept}
-use Rattle.escrow_cells.proofs.Update.{set_text, sets}
+use Rattle.escrow_cells.proofs.Update.{sets}
 use Rattle.escrow_cells.proofs.statement.set_cell.Goals as goal
 
 pub returns-clause-acts : goal.returns-clause-acts
-returns-clause-acts g c =
-    let a = c.args in
-    acts set_text (Int a.table ∷ kept a.key ∷ Int a.place ∷ kept a.value ∷ []) _ (state g.S.Store a.tx.now.conn.now) (state g.S.Store c.execute.new.self.conn.now) c.execute.result _ (λ outside. ap (state g.S.Store) (c.execute.ensures.ended outside).1) c.execute.ensures.survives
-    c.execute.ensures.runs (search (rules, bound_kept)) (sets a.table a.key a.place a.value _ _)
+returns-clause-acts g c = acts (sets c.args.table c.args.key c.args.place c.args.value _ _) c.write.ensures.wrote (search (rules, bound_kept))

@@ -1,6 +1,5 @@
 use Rattle.std.proofs.Common.{◌≡◌, List, [], ◌++◌, append_assoc, append-nil, refl, sym, ap, subst, ◌∙◌, rules}
 use Rattle.std.proofs.lemmas.List.{nil_from_length}
-use Rattle.std.specs.Slice.Iter.{chunks_rest}
 use Rattle.sqlite.specs.Held.{state}
 use Rattle.escrow_cells.specs.declared.step.Step.{Step}
 use Rattle.escrow_cells.specs.Inside.{GoesOn}
