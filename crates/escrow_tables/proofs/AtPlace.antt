@@ -1,5 +1,5 @@
 -- What is read of the table at a place.
-use Rattle.std.proofs.Common.{◌≡◌, ℕ, List, Option, Some, None, Result, option_map, get_or, subst}
+use Rattle.std.proofs.Common.{◌≡◌, ℕ, List, Option, Some, None, Result, get_or, subst}
 use Rattle.std.specs.Prelude.{IfOk, IfSome, IsSomeAnd, IsTrue}
 use Rattle.std.proofs.lemmas.Result.{IfOk-weaker}
 use Rattle.sqlite.specs.State.{State, HasCleanDisk}
@@ -7,14 +7,15 @@ use Rattle.escrow_num.specs.declared.row.Row.{Row}
 use Rattle.escrow_num.specs.declared.value.RowName.{RowName}
 use Rattle.escrow_num.specs.declared.value.Value.{Value}
 use Rattle.escrow_schema.specs.declared.table.TableDef.{TableDef}
-use Rattle.escrow_schema.specs.Catalog.{place_named, table_named}
+use Rattle.escrow_schema.specs.Catalog.{IsCatalog, place_named, table_named}
+use Rattle.escrow_schema.specs.Definition.{IsTable}
 use Rattle.escrow_rows.specs.Answers.{IsUsable, Tells}
 use Rattle.escrow_rows.specs.Changes.{name_in}
 use Rattle.escrow_rows.specs.View.{rows_in}
 use Rattle.escrow_verify.specs.declared.counted_table.CountedTable.{CountedTable}
 use Rattle.escrow_schema.specs.Rows.{row_named, rows_of}
 use Rattle.escrow_tables.specs.Inside.{Keeps, stored_of, catalog_of}
-use Rattle.escrow_tables.proofs.Named.{IsNamed}
+use Rattle.escrow_tables.proofs.Named.{IsNamed, named_is_table}
 use Rattle.escrow_tables.proofs.Placed.{is_placed}
 use Rattle.escrow_tables.proofs.Reading.{name_of, told_of}
 
@@ -22,18 +23,22 @@ use Rattle.escrow_tables.proofs.Reading.{name_of, told_of}
 pub named_at : (tables : List CountedTable) (name : List ℕ) (place : ℕ) (c : CountedTable) → place_named (catalog_of tables) name ≡ Some place → c ≡ get_or tables place c → IsNamed tables name c
 named_at tables name place c at item = (is_placed tables name place c at item).named
 
+-- and it is one that some text defines
+pub is_table_at : (tables : List CountedTable) (name : List ℕ) (place : ℕ) (c : CountedTable) → IsCatalog (catalog_of tables) → place_named (catalog_of tables) name ≡ Some place → c ≡ get_or tables place c → IsTable c.stored.table
+is_table_at tables name place c catalog at item = named_is_table tables name c catalog (named_at tables name place c at item)
+
 module _ (tables : List CountedTable) (name : List ℕ) (c : CountedTable) (named : IsNamed tables name c) where
   -- what holds of a table holds of that of its name in the catalog
   pub in_catalog : (P : TableDef → Type 0) → P c.stored.table → IsSomeAnd (table_named (catalog_of tables) name) P
   in_catalog P h = rw named.in_catalog h
 
   -- an answer of the row of a key is one of the row of its name
-  pub row_told : {A E : Type 0} (of : Row → A) (key : Value) (old new last : State) (r : Result (Option A) E) → Keeps old last tables → (IsUsable new → IsUsable old) → HasCleanDisk new
-      → IfOk r (λ found. IsTrue new.is_open × Tells c.stored (λ rows. option_map of (row_named rows (name_in c.stored key))) old.now found)
-      → IfOk r (λ found. found ≡ option_map of (row_named (rows_in (stored_of tables) last.now) (record { table = name; key = key })))
+  pub row_told : {A E : Type 0} (of : Option Row → A) (key : Value) (old new last : State) (r : Result A E) → Keeps old last tables → (IsUsable new → IsUsable old) → HasCleanDisk new
+      → IfOk r (λ found. IsTrue new.is_open × Tells c.stored (λ rows. of (row_named rows (name_in c.stored key))) old.now found)
+      → IfOk r (λ found. found ≡ of (row_named (rows_in (stored_of tables) last.now) (record { table = name; key = key })))
   row_told of key old new last r keeps before clean told =
-      subst (λ (n : RowName). IfOk r (λ found. found ≡ option_map of (row_named (rows_in (stored_of tables) last.now) n))) (name_of tables name c named key)
-      (told_of tables name c named old new last r (λ found. found) (λ rows. option_map of (row_named rows (name_in c.stored key))) keeps before clean told)
+      subst (λ (n : RowName). IfOk r (λ found. found ≡ of (row_named (rows_in (stored_of tables) last.now) n))) (name_of tables name c named key)
+      (told_of tables name c named old new last r (λ found. found) (λ rows. of (row_named rows (name_in c.stored key))) keeps before clean told)
 
   -- and one of the rows of a table is one of the rows of its name
   pub rows_told : {A E : Type 0} (of : List Row → A) (old new last : State) (r : Result A E) → Keeps old last tables → (IsUsable new → IsUsable old) → HasCleanDisk new

@@ -76,23 +76,17 @@ over_rows name checks row s fits =
     cond_both (bytes_eq s.table.name name) (with_checks checks s) s (λ (t : StoredTable). IsRowOf t.table row)
     (λ _. record { table_name = fits.table_name; key = fits.key; plain = fits.plain; amounts = fits.amounts }) (λ _. fits)
 
+-- what is so of the table that is found, or of the one that is found otherwise
+found_over : (P : StoredTable → Type 0) (b : Bool) (s t : StoredTable) (others after : Option StoredTable) → (P s → P t) → (IsSomeAnd others P → IsSomeAnd after P) → IsSomeAnd (cond b (Some s) others) P → IsSomeAnd (cond b (Some t) after) P
+found_over P true s t others after here later h = here h
+found_over P false s t others after here later h = later h
+
 -- a row of one of the tables still is
 over_of_tables : (name : List ℕ) (checks : List Check) (row : Row) (tables : List StoredTable) → IsOfTables tables row → IsOfTables (with_redefined name checks tables) row
 over_of_tables name checks row [] of = of
-over_of_tables name checks row (s ∷ tables) of = elim (cases_Bool (bytes_eq s.table.name row.name.table)) [
-  | inl same ↦
-      let now : bytes_eq (over name checks s).table.name row.name.table ≡ true = ap (λ (n : List ℕ). bytes_eq n row.name.table) (over_name name checks s) ∙ same in
-      subst (λ (o : Option StoredTable). IsSomeAnd o (λ t. IsRowOf t.table row))
-      (sym (cond-true (bytes_eq (over name checks s).table.name row.name.table) (Some (over name checks s)) (stored_named (with_redefined name checks tables) row.name.table) now))
-      (over_rows name checks row s
-      (subst (λ (o : Option StoredTable). IsSomeAnd o (λ t. IsRowOf t.table row)) (cond-true (bytes_eq s.table.name row.name.table) (Some s) (stored_named tables row.name.table) same) of))
-  | inr other ↦
-      let now : bytes_eq (over name checks s).table.name row.name.table ≡ false = ap (λ (n : List ℕ). bytes_eq n row.name.table) (over_name name checks s) ∙ other in
-      subst (λ (o : Option StoredTable). IsSomeAnd o (λ t. IsRowOf t.table row))
-      (sym (cond-false (bytes_eq (over name checks s).table.name row.name.table) (Some (over name checks s)) (stored_named (with_redefined name checks tables) row.name.table) now))
-      (over_of_tables name checks row tables
-      (subst (λ (o : Option StoredTable). IsSomeAnd o (λ t. IsRowOf t.table row)) (cond-false (bytes_eq s.table.name row.name.table) (Some s) (stored_named tables row.name.table) other) of))
-]
+over_of_tables name checks row (s ∷ tables) of =
+    subst (λ (n : List ℕ). IsSomeAnd (cond (bytes_eq n row.name.table) (Some (over name checks s)) (stored_named (with_redefined name checks tables) row.name.table)) (λ t. IsRowOf t.table row)) (sym (over_name name checks s))
+    (found_over (λ t. IsRowOf t.table row) (bytes_eq s.table.name row.name.table) s (over name checks s) (stored_named tables row.name.table) _ (over_rows name checks row s) (over_of_tables name checks row tables) of)
 
 over_are_rows : (name : List ℕ) (checks : List Check) (tables : List StoredTable) (rows : List Row) → AreRows tables rows → AreRows (with_redefined name checks tables) rows
 over_are_rows name checks tables rows of = record {

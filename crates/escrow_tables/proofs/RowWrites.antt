@@ -64,17 +64,22 @@ module _ {S : Type 0} (g : Ghosts S) (old new was later : Held S) (tables : List
         counts = made.counts;
       }
 
-  pub row_writes : Writes g (seen g old was tables) (seen g new later (recounted tables place c count)) is_done (catalog_of tables) (after (rows_in (stored_of tables) (state g was).now))
+  row_writes : Writes g (seen g old was tables) (seen g new later (recounted tables place c count)) is_done (catalog_of tables) (after (rows_in (stored_of tables) (state g was).now))
   row_writes =
       let rows = after (rows_in (stored_of tables) (state g was).now) in
       let fields = recounted tables place c count in
       subst (λ (catalog : List TableDef). Writes g (seen g old was tables) (seen g new later fields) is_done catalog rows) (catalog_recounted tables name place c placed n)
       (writes g old new (TurnsRows c.stored after) is_done it was later tables (recounted tables place c n) fields rows keeps are_after turns fields_done fields_not)
 
-  pub row_keeps : Keeps (state g new) (state g later) (recounted tables place c count)
+  row_keeps : Keeps (state g new) (state g later) (recounted tables place c count)
   row_keeps =
       keeps_on g old new (TurnsRows c.stored after) is_done it was later tables (recounted tables place c n) (recounted tables place c count) (after (rows_in (stored_of tables) (state g was).now)) keeps
       are_after turns fields_done fields_not (subst IsCatalog (sym (catalog_recounted tables name place c placed n)) keeps.is_catalog)
+
+  -- the call writes, and the fields keep what they hold
+  pub row_written : Writes g (seen g old was tables) (seen g new later (recounted tables place c count)) is_done (catalog_of tables) (after (rows_in (stored_of tables) (state g was).now))
+      × Keeps (state g new) (state g later) (recounted tables place c count)
+  row_written = (row_writes, row_keeps)
 
 module _ (tables : List CountedTable) (name : List ℕ) (place : ℕ) (c : CountedTable) (placed : IsPlaced tables name place c) (are : AreTables (stored_of tables))
     (rows : List Row) (are_rows : AreRows (stored_of tables) rows) (counts : AllByRecursion (HasCount rows) tables) where

@@ -1,12 +1,14 @@
-ghost use Rattle.std.specs.Prelude.{◌≡◌, ◌+ℤ◌, List, map, length, IfOk, IfSome, OnOk};
+ghost use Rattle.std.specs.Prelude.{◌≡◌, ◌+ℤ◌, List, map, length, is_ok, IfOk, IfSome, OnOk};
 ghost use Rattle.std.specs.List.{AllByRecursion, list_any};
+ghost use Rattle.sqlite.specs.Held.{state};
+ghost use Rattle.sqlite.specs.State.{HasCleanDisk};
 ghost use Rattle.escrow_num.specs.Order.{same_row};
 ghost use Rattle.escrow_num.specs.Reservation.{deltas};
 ghost use Rattle.escrow_num.specs.declared.row.Row.{Row};
 ghost use Rattle.escrow_checks.specs.Form.{changed};
-ghost use Rattle.escrow_schema.specs.Rows.{replaced};
+ghost use Rattle.escrow_schema.specs.Rows.{applied, replaced};
 ghost use Rattle.escrow_rows.specs.Changes.{Stands};
-ghost use Rattle.escrow_tables.specs.Calls.{AreGiven};
+ghost use Rattle.escrow_tables.specs.Calls.{AreGiven, Writes};
 ghost use Rattle.escrow_tables.specs.Inside.{stored_of};
 ghost use Rattle.escrow_tables.specs.Puts.{ArePuts, TellsPut, changed_by, row_put};
 
@@ -20,12 +22,6 @@ use std::alloc::{AllocError, Global};
 use std::snapshot::Snapshot;
 
 impl<S: Alter> Tables<S> {
-    ghost use Rattle.std.specs.Prelude.{is_ok};
-    ghost use Rattle.sqlite.specs.Held.{state};
-    ghost use Rattle.sqlite.specs.State.{HasCleanDisk};
-    ghost use Rattle.escrow_schema.specs.Rows.{applied};
-    ghost use Rattle.escrow_tables.specs.Calls.{Writes};
-
     /// COMMIT: adds the changes of reservations to the amounts of their rows, in one transaction. The amounts
     /// that the row of each reservation has are given beside it, so no row is read; each amount that changes
     /// is written once.

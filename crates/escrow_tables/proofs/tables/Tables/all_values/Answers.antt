@@ -7,13 +7,11 @@ use Rattle.escrow_schema.specs.Fit.{values_of}
 use Rattle.escrow_schema.specs.Rows.{rows_of}
 use Rattle.escrow_rows.specs.View.{rows_in}
 use Rattle.escrow_tables.specs.Inside.{stored_of}
-use Rattle.escrow_tables.proofs.AtPlace.{by_table, named_at, rows_told}
-use Rattle.escrow_tables.proofs.Named.{named_is_table}
+use Rattle.escrow_tables.proofs.AtPlace.{by_table, is_table_at, named_at, rows_told}
 use Rattle.escrow_tables.proofs.tables.Tables.all_values.Goals as goal
 
 pub all_values-requires : goal.all_values-requires
-all_values-requires g c =
-    let named = named_at c.self.inside.tables.items c.args.name c.args.place c.index.result.now (rw (← c.self.view_is) at c.requires) c.index.ensures in named_is_table c.self.inside.tables.items c.args.name c.index.result.now c.self.invariant.is_catalog named
+all_values-requires g c = is_table_at c.self.inside.tables.items c.args.name c.args.place c.index.result.now c.self.invariant.is_catalog (rw (← c.self.view_is) at c.requires) c.index.ensures
 
 pub returns-clause-told : goal.returns-clause-told
 returns-clause-told g c =

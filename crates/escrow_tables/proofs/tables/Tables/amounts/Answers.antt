@@ -1,21 +1,19 @@
-use Rattle.std.proofs.Common.{◌≡◌, ℤ, List, length}
+use Rattle.std.proofs.Common.{◌≡◌, ℤ, List, length, option_map}
 use Rattle.sqlite.specs.Held.{state}
 use Rattle.escrow_num.specs.declared.row.Row.{Row}
 use Rattle.escrow_schema.specs.declared.table.TableDef.{TableDef}
 use Rattle.escrow_schema.specs.Column.{reservables}
-use Rattle.escrow_tables.proofs.AtPlace.{named_at, row_told, some_by_table}
-use Rattle.escrow_tables.proofs.Named.{named_is_table}
+use Rattle.escrow_tables.proofs.AtPlace.{is_table_at, named_at, row_told, some_by_table}
 use Rattle.escrow_tables.proofs.tables.Tables.amounts.Goals as goal
 
 pub amounts-requires : goal.amounts-requires
-amounts-requires g c =
-    let named = named_at c.self.inside.tables.items c.args.name.now.table c.args.place c.index.result.now (rw (← c.self.view_is) at c.requires) c.index.ensures in named_is_table c.self.inside.tables.items c.args.name.now.table c.index.result.now c.self.invariant.is_catalog named
+amounts-requires g c = is_table_at c.self.inside.tables.items c.args.name.now.table c.args.place c.index.result.now c.self.invariant.is_catalog (rw (← c.self.view_is) at c.requires) c.index.ensures
 
 pub returns-clause-told : goal.returns-clause-told
 returns-clause-told g c =
     let named = named_at c.self.inside.tables.items c.args.name.now.table c.args.place c.index.result.now (rw (← c.self.view_is) at c.requires) c.index.ensures in
     rw (← c.self.view_is) (λ clean.
-    row_told c.self.inside.tables.items c.args.name.now.table c.index.result.now named (λ (row : Row). row.amounts) c.args.name.now.key
+    row_told c.self.inside.tables.items c.args.name.now.table c.index.result.now named (option_map (λ (row : Row). row.amounts)) c.args.name.now.key
     (state g.S.Store c.self.inside.store) (state g.S.Store c.amounts.new.self) (state g.S.Store c.self.inside.last.value) c.amounts.result c.self.invariant c.amounts.ensures.looks.usable clean (c.amounts.ensures.told clean))
 
 pub returns-clause-many : goal.returns-clause-many

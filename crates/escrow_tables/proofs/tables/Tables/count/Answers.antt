@@ -8,11 +8,7 @@ use Rattle.escrow_tables.proofs.Placed.{is_placed, length_kept}
 use Rattle.escrow_tables.proofs.tables.Tables.count.Goals as goal
 
 pub index-requires : goal.index-requires
-index-requires g c =
-    let tables = c.self.inside.tables.items in
-    let within : c.args.place < length (catalog_of tables) = rw (← c.self.view_is) at c.requires in
-    let kept = length_kept tables c.args.place within in
-    omega (arith, kept, c.self.inside.tables.ok.0)
+index-requires g c = omega (arith, length_kept c.self.inside.tables.items c.args.place (rw (← c.self.view_is) at c.requires), c.self.inside.tables.ok.0)
 
 pub returns : goal.returns
 returns g c =

@@ -14,7 +14,7 @@ use Rattle.escrow_tables.specs.Calls.{Writes}
 use Rattle.escrow_tables.specs.Inside.{Keeps, catalog_of, stored_of}
 use Rattle.escrow_tables.proofs.Placed.{IsPlaced, is_placed, kept_within, recounted}
 use Rattle.escrow_tables.proofs.Reading.{name_of}
-use Rattle.escrow_tables.proofs.RowWrites.{Turned, delete_turns, row_keeps, row_writes}
+use Rattle.escrow_tables.proofs.RowWrites.{Turned, delete_turns, row_written}
 use Rattle.escrow_tables.proofs.Writing.{seen}
 use Rattle.escrow_tables.proofs.tables.Tables.delete.Given as given
 use Rattle.escrow_tables.proofs.tables.Tables.delete.Goals as goal
@@ -49,10 +49,7 @@ written g c is_done count later ok if_done if_not =
     let new = c.delete.new.self in
     let at = placed g c in
     let it = subst₂ (λ b (n : RowName). Alters (state g.S.Store old) (state g.S.Store new) b (TurnsRows counted.stored (without_row n))) ok (name_of tables name.table counted at.named name.key) c.delete.ensures in
-    let n = counted.rows - 1 in (
-      row_writes g.S.Store old new c.self.inside.last.value later tables name.table c.args.place counted at (without_row name) n c.self.invariant (turned g c) is_done it count if_done if_not,
-      row_keeps g.S.Store old new c.self.inside.last.value later tables name.table c.args.place counted at (without_row name) n c.self.invariant (turned g c) is_done it count if_done if_not,
-    )
+    row_written g.S.Store old new c.self.inside.last.value later tables name.table c.args.place counted at (without_row name) (counted.rows - 1) c.self.invariant (turned g c) is_done it count if_done if_not
 
 pub invariant_of-self : goal.invariant_of-self
 invariant_of-self g c =
@@ -74,7 +71,4 @@ returns g c =
     rw (← c.self.view_is) ((written g (goal.at.returns g c).After-delete true c.saturating_sub-counted.result c.of.result.value (ap is_ok c.in_ok-delete.was) (λ _. (c.saturating_sub-counted.ensures, c.of.ensures)) (λ e. absurd (false≢true (sym e)))).0)
 
 pub index_mut-counted-requires : goal.index_mut-counted-requires
-index_mut-counted-requires g c =
-    let at : place_named (catalog_of c.self.inside.tables.items) c.args.name.now.table ≡ Some c.args.place = rw (← c.self.view_is) at c.requires.place in
-    let kept = kept_within c.self.inside.tables.items c.args.name.now.table c.args.place at in
-    omega (arith, kept, c.self.inside.tables.ok.0)
+index_mut-counted-requires g c = omega (arith, kept_within c.self.inside.tables.items c.args.name.now.table c.args.place (rw (← c.self.view_is) at c.requires.place), c.self.inside.tables.ok.0)

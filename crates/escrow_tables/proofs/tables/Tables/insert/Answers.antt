@@ -13,7 +13,7 @@ use Rattle.escrow_schema.specs.Catalog.{place_named}
 use Rattle.escrow_tables.specs.Calls.{Writes}
 use Rattle.escrow_tables.specs.Inside.{Keeps, catalog_of, stored_of}
 use Rattle.escrow_tables.proofs.Placed.{IsPlaced, is_placed, kept_within, recounted}
-use Rattle.escrow_tables.proofs.RowWrites.{Turned, insert_turns, row_writes, row_keeps}
+use Rattle.escrow_tables.proofs.RowWrites.{Turned, insert_turns, row_written}
 use Rattle.escrow_tables.proofs.Writing.{seen}
 use Rattle.escrow_tables.proofs.tables.Tables.insert.Given as given
 use Rattle.escrow_tables.proofs.tables.Tables.insert.Goals as goal
@@ -54,16 +54,10 @@ written g c is_done count later ok if_done if_not =
     let old = c.self.inside.store in
     let new = c.insert.new.self in
     let it = subst (λ b. Alters (state g.S.Store old) (state g.S.Store new) b (Inserts counted.stored row)) ok c.insert.ensures in
-    let name = row.name.table in
-    let n = min (counted.rows + 1) most in (
-      row_writes g.S.Store old new c.self.inside.last.value later tables name c.args.place counted (placed g c) (with_row row) n c.self.invariant (turned g c) is_done it count if_done if_not,
-      row_keeps g.S.Store old new c.self.inside.last.value later tables name c.args.place counted (placed g c) (with_row row) n c.self.invariant (turned g c) is_done it count if_done if_not,
-    )
+    row_written g.S.Store old new c.self.inside.last.value later tables row.name.table c.args.place counted (placed g c) (with_row row) (min (counted.rows + 1) most) c.self.invariant (turned g c) is_done it count if_done if_not
 
 pub insert-requires : goal.insert-requires
-insert-requires g c =
-    let at = is_placed c.self.inside.tables.items c.args.row.now.name.table c.args.place c.index_mut-counted.result.now (rw (← c.self.view_is) at c.requires.place) c.index_mut-counted.ensures.value in
-    sym at.named.name_is
+insert-requires g c = sym (is_placed c.self.inside.tables.items c.args.row.now.name.table c.args.place c.index_mut-counted.result.now (rw (← c.self.view_is) at c.requires.place) c.index_mut-counted.ensures.value).named.name_is
 
 pub invariant_of-self : goal.invariant_of-self
 invariant_of-self g c =
@@ -85,7 +79,4 @@ returns g c =
     rw (← c.self.view_is) ((written g (goal.at.returns g c).After-insert true c.saturating_add-counted.result c.of.result.value (ap is_ok c.in_ok-insert.was) (λ _. (c.saturating_add-counted.ensures, c.of.ensures)) (λ e. absurd (false≢true (sym e)))).0)
 
 pub index_mut-counted-requires : goal.index_mut-counted-requires
-index_mut-counted-requires g c =
-    let at : place_named (catalog_of c.self.inside.tables.items) c.args.row.now.name.table ≡ Some c.args.place = rw (← c.self.view_is) at c.requires.place in
-    let kept = kept_within c.self.inside.tables.items c.args.row.now.name.table c.args.place at in
-    omega (arith, kept, c.self.inside.tables.ok.0)
+index_mut-counted-requires g c = omega (arith, kept_within c.self.inside.tables.items c.args.row.now.name.table c.args.place (rw (← c.self.view_is) at c.requires.place), c.self.inside.tables.ok.0)

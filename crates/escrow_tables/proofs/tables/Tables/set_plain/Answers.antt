@@ -16,7 +16,7 @@ use Rattle.escrow_tables.specs.Calls.{Writes}
 use Rattle.escrow_tables.specs.Inside.{Keeps, catalog_of, stored_of}
 use Rattle.escrow_tables.proofs.Placed.{IsPlaced, is_placed, kept_within, recounted_itself}
 use Rattle.escrow_tables.proofs.Reading.{name_of}
-use Rattle.escrow_tables.proofs.RowWrites.{Turned, plain_turns, row_keeps, row_writes}
+use Rattle.escrow_tables.proofs.RowWrites.{Turned, plain_turns, row_written}
 use Rattle.escrow_tables.proofs.Writing.{seen}
 use Rattle.escrow_tables.proofs.tables.Tables.set_plain.Given as given
 use Rattle.escrow_tables.proofs.tables.Tables.set_plain.Goals as goal
@@ -55,14 +55,10 @@ written g c is_done later ok if_done if_not =
     let at = placed g c in
     let rows = with_plain name values (rows_in (stored_of tables) (state g.S.Store was).now) in
     let it = subst₂ (λ b (n : RowName). Alters (state g.S.Store old) (state g.S.Store new) b (TurnsRows counted.stored (with_plain n values))) ok (name_of tables name.table counted at.named name.key) c.set_plain.ensures in
-    let stays = recounted_itself tables name.table c.args.place counted at in (
-      subst (λ (ts : List CountedTable). Writes g.S.Store (seen g.S.Store old was tables) (seen g.S.Store new later ts) is_done (catalog_of tables) rows) stays
-          (row_writes g.S.Store old new was later tables name.table c.args.place counted at (with_plain name values) counted.rows c.self.invariant (turned g c)
-          is_done it counted.rows (λ e. (refl, if_done e)) (λ e. (refl, if_not e))),
-      subst (λ (ts : List CountedTable). Keeps (state g.S.Store new) (state g.S.Store later) ts) stays
-          (row_keeps g.S.Store old new was later tables name.table c.args.place counted at (with_plain name values) counted.rows c.self.invariant (turned g c)
-          is_done it counted.rows (λ e. (refl, if_done e)) (λ e. (refl, if_not e))),
-    )
+    subst (λ (ts : List CountedTable). Writes g.S.Store (seen g.S.Store old was tables) (seen g.S.Store new later ts) is_done (catalog_of tables) rows × Keeps (state g.S.Store new) (state g.S.Store later) ts)
+    (recounted_itself tables name.table c.args.place counted at)
+    (row_written g.S.Store old new was later tables name.table c.args.place counted at (with_plain name values) counted.rows c.self.invariant (turned g c)
+    is_done it counted.rows (λ e. (refl, if_done e)) (λ e. (refl, if_not e)))
 
 pub invariant_of-self : goal.invariant_of-self
 invariant_of-self g c =
@@ -83,7 +79,4 @@ returns g c =
     rw (← c.self.view_is) ((written g (goal.at.returns g c).After-set_plain true c.of.result.value (ap is_ok c.in_ok-set_plain.was) (λ _. c.of.ensures) (λ e. absurd (false≢true (sym e)))).0)
 
 pub index-requires : goal.index-requires
-index-requires g c =
-    let at : place_named (catalog_of c.self.inside.tables.items) c.args.name.now.table ≡ Some c.args.place = rw (← c.self.view_is) at c.requires.place in
-    let kept = kept_within c.self.inside.tables.items c.args.name.now.table c.args.place at in
-    omega (arith, kept, c.self.inside.tables.ok.0)
+index-requires g c = omega (arith, kept_within c.self.inside.tables.items c.args.name.now.table c.args.place (rw (← c.self.view_is) at c.requires.place), c.self.inside.tables.ok.0)

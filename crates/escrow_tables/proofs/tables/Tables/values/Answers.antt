@@ -6,13 +6,11 @@ use Rattle.escrow_schema.specs.Fit.{values_of}
 use Rattle.escrow_schema.specs.Rows.{row_named}
 use Rattle.escrow_rows.specs.View.{rows_in}
 use Rattle.escrow_tables.specs.Inside.{stored_of}
-use Rattle.escrow_tables.proofs.AtPlace.{by_table, named_at, row_told}
-use Rattle.escrow_tables.proofs.Named.{named_is_table}
+use Rattle.escrow_tables.proofs.AtPlace.{by_table, is_table_at, named_at, row_told}
 use Rattle.escrow_tables.proofs.tables.Tables.values.Goals as goal
 
 pub values-requires : goal.values-requires
-values-requires g c =
-    let named = named_at c.self.inside.tables.items c.args.name.now.table c.args.place c.index.result.now (rw (← c.self.view_is) at c.requires) c.index.ensures in named_is_table c.self.inside.tables.items c.args.name.now.table c.index.result.now c.self.invariant.is_catalog named
+values-requires g c = is_table_at c.self.inside.tables.items c.args.name.now.table c.args.place c.index.result.now c.self.invariant.is_catalog (rw (← c.self.view_is) at c.requires) c.index.ensures
 
 pub returns-clause-told : goal.returns-clause-told
 returns-clause-told g c =
@@ -23,5 +21,5 @@ returns-clause-told g c =
     let rows = rows_in (stored_of tables) last.now in
     rw (← c.self.view_is) (λ clean.
     by_table tables c.args.name.now.table counted named (λ (table : TableDef) (found : Option (List Value)). found ≡ option_map (values_of table) (row_named rows c.args.name.now)) c.values.result
-    (row_told tables c.args.name.now.table counted named (values_of counted.stored.table) c.args.name.now.key
+    (row_told tables c.args.name.now.table counted named (option_map (values_of counted.stored.table)) c.args.name.now.key
     (state g.S.Store c.self.inside.store) (state g.S.Store c.values.new.self) last c.values.result c.self.invariant c.values.ensures.looks.usable clean (c.values.ensures.told clean)))
