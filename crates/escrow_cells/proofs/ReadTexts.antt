@@ -36,6 +36,9 @@ table_text = codes "SELECT K, C, V FROM CELL WHERE TAB = ?1 ORDER BY K, C"
 abbrev pub keys_text : List ℕ
 keys_text = codes "SELECT K FROM CELL WHERE TAB = ?1 AND C = ?2"
 
+abbrev pub place_text : List ℕ
+place_text = codes "SELECT C FROM CELL WHERE TAB = ?1 AND K = ?2 AND C = ?3"
+
 abbrev pub metas_text : List ℕ
 metas_text = codes "SELECT K, V FROM META"
 
@@ -90,6 +93,9 @@ table_query = selection cell_tree (is_given 1 0 ∷ []) (col 1 2 ∷ col 1 3 ∷
 abbrev pub keys_query : Query
 keys_query = selection cell_tree (is_given 1 0 ∷ is_given 3 1 ∷ []) (col 1 2 ∷ []) []
 
+abbrev pub place_query : Query
+place_query = selection cell_tree (is_given 1 0 ∷ is_given 2 1 ∷ is_given 3 2 ∷ []) (col 1 3 ∷ []) []
+
 abbrev pub metas_query : Query
 metas_query = selection meta_tree [] (col 1 1 ∷ col 1 2 ∷ []) []
 
@@ -130,6 +136,10 @@ table_select = record { command = λ _ _ _. refl; plain = λ _ _ _. (refl, refl)
 pub keys_select : IsSelect keys_text keys_query (codes "K" ∷ [])
 unfolding understood everything
 keys_select = record { command = λ _ _ _. refl; plain = λ _ _ _. (refl, refl); unlisted = λ _ _ _. refl; bare = λ _ _. refl }
+
+pub place_select : IsSelect place_text place_query (codes "C" ∷ [])
+unfolding understood everything
+place_select = record { command = λ _ _ _. refl; plain = λ _ _ _. (refl, refl); unlisted = λ _ _ _. refl; bare = λ _ _. refl }
 
 pub metas_select : IsSelect metas_text metas_query (codes "K" ∷ codes "V" ∷ [])
 unfolding understood everything

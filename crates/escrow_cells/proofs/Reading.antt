@@ -16,12 +16,12 @@ use Rattle.sqlite.specs.State.{State, Shown}
 use Rattle.sqlite.proofs.Callers.{reads_as}
 use Rattle.escrow_cells.specs.Numbered.{AreIds}
 use Rattle.escrow_cells.specs.Store.{IsStore, HasTables, metas, cells, tabs}
-use Rattle.escrow_cells.specs.Step.{same, is_in, is_of}
+use Rattle.escrow_cells.specs.Step.{same, is_in, is_of, is_at}
 use Rattle.escrow_cells.specs.Read.{AreOfRow, AreOfTable, AreKeys, AreTabs, AreTablesOfCells}
 use Rattle.escrow_cells.specs.Span.{AreOfSpan, is_from, is_up_to, is_within}
 use Rattle.escrow_cells.specs.Tables.{beside, meta_tree, tab_tree, cell_tree}
 use Rattle.escrow_cells.proofs.Selects.{selected, then_equal, sorted_same}
-use Rattle.escrow_cells.proofs.ReadTexts.{IsSelect, ids_query, tabs_text, tabs_select, row_text, row_select, span_text, span_select, table_text, table_select, keys_text, keys_select, metas_text, metas_select, owners_text, owners_select}
+use Rattle.escrow_cells.proofs.ReadTexts.{IsSelect, ids_query, tabs_text, tabs_select, row_text, row_select, span_text, span_select, table_text, table_select, keys_text, keys_select, place_text, place_select, metas_text, metas_select, owners_text, owners_select}
 
 abbrev cell_of : Row → Row
 cell_of r = column r 1 ∷ column r 2 ∷ column r 3 ∷ column r 4 ∷ []
@@ -136,6 +136,22 @@ keys_shown table place old new rows h store =
       same_keys = subst (IsPermutation (map pick (filter test (cells old.now)))) (sym a.shows)
           (permuted (old.now.trees cell_tree) a.taken _ test pick (λ r. ap (λ b. same (column r 1) table && b) (and_true _)) a.same);
     }
+
+three_tests : (a b c : Bool) → (a && (b && (c && true))) ≡ ((a && b) && c)
+three_tests true true c = and_true c
+three_tests true false c = refl
+three_tests false b c = refl
+
+-- as many rows are answered as there are cells at a place of the row of a key
+pub place_counted : (table key place : Value) (params : Row) (old new : State) (rows : List Row) → Shown place_text params old new rows → params ≡ table ∷ key ∷ place ∷ [] → IsStore old.now
+    → length rows ≡ length (filter (is_at table key place) (cells old.now))
+place_counted table key place params old new rows h given store =
+    let shown = subst (λ ps. Shown place_text ps old new rows) given h in
+    let a = selected _ _ _ _ _ _ _ (answer_of place_select (table ∷ key ∷ place ∷ []) old new rows store.tables shown) in
+    let pick : Row → Row = λ c. column c 2 ∷ [] in
+    let same_places = subst (IsPermutation (map pick (filter (is_at table key place) (cells old.now)))) (sym a.shows)
+    (permuted (old.now.trees cell_tree) a.taken _ (is_at table key place) pick (λ r. three_tests (is_in table (cell_of r)) (same (column r 2) key) (same (column r 3) place)) a.same) in
+    length_permutation _ rows same_places ∙ simp length-map
 
 pub metas_shown : (old new : State) (rows : List Row) → Shown metas_text [] old new rows → HasTables old.now.schema → IsPermutation (metas old.now) rows
 metas_shown old new rows h has =

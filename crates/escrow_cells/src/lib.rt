@@ -27,7 +27,8 @@ pub use formats::{FORMAT, FORMAT_BEFORE, Format};
 pub use migration::migrate;
 pub use numbered::are_numbered;
 pub use read::{
-    cell_tables, count_keys, key_cells, metas, row_cells, span_cells, table_cells, tabs,
+    cell_tables, count_cells, count_keys, key_cells, metas, row_cells, span_cells, table_cells,
+    tabs,
 };
 pub use recognise::is_store_schema;
 pub use sink::Sink;

@@ -5,7 +5,7 @@ ghost use Rattle.sqlite_value.specs.Order.{column};
 ghost use Rattle.sqlite.specs.Held.{state};
 ghost use Rattle.sqlite.specs.State.{HasCleanDisk, Shown};
 ghost use Rattle.sqlite.specs.Values.{bound};
-ghost use Rattle.escrow_cells.specs.Step.{kept, same, is_in};
+ghost use Rattle.escrow_cells.specs.Step.{kept, same, is_in, is_at};
 ghost use Rattle.escrow_cells.specs.Store.{HasTables, IsStore, cells, metas, tabs};
 ghost use Rattle.escrow_cells.specs.Read.{AreOfRow, AreOfTable, AreKeys, AreTablesOfCells, AreTabs, Rests, Takes};
 ghost use Rattle.escrow_cells.specs.Span.{AreOfSpan};
@@ -175,6 +175,27 @@ pub fn count_keys<S: Alter>(
 {
     let mut counter = Counter { rows: 0 };
     key_cells(conn, table, place, &mut counter)?;
+    Ok(counter.rows)
+}
+
+/// How many cells are at a place of the row of a key: one, or none.
+pub fn count_cells<S: Alter>(
+    conn: &mut Connection<S>,
+    table: i64,
+    key: Datum<'_>,
+    place: i64,
+) -> Result<usize, Failure>
+    ensures count { HasCleanDisk (state S.Store conn.new) → IfOk result (λ n. IsStore (state S.Store conn.old).now → n ≡ length (filter (is_at (Int table) (kept key.entry) (Int place)) (cells (state S.Store conn.old).now))) }
+    ensures rests { conn.old.in_transaction ≡ false → Rests S.Store conn.old conn.new }
+    ensures is_open { HasCleanDisk (state S.Store conn.new) → OnOk result (IsTrue (state S.Store conn.new).is_open) }
+{
+    let mut counter = Counter { rows: 0 };
+    read_each(
+        conn,
+        "SELECT C FROM CELL WHERE TAB = ?1 AND K = ?2 AND C = ?3",
+        params![table, key, place],
+        &mut counter,
+    )?;
     Ok(counter.rows)
 }
 

@@ -5,14 +5,16 @@ ghost use Rattle.sqlite_value.specs.Value.{owned};
 ghost use Rattle.sqlite_value.specs.declared.value.Value.TheVariants.{Int};
 ghost use Rattle.escrow_schema.specs.Column.{reservables};
 ghost use Rattle.escrow_schema.specs.Fit.{amounts_of};
+ghost use Rattle.escrow_rows.specs.Changes.{name_in};
 ghost use Rattle.escrow_rows.specs.Image.{stored};
 ghost use Rattle.escrow_rows.specs.Placed.{placed, IsRowOfCells};
+ghost use Rattle.escrow_schema.specs.Rows.{row_named};
 
 use crate::datum::{datum, held};
 use crate::span::{Span, reservable_span};
 use crate::store::RowStore;
 use crate::stored::StoredTable;
-use escrow_cells::{failure_of, row_cells, span_cells};
+use escrow_cells::{count_cells, failure_of, row_cells, span_cells};
 use escrow_num::{Amount, Failure, Seq, Value};
 use escrow_schema::Column;
 use sqlite::{Alter, Row};
@@ -20,11 +22,11 @@ use sqlite_value::value::ValueRef;
 use std::alloc::Global;
 
 impl<S: Alter> RowStore<S> {
-    ghost use Rattle.std.specs.Prelude.{◌≤◌, IsTrue};
+    ghost use Rattle.std.specs.Prelude.{◌≤◌, IsTrue, is_some};
     ghost use Rattle.sqlite.specs.Held.{state};
     ghost use Rattle.sqlite.specs.State.{HasCleanDisk};
     ghost use Rattle.escrow_schema.specs.Definition.{IsTable};
-    ghost use Rattle.escrow_rows.specs.Answers.{Looks, TellsAmounts, TellsValues};
+    ghost use Rattle.escrow_rows.specs.Answers.{Looks, Tells, TellsAmounts, TellsValues};
     ghost use Rattle.escrow_rows.specs.Placed.{TellsCells, TellsSpan};
 
     /// The amounts of the row of a key, one for each RESERVABLE column in column order, or `None` where no row
@@ -66,6 +68,15 @@ impl<S: Alter> RowStore<S> {
         };
         let values = read_values(alloc, cells.as_slice())?;
         Ok(Some(Seq::from_vec(values)))
+    }
+
+    /// Whether a row has a key: it has then one cell at the first place. Takes no memory of its own.
+    pub fn stands(&mut self, table: &StoredTable, key: &Value) -> Result<bool, Failure>
+        ensures told { HasCleanDisk (state S.Store self.new) → IfOk result (λ stands. IsTrue (state S.Store self.new).is_open × Tells table.now (λ rows. is_some (row_named rows (name_in table.now key.now))) (state S.Store self.old).now stands) }
+        ensures looks { Looks (state S.Store self.old) (state S.Store self.new) }
+    {
+        let cells = count_cells(&mut self.conn, table.id, datum(key), 1)?;
+        Ok(cells > 0)
     }
 
     /// The cells of the row of a key, each by its place and its value, or `None` where there are none. A row

@@ -4,7 +4,7 @@ use sqlite::Alter;
 use std::alloc::Global;
 
 impl<S: Alter> Tables<S> {
-    ghost use Rattle.std.specs.Prelude.{◌≡◌, Some, IsSomeAnd, IfOk, OnOk, IfSome, IsTrue, length, map, option_map};
+    ghost use Rattle.std.specs.Prelude.{◌≡◌, Some, IsSomeAnd, IfOk, OnOk, IfSome, IsTrue, is_some, length, map, option_map};
     ghost use Rattle.sqlite.specs.Held.{state};
     ghost use Rattle.sqlite.specs.State.{HasCleanDisk};
     ghost use Rattle.escrow_schema.specs.Catalog.{place_named, table_named};
@@ -46,6 +46,16 @@ impl<S: Alter> Tables<S> {
     {
         self.store
             .values(alloc, &self.tables[place].stored, &name.key)
+    }
+
+    /// Whether the committed row of a name stands; the place is that of its table. Takes no memory of its own.
+    pub fn stands(&mut self, place: usize, name: &RowName) -> Result<bool, Failure>
+        requires { place_named self.old.catalog name.now.table ≡ Some place }
+        ensures told { HasCleanDisk (state S.Store self.new.store) → IfOk result (λ stands. stands ≡ is_some (row_named self.old.rows name.now)) }
+        ensures reads { Reads S.Store self.old self.new }
+        ensures open { HasCleanDisk (state S.Store self.new.store) → OnOk result (IsTrue (state S.Store self.new.store).is_open) }
+    {
+        self.store.stands(&self.tables[place].stored, &name.key)
     }
 
     /// The values of each committed row of the table of a name, which stands at a place: in column order, the
