@@ -71,7 +71,7 @@ use Rattle.escrow_core.specs.Seen.{Seen}
 use Rattle.escrow_core.specs.Serves.{Serves}
 use Rattle.escrow_core.specs.Serving.{Looks, answer_of}
 use Rattle.escrow_core.proofs.Places.{gone_amounts, gone_placed, gone_tables, none_placed}
-use Rattle.escrow_core.proofs.Serving.{accepted_step, handed_on, late_applies, none_applies, read_keeps, still_clean, write_failed, wrote, wrote_keeps}
+use Rattle.escrow_core.proofs.Serving.{accepted_step, forgotten, handed_on, late_applies, none_applies, read_keeps, still_clean, write_failed, wrote, wrote_keeps}
 use Rattle.escrow_core.proofs.Shown.{all_take, free_list}
 use Rattle.escrow_core.proofs.Standing.{standing}
 
@@ -371,14 +371,14 @@ module _ {S : Type 0} (g : Ghosts S) (session : ℕ) (asked : Statement) (t new 
       (write_failed g session asked t new o f (reply.Altered table) (altered_state (seen_of t o).state made) may.asks may.early (may.takes f) writes may.steps)
 
   -- what is kept, where the places of the table come of the old ones
-  pub alter_keeps : (Step : RowName → Kept → Kept → Type 0) (places after : Places) → Keeps g (seen_of t o) places → Writes g t new true (with_altered made t.catalog) t.rows
+  pub alter_holds : (Step : RowName → Kept → Kept → Type 0) (places after : Places) (recent : Option ReadRow) → Keeps g (seen_of t o) places → Writes g t new true (with_altered made t.catalog) t.rows
       → TableGoes table Step places after → ((row : RowName) (a b : Kept) → Step row a b → b.amounts ≡ a.amounts)
-      → ((row : RowName) (a b : Kept) → Step row a b → checks_of a.checks ≡ old.checks → checks_of b.checks ≡ made.checks) → Keeps g (seen_of new o) after
-  alter_keeps Step places after keeps writes goes amounts checks =
+      → ((row : RowName) (a b : Kept) → Step row a b → checks_of a.checks ≡ old.checks → checks_of b.checks ≡ made.checks) → recent ≡ None → Holds g (seen_of new o) after recent
+  alter_holds Step places after recent keeps writes goes amounts checks none =
       let s : State = (seen_of t o).state in
       let called : old.name ≡ table = name_found t.catalog table old may.named in
       let here : table_named t.catalog old.name ≡ Some old = ap (table_named t.catalog) called ∙ may.named in
-      record {
+      forgotten g (seen_of new o) after recent none (record {
         kept = wrote_keeps g session asked t new o o (altered_state s made) keeps.kept writes refl
             (subst (λ (x : TableDef). IsOrderly (with_altered x s.catalog) s.reservations s.savepoints s.next_id) (sym may.alike)
             (alter_orderly s old made.checks keeps.kept.orderly here (subst IsTable may.alike may.is_table)))
@@ -388,7 +388,7 @@ module _ {S : Type 0} (g : Ghosts S) (session : ℕ) (asked : Statement) (t new 
         amounts = λ clean.
             let was = still_clean _ _ _ writes.survives clean in
             subst (λ rs. HaveAmounts rs after) (sym (writes.done_rows refl clean)) (gone_amounts table Step places after goes amounts s.rows (keeps.amounts was));
-      }
+      })
 
 -- the check at a place is gone
 pub checks_without : (old made : TableDef) (index : ℕ) → made ≡ without_check_at old index → (row : RowName) (a b : Kept) → IsWithout index a b → checks_of a.checks ≡ old.checks → checks_of b.checks ≡ made.checks

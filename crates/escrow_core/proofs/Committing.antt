@@ -32,15 +32,15 @@ use Rattle.escrow_bounds.specs.Held.{of_row}
 use Rattle.escrow_bounds.proofs.Ending.{length-after_all}
 use Rattle.escrow_machine.proofs.Safe.{some_weaker}
 use Rattle.escrow_core.specs.declared.recent.ReadRow.{ReadRow}
-use Rattle.escrow_core.specs.Inside.{seen_of, amounts_named, committed_by, AreOfTables, HaveAmounts, IsKnown, IsRead, Keeps}
-use Rattle.escrow_core.specs.Reserved.{AreAmounts, ArePlaced}
+use Rattle.escrow_core.specs.Inside.{seen_of, amounts_named, committed_by, AreOfTables, HaveAmounts, Holds, IsKnown, IsRead, Keeps}
+use Rattle.escrow_core.specs.Reserved.{AreAmounts, ArePlaced, Reserved}
 use Rattle.escrow_core.specs.Serves.{Serves}
 use Rattle.escrow_machine.specs.Accepted.{PassesEarly}
 use Rattle.escrow_machine.specs.State.{State}
 use Rattle.escrow_schema.specs.Rows.{applied}
 use Rattle.escrow_machine.specs.Step.{step, StepOrRefusal}
 use Rattle.escrow_machine.specs.Turn.{turn_of, after_commit, after_rollback}
-use Rattle.escrow_machine.specs.Valid.{IsValid}
+use Rattle.escrow_machine.specs.Valid.{IsOrderly, IsValid}
 use Rattle.escrow_machine.proofs.Applying.{applied_none}
 use Rattle.escrow_core.proofs.Served.{commit_serves}
 use Rattle.escrow_core.proofs.Places.{committed_amounts, commits_amounts, ended_tables, rollbacks_amounts}
@@ -85,6 +85,23 @@ read_after : (s : State) (session : ℕ) (recent : Option ReadRow) → IsValid s
 read_after s session None valid read = tt
 read_after s session (Some r) valid read = committed_amounts s session r.name r.amounts valid read
 
+-- what a database holds where reservations are dropped, and the store is left
+pub dropped_holds : {S : Type 0} (g : Ghosts S) (t : Committed S) (o left : Open) (dropped : List Reservation) (old : Places) (after : Reserved) (recent : Option ReadRow) → Holds g (seen_of t o) old recent
+    → after.txns ≡ left → AreEnded end.Rollback dropped old after.places → (ArePlaced o.reservations old → ArePlaced after.txns.reservations after.places)
+    → IsOrderly t.catalog left.reservations left.savepoints left.next_id → (IsValid (seen_of t o).state → IsValid (seen_of t left).state) → Holds g (seen_of t after.txns) after.places recent
+dropped_holds g t o left dropped old after recent holds is are placed orderly valid =
+    let keeps = holds.keeps in
+    record {
+      keeps = record {
+        kept = rw is (apart_keeps g (seen_of t o) (seen_of t left).state keeps.kept orderly valid);
+        placed = placed keeps.placed;
+        of_tables = ended_tables end.Rollback dropped t.catalog old after.places are keeps.of_tables;
+        amounts = λ clean. rollbacks_amounts dropped t.rows old after.places are (keeps.amounts clean);
+      };
+      known = holds.known;
+      read = holds.read;
+    }
+
 module _ {S : Type 0} (g : Ghosts S) (session : ℕ) (t : Committed S) (o : Open) where
   -- the session holds no reservation
   pub just_ended : own session o.reservations ≡ [] → Serves g session statement.Commit (seen_of t o) (done session o) (seen_of t (ended session o))
@@ -95,16 +112,11 @@ module _ {S : Type 0} (g : Ghosts S) (session : ℕ) (t : Committed S) (o : Open
       let quiet : nat_lt 0 (length (own session o.reservations)) ≡ false = subst (λ (mine : List Reservation). nat_lt 0 (length mine) ≡ false) (sym none) refl in
       served_apart g session statement.Commit (seen_of t o) (seen_of t (ended session o)) (done session o) quiet refl event
 
-  pub just_ended_keeps : (old places : Places) → Keeps g (seen_of t o) old → AreEnded end.Rollback (own session o.reservations) old places → ArePlaced (others session o.reservations) places
-      → Keeps g (seen_of t (ended session o)) places
-  just_ended_keeps old places keeps are placed =
+  pub just_ended_holds : (old : Places) (after : Reserved) (recent : Option ReadRow) → Holds g (seen_of t o) old recent → after.txns ≡ ended session o → AreEnded end.Rollback (own session o.reservations) old after.places
+      → (ArePlaced o.reservations old → ArePlaced after.txns.reservations after.places) → Holds g (seen_of t after.txns) after.places recent
+  just_ended_holds old after recent holds is are placed =
       let s : State = (seen_of t o).state in
-      record {
-        kept = apart_keeps g (seen_of t o) (after_rollback s session) keeps.kept (rollback_orderly s session keeps.kept.orderly) (rollback_valid s session);
-        placed = placed;
-        of_tables = ended_tables end.Rollback (own session o.reservations) s.catalog old places are keeps.of_tables;
-        amounts = λ clean. rollbacks_amounts (own session o.reservations) s.rows old places are (keeps.amounts clean);
-      }
+      dropped_holds g t o (ended session o) (own session o.reservations) old after recent holds is are placed (rollback_orderly s session holds.keeps.kept.orderly) (rollback_valid s session)
 
   module _ (new : Committed S) where
     -- the store agreed: the changes are written, and the transaction is over

@@ -1,8 +1,7 @@
 -- The row that a WHERE names, in a table whose place is known.
-use Rattle.std.specs.Prelude.{◌≡◌, ℕ, List, Option, Some, None, IsSome, option_and_then}
+use Rattle.std.specs.Prelude.{◌≡◌, ℕ, List, Some, None, IsSome, option_and_then}
 use Rattle.std.specs.Result.{result_err}
 use Rattle.std.proofs.Common.{sym, ap, ◌∙◌}
-use Rattle.escrow_num.specs.declared.value.RowName.{RowName}
 use Rattle.escrow_sql.specs.declared.statement.WhereText.{WhereText}
 use Rattle.escrow_schema.specs.declared.table.TableDef.{TableDef}
 use Rattle.escrow_schema.specs.Catalog.{table_named}

@@ -62,20 +62,8 @@ takes_nothing s session asked failure.Store none =
 
 -- nor does it go by rows
 reads_nothing : (s : State) (session : ℕ) (asked : Statement) → needs_nothing s session asked ≡ true → reads_rows s session asked ≡ false
-reads_nothing s session (statement.Create text) none = absurd (cc)
-reads_nothing s session (statement.Drop name) none = absurd (cc)
-reads_nothing s session (statement.Alter text) none = absurd (cc)
-reads_nothing s session (statement.Insert text) none = absurd (cc)
 reads_nothing s session (statement.Update text) none = absurd (cc)
-reads_nothing s session (statement.Delete text) none = absurd (cc)
-reads_nothing s session (statement.Select text) none = absurd (cc)
-reads_nothing s session (statement.ShowTable name) none = refl
-reads_nothing s session (statement.ShowJournal table) none = refl
-reads_nothing s session (statement.ShowBounds text) none = absurd (cc)
-reads_nothing s session (statement.Savepoint name) none = refl
-reads_nothing s session statement.Commit none = takes_nothing s session statement.Commit failure.Store none
-reads_nothing s session statement.Rollback none = refl
-reads_nothing s session (statement.RollbackTo name) none = refl
+reads_nothing s session asked none = takes_nothing s session asked failure.Store none
 
 never_fails : (s : State) (session : ℕ) (asked : Statement) (f : Failure) → needs_nothing s session asked ≡ true → ¬ (may_fail s session asked f ≡ true)
 never_fails s session asked f none = λ may.

@@ -24,7 +24,8 @@ use Rattle.escrow_tables.specs.Committed.{Committed, AreHeld}
 use Rattle.escrow_journal.specs.Open.{Open}
 use Rattle.escrow_machine.specs.declared.reply.Reply.{Reply}
 use Rattle.escrow_machine.specs.declared.reply.Reply.TheVariants as reply
-use Rattle.escrow_core.specs.Inside.{seen_of, amounts_named, AreOfTables, HaveAmounts, Keeps}
+use Rattle.escrow_core.specs.declared.recent.ReadRow.{ReadRow}
+use Rattle.escrow_core.specs.Inside.{seen_of, amounts_named, AreOfTables, HaveAmounts, Holds, Keeps}
 use Rattle.escrow_machine.specs.Promised.{asks_store, reads_rows}
 use Rattle.escrow_machine.specs.Reply.{failure_of, is_refused, tells_write}
 use Rattle.escrow_core.specs.Seen.{Seen, IsKept}
@@ -114,18 +115,23 @@ read_keeps g t new o places keeps reads = record {
   amounts = λ clean. rw reads.rows (keeps.amounts (still_clean _ _ _ reads.survives clean));
 }
 
--- and where a write failed
-pub unwritten_keeps : {S : Type 0} (g : Ghosts S) (t new : Committed S) (o : Open) (places : Places) (catalog : List TableDef) (rows : List Row) → Keeps g (seen_of t o) places
-    → Writes g t new false catalog rows → Keeps g (seen_of new o) places
-unwritten_keeps g t new o places catalog rows keeps writes = record {
-  kept = record {
-    orderly = rw (writes.kept_catalog refl) keeps.kept.orderly;
-    safe_rows = λ clean. rw (writes.kept_catalog refl, writes.kept_rows refl) (keeps.kept.safe_rows (still_clean _ _ _ writes.survives clean));
-  };
-  placed = keeps.placed;
-  of_tables = rw (writes.kept_catalog refl) keeps.of_tables;
-  amounts = λ clean. rw (writes.kept_rows refl) (keeps.amounts (still_clean _ _ _ writes.survives clean));
-}
+-- what it holds where the row that was read last is forgotten
+pub forgotten : {S : Type 0} (g : Ghosts S) (d : Seen S) (places : Places) (recent : Option ReadRow) → recent ≡ None → Keeps g d places → Holds g d places recent
+forgotten g d places recent none keeps = rw none (record { keeps = keeps; known = tt; read = λ _. tt })
+
+-- and where a write failed since
+pub unwritten_holds : {S : Type 0} (g : Ghosts S) (t new : Committed S) (o : Open) (places : Places) (catalog : List TableDef) (rows : List Row) (recent : Option ReadRow) → Keeps g (seen_of t o) places
+    → Writes g t new false catalog rows → recent ≡ None → Holds g (seen_of new o) places recent
+unwritten_holds g t new o places catalog rows recent keeps writes none =
+    forgotten g (seen_of new o) places recent none (record {
+      kept = record {
+        orderly = rw (writes.kept_catalog refl) keeps.kept.orderly;
+        safe_rows = λ clean. rw (writes.kept_catalog refl, writes.kept_rows refl) (keeps.kept.safe_rows (still_clean _ _ _ writes.survives clean));
+      };
+      placed = keeps.placed;
+      of_tables = rw (writes.kept_catalog refl) keeps.of_tables;
+      amounts = λ clean. rw (writes.kept_rows refl) (keeps.amounts (still_clean _ _ _ writes.survives clean));
+    })
 
 -- what a database keeps where the store is left
 pub apart_keeps : {S : Type 0} (g : Ghosts S) (d : Seen S) (next : State) → IsKept g d → IsOrderly next.catalog next.reservations next.savepoints next.next_id
@@ -137,20 +143,8 @@ apart_keeps g d next kept orderly valid = record {
 
 -- what asks the store goes by rows
 asking_reads : (s : State) (session : ℕ) (asked : Statement) → asks_store s session asked ≡ true → reads_rows s session asked ≡ true
-asking_reads s session (statement.Create text) asks = asks
-asking_reads s session (statement.Drop name) asks = asks
-asking_reads s session (statement.Alter text) asks = asks
-asking_reads s session (statement.Insert text) asks = asks
 asking_reads s session (statement.Update text) asks = refl
-asking_reads s session (statement.Delete text) asks = asks
-asking_reads s session (statement.Select text) asks = asks
-asking_reads s session (statement.ShowTable name) asks = asks
-asking_reads s session (statement.ShowJournal table) asks = asks
-asking_reads s session (statement.ShowBounds text) asks = asks
-asking_reads s session (statement.Savepoint name) asks = asks
-asking_reads s session statement.Commit asks = asks
-asking_reads s session statement.Rollback asks = asks
-asking_reads s session (statement.RollbackTo name) asks = asks
+asking_reads s session asked asks = asks
 
 -- what asks nothing of the store isn't refused by it
 not_by_store : (s : State) (session : ℕ) (asked : Statement) (answer : Reply) (new : State) → StepOrRefusal s session asked answer new → asks_store s session asked ≡ false
@@ -367,6 +361,11 @@ module _ {S : Type 0} (g : Ghosts S) (session : ℕ) (asked : Statement) (old mi
   pub early_since : PassesEarly mid.state session asked
   early_since = still_passes old.state mid.state session asked looked.looks.same looked.early
 
+  -- refused for what was looked at
+  pub refused_since : (r : Refusal) → (HasCleanDisk (state g mid.store) → IsRefusal mid.state session asked r) → Serves g session asked old (reply.Refused r) mid
+  refused_since r is =
+      look_refused g session asked old mid r looked.looks looked.asks looked.early (λ clean. subst (λ (s : State). IsRefusal s session asked r) looked.looks.same (is clean))
+
 -- nothing refuses a statement that writes: its step makes this answer and this state, in which the same is open, and each row
 -- that is reserved has its table and its amounts
 pub record MayWrite {S : Type 0} (g : Ghosts S) (session : ℕ) (asked : Statement) (d : Seen S) (answer : Reply) (next : State) : Type 0 where
@@ -388,17 +387,17 @@ module _ {S : Type 0} (g : Ghosts S) (session : ℕ) (asked : Statement) (t new 
   pub write_serves : Writes g t new true next.catalog next.rows → Serves g session asked (seen_of t o) answer (seen_of new o)
   write_serves writes = wrote g session asked t new o o answer next may.asks may.early may.accepted writes may.steps may.same_open
 
-  pub write_keeps : (places : Places) → Keeps g (seen_of t o) places → Writes g t new true next.catalog next.rows → Keeps g (seen_of new o) places
-  write_keeps places keeps writes =
+  pub write_holds : (places : Places) (recent : Option ReadRow) → Keeps g (seen_of t o) places → Writes g t new true next.catalog next.rows → recent ≡ None → Holds g (seen_of new o) places recent
+  write_holds places recent keeps writes none =
       let s : State = (seen_of t o).state in
-      record {
+      forgotten g (seen_of new o) places recent none (record {
         kept = wrote_keeps g session asked t new o o next keeps.kept writes may.same_open (may.orderly keeps.kept.orderly) (λ valid u. may.valid u valid);
         placed = keeps.placed;
         of_tables = subst (λ c. AreOfTables c places) (sym (writes.done_catalog refl)) (tables_stay s next places keeps.placed may.tables_stay keeps.of_tables);
         amounts = λ clean.
             let was = still_clean _ _ _ writes.survives clean in
             subst (λ rs. HaveAmounts rs places) (sym (writes.done_rows refl clean)) (amounts_stay s next places keeps.placed (may.amounts_stay was) (keeps.amounts was));
-      }
+      })
 
   -- it failed, and `?` handed the failure on
   pub failure_serves : (result : Result Reply Refusal) (f : Failure) → IsErrAnd result (λ e. e ≡ refusal_for f) → Writes g t new false next.catalog next.rows
@@ -406,3 +405,14 @@ module _ {S : Type 0} (g : Ghosts S) (session : ℕ) (asked : Statement) (t new 
   failure_serves result f is writes =
       handed_on g session asked (seen_of t o) (seen_of new o) result (refusal_for f) is
       (write_failed g session asked t new o f answer next may.asks may.early (may.takes f) writes may.steps)
+
+-- it was looked at before, for what writes
+module _ {S : Type 0} (g : Ghosts S) (session : ℕ) (asked : Statement) (old : Seen S) (t new : Committed S) (o : Open) (answer : Reply) (next : State)
+    (looked : HasLooked g session asked old (seen_of t o)) (may : MayWrite g session asked (seen_of t o) answer next) where
+  pub written_since : Writes g t new true next.catalog next.rows → Serves g session asked old answer (seen_of new o)
+  written_since writes = since_look g session asked old (seen_of t o) looked (seen_of new o) answer (write_serves g session asked t new o answer next may writes)
+
+  pub unwritten_since : (result : Result Reply Refusal) (f : Failure) → IsErrAnd result (λ e. e ≡ refusal_for f) → Writes g t new false next.catalog next.rows
+      → Serves g session asked old (answer_of result) (seen_of new o)
+  unwritten_since result f is writes =
+      since_look g session asked old (seen_of t o) looked (seen_of new o) (answer_of result) (failure_serves g session asked t new o answer next may result f is writes)

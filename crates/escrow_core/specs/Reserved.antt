@@ -43,13 +43,9 @@ reason_by session checks amounts changes reservations o = first_refusal (
     ∷ option_map refusal.Check (broken checks amounts changes reservations)
     ∷ [])
 
--- why a session isn't granted changes of a row, by its place: it holds as many reservations as it may, there are no
--- more ids, or the first check that they could break
+-- why a session isn't granted changes of a row, by its place and the open reservations of it
 abbrev pub reason_against : ℕ → Kept → RowName → List (Option ℤ) → Open → Option Refusal
-reason_against session place row changes o = first_refusal (
-    grant_refusal session o
-    ∷ option_map refusal.Check (broken (checks_of place.checks) place.amounts (deltas changes) (of_row row o.reservations))
-    ∷ [])
+reason_against session place row changes o = reason_by session (checks_of place.checks) place.amounts (deltas changes) (of_row row o.reservations) o
 
 -- the place of a row is given back where no open reservation is of it, and else all stays
 pub record Releases (reservations : List Reservation) (row : RowName) (old new : Places) : Type 0 where

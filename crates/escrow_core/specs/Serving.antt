@@ -1,18 +1,25 @@
 -- Helps: words of private contracts.
-use Rattle.std.specs.Prelude.{◌≡◌, ℕ, Bool, true, Option, Some, None, Result, Ok, Err, is_some, List}
+use Rattle.std.specs.Prelude.{◌≡◌, ℕ, Bool, true, Option, Some, None, Result, Ok, Err, is_none, is_some, List, [], ◌∷◌}
+use Rattle.std.specs.Result.{result_err}
 use Rattle.escrow_schema.specs.Catalog.{table_named}
 use Rattle.sqlite.specs.Held.{state}
 use Rattle.sqlite.specs.State.{Survives}
 use Rattle.sqlite_trees.specs.declared.store.Store.{Ghosts}
 use Rattle.escrow_core.specs.Seen.{Seen}
-use Rattle.escrow_core.specs.Serves.{AreHeldOf}
+use Rattle.escrow_core.specs.Serves.{AreHeldOf, Serves}
 use Rattle.sqlite_trees.specs.Tree.{Trees}
 use Rattle.escrow_num.specs.declared.refusal.Refusal.{Refusal}
+use Rattle.escrow_num.specs.declared.refusal.Refusal.TheVariants as refusal
 use Rattle.escrow_num.specs.declared.session.End.{End}
+use Rattle.escrow_num.specs.Refusal.{refuse_if, first_refusal}
+use Rattle.escrow_sql.specs.declared.statement.RowText.{RowText}
+use Rattle.escrow_sql.specs.declared.statement.Statement.{Statement}
 use Rattle.escrow_machine.specs.declared.reply.Reply.{Reply}
 use Rattle.escrow_machine.specs.declared.reply.Reply.TheVariants as reply
+use Rattle.escrow_machine.specs.Asked.{key_refusal_of}
 use Rattle.escrow_machine.specs.Settle.{after_end}
 use Rattle.escrow_machine.specs.State.{State}
+use Rattle.escrow_machine.specs.Turn.{turn_of}
 
 -- A call looked at the store: the state stays.
 pub record Looks {S : Type 0} (g : Ghosts S) (old new : Seen S) : Type 0 where
@@ -32,3 +39,15 @@ AreAfterEnd s session end trees = AreHeldOf (after_end s session end) trees
 abbrev pub answer_of : Result Reply Refusal → Reply
 answer_of (Ok answer) = answer
 answer_of (Err refusal) = reply.Refused refusal
+
+-- a statement of a session is served, and a call's result is the answer
+abbrev pub Answers : {S : Type 0} → Ghosts S → ℕ → Statement → Seen S → Result Reply Refusal → Seen S → Type 0
+Answers g session asked old result new = Serves g session asked old (answer_of result) new
+
+-- a call fails just where a statement is refused early, for its first early refusal
+abbrev pub IsEarly : {T : Type 0} → State → ℕ → Statement → Result T Refusal → Type 0
+IsEarly s session asked result = result_err result ≡ first_refusal (turn_of s session asked).early
+
+-- why the row that a text names isn't looked for: there is no such table, or its WHERE names no row
+abbrev pub row_refusal : State → RowText → Option Refusal
+row_refusal s text = first_refusal (refuse_if (is_none (table_named s.catalog text.table)) refusal.NoSuchTable ∷ key_refusal_of s text.table text.row ∷ [])

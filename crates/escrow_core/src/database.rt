@@ -27,6 +27,9 @@ use sqlite::{Alter, Connection};
 use std::alloc::{AllocFailed, Global};
 use std::marker::Model;
 
+/// What answers a statement: its reply, or why it is refused.
+pub(crate) type Answer = Result<Reply, Refusal>;
+
 /// A database: its tables and their committed rows, in a store that SQLite writes to; the open
 /// reservations and savepoints of all sessions, and the id that the next reservation takes. A fault that
 /// shuts the store takes nothing from these. Beside the reservations it keeps what they can do to each row
@@ -73,8 +76,8 @@ impl<S: Alter> Database<S> {
     ghost use Rattle.escrow_machine.specs.Promised.{asks_store, is_promised, reads_rows};
     ghost use Rattle.escrow_machine.specs.Reply.{failure_of, is_refused, tells_write};
     ghost use Rattle.escrow_core.specs.Seen.{IsKept};
-    ghost use Rattle.escrow_core.specs.Serves.{AreAfter, AreHeldOf, Serves};
-    ghost use Rattle.escrow_core.specs.Serving.{answer_of};
+    ghost use Rattle.escrow_core.specs.Serves.{AreAfter, AreHeldOf};
+    ghost use Rattle.escrow_core.specs.Serving.{Answers};
     ghost use Rattle.escrow_machine.specs.State.{has_open, is_open, opened};
     ghost use Rattle.escrow_machine.specs.Step.{IsStep, StepOrRefusal};
     ghost use Rattle.escrow_machine.specs.Valid.{IsValid};
@@ -179,13 +182,8 @@ impl<S: Alter> Database<S> {
     }
 
     /// Serves one statement of a session, by what it asks: the reply, or the refusal.
-    fn serve_statement(
-        &mut self,
-        alloc: Global,
-        session: Session,
-        statement: &Statement,
-    ) -> Result<Reply, Refusal>
-        ensures { Serves S.Store session statement.now self.old (answer_of result) self.new }
+    fn serve_statement(&mut self, alloc: Global, session: Session, statement: &Statement) -> Answer
+        ensures { Answers S.Store session statement.now self.old result self.new }
     {
         match statement {
             Statement::Create(text) => self.create(alloc, session, text),

@@ -159,7 +159,7 @@ impl Reserved {
     {
         let added = deltas(changes.as_slice());
         let added = &added[..changes.len()];
-        if let Some(refusal) = self.first_refusal(session, amounts, checks, added) {
+        if let Some(refusal) = self.refusal_of_first(session, amounts, checks, added) {
             return Err(refusal);
         }
         let at = self.bounds.make(&row, amounts, checks)?;
@@ -168,7 +168,7 @@ impl Reserved {
 
     /// Why a session isn't granted the first open reservation of a row, of changes of its committed amounts, if it
     /// isn't, by the checks of its table.
-    fn first_refusal(
+    fn refusal_of_first(
         &self,
         session: Session,
         amounts: &[Amount],

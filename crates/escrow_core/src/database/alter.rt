@@ -1,5 +1,5 @@
-use crate::database::Database;
 use crate::database::added::{AddedChecks, AddedJudge};
+use crate::database::{Answer, Database};
 use escrow_machine::Reply;
 use escrow_num::{Name, Refusal, Session};
 use escrow_schema::{declared_place, with_check, without_check_at};
@@ -10,24 +10,16 @@ use std::alloc::Global;
 impl<S: Alter> Database<S> {
     ghost use Rattle.std.specs.Prelude.{◌≡◌, Some, IfOk, IfErr, IsSomeAnd, OnOk};
     ghost use Rattle.std.specs.Result.{result_err};
-    ghost use Rattle.escrow_num.specs.Refusal.{first_refusal};
     ghost use Rattle.escrow_schema.specs.Altered.{declared_place};
     ghost use Rattle.escrow_schema.specs.Catalog.{place_named, table_named};
     ghost use Rattle.escrow_core.specs.Altering.{adds, alter_refusal, drops, Adds};
-    ghost use Rattle.escrow_core.specs.Serves.{Serves};
-    ghost use Rattle.escrow_core.specs.Serving.{answer_of};
+    ghost use Rattle.escrow_core.specs.Serving.{Answers, IsEarly};
     ghost use Rattle.escrow_machine.specs.Accepted.{IsRefusal, PassesEarly};
-    ghost use Rattle.escrow_machine.specs.Turn.{turn_of};
 
     /// ALTER TABLE: checks are added to a table, or one is taken out of it, whatever is open of its
     /// rows.
-    pub(crate) fn alter(
-        &mut self,
-        alloc: Global,
-        session: Session,
-        text: &AlterText,
-    ) -> Result<Reply, Refusal>
-        ensures { Serves S.Store session (Statement.Alter text.now) self.old (answer_of result) self.new }
+    pub(crate) fn alter(&mut self, alloc: Global, session: Session, text: &AlterText) -> Answer
+        ensures { Answers S.Store session (Statement.Alter text.now) self.old result self.new }
     {
         match &text.change {
             TableChange::Add(check) => self.add_check(alloc, session, text.table, check),
@@ -44,8 +36,8 @@ impl<S: Alter> Database<S> {
         session: Session,
         table: Name,
         text: &CheckText,
-    ) -> Result<Reply, Refusal>
-        ensures { Serves S.Store session (adds table text.now) self.old (answer_of result) self.new }
+    ) -> Answer
+        ensures { Answers S.Store session (adds table text.now) self.old result self.new }
     {
         let (place, added) = self.plan_add(alloc, session, table, text)?;
         let addition = self
@@ -63,14 +55,8 @@ impl<S: Alter> Database<S> {
 
     /// DROP CONSTRAINT: a declared check is taken out of a table, and out of the places of its
     /// rows.
-    fn drop_check(
-        &mut self,
-        alloc: Global,
-        session: Session,
-        table: Name,
-        name: Name,
-    ) -> Result<Reply, Refusal>
-        ensures { Serves S.Store session (drops table name) self.old (answer_of result) self.new }
+    fn drop_check(&mut self, alloc: Global, session: Session, table: Name, name: Name) -> Answer
+        ensures { Answers S.Store session (drops table name) self.old result self.new }
     {
         let (place, index) = self.plan_drop(session, table, name)?;
         let altered = without_check_at(alloc, self.tables.table(place), index)?;
@@ -113,7 +99,7 @@ impl<S: Alter> Database<S> {
     ) -> Result<(usize, usize), Refusal>
         ensures place { IfOk result (λ planned. place_named self.now.state.catalog table ≡ Some planned.0) }
         ensures index { IfOk result (λ planned. IsSomeAnd (table_named self.now.state.catalog table) (λ old. declared_place old name ≡ Some planned.1)) }
-        ensures early { result_err result ≡ first_refusal (turn_of self.now.state session (drops table name)).early }
+        ensures early { IsEarly self.now.state session (drops table name) result }
     {
         let place = self.check_alter(session, table)?;
         match declared_place(self.tables.table(place), name) {

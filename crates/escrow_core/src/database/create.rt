@@ -1,4 +1,4 @@
-use crate::database::Database;
+use crate::database::{Answer, Database};
 use escrow_machine::Reply;
 use escrow_num::{Refusal, Session};
 use escrow_schema::{Catalog, TableDef, define};
@@ -9,19 +9,13 @@ use std::alloc::Global;
 impl<S: Alter> Database<S> {
     ghost use Rattle.std.specs.Prelude.{◌≡◌, Some, IfOk, IfErr, OnOk};
     ghost use Rattle.escrow_schema.specs.Definition.{definition_of};
-    ghost use Rattle.escrow_core.specs.Serves.{Serves};
-    ghost use Rattle.escrow_core.specs.Serving.{answer_of};
+    ghost use Rattle.escrow_core.specs.Serving.{Answers};
     ghost use Rattle.escrow_machine.specs.Accepted.{IsRefusal, PassesEarly};
 
     /// CREATE TABLE: the table that the text defines is put into the catalog, unless there are as many as
     /// there may be.
-    pub(crate) fn create(
-        &mut self,
-        alloc: Global,
-        session: Session,
-        text: &CreateText,
-    ) -> Result<Reply, Refusal>
-        ensures { Serves S.Store session (Statement.Create text.now) self.old (answer_of result) self.new }
+    pub(crate) fn create(&mut self, alloc: Global, session: Session, text: &CreateText) -> Answer
+        ensures { Answers S.Store session (Statement.Create text.now) self.old result self.new }
     {
         let table = self.plan_create(alloc, session, text)?;
         if self.tables.len() >= Catalog::MAX_TABLES {

@@ -1,29 +1,19 @@
-use crate::database::Database;
+use crate::database::{Answer, Database};
 use escrow_machine::Reply;
 use escrow_num::{Refusal, Session};
-use escrow_schema::check_key;
 use escrow_sql::{RowText, Statement};
 use sqlite::Alter;
 use std::alloc::Global;
 
 impl<S: Alter> Database<S> {
     ghost use Rattle.std.specs.Prelude.{◌≡◌, Some, None, IfOk};
-    ghost use Rattle.std.specs.Result.{result_err};
-    ghost use Rattle.escrow_num.specs.Refusal.{first_refusal};
     ghost use Rattle.escrow_schema.specs.Catalog.{place_named};
-    ghost use Rattle.escrow_core.specs.Serves.{Serves};
-    ghost use Rattle.escrow_core.specs.Serving.{answer_of};
+    ghost use Rattle.escrow_core.specs.Serving.{Answers, IsEarly};
     ghost use Rattle.escrow_machine.specs.Asked.{key_refusal_of};
-    ghost use Rattle.escrow_machine.specs.Turn.{turn_of};
 
     /// DELETE: the row is taken out, unless a session holds a reservation of it.
-    pub(crate) fn delete(
-        &mut self,
-        alloc: Global,
-        session: Session,
-        text: &RowText,
-    ) -> Result<Reply, Refusal>
-        ensures { Serves S.Store session (Statement.Delete text.now) self.old (answer_of result) self.new }
+    pub(crate) fn delete(&mut self, alloc: Global, session: Session, text: &RowText) -> Answer
+        ensures { Answers S.Store session (Statement.Delete text.now) self.old result self.new }
     {
         let place = self.check_delete(session, text)?;
         let name = self.named_by(alloc, place, text.table, &text.row)?;
@@ -43,15 +33,11 @@ impl<S: Alter> Database<S> {
     fn check_delete(&self, session: Session, text: &RowText) -> Result<usize, Refusal>
         ensures place { IfOk result (λ place. place_named self.now.state.catalog text.now.table ≡ Some place) }
         ensures row { IfOk result (λ _. key_refusal_of self.now.state text.now.table text.now.row ≡ None) }
-        ensures early { result_err result ≡ first_refusal (turn_of self.now.state session (Statement.Delete text.now)).early }
+        ensures early { IsEarly self.now.state session (Statement.Delete text.now) result }
     {
         if self.is_open(session) {
             return Err(Refusal::TransactionOpen);
         }
-        let Some(place) = self.tables.place(text.table) else {
-            return Err(Refusal::NoSuchTable);
-        };
-        check_key(self.tables.table(place), &text.row)?;
-        Ok(place)
+        self.check_row(text)
     }
 }

@@ -1,4 +1,4 @@
-use crate::database::Database;
+use crate::database::{Answer, Database};
 use escrow_machine::Reply;
 use escrow_num::{Name, Refusal, Session};
 use escrow_sql::Statement;
@@ -6,16 +6,12 @@ use sqlite::Alter;
 
 impl<S: Alter> Database<S> {
     ghost use Rattle.std.specs.Prelude.{◌≡◌, Some, IfOk};
-    ghost use Rattle.std.specs.Result.{result_err};
-    ghost use Rattle.escrow_num.specs.Refusal.{first_refusal};
     ghost use Rattle.escrow_schema.specs.Catalog.{place_named};
-    ghost use Rattle.escrow_core.specs.Serves.{Serves};
-    ghost use Rattle.escrow_core.specs.Serving.{answer_of};
-    ghost use Rattle.escrow_machine.specs.Turn.{turn_of};
+    ghost use Rattle.escrow_core.specs.Serving.{Answers, IsEarly};
 
     /// DROP TABLE: the table and its rows are taken out.
-    pub(crate) fn drop_table(&mut self, session: Session, name: Name) -> Result<Reply, Refusal>
-        ensures { Serves S.Store session (Statement.Drop name) self.old (answer_of result) self.new }
+    pub(crate) fn drop_table(&mut self, session: Session, name: Name) -> Answer
+        ensures { Answers S.Store session (Statement.Drop name) self.old result self.new }
     {
         let place = self.check_drop(session, name)?;
         self.recent.forget();
@@ -27,7 +23,7 @@ impl<S: Alter> Database<S> {
     #[tactic(auto, unfolding(escrow_machine::specs::Turn::turn_of))]
     fn check_drop(&self, session: Session, name: Name) -> Result<usize, Refusal>
         ensures place { IfOk result (λ place. place_named self.now.state.catalog name ≡ Some place) }
-        ensures early { result_err result ≡ first_refusal (turn_of self.now.state session (Statement.Drop name)).early }
+        ensures early { IsEarly self.now.state session (Statement.Drop name) result }
     {
         if self.is_open(session) {
             return Err(Refusal::TransactionOpen);

@@ -1,9 +1,9 @@
 ghost use Rattle.std.specs.Prelude.{◌≡◌, length};
 ghost use Rattle.escrow_journal.specs.Reservations.{own};
 
-use crate::database::Database;
+use crate::database::{Answer, Database};
 use escrow_machine::Reply;
-use escrow_num::{End, Failure, Refusal, Session};
+use escrow_num::{End, Failure, Session};
 use escrow_sql::Statement;
 use sqlite::Alter;
 use std::alloc::Global;
@@ -15,13 +15,13 @@ impl<S: Alter> Database<S> {
     ghost use Rattle.escrow_journal.specs.Reservations.{others};
     ghost use Rattle.escrow_num.specs.Refusal.{refusal_for};
     ghost use Rattle.escrow_core.specs.Serves.{Serves};
-    ghost use Rattle.escrow_core.specs.Serving.{AreAfterEnd, answer_of};
+    ghost use Rattle.escrow_core.specs.Serving.{Answers, AreAfterEnd};
     ghost use Rattle.escrow_machine.specs.Settle.{after_end};
     ghost use Rattle.escrow_machine.specs.Turn.{after_rollback};
 
     /// COMMIT.
-    pub(crate) fn commit(&mut self, alloc: Global, session: Session) -> Result<Reply, Refusal>
-        ensures { Serves S.Store session Statement.Commit self.old (answer_of result) self.new }
+    pub(crate) fn commit(&mut self, alloc: Global, session: Session) -> Answer
+        ensures { Answers S.Store session Statement.Commit self.old result self.new }
     {
         let count = self.apply(alloc, session)?;
         Ok(Reply::Committed { count })

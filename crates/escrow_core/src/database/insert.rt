@@ -6,7 +6,7 @@ ghost use Rattle.escrow_schema.specs.Fit.{IsRowOf};
 ghost use Rattle.escrow_schema.specs.declared.table.TheConstants.TableDef.{MAX_ROWS};
 
 use crate::breach::first_breach;
-use crate::database::Database;
+use crate::database::{Answer, Database};
 use escrow_machine::Reply;
 use escrow_num::{Refusal, Row, Session};
 use escrow_schema::{TableDef, fit_row};
@@ -18,19 +18,13 @@ impl<S: Alter> Database<S> {
     ghost use Rattle.std.specs.Prelude.{◌≡◌, Some, IfOk, IfErr};
     ghost use Rattle.escrow_machine.specs.Asked.{new_row};
     ghost use Rattle.escrow_schema.specs.Catalog.{place_named};
-    ghost use Rattle.escrow_core.specs.Serves.{Serves};
-    ghost use Rattle.escrow_core.specs.Serving.{answer_of};
+    ghost use Rattle.escrow_core.specs.Serving.{Answers};
     ghost use Rattle.escrow_machine.specs.Accepted.{IsRefusal, PassesEarly};
 
     /// INSERT: the row that the values make is put among the committed rows. The key is read first, so that
     /// no write is refused for a row that stands.
-    pub(crate) fn insert(
-        &mut self,
-        alloc: Global,
-        session: Session,
-        text: &InsertText,
-    ) -> Result<Reply, Refusal>
-        ensures { Serves S.Store session (Statement.Insert text.now) self.old (answer_of result) self.new }
+    pub(crate) fn insert(&mut self, alloc: Global, session: Session, text: &InsertText) -> Answer
+        ensures { Answers S.Store session (Statement.Insert text.now) self.old result self.new }
     {
         let (place, row) = self.plan_insert(alloc, session, text)?;
         if self.stands(alloc, place, &row.name)? {

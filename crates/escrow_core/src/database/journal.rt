@@ -1,4 +1,4 @@
-use crate::database::Database;
+use crate::database::{Answer, Database};
 use crate::shown_journal::journal_entries;
 use escrow_machine::Reply;
 use escrow_num::{Name, Refusal};
@@ -8,13 +8,12 @@ use std::alloc::Global;
 
 impl<S: Alter> Database<S> {
     ghost use Rattle.std.specs.Prelude.{ℕ, ◌≡◌};
-    ghost use Rattle.escrow_core.specs.Serves.{Serves};
-    ghost use Rattle.escrow_core.specs.Serving.{answer_of, is_known};
+    ghost use Rattle.escrow_core.specs.Serving.{Answers, is_known};
 
     /// SHOW JOURNAL: the open reservations of all sessions, or those of the rows of a table, in order of
     /// id. Nothing changes, and the store isn't asked.
-    pub(crate) fn show_journal(&self, alloc: Global, table: Option<Name>) -> Result<Reply, Refusal>
-        ensures { (session : ℕ) → Serves S.Store session (Statement.ShowJournal table) self.now (answer_of result) self.now }
+    pub(crate) fn show_journal(&self, alloc: Global, table: Option<Name>) -> Answer
+        ensures { (session : ℕ) → Answers S.Store session (Statement.ShowJournal table) self.now result self.now }
     {
         if !self.is_known(&table) {
             return Err(Refusal::NoSuchTable);

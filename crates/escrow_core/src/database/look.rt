@@ -2,14 +2,15 @@ ghost use Rattle.std.specs.Prelude.{◌≡◌, IfOk};
 
 use crate::database::Database;
 use crate::recent::ReadRow;
-use escrow_num::{Amount, Failure, Name, RowName, Seq, Value};
-use escrow_schema::truncated_value;
-use escrow_sql::WhereText;
+use escrow_num::{Amount, Failure, Name, Refusal, RowName, Seq, Value};
+use escrow_schema::{check_key, truncated_value};
+use escrow_sql::{RowText, Statement, WhereText};
 use sqlite::Alter;
 use std::alloc::{AllocError, Global};
 
 impl<S: Alter> Database<S> {
-    ghost use Rattle.std.specs.Prelude.{Some, None, IsSomeAnd, IsTrue, IfSome, OnOk, is_some, length, map, option_map};
+    ghost use Rattle.std.specs.Prelude.{ℕ, Some, None, IsSomeAnd, IsTrue, IfSome, OnOk, is_some, length, map, option_map};
+    ghost use Rattle.std.specs.Result.{result_err};
     ghost use Rattle.sqlite.specs.Held.{state};
     ghost use Rattle.sqlite.specs.State.{HasCleanDisk};
     ghost use Rattle.escrow_num.specs.Ascending.{IsAscending};
@@ -17,8 +18,24 @@ impl<S: Alter> Database<S> {
     ghost use Rattle.escrow_schema.specs.Column.{reservables};
     ghost use Rattle.escrow_schema.specs.Fit.{values_of};
     ghost use Rattle.escrow_machine.specs.Asked.{key_refusal_of, named_by};
-    ghost use Rattle.escrow_core.specs.Serving.{Looks};
+    ghost use Rattle.escrow_core.specs.Serving.{IsEarly, Looks, row_refusal};
     ghost use Rattle.escrow_schema.specs.Rows.{row_named, rows_of, row_before};
+
+    /// The place of the table of a row that a text names, or why that row isn't looked for: so a SHOW BOUNDS
+    /// is refused early, and a DELETE where nothing is open.
+    #[tactic(auto, unfolding(escrow_machine::specs::Turn::turn_of))]
+    pub(crate) fn check_row(&self, text: &RowText) -> Result<usize, Refusal>
+        ensures place { IfOk result (λ place. place_named self.now.state.catalog text.now.table ≡ Some place) }
+        ensures row { IfOk result (λ _. key_refusal_of self.now.state text.now.table text.now.row ≡ None) }
+        ensures refused { result_err result ≡ row_refusal self.now.state text.now }
+        ensures early { (session : ℕ) → IsEarly self.now.state session (Statement.ShowBounds text.now) result }
+    {
+        let Some(place) = self.tables.place(text.table) else {
+            return Err(Refusal::NoSuchTable);
+        };
+        check_key(self.tables.table(place), &text.row)?;
+        Ok(place)
+    }
 
     /// The name of the row that a WHERE names in the table of a name, which stands at a place; the WHERE isn't
     /// refused. Want of memory is the only error, and the store isn't asked.
@@ -39,8 +56,8 @@ impl<S: Alter> Database<S> {
     }
 
     /// The amounts of the committed row of a name, one for each RESERVABLE column in column order, if there is
-    /// such a row; all rows are in order. The place is that of its table. The store is asked unless it is
-    /// the row that was read last.
+    /// such a row. The place is that of its table. The store is asked unless it is the row that was read
+    /// last; what it answers is then what was read last.
     pub(crate) fn amounts(
         &mut self,
         alloc: Global,
@@ -50,30 +67,12 @@ impl<S: Alter> Database<S> {
         requires { place_named self.old.state.catalog name.now.table ≡ Some place }
         ensures told { HasCleanDisk (state S.Store self.new.store) → IfOk result (λ found. found ≡ option_map (λ row. row.amounts) (row_named self.old.state.rows name.now)) }
         ensures many { IfOk result (λ found. IfSome found (λ amounts. IsSomeAnd (table_named self.old.state.catalog name.now.table) (λ table. length amounts ≡ length (reservables table.columns)))) }
-        ensures order { HasCleanDisk (state S.Store self.new.store) → IsAscending row_before self.old.state.rows }
         ensures looks { Looks S.Store self.old self.new }
         ensures stays { HasCleanDisk (state S.Store self.new.store) → OnOk result (IsTrue (state S.Store self.old.store).is_open → IsTrue (state S.Store self.new.store).is_open) }
     {
         if let Some(amounts) = self.recent.amounts(name) {
             return Ok(Some(copied(alloc, amounts)?));
         }
-        self.read(alloc, place, name)
-    }
-
-    /// The amounts of a row, which are read, and are then those that were read last.
-    fn read(
-        &mut self,
-        alloc: Global,
-        place: usize,
-        name: &RowName,
-    ) -> Result<Option<Seq<Amount>>, Failure>
-        requires { place_named self.old.state.catalog name.now.table ≡ Some place }
-        ensures told { HasCleanDisk (state S.Store self.new.store) → IfOk result (λ found. found ≡ option_map (λ row. row.amounts) (row_named self.old.state.rows name.now)) }
-        ensures many { IfOk result (λ found. IfSome found (λ amounts. IsSomeAnd (table_named self.old.state.catalog name.now.table) (λ table. length amounts ≡ length (reservables table.columns)))) }
-        ensures order { HasCleanDisk (state S.Store self.new.store) → IsAscending row_before self.old.state.rows }
-        ensures looks { Looks S.Store self.old self.new }
-        ensures stays { HasCleanDisk (state S.Store self.new.store) → OnOk result (IsTrue (state S.Store self.old.store).is_open → IsTrue (state S.Store self.new.store).is_open) }
-    {
         let Some(amounts) = self.tables.amounts(alloc, place, name)? else {
             return Ok(None);
         };
@@ -85,7 +84,7 @@ impl<S: Alter> Database<S> {
         Ok(Some(amounts))
     }
 
-    /// Whether the committed row of a name stands; all rows are in order. The place is that of its table.
+    /// Whether the committed row of a name stands. The place is that of its table.
     pub(crate) fn stands(
         &mut self,
         alloc: Global,
@@ -94,7 +93,6 @@ impl<S: Alter> Database<S> {
     ) -> Result<bool, Failure>
         requires { place_named self.old.state.catalog name.now.table ≡ Some place }
         ensures told { HasCleanDisk (state S.Store self.new.store) → IfOk result (λ stands. stands ≡ is_some (row_named self.old.state.rows name.now)) }
-        ensures order { HasCleanDisk (state S.Store self.new.store) → IsAscending row_before self.old.state.rows }
         ensures looks { Looks S.Store self.old self.new }
         ensures stays { HasCleanDisk (state S.Store self.new.store) → OnOk result (IsTrue (state S.Store self.old.store).is_open → IsTrue (state S.Store self.new.store).is_open) }
     {

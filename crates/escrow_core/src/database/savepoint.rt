@@ -1,20 +1,19 @@
-use crate::database::Database;
+use crate::database::{Answer, Database};
 use escrow_machine::Reply;
-use escrow_num::{Name, Refusal, Session};
+use escrow_num::{Name, Session};
 use escrow_sql::Statement;
 use sqlite::Alter;
 
 impl<S: Alter> Database<S> {
     ghost use Rattle.std.specs.Prelude.{◌≡◌};
-    ghost use Rattle.escrow_core.specs.Serves.{Serves};
-    ghost use Rattle.escrow_core.specs.Serving.{answer_of};
+    ghost use Rattle.escrow_core.specs.Serving.{Answers};
     ghost use Rattle.escrow_machine.specs.State.{open_in};
     ghost use Rattle.escrow_journal.specs.Open.{released};
     ghost use Rattle.escrow_machine.specs.Turn.{after_rollback_to};
 
     /// SAVEPOINT: makes a savepoint of the session. An earlier one of its name is taken out.
-    pub(crate) fn savepoint(&mut self, session: Session, name: Name) -> Result<Reply, Refusal>
-        ensures { Serves S.Store session (Statement.Savepoint name) self.old (answer_of result) self.new }
+    pub(crate) fn savepoint(&mut self, session: Session, name: Name) -> Answer
+        ensures { Answers S.Store session (Statement.Savepoint name) self.old result self.new }
     {
         // What its type knows of a session's number is told where the number is read.
         let _ = session.get();

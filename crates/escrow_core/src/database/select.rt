@@ -1,7 +1,7 @@
 ghost use Rattle.std.specs.Prelude.{◌≡◌, IfOk, map, option_to_list};
 ghost use Rattle.escrow_machine.specs.Asked.{heading_of};
 
-use crate::database::Database;
+use crate::database::{Answer, Database};
 use escrow_machine::{Heading, Reply};
 use escrow_num::{Failure, Refusal, Seq, Value};
 use escrow_schema::{Column, check_key};
@@ -11,20 +11,16 @@ use std::alloc::{AllocError, Global};
 
 impl<S: Alter> Database<S> {
     ghost use Rattle.std.specs.Prelude.{◌≡◌, ◌<◌, ℕ, Some, None, IfOk, IsSomeAnd, IsTrue, List, OnOk, filter, length, map};
-    ghost use Rattle.std.specs.Result.{result_err};
     ghost use Rattle.sqlite.specs.Held.{state};
     ghost use Rattle.sqlite.specs.State.{HasCleanDisk};
-    ghost use Rattle.escrow_num.specs.Refusal.{first_refusal};
     ghost use Rattle.escrow_schema.specs.Catalog.{place_named, table_named};
     ghost use Rattle.escrow_schema.specs.Fit.{values_of};
     ghost use Rattle.escrow_machine.specs.Asked.{heading_of, is_shown, key_refusal_of, select_refusal_of};
-    ghost use Rattle.escrow_core.specs.Serves.{Serves};
-    ghost use Rattle.escrow_core.specs.Serving.{Looks, answer_of};
-    ghost use Rattle.escrow_machine.specs.Turn.{turn_of};
+    ghost use Rattle.escrow_core.specs.Serving.{Answers, IsEarly, Looks};
 
     /// SELECT: the committed rows of a table, or the one of a key, in order of key. Nothing changes.
-    pub(crate) fn select(&mut self, alloc: Global, text: &SelectText) -> Result<Reply, Refusal>
-        ensures { (session : ℕ) → Serves S.Store session (Statement.Select text.now) self.old (answer_of result) self.new }
+    pub(crate) fn select(&mut self, alloc: Global, text: &SelectText) -> Answer
+        ensures { (session : ℕ) → Answers S.Store session (Statement.Select text.now) self.old result self.new }
     {
         let place = self.check_select(text)?;
         let columns = self.headings(alloc, place)?;
@@ -37,7 +33,7 @@ impl<S: Alter> Database<S> {
     fn check_select(&self, text: &SelectText) -> Result<usize, Refusal>
         ensures place { IfOk result (λ place. place_named self.now.state.catalog text.now.table ≡ Some place) }
         ensures row { IfOk result (λ _. select_refusal_of self.now.state text.now ≡ None) }
-        ensures early { (session : ℕ) → result_err result ≡ first_refusal (turn_of self.now.state session (Statement.Select text.now)).early }
+        ensures early { (session : ℕ) → IsEarly self.now.state session (Statement.Select text.now) result }
     {
         let Some(place) = self.tables.place(text.table) else {
             return Err(Refusal::NoSuchTable);

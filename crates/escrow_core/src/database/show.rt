@@ -1,4 +1,4 @@
-use crate::database::Database;
+use crate::database::{Answer, Database};
 use escrow_machine::Reply;
 use escrow_num::{Name, Refusal};
 use escrow_schema::print_table;
@@ -8,12 +8,11 @@ use std::alloc::Global;
 
 impl<S: Alter> Database<S> {
     ghost use Rattle.std.specs.Prelude.{ℕ};
-    ghost use Rattle.escrow_core.specs.Serves.{Serves};
-    ghost use Rattle.escrow_core.specs.Serving.{answer_of};
+    ghost use Rattle.escrow_core.specs.Serving.{Answers};
 
     /// SHOW TABLE: the text that defines the table. Nothing changes, and the store isn't asked.
-    pub(crate) fn show_table(&self, alloc: Global, name: Name) -> Result<Reply, Refusal>
-        ensures { (session : ℕ) → Serves S.Store session (Statement.ShowTable name) self.now (answer_of result) self.now }
+    pub(crate) fn show_table(&self, alloc: Global, name: Name) -> Answer
+        ensures { (session : ℕ) → Answers S.Store session (Statement.ShowTable name) self.now result self.now }
     {
         let Some(table) = self.tables.find(name) else {
             return Err(Refusal::NoSuchTable);

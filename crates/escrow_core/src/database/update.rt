@@ -1,4 +1,4 @@
-use crate::database::Database;
+use crate::database::{Answer, Database};
 use escrow_machine::Reply;
 use escrow_num::{Changes, Refusal, RowName, Seq, Session, Value};
 use escrow_schema::{Plan, plan_update};
@@ -10,19 +10,13 @@ impl<S: Alter> Database<S> {
     ghost use Rattle.std.specs.Prelude.{◌≡◌, ℕ, false, Some, IfOk, IfErr};
     ghost use Rattle.escrow_machine.specs.Asked.{plan_of};
     ghost use Rattle.escrow_schema.specs.Catalog.{place_named};
-    ghost use Rattle.escrow_core.specs.Serves.{Serves};
-    ghost use Rattle.escrow_core.specs.Serving.{answer_of};
+    ghost use Rattle.escrow_core.specs.Serving.{Answers};
     ghost use Rattle.escrow_machine.specs.Accepted.{IsRefusal};
     ghost use Rattle.escrow_machine.specs.State.{is_reserved};
 
     /// UPDATE, of RESERVABLE columns or of plain ones, by its plan.
-    pub(crate) fn update(
-        &mut self,
-        alloc: Global,
-        session: Session,
-        text: &UpdateText,
-    ) -> Result<Reply, Refusal>
-        ensures { Serves S.Store session (Statement.Update text.now) self.old (answer_of result) self.new }
+    pub(crate) fn update(&mut self, alloc: Global, session: Session, text: &UpdateText) -> Answer
+        ensures { Answers S.Store session (Statement.Update text.now) self.old result self.new }
     {
         let (place, plan) = self.plan(alloc, text)?;
         match plan {
@@ -59,10 +53,10 @@ impl<S: Alter> Database<S> {
         place: usize,
         key: Value,
         changes: Changes,
-    ) -> Result<Reply, Refusal>
+    ) -> Answer
         requires place { place_named self.old.state.catalog text.now.table ≡ Some place }
         requires plan { plan_of self.old.state text.now ≡ Some (Plan.Reserve key changes) }
-        ensures { Serves S.Store session (Statement.Update text.now) self.old (answer_of result) self.new }
+        ensures { Answers S.Store session (Statement.Update text.now) self.old result self.new }
     {
         let name = RowName {
             table: text.table,
@@ -86,12 +80,12 @@ impl<S: Alter> Database<S> {
         place: usize,
         name: RowName,
         changes: Changes,
-    ) -> Result<Reply, Refusal>
+    ) -> Answer
         requires table { name.table ≡ text.now.table }
         requires place { place_named self.old.state.catalog name.table ≡ Some place }
         requires plan { plan_of self.old.state text.now ≡ Some (Plan.Reserve name.key changes) }
         requires first { is_reserved self.old.state name ≡ false }
-        ensures { Serves S.Store session (Statement.Update text.now) self.old (answer_of result) self.new }
+        ensures { Answers S.Store session (Statement.Update text.now) self.old result self.new }
     {
         let Some(amounts) = self.amounts(alloc, place, &name)? else {
             return Err(Refusal::NoSuchRow);
@@ -115,10 +109,10 @@ impl<S: Alter> Database<S> {
         place: usize,
         key: Value,
         values: Seq<Option<Value>>,
-    ) -> Result<Reply, Refusal>
+    ) -> Answer
         requires place { place_named self.old.state.catalog text.now.table ≡ Some place }
         requires plan { plan_of self.old.state text.now ≡ Some (Plan.Plain key values) }
-        ensures { Serves S.Store session (Statement.Update text.now) self.old (answer_of result) self.new }
+        ensures { Answers S.Store session (Statement.Update text.now) self.old result self.new }
     {
         if self.is_open(session) {
             return Err(Refusal::TransactionOpen);

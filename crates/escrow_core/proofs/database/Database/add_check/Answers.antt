@@ -16,8 +16,8 @@ use Rattle.escrow_machine.specs.declared.reply.Reply.TheVariants as reply
 use Rattle.escrow_machine.proofs.Shapes.{few_reservations, is_table_found}
 use Rattle.escrow_core.specs.Altering.{Adds, adds}
 use Rattle.escrow_core.specs.Inside.{seen_of}
-use Rattle.escrow_core.proofs.Altering.{MayAlter, add_refused, alter_fails, alter_keeps, alter_serves, altered_place, alters_like, amounts_cover, can_judge, few_amounts, judges_old, may_add_check, read_holds, read_looks, rows_judged, some_is, with_named}
-use Rattle.escrow_core.proofs.Serving.{HasLooked, early_since, fails, handed_on, look_failed, look_refused, read_keeps, refusal_serves, since_look, still_clean, unwritten_keeps}
+use Rattle.escrow_core.proofs.Altering.{MayAlter, add_refused, alter_fails, alter_holds, alter_serves, altered_place, alters_like, amounts_cover, can_judge, few_amounts, judges_old, may_add_check, read_holds, read_looks, rows_judged, some_is, with_named}
+use Rattle.escrow_core.proofs.Serving.{HasLooked, early_since, fails, handed_on, look_failed, look_refused, read_keeps, refusal_serves, since_look, still_clean, unwritten_holds}
 use Rattle.escrow_core.proofs.database.Database.add_check.Given as given
 use Rattle.escrow_core.proofs.database.Database.add_check.Goals as goal
 use Rattle.escrow_core.proofs.database.Database.add_check.Goals.{After-forget, In_ok-breach, In_ok-place}
@@ -174,11 +174,7 @@ invariant_of-self-in_err-redefine g c =
     let txns = c.self.inside.reserved.txns in
     let places = c.self.inside.reserved.places in
     let read = read_keeps g.S.Store c.self.inside.tables c.first_breach.new.self txns places c.self.invariant.keeps c.first_breach.ensures.reads in
-    rw c.forget.ensures (record {
-      keeps = unwritten_keeps g.S.Store c.first_breach.new.self c.redefine.new.self txns places _ _ read c.in_err-redefine.ensures;
-      known = tt;
-      read = λ _. tt;
-    })
+    unwritten_holds g.S.Store c.first_breach.new.self c.redefine.new.self txns places _ _ _ read c.in_err-redefine.ensures c.forget.ensures
 
 pub returns-in_err-redefine : goal.returns-in_err-redefine
 returns-in_err-redefine g c =
@@ -206,13 +202,10 @@ invariant_of-self-2 g c =
     let m = may g (goal.at.invariant_of-self-2 g c).After-forget in
     let read = read_keeps g.S.Store c.self.inside.tables c.first_breach.new.self txns places c.self.invariant.keeps c.first_breach.ensures.reads in
     let prepared = rw c.as_slice.ensures at c.in_ok-addition.ensures in
-    rw (c.forget.ensures, c.adopt.ensures.txns) (record {
-      keeps = alter_keeps g.S.Store c.args.session (adds c.args.table c.args.text.now) c.first_breach.new.self c.redefine.new.self txns c.args.table m.0 c.in_ok-place.added.table m.1
-          (λ row. IsOver checks (of_row row txns.reservations)) places c.adopt.new.self.places read c.in_ok-redefine.ensures (c.adopt.ensures.places c.args.table checks prepared)
-          (λ _ _ _ step. step.amounts) (λ _ _ _ step _. step.checks_are);
-      known = tt;
-      read = λ _. tt;
-    })
+    rw c.adopt.ensures.txns
+    (alter_holds g.S.Store c.args.session (adds c.args.table c.args.text.now) c.first_breach.new.self c.redefine.new.self txns c.args.table m.0 c.in_ok-place.added.table m.1
+    (λ row. IsOver checks (of_row row txns.reservations)) places c.adopt.new.self.places _ read c.in_ok-redefine.ensures (c.adopt.ensures.places c.args.table checks prepared)
+    (λ _ _ _ step. step.amounts) (λ _ _ _ step _. step.checks_are) c.forget.ensures)
 
 pub returns : goal.returns
 returns g c =

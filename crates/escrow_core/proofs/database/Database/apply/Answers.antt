@@ -10,8 +10,8 @@ use Rattle.escrow_sql.specs.declared.statement.Statement.TheVariants as statemen
 use Rattle.escrow_machine.specs.declared.reply.Reply.TheVariants as reply
 use Rattle.escrow_core.specs.Inside.{seen_of}
 use Rattle.escrow_core.specs.Serves.{Serves}
-use Rattle.escrow_core.proofs.Committing.{as_many, commit_wants, committed, committed_keeps, committed_known, committed_read, failed_so, given as are_given, holds_none, holds_some, just_ended, just_ended_keeps, not_committed}
-use Rattle.escrow_core.proofs.Serving.{unwritten_keeps}
+use Rattle.escrow_core.proofs.Committing.{as_many, commit_wants, committed, committed_keeps, committed_known, committed_read, failed_so, given as are_given, holds_none, holds_some, just_ended, just_ended_holds, not_committed}
+use Rattle.escrow_core.proofs.Serving.{unwritten_holds}
 use Rattle.escrow_core.proofs.database.Database.apply.Given as given
 use Rattle.escrow_core.proofs.database.Database.apply.Goals as goal
 use Rattle.escrow_core.proofs.database.Database.apply.Goals.{After-is_empty}
@@ -21,13 +21,9 @@ mine : (g : given.Over) (c : After-is_empty g) → c.all-reservations.result.now
 mine g c = c.all-reservations.ensures ∙ c.journal.ensures.reservations ∙ ap (λ (o : Open). own c.args.session o.reservations) c.txns.ensures
 
 pub invariant_of-self : goal.invariant_of-self
-invariant_of-self g c = record {
-  keeps = rw c.end.ensures.txns
-      (just_ended_keeps g.S.Store c.args.session c.self.inside.tables c.self.inside.reserved.txns c.self.inside.reserved.places c.end.new.self.places c.self.invariant.keeps
-      c.end.ensures.places (rw c.end.ensures.txns at (c.end.ensures.placed c.self.invariant.keeps.placed)));
-  known = c.self.invariant.known;
-  read = c.self.invariant.read;
-}
+invariant_of-self g c =
+    just_ended_holds g.S.Store c.args.session c.self.inside.tables c.self.inside.reserved.txns c.self.inside.reserved.places c.end.new.self c.self.inside.recent c.self.invariant
+    c.end.ensures.txns c.end.ensures.places c.end.ensures.placed
 
 pub returns-then-is_empty-clause-done : goal.returns-then-is_empty-clause-done
 returns-then-is_empty-clause-done g c =
@@ -89,12 +85,8 @@ commit-requires g c =
 
 pub invariant_of-self-in-Err : goal.invariant_of-self-in-Err
 invariant_of-self-in-Err g c =
-    rw c.forget.ensures (record {
-      keeps = (let writes = rw c.in-Err.is at c.apply-written.ensures in
-          unwritten_keeps g.S.Store c.self.inside.tables c.apply-written.new.self c.self.inside.reserved.txns c.self.inside.reserved.places _ _ c.self.invariant.keeps writes);
-      known = tt;
-      read = λ _. tt;
-    })
+    let writes = rw c.in-Err.is at c.apply-written.ensures in
+    unwritten_holds g.S.Store c.self.inside.tables c.apply-written.new.self c.self.inside.reserved.txns c.self.inside.reserved.places _ _ _ c.self.invariant.keeps writes c.forget.ensures
 
 pub returns-in-Ok-clause-done : goal.returns-in-Ok-clause-done
 returns-in-Ok-clause-done g c =

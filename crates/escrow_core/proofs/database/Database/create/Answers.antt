@@ -4,7 +4,7 @@ use Rattle.escrow_machine.specs.declared.reply.Reply.TheVariants as reply
 use Rattle.escrow_schema.specs.Catalog.{with_table}
 use Rattle.escrow_core.specs.Inside.{seen_of}
 use Rattle.escrow_core.proofs.Creating.{full_refused, may_create, new_table}
-use Rattle.escrow_core.proofs.Serving.{MayWrite, failure_serves, refusal_serves, refused, unwritten_keeps, write_keeps, write_serves}
+use Rattle.escrow_core.proofs.Serving.{MayWrite, failure_serves, refusal_serves, refused, unwritten_holds, write_holds, write_serves}
 use Rattle.escrow_core.proofs.database.Database.create.Given as given
 use Rattle.escrow_core.proofs.database.Database.create.Goals as goal
 use Rattle.escrow_core.proofs.database.Database.create.Goals.{After-create}
@@ -42,12 +42,8 @@ returns-in_err-create g c =
 
 pub invariant_of-self-2 : goal.invariant_of-self-2
 invariant_of-self-2 g c =
-    rw c.forget.ensures (record {
-      keeps = write_keeps g.S.Store c.args.session (statement.Create c.args.text.now) c.self.inside.tables c.create.new.self c.self.inside.reserved.txns _ _ (may g (goal.at.invariant_of-self-2 g c).After-create)
-          c.self.inside.reserved.places c.self.invariant.keeps c.in_ok-create.ensures;
-      known = tt;
-      read = λ _. tt;
-    })
+    write_holds g.S.Store c.args.session (statement.Create c.args.text.now) c.self.inside.tables c.create.new.self c.self.inside.reserved.txns _ _ (may g (goal.at.invariant_of-self-2 g c).After-create)
+    c.self.inside.reserved.places _ c.self.invariant.keeps c.in_ok-create.ensures c.forget.ensures
 
 pub returns : goal.returns
 returns g c =
@@ -56,8 +52,4 @@ returns g c =
 
 pub invariant_of-self : goal.invariant_of-self
 invariant_of-self g c =
-    rw c.forget.ensures (record {
-      keeps = unwritten_keeps g.S.Store c.self.inside.tables c.create.new.self c.self.inside.reserved.txns c.self.inside.reserved.places _ _ c.self.invariant.keeps c.in_err-create.ensures;
-      known = tt;
-      read = λ _. tt;
-    })
+    unwritten_holds g.S.Store c.self.inside.tables c.create.new.self c.self.inside.reserved.txns c.self.inside.reserved.places _ _ _ c.self.invariant.keeps c.in_err-create.ensures c.forget.ensures

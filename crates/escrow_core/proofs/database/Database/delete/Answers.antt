@@ -1,4 +1,4 @@
-use Rattle.std.proofs.Common.{◌≡◌, ◌∙◌, false, IsSome, refl, sym, ap, subst}
+use Rattle.std.proofs.Common.{◌≡◌, ◌∙◌, IsSome, refl, sym, subst}
 use Rattle.sqlite.specs.Held.{state}
 use Rattle.sqlite.specs.State.{HasCleanDisk}
 use Rattle.escrow_num.specs.declared.refusal.Refusal.TheVariants as refusal
@@ -6,14 +6,15 @@ use Rattle.escrow_sql.specs.declared.statement.Statement.TheVariants as statemen
 use Rattle.escrow_machine.specs.declared.reply.Reply.TheVariants as reply
 use Rattle.escrow_machine.specs.Asked.{named_by}
 use Rattle.escrow_schema.specs.Rows.{row_named, without_row}
+use Rattle.escrow_machine.specs.Accepted.{PassesEarly}
 use Rattle.escrow_machine.specs.State.{State}
 use Rattle.escrow_machine.proofs.Refusals.{none_there}
 use Rattle.escrow_core.specs.Inside.{seen_of}
 use Rattle.escrow_core.proofs.Deleting.{delete_lack, delete_reserved, may_delete}
-use Rattle.escrow_core.proofs.Serving.{HasLooked, MayWrite, early_serves, early_since, failure_serves, late_refused, look_refused, since_look, unwritten_keeps, write_keeps, write_serves}
+use Rattle.escrow_core.proofs.Serving.{HasLooked, MayWrite, early_serves, early_since, look_refused, refused_since, unwritten_holds, unwritten_since, write_holds, written_since}
 use Rattle.escrow_core.proofs.database.Database.delete.Given as given
 use Rattle.escrow_core.proofs.database.Database.delete.Goals as goal
-use Rattle.escrow_core.proofs.database.Database.delete.Goals.{After-is_reserved}
+use Rattle.escrow_core.proofs.database.Database.delete.Goals.{After-forget, After-is_reserved}
 
 pub returns-in_err-place : goal.returns-in_err-place
 returns-in_err-place g c =
@@ -46,56 +47,41 @@ stands g c u =
     let name = c.in_ok-name.name in
     subst (λ (s : State). IsSome (row_named s.rows name)) (sym (looked g c).looks.same) (sym ((rw (← c.self.view_is) at c.in_ok-stands.ensures.told) u) ∙ c.if-not-branch.false)
 
+early : (g : given.Over) (c : After-is_reserved g) → PassesEarly (seen_of c.self.inside.tables c.self.inside.reserved.txns).state c.args.session (statement.Delete c.args.text.now)
+early g c = early_since g.S.Store c.args.session (statement.Delete c.args.text.now) c.args.self.now (seen_of c.self.inside.tables c.self.inside.reserved.txns) (looked g c)
+
 pub returns-then-is_reserved : goal.returns-then-is_reserved
 returns-then-is_reserved g c =
     let d = seen_of c.self.inside.tables c.self.inside.reserved.txns in
-    let text = c.args.text.now in
-    let asked = statement.Delete text in
     let at = (goal.at.returns-then-is_reserved g c).After-is_reserved in
-    let early = early_since g.S.Store c.args.session asked c.args.self.now d (looked g at) in
     rw (← c.self.view_is)
-    (since_look g.S.Store c.args.session asked c.args.self.now d (looked g at) d (reply.Refused refusal.RowReserved)
-    (late_refused g.S.Store c.args.session asked d refusal.RowReserved refl early
-    (λ u. delete_reserved d.state c.args.session text c.in_ok-name.name (named g at) early (stands g at u) (sym c.is_reserved.ensures ∙ c.if-is_reserved.true))))
+    (refused_since g.S.Store c.args.session (statement.Delete c.args.text.now) c.args.self.now d (looked g at) refusal.RowReserved
+    (λ u. delete_reserved d.state c.args.session c.args.text.now c.in_ok-name.name (named g at) (early g at) (stands g at u) (sym c.is_reserved.ensures ∙ c.if-is_reserved.true)))
 
--- nothing refuses it, where it isn't reserved
-may : (g : given.Over) (c : After-is_reserved g) → c.is_reserved.result ≡ false
+-- nothing refuses it
+may : (g : given.Over) (c : After-forget g)
     → MayWrite g.S.Store c.args.session (statement.Delete c.args.text.now) (seen_of c.self.inside.tables c.self.inside.reserved.txns) reply.Deleted
     (record (seen_of c.self.inside.tables c.self.inside.reserved.txns).state { rows = without_row c.in_ok-name.name c.self.inside.tables.rows })
-may g c free =
-    let d = seen_of c.self.inside.tables c.self.inside.reserved.txns in
-    let text = c.args.text.now in
-    may_delete g.S.Store c.args.session text c.in_ok-name.name d (named g c) (early_since g.S.Store c.args.session (statement.Delete text) c.args.self.now d (looked g c)) (stands g c)
-    (sym c.is_reserved.ensures ∙ free)
+may g c =
+    let at = (goal.at.After-forget g c).After-is_reserved in
+    may_delete g.S.Store c.args.session c.args.text.now c.in_ok-name.name (seen_of c.self.inside.tables c.self.inside.reserved.txns) (named g at) (early g at) (stands g at) (sym c.is_reserved.ensures ∙ c.if-is_reserved.false)
 
 pub returns-in_err-delete : goal.returns-in_err-delete
 returns-in_err-delete g c =
-    let at = (goal.at.returns-in_err-delete g c).After-is_reserved in
-    let asked = statement.Delete c.args.text.now in
-    since_look g.S.Store c.args.session asked c.args.self.now (seen_of c.self.inside.tables c.self.inside.reserved.txns) (looked g at) (seen_of c.delete.new.self c.self.inside.reserved.txns) _
-    (failure_serves g.S.Store c.args.session asked c.self.inside.tables c.delete.new.self c.self.inside.reserved.txns _ _ (may g at c.if-is_reserved.false)
-    c.from_residual-in_err-delete.result c.in_err-delete.field-0.0 c.from_residual-in_err-delete.ensures.1 c.in_err-delete.ensures)
+    let at = goal.at.returns-in_err-delete g c in
+    unwritten_since g.S.Store c.args.session (statement.Delete c.args.text.now) c.args.self.now c.self.inside.tables c.delete.new.self c.self.inside.reserved.txns _ _ (looked g at.After-is_reserved) (may g at.After-forget)
+    c.from_residual-in_err-delete.result c.in_err-delete.field-0.0 c.from_residual-in_err-delete.ensures.1 c.in_err-delete.ensures
 
 pub invariant_of-self-2 : goal.invariant_of-self-2
 invariant_of-self-2 g c =
-    rw c.forget.ensures (record {
-      keeps = (let at = (goal.at.invariant_of-self-2 g c).After-is_reserved in
-          write_keeps g.S.Store c.args.session (statement.Delete c.args.text.now) c.self.inside.tables c.delete.new.self c.self.inside.reserved.txns _ _ (may g at c.if-is_reserved.false) c.self.inside.reserved.places c.self.invariant.keeps c.in_ok-delete.ensures);
-      known = tt;
-      read = λ _. tt;
-    })
+    write_holds g.S.Store c.args.session (statement.Delete c.args.text.now) c.self.inside.tables c.delete.new.self c.self.inside.reserved.txns _ _ (may g (goal.at.invariant_of-self-2 g c).After-forget)
+    c.self.inside.reserved.places _ c.self.invariant.keeps c.in_ok-delete.ensures c.forget.ensures
 
 pub returns : goal.returns
 returns g c =
-    let at = (goal.at.returns g c).After-is_reserved in
-    let asked = statement.Delete c.args.text.now in
-    since_look g.S.Store c.args.session asked c.args.self.now (seen_of c.self.inside.tables c.self.inside.reserved.txns) (looked g at) (seen_of c.delete.new.self c.self.inside.reserved.txns) reply.Deleted
-    (write_serves g.S.Store c.args.session asked c.self.inside.tables c.delete.new.self c.self.inside.reserved.txns _ _ (may g at c.if-is_reserved.false) c.in_ok-delete.ensures)
+    let at = goal.at.returns g c in
+    written_since g.S.Store c.args.session (statement.Delete c.args.text.now) c.args.self.now c.self.inside.tables c.delete.new.self c.self.inside.reserved.txns _ _ (looked g at.After-is_reserved) (may g at.After-forget) c.in_ok-delete.ensures
 
 pub invariant_of-self : goal.invariant_of-self
 invariant_of-self g c =
-    rw c.forget.ensures (record {
-      keeps = unwritten_keeps g.S.Store c.self.inside.tables c.delete.new.self c.self.inside.reserved.txns c.self.inside.reserved.places _ _ c.self.invariant.keeps c.in_err-delete.ensures;
-      known = tt;
-      read = λ _. tt;
-    })
+    unwritten_holds g.S.Store c.self.inside.tables c.delete.new.self c.self.inside.reserved.txns c.self.inside.reserved.places _ _ _ c.self.invariant.keeps c.in_err-delete.ensures c.forget.ensures

@@ -6,8 +6,8 @@ use Rattle.escrow_schema.specs.declared.table.TableDef.{TableDef}
 use Rattle.escrow_machine.proofs.Safe.{some_at}
 use Rattle.escrow_core.specs.Altering.{drops}
 use Rattle.escrow_core.specs.Inside.{seen_of}
-use Rattle.escrow_core.proofs.Altering.{MayAlter, alter_fails, alter_keeps, alter_serves, altered_place, alters_like, checks_without, may_drop_check}
-use Rattle.escrow_core.proofs.Serving.{early_serves, unwritten_keeps}
+use Rattle.escrow_core.proofs.Altering.{MayAlter, alter_fails, alter_holds, alter_serves, altered_place, alters_like, checks_without, may_drop_check}
+use Rattle.escrow_core.proofs.Serving.{early_serves, unwritten_holds}
 use Rattle.escrow_core.proofs.database.Database.drop_check.Given as given
 use Rattle.escrow_core.proofs.database.Database.drop_check.Goals as goal
 use Rattle.escrow_core.proofs.database.Database.drop_check.Goals.{After-forget}
@@ -40,11 +40,7 @@ redefine-requires-clause-alike g c =
 
 pub invariant_of-self : goal.invariant_of-self
 invariant_of-self g c =
-    rw c.forget.ensures (record {
-      keeps = unwritten_keeps g.S.Store c.self.inside.tables c.redefine.new.self c.self.inside.reserved.txns c.self.inside.reserved.places _ _ c.self.invariant.keeps c.in_err-redefine.ensures;
-      known = tt;
-      read = λ _. tt;
-    })
+    unwritten_holds g.S.Store c.self.inside.tables c.redefine.new.self c.self.inside.reserved.txns c.self.inside.reserved.places _ _ _ c.self.invariant.keeps c.in_err-redefine.ensures c.forget.ensures
 
 pub returns-in_err-redefine : goal.returns-in_err-redefine
 returns-in_err-redefine g c =
@@ -54,13 +50,10 @@ returns-in_err-redefine g c =
 
 pub invariant_of-self-2 : goal.invariant_of-self-2
 invariant_of-self-2 g c =
-    rw (c.forget.ensures, c.drop_check.ensures.txns) (record {
-      keeps = alter_keeps g.S.Store c.args.session (drops c.args.table c.args.name) c.self.inside.tables c.redefine.new.self c.self.inside.reserved.txns c.args.table c.table.result.now c.in_ok-altered.altered
-          (may g (goal.at.invariant_of-self-2 g c).After-forget) (λ _. IsWithout c.in_ok-place.index) c.self.inside.reserved.places c.drop_check.new.self.places c.self.invariant.keeps c.in_ok-redefine.ensures
-          c.drop_check.ensures.places (λ _ _ _ step. step.amounts) (checks_without c.table.result.now c.in_ok-altered.altered c.in_ok-place.index c.in_ok-altered.ensures.made);
-      known = tt;
-      read = λ _. tt;
-    })
+    rw c.drop_check.ensures.txns
+    (alter_holds g.S.Store c.args.session (drops c.args.table c.args.name) c.self.inside.tables c.redefine.new.self c.self.inside.reserved.txns c.args.table c.table.result.now c.in_ok-altered.altered
+    (may g (goal.at.invariant_of-self-2 g c).After-forget) (λ _. IsWithout c.in_ok-place.index) c.self.inside.reserved.places c.drop_check.new.self.places _ c.self.invariant.keeps c.in_ok-redefine.ensures
+    c.drop_check.ensures.places (λ _ _ _ step. step.amounts) (checks_without c.table.result.now c.in_ok-altered.altered c.in_ok-place.index c.in_ok-altered.ensures.made) c.forget.ensures)
 
 pub returns : goal.returns
 returns g c =

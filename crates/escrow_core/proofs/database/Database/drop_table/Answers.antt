@@ -4,7 +4,7 @@ use Rattle.escrow_machine.specs.declared.reply.Reply.TheVariants as reply
 use Rattle.escrow_machine.specs.Turn.{after_drop}
 use Rattle.escrow_core.specs.Inside.{seen_of}
 use Rattle.escrow_core.proofs.Dropping.{may_drop}
-use Rattle.escrow_core.proofs.Serving.{MayWrite, early_serves, failure_serves, unwritten_keeps, write_keeps, write_serves}
+use Rattle.escrow_core.proofs.Serving.{MayWrite, early_serves, failure_serves, unwritten_holds, write_holds, write_serves}
 use Rattle.escrow_core.proofs.database.Database.drop_table.Given as given
 use Rattle.escrow_core.proofs.database.Database.drop_table.Goals as goal
 use Rattle.escrow_core.proofs.database.Database.drop_table.Goals.{After-drop_table}
@@ -24,34 +24,25 @@ may g c =
 
 pub returns-in_err-drop_table : goal.returns-in_err-drop_table
 returns-in_err-drop_table g c =
-    let d = seen_of c.self.inside.tables c.self.inside.reserved.txns in
+    let placed = rw (← c.self.view_is) at c.in_ok-place.ensures.place in
     rw (← c.self.view_is)
-    (failure_serves g.S.Store c.args.session (statement.Drop c.args.name) c.self.inside.tables c.drop_table.new.self c.self.inside.reserved.txns (reply.Dropped c.args.name) (after_drop d.state c.args.name)
-    (may g (goal.at.returns-in_err-drop_table g c).After-drop_table) c.from_residual-in_err-drop_table.result c.in_err-drop_table.field-0.0 c.from_residual-in_err-drop_table.ensures.1
-    (c.in_err-drop_table.ensures c.args.name (rw (← c.self.view_is) at c.in_ok-place.ensures.place)))
+    (failure_serves g.S.Store c.args.session (statement.Drop c.args.name) c.self.inside.tables c.drop_table.new.self c.self.inside.reserved.txns _ _ (may g (goal.at.returns-in_err-drop_table g c).After-drop_table)
+    c.from_residual-in_err-drop_table.result c.in_err-drop_table.field-0.0 c.from_residual-in_err-drop_table.ensures.1 (c.in_err-drop_table.ensures c.args.name placed))
 
 pub invariant_of-self-2 : goal.invariant_of-self-2
 invariant_of-self-2 g c =
-    rw c.forget.ensures (record {
-      keeps = (let d = seen_of c.self.inside.tables c.self.inside.reserved.txns in
-          write_keeps g.S.Store c.args.session (statement.Drop c.args.name) c.self.inside.tables c.drop_table.new.self c.self.inside.reserved.txns (reply.Dropped c.args.name) (after_drop d.state c.args.name)
-          (may g (goal.at.invariant_of-self-2 g c).After-drop_table) c.self.inside.reserved.places c.self.invariant.keeps (c.in_ok-drop_table.ensures c.args.name (rw (← c.self.view_is) at c.in_ok-place.ensures.place)));
-      known = tt;
-      read = λ _. tt;
-    })
+    let placed = rw (← c.self.view_is) at c.in_ok-place.ensures.place in
+    write_holds g.S.Store c.args.session (statement.Drop c.args.name) c.self.inside.tables c.drop_table.new.self c.self.inside.reserved.txns _ _ (may g (goal.at.invariant_of-self-2 g c).After-drop_table)
+    c.self.inside.reserved.places _ c.self.invariant.keeps (c.in_ok-drop_table.ensures c.args.name placed) c.forget.ensures
 
 pub returns : goal.returns
 returns g c =
-    let d = seen_of c.self.inside.tables c.self.inside.reserved.txns in
+    let placed = rw (← c.self.view_is) at c.in_ok-place.ensures.place in
     rw (← c.self.view_is)
-    (write_serves g.S.Store c.args.session (statement.Drop c.args.name) c.self.inside.tables c.drop_table.new.self c.self.inside.reserved.txns (reply.Dropped c.args.name) (after_drop d.state c.args.name)
-    (may g (goal.at.returns g c).After-drop_table) (c.in_ok-drop_table.ensures c.args.name (rw (← c.self.view_is) at c.in_ok-place.ensures.place)))
+    (write_serves g.S.Store c.args.session (statement.Drop c.args.name) c.self.inside.tables c.drop_table.new.self c.self.inside.reserved.txns _ _ (may g (goal.at.returns g c).After-drop_table)
+    (c.in_ok-drop_table.ensures c.args.name placed))
 
 pub invariant_of-self : goal.invariant_of-self
 invariant_of-self g c =
-    rw c.forget.ensures (record {
-      keeps = unwritten_keeps g.S.Store c.self.inside.tables c.drop_table.new.self c.self.inside.reserved.txns c.self.inside.reserved.places _ _ c.self.invariant.keeps
-          (c.in_err-drop_table.ensures c.args.name (rw (← c.self.view_is) at c.in_ok-place.ensures.place));
-      known = tt;
-      read = λ _. tt;
-    })
+    let placed = rw (← c.self.view_is) at c.in_ok-place.ensures.place in
+    unwritten_holds g.S.Store c.self.inside.tables c.drop_table.new.self c.self.inside.reserved.txns c.self.inside.reserved.places _ _ _ c.self.invariant.keeps (c.in_err-drop_table.ensures c.args.name placed) c.forget.ensures

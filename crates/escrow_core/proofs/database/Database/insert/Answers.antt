@@ -4,15 +4,15 @@ use Rattle.escrow_sql.specs.declared.statement.Statement.TheVariants as statemen
 use Rattle.escrow_schema.specs.Catalog.{place_named}
 use Rattle.escrow_machine.specs.declared.reply.Reply.TheVariants as reply
 use Rattle.escrow_machine.specs.Asked.{new_row}
-use Rattle.escrow_schema.specs.Rows.{row_named}
+use Rattle.escrow_schema.specs.Rows.{row_named, with_row}
 use Rattle.escrow_machine.specs.State.{State}
 use Rattle.escrow_machine.proofs.Refusals.{none_there}
 use Rattle.escrow_core.specs.Inside.{seen_of}
 use Rattle.escrow_core.proofs.Inserting.{IsNew, is_made, made_row, may_insert, room_left, row_exists, row_refused}
-use Rattle.escrow_core.proofs.Serving.{HasLooked, early_since, failure_serves, late_refused, look_refused, refusal_serves, since_look, unwritten_keeps, write_keeps, write_serves}
+use Rattle.escrow_core.proofs.Serving.{HasLooked, MayWrite, early_since, look_refused, refusal_serves, refused_since, unwritten_holds, unwritten_since, write_holds, written_since}
 use Rattle.escrow_core.proofs.database.Database.insert.Given as given
 use Rattle.escrow_core.proofs.database.Database.insert.Goals as goal
-use Rattle.escrow_core.proofs.database.Database.insert.Goals.{After-count}
+use Rattle.escrow_core.proofs.database.Database.insert.Goals.{After-count, After-forget}
 
 pub returns-in_err-place : goal.returns-in_err-place
 returns-in_err-place g c =
@@ -69,13 +69,10 @@ row_refusal-requires-clause-fits g c =
 pub returns-in-Some : goal.returns-in-Some
 returns-in-Some g c =
     let d = seen_of c.self.inside.tables c.self.inside.reserved.txns in
-    let text = c.args.text.now in
-    let asked = statement.Insert text in
     let at = (goal.at.returns-in-Some g c).After-count in
     rw (← c.self.view_is)
-    (since_look g.S.Store c.args.session asked c.args.self.now d (looked g at) d (reply.Refused c.in-Some.refusal)
-    (late_refused g.S.Store c.args.session asked d c.in-Some.refusal refl (is_new g at).early
-    (row_refused g.S.Store d c.args.session text c.in_ok-place.row c.table.result.now c.count.result (is_new g at) c.in-Some.refusal c.in-Some.ensures)))
+    (refused_since g.S.Store c.args.session (statement.Insert c.args.text.now) c.args.self.now d (looked g at) c.in-Some.refusal
+    (row_refused g.S.Store d c.args.session c.args.text.now c.in_ok-place.row c.table.result.now c.count.result (is_new g at) c.in-Some.refusal c.in-Some.ensures))
 
 pub insert-requires-clause-place : goal.insert-requires-clause-place
 insert-requires-clause-place g c =
@@ -93,43 +90,30 @@ insert-requires-clause-room g c =
     let d = seen_of c.self.inside.tables c.self.inside.reserved.txns in
     room_left g.S.Store d c.args.session c.args.text.now c.in_ok-place.row c.table.result.now c.count.result (is_new g (goal.at.insert-requires-clause-room g c).After-count) (sym c.in_default.is ∙ c.row_refusal.ensures)
 
+-- nothing refuses it
+may : (g : given.Over) (c : After-forget g)
+    → MayWrite g.S.Store c.args.session (statement.Insert c.args.text.now) (seen_of c.self.inside.tables c.self.inside.reserved.txns) reply.Inserted
+    (record (seen_of c.self.inside.tables c.self.inside.reserved.txns).state { rows = with_row c.in_ok-place.row c.self.inside.tables.rows })
+may g c =
+    may_insert g.S.Store (seen_of c.self.inside.tables c.self.inside.reserved.txns) c.args.session c.args.text.now c.in_ok-place.row c.table.result.now c.count.result (is_new g (goal.at.After-forget g c).After-count)
+    (sym c.in_default.is ∙ c.row_refusal.ensures)
+
 pub returns-in_err-insert : goal.returns-in_err-insert
 returns-in_err-insert g c =
-    let d = seen_of c.self.inside.tables c.self.inside.reserved.txns in
-    let text = c.args.text.now in
-    let asked = statement.Insert text in
-    let at = (goal.at.returns-in_err-insert g c).After-count in
-    let may = may_insert g.S.Store d c.args.session text c.in_ok-place.row c.table.result.now c.count.result (is_new g at) (sym c.in_default.is ∙ c.row_refusal.ensures) in
-    since_look g.S.Store c.args.session asked c.args.self.now d (looked g at) (seen_of c.insert.new.self c.self.inside.reserved.txns) _
-    (failure_serves g.S.Store c.args.session asked c.self.inside.tables c.insert.new.self c.self.inside.reserved.txns _ _ may
-    c.from_residual-in_err-insert.result c.in_err-insert.field-0.0 c.from_residual-in_err-insert.ensures.1 c.in_err-insert.ensures)
+    let at = goal.at.returns-in_err-insert g c in
+    unwritten_since g.S.Store c.args.session (statement.Insert c.args.text.now) c.args.self.now c.self.inside.tables c.insert.new.self c.self.inside.reserved.txns _ _ (looked g at.After-count) (may g at.After-forget)
+    c.from_residual-in_err-insert.result c.in_err-insert.field-0.0 c.from_residual-in_err-insert.ensures.1 c.in_err-insert.ensures
 
 pub invariant_of-self-2 : goal.invariant_of-self-2
 invariant_of-self-2 g c =
-    rw c.forget.ensures (record {
-      keeps = (let d = seen_of c.self.inside.tables c.self.inside.reserved.txns in
-          let text = c.args.text.now in
-          let at = (goal.at.invariant_of-self-2 g c).After-count in
-          let may = may_insert g.S.Store d c.args.session text c.in_ok-place.row c.table.result.now c.count.result (is_new g at) (sym c.in_default.is ∙ c.row_refusal.ensures) in
-          write_keeps g.S.Store c.args.session (statement.Insert text) c.self.inside.tables c.insert.new.self c.self.inside.reserved.txns _ _ may c.self.inside.reserved.places c.self.invariant.keeps c.in_ok-insert.ensures);
-      known = tt;
-      read = λ _. tt;
-    })
+    write_holds g.S.Store c.args.session (statement.Insert c.args.text.now) c.self.inside.tables c.insert.new.self c.self.inside.reserved.txns _ _ (may g (goal.at.invariant_of-self-2 g c).After-forget)
+    c.self.inside.reserved.places _ c.self.invariant.keeps c.in_ok-insert.ensures c.forget.ensures
 
 pub returns : goal.returns
 returns g c =
-    let d = seen_of c.self.inside.tables c.self.inside.reserved.txns in
-    let text = c.args.text.now in
-    let asked = statement.Insert text in
-    let at = (goal.at.returns g c).After-count in
-    let may = may_insert g.S.Store d c.args.session text c.in_ok-place.row c.table.result.now c.count.result (is_new g at) (sym c.in_default.is ∙ c.row_refusal.ensures) in
-    since_look g.S.Store c.args.session asked c.args.self.now d (looked g at) (seen_of c.insert.new.self c.self.inside.reserved.txns) reply.Inserted
-    (write_serves g.S.Store c.args.session asked c.self.inside.tables c.insert.new.self c.self.inside.reserved.txns _ _ may c.in_ok-insert.ensures)
+    let at = goal.at.returns g c in
+    written_since g.S.Store c.args.session (statement.Insert c.args.text.now) c.args.self.now c.self.inside.tables c.insert.new.self c.self.inside.reserved.txns _ _ (looked g at.After-count) (may g at.After-forget) c.in_ok-insert.ensures
 
 pub invariant_of-self : goal.invariant_of-self
 invariant_of-self g c =
-    rw c.forget.ensures (record {
-      keeps = unwritten_keeps g.S.Store c.self.inside.tables c.insert.new.self c.self.inside.reserved.txns c.self.inside.reserved.places _ _ c.self.invariant.keeps c.in_err-insert.ensures;
-      known = tt;
-      read = λ _. tt;
-    })
+    unwritten_holds g.S.Store c.self.inside.tables c.insert.new.self c.self.inside.reserved.txns c.self.inside.reserved.places _ _ _ c.self.invariant.keeps c.in_err-insert.ensures c.forget.ensures

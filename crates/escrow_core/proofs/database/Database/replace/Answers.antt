@@ -4,12 +4,12 @@ use Rattle.escrow_sql.specs.declared.statement.Statement.TheVariants as statemen
 use Rattle.escrow_schema.specs.declared.plan.Plan.TheVariants as plan
 use Rattle.escrow_machine.specs.declared.reply.Reply.TheVariants as reply
 use Rattle.escrow_machine.specs.Asked.{plan_of, row_name}
-use Rattle.escrow_schema.specs.Rows.{row_named}
+use Rattle.escrow_schema.specs.Rows.{row_named, with_plain}
 use Rattle.escrow_machine.specs.State.{State, is_open}
 use Rattle.escrow_machine.proofs.Refusals.{none_there}
 use Rattle.escrow_core.specs.Inside.{seen_of}
 use Rattle.escrow_core.proofs.Planned.{planned_early}
-use Rattle.escrow_core.proofs.Serving.{HasLooked, failure_serves, handed_on, look_failed, look_refused, refused, since_look, unwritten_keeps, write_keeps, write_serves}
+use Rattle.escrow_core.proofs.Serving.{HasLooked, MayWrite, handed_on, look_failed, look_refused, refused, unwritten_holds, unwritten_since, write_holds, written_since}
 use Rattle.escrow_core.proofs.Updating.{MayReplace, may_write, plain_asks, plain_lacks, plain_open, plain_takes, replaced_fit}
 use Rattle.escrow_core.proofs.database.Database.replace.Given as given
 use Rattle.escrow_core.proofs.database.Database.replace.Goals as goal
@@ -66,43 +66,27 @@ set_plain-requires-clause-fits g c =
     let at = (goal.at.set_plain-requires-clause-fits g c).After-as_slice in
     replaced_fit g.S.Store (seen_of c.self.inside.tables c.self.inside.reserved.txns) c.args.session c.args.text.now c.args.key c.as_slice.result.now (may g at) c.self.invariant.keeps.kept
 
+writes : (g : given.Over) (c : After-as_slice g)
+    → MayWrite g.S.Store c.args.session (statement.Update c.args.text.now) (seen_of c.self.inside.tables c.self.inside.reserved.txns) reply.Updated
+    (record (seen_of c.self.inside.tables c.self.inside.reserved.txns).state { rows = with_plain (row_name c.args.text.now.table c.args.key) c.as_slice.result.now c.self.inside.tables.rows })
+writes g c = may_write g.S.Store (seen_of c.self.inside.tables c.self.inside.reserved.txns) c.args.session c.args.text.now c.args.key c.as_slice.result.now (may g c)
+
 pub returns-in_err-set_plain : goal.returns-in_err-set_plain
 returns-in_err-set_plain g c =
-    let d = seen_of c.self.inside.tables c.self.inside.reserved.txns in
-    let text = c.args.text.now in
-    let asked = statement.Update text in
     let at = (goal.at.returns-in_err-set_plain g c).After-as_slice in
-    let writes = may_write g.S.Store d c.args.session text c.args.key c.as_slice.result.now (may g at) in
-    since_look g.S.Store c.args.session asked c.args.self.now d (looked g at) (seen_of c.set_plain.new.self c.self.inside.reserved.txns) _
-    (failure_serves g.S.Store c.args.session asked c.self.inside.tables c.set_plain.new.self c.self.inside.reserved.txns _ _ writes
-    c.from_residual-in_err-set_plain.result c.in_err-set_plain.field-0.0 c.from_residual-in_err-set_plain.ensures.1 c.in_err-set_plain.ensures)
+    unwritten_since g.S.Store c.args.session (statement.Update c.args.text.now) c.args.self.now c.self.inside.tables c.set_plain.new.self c.self.inside.reserved.txns _ _ (looked g at) (writes g at)
+    c.from_residual-in_err-set_plain.result c.in_err-set_plain.field-0.0 c.from_residual-in_err-set_plain.ensures.1 c.in_err-set_plain.ensures
 
 pub invariant_of-self-2 : goal.invariant_of-self-2
 invariant_of-self-2 g c =
-    rw c.forget.ensures (record {
-      keeps = (let d = seen_of c.self.inside.tables c.self.inside.reserved.txns in
-          let text = c.args.text.now in
-          let at = (goal.at.invariant_of-self-2 g c).After-as_slice in
-          let writes = may_write g.S.Store d c.args.session text c.args.key c.as_slice.result.now (may g at) in
-          write_keeps g.S.Store c.args.session (statement.Update text) c.self.inside.tables c.set_plain.new.self c.self.inside.reserved.txns _ _ writes c.self.inside.reserved.places c.self.invariant.keeps c.in_ok-set_plain.ensures);
-      known = tt;
-      read = λ _. tt;
-    })
+    write_holds g.S.Store c.args.session (statement.Update c.args.text.now) c.self.inside.tables c.set_plain.new.self c.self.inside.reserved.txns _ _ (writes g (goal.at.invariant_of-self-2 g c).After-as_slice)
+    c.self.inside.reserved.places _ c.self.invariant.keeps c.in_ok-set_plain.ensures c.forget.ensures
 
 pub returns : goal.returns
 returns g c =
-    let d = seen_of c.self.inside.tables c.self.inside.reserved.txns in
-    let text = c.args.text.now in
-    let asked = statement.Update text in
     let at = (goal.at.returns g c).After-as_slice in
-    let writes = may_write g.S.Store d c.args.session text c.args.key c.as_slice.result.now (may g at) in
-    since_look g.S.Store c.args.session asked c.args.self.now d (looked g at) (seen_of c.set_plain.new.self c.self.inside.reserved.txns) reply.Updated
-    (write_serves g.S.Store c.args.session asked c.self.inside.tables c.set_plain.new.self c.self.inside.reserved.txns _ _ writes c.in_ok-set_plain.ensures)
+    written_since g.S.Store c.args.session (statement.Update c.args.text.now) c.args.self.now c.self.inside.tables c.set_plain.new.self c.self.inside.reserved.txns _ _ (looked g at) (writes g at) c.in_ok-set_plain.ensures
 
 pub invariant_of-self : goal.invariant_of-self
 invariant_of-self g c =
-    rw c.forget.ensures (record {
-      keeps = unwritten_keeps g.S.Store c.self.inside.tables c.set_plain.new.self c.self.inside.reserved.txns c.self.inside.reserved.places _ _ c.self.invariant.keeps c.in_err-set_plain.ensures;
-      known = tt;
-      read = λ _. tt;
-    })
+    unwritten_holds g.S.Store c.self.inside.tables c.set_plain.new.self c.self.inside.reserved.txns c.self.inside.reserved.places _ _ _ c.self.invariant.keeps c.in_err-set_plain.ensures c.forget.ensures
