@@ -17,7 +17,7 @@ impl<S: Alter> Database<S> {
     {
         let place = self.check_delete(session, text)?;
         let name = self.named_by(alloc, place, text.table, &text.row)?;
-        if !self.stands(alloc, place, &name)? {
+        if !self.stands(place, &name)? {
             return Err(Refusal::NoSuchRow);
         }
         if self.reserved.is_reserved(&name) {

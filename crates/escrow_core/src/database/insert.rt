@@ -27,7 +27,7 @@ impl<S: Alter> Database<S> {
         ensures { Answers S.Store session (Statement.Insert text.now) self.old result self.new }
     {
         let (place, row) = self.plan_insert(alloc, session, text)?;
-        if self.stands(alloc, place, &row.name)? {
+        if self.stands(place, &row.name)? {
             return Err(Refusal::RowExists);
         }
         if let Some(refusal) = row_refusal(

@@ -84,19 +84,18 @@ impl<S: Alter> Database<S> {
         Ok(Some(amounts))
     }
 
-    /// Whether the committed row of a name stands. The place is that of its table.
-    pub(crate) fn stands(
-        &mut self,
-        alloc: Global,
-        place: usize,
-        name: &RowName,
-    ) -> Result<bool, Failure>
+    /// Whether the committed row of a name stands. The place is that of its table. The store is asked unless it
+    /// is the row that was read last.
+    pub(crate) fn stands(&mut self, place: usize, name: &RowName) -> Result<bool, Failure>
         requires { place_named self.old.state.catalog name.now.table ≡ Some place }
         ensures told { HasCleanDisk (state S.Store self.new.store) → IfOk result (λ stands. stands ≡ is_some (row_named self.old.state.rows name.now)) }
         ensures looks { Looks S.Store self.old self.new }
         ensures stays { HasCleanDisk (state S.Store self.new.store) → OnOk result (IsTrue (state S.Store self.old.store).is_open → IsTrue (state S.Store self.new.store).is_open) }
     {
-        Ok(self.amounts(alloc, place, name)?.is_some())
+        if self.recent.amounts(name).is_some() {
+            return Ok(true);
+        }
+        self.tables.stands(place, name)
     }
 
     /// The values of the committed row of a name, in column order, if there is one; all rows are in order. The

@@ -121,7 +121,7 @@ impl<S: Alter> Database<S> {
             table: text.table,
             key,
         };
-        if !self.stands(alloc, place, &name)? {
+        if !self.stands(place, &name)? {
             return Err(Refusal::NoSuchRow);
         }
         self.recent.forget();
