@@ -55,6 +55,13 @@ zip_one R [] (z ∷ ys) x y none one = absurd none
 zip_one R (w ∷ xs) [] x y none one = absurd none
 zip_one R (w ∷ xs) (z ∷ ys) x y all one = (all.0, zip_one R xs ys x y all.1 one)
 
+-- what stands in a relation place by place stands in a weaker one
+pub zip_as : {A B : Type 0} (R T : A → B → Type 0) → ((x : A) (y : B) → R x y → T x y) → (xs : List A) (ys : List B) → AllZip R xs ys → AllZip T xs ys
+zip_as R T so [] [] all = tt
+zip_as R T so [] (y ∷ ys) none = absurd none
+zip_as R T so (x ∷ xs) [] none = absurd none
+zip_as R T so (x ∷ xs) (y ∷ ys) all = (so x y all.0, zip_as R T so xs ys all.1)
+
 -- both are as long
 pub zip_long : {A B : Type 0} (R : A → B → Type 0) (xs : List A) (ys : List B) → AllZip R xs ys → length xs ≡ length ys
 zip_long R [] [] all = refl

@@ -137,7 +137,8 @@ shorter (z ∷ ys) y = let more = shorter ys y in omega arith
 last_of : {A : Type 0} (P : A → Type 0) (xs : List A) (x : A) → All P (xs ++ x ∷ []) → P x
 last_of P xs x all = subst P (index_last xs x) (all (length xs) x (shorter xs x))
 
--- the item that comes names a place
-pub names_place : {I : Type 0} (gives : I → Option (ℕ × Request) → I → Type 0) (n : ℕ) (items : List (ℕ × Request)) (item : ℕ × Request) (s t u : I)
-    → HoldsAlong gives s (All (λ x. x.0 < n)) → Yields gives s items t → gives t (Some item) u → item.0 < n
-names_place gives n items item s t u places came comes = last_of (λ x. x.0 < n) items item (places (items ++ item ∷ []) u (then_one gives items item s t u came comes))
+-- the item that comes names a place, where all that an iterator gives do that is the one that was given
+pub names_place : {I : Type 0} (gives : I → Option (ℕ × Request) → I → Type 0) (n : ℕ) (items : List (ℕ × Request)) (item : ℕ × Request) (given s t u : I)
+    → HoldsAlong gives given (All (λ x. x.0 < n)) → s ≡ given → Yields gives s items t → gives t (Some item) u → item.0 < n
+names_place gives n items item given s t u places same came comes =
+    last_of (λ x. x.0 < n) items item (places (items ++ item ∷ []) u (subst (λ i. Yields gives i (items ++ item ∷ []) u) same (then_one gives items item s t u came comes)))

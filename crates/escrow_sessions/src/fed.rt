@@ -8,8 +8,10 @@ ghost use Rattle.escrow_sessions.specs.declared.feed.TheConstants.{MAX_WORKERS};
 ghost use Rattle.escrow_sessions.specs.Fed.{AreFed};
 ghost use Rattle.escrow_sessions.specs.Slots.{AreFurther, AreEnded, IsNewSlot, JoinsAs};
 
+use crate::crew::Crew;
 use crate::done::Done;
 use crate::feed::{Cause, MAX_WORKERS};
+use crate::filling::fill;
 use crate::hall::Hall;
 use crate::not_fed::NotFed;
 use crate::rule::Item;
@@ -21,7 +23,7 @@ use std::alloc::Global;
 use std::sync::Wait;
 use std::sync::atomic::AtomicU64;
 use std::thread;
-use std::thread::{Scope, Threads};
+use std::thread::Threads;
 
 /// Serves items as they come, each by the worker of the place that it names among the passes. All workers are
 /// started before the first item is asked for, and each item is sent to its worker before the next is asked for. What
@@ -117,7 +119,8 @@ fn serve_fed<
             requires done_fit { vec_len passes ≤ vec_capacity done }
             ensures { (xs : List (ℕ × Request)) × Drains I.next_gives items xs × AreFed passes.items xs result.items }
         {
-            let mut slots = start_all(scope, rt, alloc, hall, gate, &absent, passes, slots);
+            let crew = Crew::new(scope, rt, alloc, hall, gate, &absent);
+            let mut slots = start_all(&crew, passes, slots);
             feed(rt, &mut slots, items);
             end(rt, &mut slots);
             join_all(rt, slots, done)
@@ -126,26 +129,23 @@ fn serve_fed<
 }
 
 /// Starts a worker for each pass, into room that was taken for them.
-fn start_all<'s, E, H: Hall + Sync, R: Wait + Sync, G: Gate + Sync>(
-    scope: &Scope<'s, E>,
-    rt: &'s R,
-    alloc: Global,
-    hall: &'s H,
-    gate: &'s G,
-    absent: &'s AtomicU64,
+fn start_all<E, H: Hall + Sync, R: Wait + Sync, G: Gate + Sync>(
+    crew: &Crew<'_, '_, E, H, R, G>,
     passes: Vec<Pass>,
-    mut slots: Vec<Slot>,
+    slots: Vec<Slot>,
 ) -> Vec<Slot>
-    requires seats { AllByRecursion (H.has_seat hall.now) passes.items }
+    requires seats { AllByRecursion (H.has_seat crew.now.hall.now) passes.items }
     requires empty { slots.items ≡ [] }
     requires room { vec_len passes ≤ vec_capacity slots }
     ensures { AllZip IsNewSlot passes.items result.items }
 {
-    for pass in passes {
-        let place = slots.len() as u64;
-        slots.push_reserved(start_fed(scope, rt, alloc, hall, gate, absent, place, pass));
-    }
-    slots
+    fill(
+        passes,
+        slots,
+        |place, pass|
+            requires { H.has_seat crew.now.hall.now pass }
+        { start_fed(crew, place, pass) },
+    )
 }
 
 /// Sends each item to the worker of its place.
@@ -174,13 +174,10 @@ fn end<R: Wait>(rt: &R, slots: &mut Vec<Slot>)
 }
 
 /// Waits for the workers, and puts what they did into room that was taken for it.
-fn join_all<R: Threads>(rt: &R, slots: Vec<Slot>, mut done: Vec<Done>) -> Vec<Done>
+fn join_all<R: Threads>(rt: &R, slots: Vec<Slot>, done: Vec<Done>) -> Vec<Done>
     requires empty { done.items ≡ [] }
     requires room { vec_len slots ≤ vec_capacity done }
     ensures { AllZip JoinsAs slots.items result.items }
 {
-    for slot in slots {
-        done.push_reserved(slot.join(rt));
-    }
-    done
+    fill(slots, done, |_, slot| slot.join(rt))
 }

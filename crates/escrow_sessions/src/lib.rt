@@ -5,12 +5,14 @@
 //! were served.
 #![tactic(auto)]
 
+mod crew;
 mod done;
 mod ends;
 mod fed;
 mod fed_worker;
 mod feed;
 mod feeding;
+mod filling;
 mod giving;
 mod hall;
 pub mod laws;
@@ -27,6 +29,7 @@ mod worker;
 pub use done::{Done, Ended, Given};
 pub use fed::run_fed;
 pub use feed::{Cause, Feed, MAX_WORKERS, NotRun};
+pub use filling::fill;
 pub use line::MAX_WAITING;
 pub use not_fed::NotFed;
 pub use run::run_sessions;

@@ -5,8 +5,10 @@ ghost use Rattle.escrow_sessions.specs.declared.feed.TheConstants.{MAX_WORKERS};
 ghost use Rattle.escrow_sessions.specs.Serving.{AreDone, HasItsSeat};
 ghost use Rattle.escrow_sessions.specs.Work.{IsWorkerOf, CameOf};
 
+use crate::crew::Crew;
 use crate::done::Done;
 use crate::feed::{Cause, Feed, MAX_WORKERS, NotRun};
+use crate::filling::fill;
 use crate::hall::Hall;
 use crate::lists::Listed;
 use crate::team::{Worker, start};
@@ -16,7 +18,7 @@ use std::alloc::Global;
 use std::sync::Wait;
 use std::sync::atomic::AtomicU64;
 use std::thread;
-use std::thread::{Scope, Threads};
+use std::thread::Threads;
 
 /// Serves feeds at the same time, each by a worker on a thread of its own. What each did stands in
 /// the order of the feeds. It may wait.
@@ -82,46 +84,60 @@ fn serve_lists<H: Hall + Sync, R: Threads + Wait + Sync, G: Gate + Sync>(
             requires done_fit { vec_len feeds ≤ vec_capacity done }
             ensures { AreDone feeds.items result.items }
         {
-            let workers = start_all(scope, rt, alloc, hall, gate, &absent, feeds, workers);
+            let crew = Crew::new(scope, rt, alloc, hall, gate, &absent);
+            let workers = start_all(&crew, feeds, workers);
             join_all(rt, workers, done)
         },
     ))
 }
 
 /// Starts a worker for each feed, into room that was taken for them.
-fn start_all<'s, E, H: Hall + Sync, R: Wait + Sync, G: Gate + Sync>(
-    scope: &Scope<'s, E>,
-    rt: &'s R,
-    alloc: Global,
-    hall: &'s H,
-    gate: &'s G,
-    absent: &'s AtomicU64,
+fn start_all<E, H: Hall + Sync, R: Wait + Sync, G: Gate + Sync>(
+    crew: &Crew<'_, '_, E, H, R, G>,
     feeds: Vec<Feed>,
-    mut workers: Vec<Worker<Listed>>,
+    workers: Vec<Worker<Listed>>,
 ) -> Vec<Worker<Listed>>
-    requires seats { AllByRecursion (λ f. H.has_seat hall.now f.pass) feeds.items }
+    requires seats { AllByRecursion (λ f. H.has_seat crew.now.hall.now f.pass) feeds.items }
     requires empty { workers.items ≡ [] }
     requires room { vec_len feeds ≤ vec_capacity workers }
     ensures { AllZip IsWorkerOf feeds.items result.items }
 {
-    for feed in feeds {
-        let Feed { pass, requests } = feed;
-        let left = requests.into_iter();
-        let place = workers.len() as u64;
-        let source = Listed { left };
-        workers.push_reserved(start(scope, rt, alloc, hall, gate, absent, place, pass, source));
-    }
-    workers
+    fill(
+        feeds,
+        workers,
+        |place, feed| -> Worker<Listed>
+            requires { H.has_seat crew.now.hall.now feed.pass }
+            ensures { IsWorkerOf feed result }
+        { start_listed(crew, place, feed) },
+    )
+}
+
+/// Starts a worker for a feed.
+fn start_listed<E, H: Hall + Sync, R: Wait + Sync, G: Gate + Sync>(
+    crew: &Crew<'_, '_, E, H, R, G>,
+    place: u64,
+    feed: Feed,
+) -> Worker<Listed>
+    requires { H.has_seat crew.now.hall.now feed.pass }
+    ensures { IsWorkerOf feed result }
+{
+    let Feed { pass, requests } = feed;
+    let left = requests.into_iter();
+    start(crew, place, pass, Listed { left })
 }
 
 /// Waits for workers, and puts what they did into room that was taken for it.
-fn join_all<R: Threads>(rt: &R, workers: Vec<Worker<Listed>>, mut done: Vec<Done>) -> Vec<Done>
+fn join_all<R: Threads>(rt: &R, workers: Vec<Worker<Listed>>, done: Vec<Done>) -> Vec<Done>
     requires empty { done.items ≡ [] }
     requires room { vec_len workers ≤ vec_capacity done }
     ensures { AllZip CameOf workers.items result.items }
 {
-    for worker in workers {
-        done.push_reserved(worker.join(rt).done);
-    }
-    done
+    fill(workers, done, |_, worker| join_listed(rt, worker))
+}
+
+/// Waits for a worker, and answers what it did.
+fn join_listed<R: Threads>(rt: &R, worker: Worker<Listed>) -> Done
+    ensures { CameOf worker result }
+{
+    worker.join(rt).done
 }

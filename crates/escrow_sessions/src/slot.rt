@@ -4,6 +4,7 @@ ghost use Rattle.escrow_shards.specs.Seat.{Seat};
 ghost use Rattle.escrow_sessions.specs.Slots.{IsSlot, JoinsAs};
 ghost use Rattle.escrow_sessions.specs.declared.rule.Item.{Item};
 
+use crate::crew::Crew;
 use crate::done::{Done, Ended};
 use crate::fed_worker::FedWorker;
 use crate::hall::Hall;
@@ -11,10 +12,8 @@ use crate::line::open;
 use crate::rule::Item;
 use crate::team::{Worked, Worker, start};
 use escrow_shards::{Gate, Pass};
-use std::alloc::Global;
 use std::sync::Wait;
-use std::sync::atomic::AtomicU64;
-use std::thread::{Scope, Threads};
+use std::thread::Threads;
 
 /// A worker that is fed through a channel, or one that wasn't had, to which nothing is sent.
 #[derive(Drop)]
@@ -24,27 +23,22 @@ pub(crate) enum Slot {
 }
 
 /// Makes a channel, and then starts a worker that takes from it.
-pub(crate) fn start_fed<'s, E, H: Hall + Sync, R: Wait + Sync, G: Gate + Sync>(
-    scope: &Scope<'s, E>,
-    rt: &'s R,
-    alloc: Global,
-    hall: &'s H,
-    gate: &'s G,
-    absent: &'s AtomicU64,
+pub(crate) fn start_fed<E, H: Hall + Sync, R: Wait + Sync, G: Gate + Sync>(
+    crew: &Crew<'_, '_, E, H, R, G>,
     place: u64,
     pass: Pass,
 ) -> Slot
-    requires { H.has_seat hall.now pass }
+    requires { H.has_seat crew.now.hall.now pass }
     ensures { IsSlot pass [] result }
 {
-    let Ok((line, taker)) = open(alloc) else {
+    let Ok((line, taker)) = open(crew.alloc) else {
         return Slot::Absent(Done {
             pass,
-            answers: Vec::new(alloc),
+            answers: Vec::new(crew.alloc),
             ended: Ended::NotStarted,
         });
     };
-    match start(scope, rt, alloc, hall, gate, absent, place, pass, taker) {
+    match start(crew, place, pass, taker) {
         Worker::Absent(Worked { done, source }) => {
             line.meet(source);
             Slot::Absent(done)

@@ -3,6 +3,7 @@ ghost use Rattle.std.specs.Prelude.{◌≡◌};
 ghost use Rattle.escrow_shards.specs.Seat.{Seat};
 ghost use Rattle.escrow_sessions.specs.Work.{IsWorked, IsWorker};
 
+use crate::crew::Crew;
 use crate::done::{Done, Ended};
 use crate::hall::Hall;
 use crate::source::Source;
@@ -12,7 +13,7 @@ use std::alloc::Global;
 use std::snapshot::Snapshot;
 use std::sync::Wait;
 use std::sync::atomic::{AtomicU64, Ordering};
-use std::thread::{Promise, PromisedHandle, Scope, Threads};
+use std::thread::{Promise, PromisedHandle, Threads};
 
 /// What came of a worker: what it did, and its source as it left it.
 #[derive(Drop)]
@@ -41,7 +42,7 @@ pub(crate) enum Worker<Q: Source + Drop> {
     Absent(Worked<Q>),
 }
 
-/// Starts a worker on a thread of a scope. Where no thread is to be had the worker is marked as absent, by its
+/// Starts a worker on a thread of its own. Where no thread is to be had the worker is marked as absent, by its
 /// place, and called here: so it hands back what it was given, and serves nothing.
 pub(crate) fn start<
     's,
@@ -50,26 +51,18 @@ pub(crate) fn start<
     R: Wait + Sync,
     G: Gate + Sync,
     Q: Source + Send + Drop + 's,
->(
-    scope: &Scope<'s, E>,
-    rt: &'s R,
-    alloc: Global,
-    hall: &'s H,
-    gate: &'s G,
-    absent: &'s AtomicU64,
-    place: u64,
-    pass: Pass,
-    source: Q,
-) -> Worker<Q>
-    requires { H.has_seat hall.now pass }
+>(crew: &Crew<'_, 's, E, H, R, G>, place: u64, pass: Pass, source: Q) -> Worker<Q>
+    requires { H.has_seat crew.now.hall.now pass }
     ensures { IsWorker Q.gives pass source result }
 {
     let work = Work {
         pass: Snapshot::of(&pass),
         source: Snapshot::of(&source),
     };
+    let (rt, alloc, hall) = (crew.rt, crew.alloc, crew.hall);
+    let (gate, absent) = (crew.gate, crew.absent);
     let run = move || attend(rt, alloc, hall, gate, absent, place, pass, source);
-    match scope.spawn_with(work, run) {
+    match crew.scope.spawn_with(work, run) {
         Ok(handle) => Worker::Started(handle),
         Err(refused) => {
             absent.store(place, Ordering::SeqCst);

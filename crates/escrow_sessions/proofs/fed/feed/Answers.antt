@@ -1,26 +1,19 @@
-use Rattle.std.proofs.Common.{All, ◌<◌, ◌∙◌, length, sym, subst}
-use Rattle.std.specs.Iterator.{HoldsAlong}
+use Rattle.std.proofs.Common.{◌<◌, ◌∙◌, length, sym, subst}
 use Rattle.escrow_sessions.proofs.Placing.{further_one, names_place}
 use Rattle.escrow_sessions.proofs.fed.feed.Goals as goal
 
 pub index_mut-requires : goal.index_mut-requires
 index_mut-requires g c =
     let at = c.loop-place in
-    let places =
-    subst (λ s. HoldsAlong g.I.Iterator.next_gives s (All (λ x. x.0 < length c.args.slots.now.items))) (sym c.into_iter-place-iterator.ensures.into_iter_gives) c.requires.places in
-    let named : c.in-Some.place < length c.args.slots.now.items =
-    names_place g.I.Iterator.next_gives (length c.args.slots.now.items) at.yielded (c.in-Some.place, c.in-Some.request) c.into_iter-place-iterator.result at.place-iterator c.next.new.self places at.yielded_by
-    c.in-Some.ensures.steps in
+    let named = names_place g.I.Iterator.next_gives (length c.args.slots.now.items) at.yielded (c.in-Some.place, c.in-Some.request) c.args.items c.into_iter-place-iterator.result at.place-iterator c.next.new.self
+    c.requires.places c.into_iter-place-iterator.ensures.into_iter_gives at.yielded_by c.in-Some.ensures.steps in
     subst (λ n. c.in-Some.place < n) (sym at.invariant.further.count ∙ sym at.slots.ok.0) named
 
 pub loop-place-preserved : goal.loop-place-preserved
 loop-place-preserved g c =
     let at = c.loop-place in
-    let places =
-    subst (λ s. HoldsAlong g.I.Iterator.next_gives s (All (λ x. x.0 < length c.args.slots.now.items))) (sym c.into_iter-place-iterator.ensures.into_iter_gives) c.requires.places in
-    let named : c.in-Some.place < length c.args.slots.now.items =
-    names_place g.I.Iterator.next_gives (length c.args.slots.now.items) at.yielded (c.in-Some.place, c.in-Some.request) c.into_iter-place-iterator.result at.place-iterator c.next.new.self places at.yielded_by
-    c.in-Some.ensures.steps in
+    let named = names_place g.I.Iterator.next_gives (length c.args.slots.now.items) at.yielded (c.in-Some.place, c.in-Some.request) c.args.items c.into_iter-place-iterator.result at.place-iterator c.next.new.self
+    c.requires.places c.into_iter-place-iterator.ensures.into_iter_gives at.yielded_by c.in-Some.ensures.steps in
     record {
       can = c.in-Some.ensures.goes.keeps;
       ends = (c.in-Some.ensures.goes.on at.invariant.ends).1;

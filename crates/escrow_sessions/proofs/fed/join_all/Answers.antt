@@ -1,17 +1,7 @@
-use Rattle.std.proofs.Common.{◌≡◌, ◌∷◌, [], length, ap, ◌∙◌, append_assoc, sym, add-one}
-use Rattle.std.proofs.lemmas.Slice.Zip.{all_zipped_more}
-use Rattle.std.specs.Vec.Iter.{into_iter_items}
+use Rattle.std.proofs.Common.{rules}
 use Rattle.escrow_sessions.specs.Slots.{JoinsAs}
-use Rattle.escrow_sessions.proofs.AtOnce.{one_less, room_stays}
+use Rattle.escrow_sessions.proofs.Places.{zip_as}
 use Rattle.escrow_sessions.proofs.fed.join_all.Goals as goal
 
-pub loop-slot-preserved : goal.loop-slot-preserved
-loop-slot-preserved g c =
-    let at = c.loop-slot in
-    let steps : into_iter_items at.slot-iterator ≡ c.in-Some.slot ∷ into_iter_items c.next.new.self = c.in-Some.ensures.steps.0 in
-    record {
-      rest = append_assoc at.yielded (c.in-Some.slot ∷ []) _ ∙ rw (← steps) at.invariant.rest;
-      long = one_less _ _ _ _ at.invariant.long c.in-Some.ensures.steps.1 (ap length steps ∙ sym (add-one _));
-      so_far = rw c.push_reserved.ensures.items (all_zipped_more JoinsAs at.yielded at.done.items c.in-Some.slot c.join.result at.invariant.so_far c.join.ensures);
-      room = room_stays _ _ _ _ _ _ at.invariant.room c.in-Some.ensures.steps.1 c.push_reserved.ensures.len c.push_reserved.ensures.capacity;
-    }
+pub returns : goal.returns
+returns g c = zip_as _ JoinsAs (λ x y made. search rules) c.args.slots.items c.fill.result.items c.fill.ensures
