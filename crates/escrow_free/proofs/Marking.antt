@@ -1,10 +1,9 @@
 -- Steps of the loops over desks, marks and items.
 use Rattle.std.proofs.Common.{◌≡◌, ℕ, zero, suc, ◌+◌, ◌<◌, ◌≤◌, Bool, true, if◌then◌else◌, List, [], ◌∷◌, ◌++◌, length, map, take, drop, set, get_or, refl, sym, ap, ap₂, subst, ◌∙◌, append_assoc, arith}
-use Rattle.std.specs.List.{AllByRecursion}
-use Rattle.std.proofs.lemmas.List.{append-nil, drop_more, drop_all, take_all, take_more_set, drop-set-lt, map-append}
+use Rattle.std.specs.List.{AllByRecursion, AllZip}
+use Rattle.std.proofs.lemmas.List.{append-nil, drop_more, drop_all, take_all, take_more_set, drop-set-lt}
 use Rattle.escrow_sql.specs.declared.statement.Request.{Request}
-use Rattle.escrow_shards.specs.Seat.{Seat}
-use Rattle.escrow_free.specs.Desks.{pass_of}
+use Rattle.escrow_sessions.proofs.AtOnce.{zip_by}
 use Rattle.escrow_free.specs.Ranks.{marked_by, ranks_from}
 use Rattle.escrow_free.specs.declared.desk.Desk.{Desk}
 
@@ -37,9 +36,13 @@ pub changed_all : {X : Type 0} (f : X → X) (xs all : List X) (i : ℕ) → len
 changed_all f xs all i past so_far =
     sym (append-nil xs) ∙ ap₂ (λ before behind. before ++ map f behind) (sym (take_all i xs past)) (sym (drop_all i xs past)) ∙ so_far
 
--- one pass more
-pub passes_more : (desks : List Desk) (desk : Desk) (passes : List Seat) → passes ≡ map pass_of desks → passes ++ desk.pass ∷ [] ≡ map pass_of (desks ++ desk ∷ [])
-passes_more desks desk passes so_far = ap (λ (ps : List Seat). ps ++ desk.pass ∷ []) so_far ∙ sym (map-append pass_of desks (desk ∷ []))
+-- what stands in a relation place by place stands in a weaker one
+same_zip : {A : Type 0} (xs : List A) → AllZip (λ x y. x ≡ y) xs xs
+same_zip [] = tt
+same_zip (x ∷ xs) = (refl, same_zip xs)
+
+pub zip_as : {A B : Type 0} (R T : A → B → Type 0) → ((x : A) (y : B) → R x y → T x y) → (xs : List A) (ys : List B) → AllZip R xs ys → AllZip T xs ys
+zip_as R T so xs ys all = zip_by R (λ y z. y ≡ z) T (λ x y z r e. subst (T x) e (so x y r)) xs ys ys all (same_zip ys)
 
 -- one less is left
 pub one_less : (left rest n m : ℕ) → left ≡ n → rest + 1 ≡ left → n ≡ m + 1 → rest ≡ m

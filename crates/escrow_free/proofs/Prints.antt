@@ -36,6 +36,12 @@ prints_more plan mid rest old now new counted so_far totals out more first secon
       prints = λ back end p. subst (λ (o : List ℕ). Prints taken plan items o end) (sym (append_assoc out more back)) (one.prints (more ++ back) end (two.prints back end p));
     }
 
+-- another name for a line, and for what it prints
+pub prints_as : (line same : Planned) (plan rest : List Planned) (old new : List Desk) (counted totals : List Tally) (out text : List ℕ)
+    → line ≡ same → out ≡ text → PrintsTo (same ∷ plan) old counted text rest new totals → PrintsTo (line ∷ plan) old counted out rest new totals
+prints_as line same plan rest old new counted totals out text is e prints =
+    subst (λ (l : Planned). PrintsTo (l ∷ plan) old counted out rest new totals) (sym is) (subst (λ (o : List ℕ). PrintsTo (same ∷ plan) old counted o rest new totals) (sym e) prints)
+
 pub no_line_prints : (plan : List Planned) (desks : List Desk) (totals : List Tally) → PrintsTo (planned.NoLine ∷ plan) desks totals no_line_text plan desks totals
 no_line_prints plan desks totals = λ items taken m fits counts.
     record { left = items; took = taken; matches = m; fits = fits; counts = counts; prints = λ back end p. (back, p, refl) }

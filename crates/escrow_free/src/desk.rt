@@ -21,7 +21,7 @@ pub(crate) struct Desk {
 
 impl Desk {
     ghost use Rattle.std.specs.Prelude.{◌≡◌};
-    ghost use Rattle.escrow_free.specs.Desks.{answers_of, IsNewDesk, IsNext, IsCounted};
+    ghost use Rattle.escrow_free.specs.Desks.{answers_of, IsNewDesk, IsDoneDesk, IsNext, IsCounted};
 
     /// A desk without answers, which takes no memory.
     pub(crate) fn new(alloc: Global, pass: Pass) -> Self
@@ -31,6 +31,15 @@ impl Desk {
             pass,
             answers: Vec::new(alloc).into_iter(),
         }
+    }
+
+    /// The desk of a worker, with the answers that it gave.
+    fn of_done(done: Done) -> Self
+        ensures { IsDoneDesk done result }
+    {
+        let Done { pass, answers, .. } = done;
+        let answers = answers.into_iter();
+        Desk { pass, answers }
     }
 
     /// Its next answer, if it has one, which is counted in its session's totals.
@@ -63,33 +72,35 @@ pub(crate) fn desk_of(database: usize, session: Session) -> usize
 pub(crate) fn desks_of(alloc: Global, passes: Vec<Pass>) -> Result<Vec<Desk>, AllocError>
     ensures { IfOk result (λ desks. AllZip IsNewDesk passes.items desks.items) }
 {
-    let mut desks = Vec::with_capacity(alloc, passes.len())?;
-    for pass in passes {
-        desks.push(Desk::new(alloc, pass))?;
-    }
-    Ok(desks)
+    each_of(alloc, passes, |pass| Desk::new(alloc, pass))
 }
 
 /// The desks of workers, with the answers that these gave. Want of memory is the only error.
 pub(crate) fn served_desks(alloc: Global, workers: Vec<Done>) -> Result<Vec<Desk>, AllocError>
     ensures { IfOk result (λ desks. AllZip IsDoneDesk workers.items desks.items) }
 {
-    let mut desks = Vec::with_capacity(alloc, workers.len())?;
-    for done in workers {
-        let Done { pass, answers, .. } = done;
-        let answers = answers.into_iter();
-        desks.push(Desk { pass, answers })?;
-    }
-    Ok(desks)
+    each_of(alloc, workers, |done| Desk::of_done(done))
 }
 
 /// The passes of desks. Want of memory is the only error.
 pub(crate) fn passes_of(alloc: Global, desks: Vec<Desk>) -> Result<Vec<Pass>, AllocError>
     ensures { IfOk result (λ passes. passes.items ≡ map pass_of desks.items) }
 {
-    let mut passes = Vec::with_capacity(alloc, desks.len())?;
-    for desk in desks {
-        passes.push(desk.pass)?;
+    each_of(alloc, desks, |desk| desk.pass)
+}
+
+/// What a function makes of each value. Want of memory is the only error.
+fn each_of<X: Drop, Y: Drop, F: Fn(X) -> Y>(
+    alloc: Global,
+    xs: Vec<X>,
+    f: F,
+) -> Result<Vec<Y>, AllocError>
+    requires { F.IsAlwaysCallable f }
+    ensures { IfOk result (λ ys. AllZip (λ x y. F.post f x y) xs.items ys.items) }
+{
+    let mut ys = Vec::with_capacity(alloc, xs.len())?;
+    for x in xs {
+        ys.push(f(x))?;
     }
-    Ok(passes)
+    Ok(ys)
 }

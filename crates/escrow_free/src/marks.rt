@@ -5,8 +5,25 @@ ghost use Rattle.escrow_free.specs.Ranks.{marked_by, ranks_from, renamed};
 use escrow_sql::Request;
 use std::alloc::{AllocError, Global};
 
+/// Marks the desks that items name, of so many, and has each item name its desk by its rank among these. Want of
+/// memory is the only error.
+pub(crate) fn rank_desks(
+    alloc: Global,
+    desks: usize,
+    items: &mut Vec<(usize, Request)>,
+) -> Result<Vec<bool>, AllocError>
+    requires { All (λ x. x.0 < desks) items.old.items }
+    ensures marks { IfOk result (λ marks. marks.items ≡ marked_by items.old.items (replicate desks false)) }
+    ensures items { IfOk result (λ marks. items.new.items ≡ map (renamed (ranks_from 0 marks.items)) items.old.items) }
+{
+    let marks = marks_of(alloc, desks, items.as_slice())?;
+    let ranks = ranks_of(alloc, marks.as_slice())?;
+    rename(ranks.as_slice(), items.as_mut_slice());
+    Ok(marks)
+}
+
 /// Marks the desks that items name, of so many. Want of memory is the only error.
-pub(crate) fn marks_of(
+fn marks_of(
     alloc: Global,
     desks: usize,
     items: &[(usize, Request)],
@@ -22,7 +39,7 @@ pub(crate) fn marks_of(
 }
 
 /// How many marked desks stand before each desk. Want of memory is the only error.
-pub(crate) fn ranks_of(alloc: Global, marks: &[bool]) -> Result<Vec<usize>, AllocError>
+fn ranks_of(alloc: Global, marks: &[bool]) -> Result<Vec<usize>, AllocError>
     ensures { IfOk result (λ ranks. ranks.items ≡ ranks_from 0 marks.now) }
 {
     let mut ranks = Vec::with_capacity(alloc, marks.len())?;
@@ -37,7 +54,7 @@ pub(crate) fn ranks_of(alloc: Global, marks: &[bool]) -> Result<Vec<usize>, Allo
 }
 
 /// Has each item name its desk by rank.
-pub(crate) fn rename(ranks: &[usize], items: &mut [(usize, Request)])
+fn rename(ranks: &[usize], items: &mut [(usize, Request)])
     requires { All (λ x. x.0 < length ranks.now) items.old }
     ensures { items.new ≡ map (renamed ranks.now) items.old }
 {

@@ -7,7 +7,7 @@ ghost use Rattle.escrow_free.specs.Desks.{ArePassesServed, AreServed, HasDesk};
 use crate::audience::Audience;
 use crate::desk::{Desk, desks_of, served_desks};
 use crate::fault::FreeFault;
-use crate::marks::{marks_of, ranks_of, rename};
+use crate::marks::rank_desks;
 use crate::parting::{merge, part};
 use escrow_sessions::{Cause, NotFed, run_fed};
 use escrow_shards::{Gate, Pass, Shared, UnderLock};
@@ -71,9 +71,7 @@ fn serve_requests<
     if items.is_empty() {
         return Ok(desks);
     }
-    let marks = marks_of(alloc, desks.len(), items.as_slice())?;
-    let ranks = ranks_of(alloc, marks.as_slice())?;
-    rename(ranks.as_slice(), items.as_mut_slice());
+    let marks = rank_desks(alloc, desks.len(), &mut items)?;
     let (passes, idle) = part(alloc, marks.as_slice(), desks)?;
     let served = serve_passes(rt, alloc, shared, passes, items, gate)?;
     let desks = merge(alloc, marks.as_slice(), served, idle)?;

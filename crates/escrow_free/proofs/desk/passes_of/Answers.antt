@@ -1,14 +1,10 @@
-use Rattle.std.proofs.Common.{◌≡◌, ◌∷◌, [], length, ap, ◌∙◌, append_assoc, sym, add-one}
-use Rattle.std.specs.Vec.Iter.{into_iter_items}
-use Rattle.escrow_free.proofs.Marking.{one_less, passes_more}
+use Rattle.std.proofs.Common.{◌≡◌, rules}
+use Rattle.std.proofs.lemmas.Slice.Zip.{AllZip-map}
+use Rattle.escrow_script.proofs.OutcomeLemmas.{at_ok}
+use Rattle.escrow_free.specs.Desks.{pass_of}
+use Rattle.escrow_free.proofs.Marking.{zip_as}
 use Rattle.escrow_free.proofs.desk.passes_of.Goals as goal
 
-pub loop-desk-preserved : goal.loop-desk-preserved
-loop-desk-preserved c =
-    let at = c.loop-desk in
-    let steps : into_iter_items at.desk-iterator ≡ c.in-Some.desk ∷ into_iter_items c.next.new.self = c.in-Some.ensures.steps.0 in
-    record {
-      rest = append_assoc at.yielded (c.in-Some.desk ∷ []) _ ∙ rw (← steps) at.invariant.rest;
-      long = one_less _ _ _ _ at.invariant.long c.in-Some.ensures.steps.1 (ap length steps ∙ sym (add-one _));
-      so_far = c.in_ok-push.ensures.items ∙ passes_more at.yielded c.in-Some.desk at.passes.items at.invariant.so_far;
-    }
+pub returns : goal.returns
+returns c = at_ok _ _ c.each_of.result (λ passes made.
+    AllZip-map pass_of c.args.desks.items passes.items (zip_as _ (λ d p. p ≡ pass_of d) (λ x y one. search rules) c.args.desks.items passes.items made)) c.each_of.ensures

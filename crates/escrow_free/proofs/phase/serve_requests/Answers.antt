@@ -1,38 +1,25 @@
-use Rattle.std.proofs.Common.{◌≡◌, ◌<◌, ◌++◌, false, All, length, map, drop, take, replicate, sym, subst, ap, ap₂, ◌∙◌}
+use Rattle.std.proofs.Common.{◌≡◌, ◌<◌, false, All, length, map, replicate, sym, subst, ap, ap₂, ◌∙◌}
 use Rattle.std.specs.List.{AllByRecursion}
-use Rattle.std.proofs.lemmas.List.{take_at, length-map}
 use Rattle.escrow_shards.specs.Sharing.{HasSeat}
 use Rattle.escrow_free.specs.Desks.{ArePassesServed, AreServed}
 use Rattle.escrow_free.specs.Ranks.{marked_by, ranks_from, renamed, parted, rested, merged}
-use Rattle.escrow_free.proofs.Ranks.{marks_over, long_ranks, parted_seats, long_over, renamed_within, all_served}
+use Rattle.escrow_free.proofs.Ranks.{marks_over, parted_seats, renamed_within, all_served}
 use Rattle.escrow_free.proofs.phase.serve_requests.Goals as goal
 
-pub rename-requires : goal.rename-requires
-rename-requires g c =
-    let desks = c.args.desks.items in
-    let items = c.args.items.items in
-    let are : c.in_ok-marks.marks.items ≡ marks_over desks items =
-    c.in_ok-marks.ensures ∙ ap₂ (λ xs n. marked_by xs (replicate n false)) c.as_slice.ensures.value (c.len.ensures ∙ c.args.desks.ok.0) in
-    let ranks : c.as_slice-3.result.now ≡ ranks_from 0 (marks_over desks items) = c.as_slice-3.ensures.value ∙ c.in_ok-ranks.ensures ∙ ap (ranks_from 0) (c.as_slice-2.ensures.value ∙ are) in
-    let long : length desks ≡ length c.as_slice-3.result.now = sym (ap length ranks ∙ long_ranks 0 (marks_over desks items) ∙ long_over desks items c.requires.places) in
-    subst (λ n. All (λ x. x.0 < n) c.as_mut_slice.result.now) long (subst (λ xs. All (λ x. x.0 < length desks) xs) (sym c.as_mut_slice.ensures.value) c.requires.places)
+pub rank_desks-requires : goal.rank_desks-requires
+rank_desks-requires g c = subst (λ n. All (λ x. x.0 < n) c.args.items.items) (sym (c.len.ensures ∙ c.args.desks.ok.0)) c.requires.places
 
 pub serve_passes-requires-clause-seats : goal.serve_passes-requires-clause-seats
 serve_passes-requires-clause-seats g c κs within =
-    subst (AllByRecursion (HasSeat c.args.shared.now)) (sym c.in_ok-passes.ensures.passes) (parted_seats c.args.shared.now c.as_slice-4.result.now c.args.desks.items c.requires.seats)
+    subst (AllByRecursion (HasSeat c.args.shared.now)) (sym c.in_ok-passes.ensures.passes) (parted_seats c.args.shared.now c.as_slice.result.now c.args.desks.items c.requires.seats)
 
 pub serve_passes-requires-clause-places : goal.serve_passes-requires-clause-places
 serve_passes-requires-clause-places g c κs within =
     let desks = c.args.desks.items in
     let items = c.args.items.items in
-    let are : c.in_ok-marks.marks.items ≡ marks_over desks items =
-    c.in_ok-marks.ensures ∙ ap₂ (λ xs n. marked_by xs (replicate n false)) c.as_slice.ensures.value (c.len.ensures ∙ c.args.desks.ok.0) in
-    let ranks : c.as_slice-3.result.now ≡ ranks_from 0 (marks_over desks items) = c.as_slice-3.ensures.value ∙ c.in_ok-ranks.ensures ∙ ap (ranks_from 0) (c.as_slice-2.ensures.value ∙ are) in
-    let long : c.args.items.len ≡ length c.rename.new.items =
-    c.args.items.ok.0 ∙ sym (ap length c.rename.ensures ∙ length-map c.as_mut_slice.result.now (renamed c.as_slice-3.result.now) ∙ ap length c.as_mut_slice.ensures.value) in
-    let named : take c.args.items.len (c.rename.new.items ++ drop (length c.rename.new.items) items) ≡ map (renamed (ranks_from 0 (marks_over desks items))) items =
-    take_at c.rename.new.items (drop (length c.rename.new.items) items) c.args.items.len (sym long) ∙ c.rename.ensures ∙ ap₂ (λ rs xs. map (renamed rs) xs) ranks c.as_mut_slice.ensures.value in
-    let passes : c.in_ok-passes.passes.items ≡ parted (marks_over desks items) desks = c.in_ok-passes.ensures.passes ∙ ap (λ m. parted m desks) (c.as_slice-4.ensures.value ∙ are) in
+    let are : c.in_ok-marks.marks.items ≡ marks_over desks items = c.in_ok-marks.ensures.marks ∙ ap (λ n. marked_by items (replicate n false)) (c.len.ensures ∙ c.args.desks.ok.0) in
+    let named = c.in_ok-marks.ensures.items ∙ ap (λ m. map (renamed (ranks_from 0 m)) items) are in
+    let passes = c.in_ok-passes.ensures.passes ∙ ap (λ m. parted m desks) (c.as_slice.ensures.value ∙ are) in
     subst (λ xs. All (λ x. x.0 < length c.in_ok-passes.passes.items) xs) (sym named)
     (subst (λ ps. All (λ x. x.0 < length ps) (map (renamed (ranks_from 0 (marks_over desks items))) items)) (sym passes) (renamed_within desks items c.requires.places))
 
@@ -40,18 +27,13 @@ pub returns : goal.returns
 returns g c =
     let desks = c.args.desks.items in
     let items = c.args.items.items in
-    let are : c.in_ok-marks.marks.items ≡ marks_over desks items =
-    c.in_ok-marks.ensures ∙ ap₂ (λ xs n. marked_by xs (replicate n false)) c.as_slice.ensures.value (c.len.ensures ∙ c.args.desks.ok.0) in
-    let ranks : c.as_slice-3.result.now ≡ ranks_from 0 (marks_over desks items) = c.as_slice-3.ensures.value ∙ c.in_ok-ranks.ensures ∙ ap (ranks_from 0) (c.as_slice-2.ensures.value ∙ are) in
-    let long : c.args.items.len ≡ length c.rename.new.items =
-    c.args.items.ok.0 ∙ sym (ap length c.rename.ensures ∙ length-map c.as_mut_slice.result.now (renamed c.as_slice-3.result.now) ∙ ap length c.as_mut_slice.ensures.value) in
-    let named : take c.args.items.len (c.rename.new.items ++ drop (length c.rename.new.items) items) ≡ map (renamed (ranks_from 0 (marks_over desks items))) items =
-    take_at c.rename.new.items (drop (length c.rename.new.items) items) c.args.items.len (sym long) ∙ c.rename.ensures ∙ ap₂ (λ rs xs. map (renamed rs) xs) ranks c.as_mut_slice.ensures.value in
-    let passes : c.in_ok-passes.passes.items ≡ parted (marks_over desks items) desks = c.in_ok-passes.ensures.passes ∙ ap (λ m. parted m desks) (c.as_slice-4.ensures.value ∙ are) in
-    let idle : c.in_ok-passes.idle.items ≡ rested (marks_over desks items) desks = c.in_ok-passes.ensures.idle ∙ ap (λ m. rested m desks) (c.as_slice-4.ensures.value ∙ are) in
+    let are : c.in_ok-marks.marks.items ≡ marks_over desks items = c.in_ok-marks.ensures.marks ∙ ap (λ n. marked_by items (replicate n false)) (c.len.ensures ∙ c.args.desks.ok.0) in
+    let named = c.in_ok-marks.ensures.items ∙ ap (λ m. map (renamed (ranks_from 0 m)) items) are in
+    let passes = c.in_ok-passes.ensures.passes ∙ ap (λ m. parted m desks) (c.as_slice.ensures.value ∙ are) in
+    let idle : c.in_ok-passes.idle.items ≡ rested (marks_over desks items) desks = c.in_ok-passes.ensures.idle ∙ ap (λ m. rested m desks) (c.as_slice.ensures.value ∙ are) in
     let served = c.in_ok-served.served.items in
     let ended : c.in_ok-desks.desks.items ≡ merged (marks_over desks items) served (rested (marks_over desks items) desks) =
-    c.in_ok-desks.ensures ∙ ap₂ (λ m i. merged m served i) (c.as_slice-5.ensures.value ∙ are) idle in
+    c.in_ok-desks.ensures ∙ ap₂ (λ m i. merged m served i) (c.as_slice-2.ensures.value ∙ are) idle in
     let its : ArePassesServed (parted (marks_over desks items) desks) (map (renamed (ranks_from 0 (marks_over desks items))) items) served =
     subst (λ ps. ArePassesServed ps (map (renamed (ranks_from 0 (marks_over desks items))) items) served) passes (subst (λ xs. ArePassesServed c.in_ok-passes.passes.items xs served) named c.in_ok-served.ensures) in
     subst (AreServed desks items) (sym ended) (all_served desks items c.requires.places served its)

@@ -1,18 +1,15 @@
-use Rattle.std.proofs.Common.{◌≡◌, ◌<◌, List, ℕ, Some, ◌∷◌, length, set, slice_get, sym, ap, ap₂, subst, ◌∙◌}
+use Rattle.std.proofs.Common.{◌≡◌, ◌<◌, ℕ, Some, ◌∷◌, length, set, slice_get, sym, ap, ap₂, subst, ◌∙◌}
 use Rattle.std.proofs.Common.{vec_len}
 use Rattle.escrow_machine.specs.declared.reply.Reply.TheVariants as reply
 use Rattle.escrow_reply.specs.Text.{rendered}
 use Rattle.escrow_stats.specs.Text.{rendered_totals}
 use Rattle.escrow_shards.proofs.Places.{there}
 use Rattle.escrow_script.specs.Line.{database_name}
-use Rattle.escrow_script.specs.Written.{fault_refusal}
 use Rattle.escrow_script.proofs.OutcomeLemmas.{at_ok}
 use Rattle.escrow_free.specs.Desks.{desk_of}
-use Rattle.escrow_free.specs.FreeOutput.{refused}
 use Rattle.escrow_free.specs.Printing.{given_text, HasItsDesk, PrintsTo}
-use Rattle.escrow_free.specs.declared.plan.Planned.{Planned}
 use Rattle.escrow_free.specs.declared.plan.Planned.TheVariants as planned
-use Rattle.escrow_free.proofs.Prints.{no_line_prints, refused_prints, totals_print}
+use Rattle.escrow_free.proofs.Prints.{prints_as, no_line_prints, refused_prints, totals_print}
 use Rattle.escrow_free.proofs.Turns.{asked_prints}
 use Rattle.escrow_free.proofs.printing.print_line.Goals as goal
 
@@ -20,20 +17,15 @@ pub returns-in-NoLine-clause-printed : goal.returns-in-NoLine-clause-printed
 returns-in-NoLine-clause-printed c = at_ok _ _ c.render_lines.result (λ out e plan.
     let desks = c.args.desks.now.items in
     let totals = c.args.totals.now.items in
-    subst (λ (l : Planned). PrintsTo (l ∷ plan) desks totals out.items plan desks totals) (sym c.in-NoLine.is)
-    (subst (λ (o : List ℕ). PrintsTo (planned.NoLine ∷ plan) desks totals o plan desks totals) (sym e) (no_line_prints plan desks totals))) c.render_lines.ensures
+    prints_as c.args.line planned.NoLine plan plan desks desks totals totals out.items _ c.in-NoLine.is e (no_line_prints plan desks totals)) c.render_lines.ensures
 
 pub returns-in-Refused-clause-printed : goal.returns-in-Refused-clause-printed
 returns-in-Refused-clause-printed c = at_ok _ _ c.render.result (λ out e plan.
     let desks = c.args.desks.now.items in
     let totals = c.args.totals.now.items in
-    let place = c.in-Refused.database in
     let session = c.in-Refused.session in
-    let fault = c.in-Refused.fault in
-    let text : rendered c.database_name.result.now session (reply.Refused c.fault_refusal.result) ≡ refused place session (fault_refusal fault) =
-    ap₂ (λ name r. rendered name session (reply.Refused r)) c.database_name.ensures c.fault_refusal.ensures in
-    subst (λ (l : Planned). PrintsTo (l ∷ plan) desks totals out.items plan desks totals) (sym c.in-Refused.is)
-    (subst (λ (o : List ℕ). PrintsTo (planned.Refused place session fault ∷ plan) desks totals o plan desks totals) (sym (e ∙ text)) (refused_prints place session fault plan desks totals))) c.render.ensures
+    let text = ap₂ (λ name r. rendered name session (reply.Refused r)) c.database_name.ensures c.fault_refusal.ensures in
+    prints_as c.args.line _ plan plan desks desks totals totals out.items _ c.in-Refused.is (e ∙ text) (refused_prints c.in-Refused.database session c.in-Refused.fault plan desks totals)) c.render.ensures
 
 pub returns-in-Totals-clause-printed : goal.returns-in-Totals-clause-printed
 returns-in-Totals-clause-printed c = at_ok _ _ c.render-in-Totals.result (λ out e plan.
@@ -49,9 +41,7 @@ returns-in-Totals-clause-printed c = at_ok _ _ c.render-in-Totals.result (λ out
     subst (λ k. slice_get totals k ≡ Some tally) c.desk_of.ensures.place (there totals c.desk_of.result tally below c.index.ensures) in
     let text : rendered_totals c.database_name-in-Totals.result.now session tally ≡ rendered_totals (database_name place) session tally =
     ap (λ name. rendered_totals name session tally) c.database_name-in-Totals.ensures in
-    subst (λ (l : Planned). PrintsTo (l ∷ plan) desks totals out.items plan desks totals) (sym c.in-Totals.is)
-    (subst (λ (o : List ℕ). PrintsTo (planned.Totals place session ∷ plan) desks totals o plan desks totals) (sym (e ∙ text))
-    (totals_print place session tally plan desks totals c.desk_of.ensures.is_session at))) c.render-in-Totals.ensures
+    prints_as c.args.line _ plan plan desks desks totals totals out.items _ c.in-Totals.is (e ∙ text) (totals_print place session tally plan desks totals c.desk_of.ensures.is_session at)) c.render-in-Totals.ensures
 
 pub returns-in-Asked-clause-printed : goal.returns-in-Asked-clause-printed
 returns-in-Asked-clause-printed c = at_ok _ _ c.print_given.result (λ out e plan.
@@ -76,6 +66,5 @@ returns-in-Asked-clause-printed c = at_ok _ _ c.print_given.result (λ out e pla
     let prints = asked_prints place session desks totals desk new counted tally next plan c.desk_of-place.ensures.is_session at beside
     c.next_answer-given.ensures.pass c.next_answer-given.ensures.next c.next_answer-given.ensures.counted in
     let text : given_text c.database_name-in-Asked.result.now session next ≡ given_text (database_name place) session next = ap (λ name. given_text name session next) c.database_name-in-Asked.ensures in
-    subst (λ (l : Planned). PrintsTo (l ∷ plan) desks totals out.items plan (set desks c.desk_of-place.result new) (set totals c.desk_of-place.result tally)) (sym c.in-Asked.is)
-    (subst (λ (o : List ℕ). PrintsTo (planned.Asked place session ∷ plan) desks totals o plan (set desks c.desk_of-place.result new) (set totals c.desk_of-place.result tally)) (sym (e ∙ text))
-    (subst (λ (k : ℕ). PrintsTo (planned.Asked place session ∷ plan) desks totals (given_text (database_name place) session next) plan (set desks k new) (set totals k tally)) (sym is) prints))) c.print_given.ensures
+    prints_as c.args.line _ plan plan desks (set desks c.desk_of-place.result new) totals (set totals c.desk_of-place.result tally) out.items _ c.in-Asked.is (e ∙ text)
+    (subst (λ (k : ℕ). PrintsTo (planned.Asked place session ∷ plan) desks totals (given_text (database_name place) session next) plan (set desks k new) (set totals k tally)) (sym is) prints)) c.print_given.ensures

@@ -1,22 +1,23 @@
-use Rattle.std.proofs.Common.{[], refl, sym}
+use Rattle.std.proofs.Common.{ℕ, List, [], refl, sym}
 use Rattle.std.proofs.lemmas.List.{append-nil}
 use Rattle.escrow_script.specs.Line.{nothing, join}
+use Rattle.escrow_free.specs.Adding.{Adds}
+use Rattle.escrow_free.specs.Planning.{PlansBytes}
+use Rattle.escrow_free.specs.declared.plan.Plan.{Plan}
 use Rattle.escrow_free.proofs.plan.Plan.add.Goals as goal
 
-pub returns-in-Nothing : goal.returns-in-Nothing
-returns-in-Nothing c = record {
+-- a line that plans nothing adds nothing
+adds_none : (databases : ℕ) (bytes : List ℕ) (plan : Plan) → PlansBytes databases bytes [] [] → Adds databases bytes plan plan
+adds_none databases bytes plan plans = record {
   more_lines = [];
   more_items = [];
-  plans = (nothing, c.in-Nothing.ensures, (refl, refl));
-  lines = sym (append-nil c.args.self.now.lines.items);
-  items = sym (append-nil c.args.self.now.items.items);
+  plans = plans;
+  lines = sym (append-nil plan.lines.items);
+  items = sym (append-nil plan.items.items);
 }
 
+pub returns-in-Nothing : goal.returns-in-Nothing
+returns-in-Nothing c = adds_none _ _ c.args.self.now (nothing, c.in-Nothing.ensures, (refl, refl))
+
 pub returns-in-Join : goal.returns-in-Join
-returns-in-Join c = record {
-  more_lines = [];
-  more_items = [];
-  plans = (join, c.in-Join.ensures, (refl, refl));
-  lines = sym (append-nil c.args.self.now.lines.items);
-  items = sym (append-nil c.args.self.now.items.items);
-}
+returns-in-Join c = adds_none _ _ c.args.self.now (join, c.in-Join.ensures, (refl, refl))
