@@ -78,7 +78,7 @@ class Database:
 
     def reserve(self, asker, last, _, key, changes):
         if self.is_alone and key in SHARED and len(asker.held) < 256:
-            wanted = breach(self.row(key), self.changes_of(key), changes) or f"OK reserved {len(self.ids) + 1}"
+            wanted = violation(self.row(key), self.changes_of(key), changes) or f"OK reserved {len(self.ids) + 1}"
             expect(last == wanted, f"not {wanted}")
         if last.startswith("OK reserved "):
             number = int(last[12:])
@@ -279,7 +279,7 @@ def span(form, row, all_changes):
     return form(*row) + sum(min(add, 0) for add in adds), form(*row) + sum(max(add, 0) for add in adds)
 
 
-def breach(row, all_changes, changes):
+def violation(row, all_changes, changes):
     """The refusal of a new reservation of a row with these open ones, if there is one: the first check that could break, the low side first."""
     for name, (form, low, high) in CHECKS.items():
         least, greatest = (limit + form(*moved((0, 0), changes)) for limit in span(form, row, all_changes))

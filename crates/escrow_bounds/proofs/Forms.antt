@@ -4,7 +4,7 @@ use Rattle.std.specs.List.{AllByRecursion}
 use Rattle.std.specs.Prelude.{is_some, slice_get}
 use Rattle.std.proofs.lemmas.List.{get_or-map, take_all}
 use Rattle.std.proofs.lemmas.Simd.{map-map}
-use Rattle.escrow_num.specs.declared.refusal.Breach.{Breach}
+use Rattle.escrow_num.specs.declared.refusal.Violation.{Violation}
 use Rattle.escrow_num.proofs.Items.{all_at}
 use Rattle.escrow_checks.specs.declared.check.Check.{Check}
 use Rattle.escrow_checks.specs.Form.{form as form_of, IsCovered}
@@ -79,17 +79,17 @@ covered_at (first ∷ forms) amounts (suc place) form below at all = covered_at 
 -- ---- the verdict, form by form
 
 -- the first of the checks from a place on that is broken is the one there, or is behind it
-pub broken_here : (forms : List Tracked) (place : ℕ) (form : Tracked) (amounts changes : List ℤ) (reservations : List (List ℤ)) (found : Option Breach)
+pub broken_here : (forms : List Tracked) (place : ℕ) (form : Tracked) (amounts changes : List ℤ) (reservations : List (List ℤ)) (found : Option Violation)
     → place < length forms → form ≡ get_or forms place form → found ≡ broken_by form.check amounts changes reservations → is_some found ≡ true
     → found ≡ broken (checks_of (drop place forms)) amounts changes reservations
 broken_here forms place form amounts changes reservations None below at is some = absurd (cc)
-broken_here forms place form amounts changes reservations (Some breach) below at is some =
+broken_here forms place form amounts changes reservations (Some violation) below at is some =
     rw (drop-cons forms place form, ← at, ← is) refl
 
-pub broken_past : (forms : List Tracked) (place : ℕ) (form : Tracked) (amounts changes : List ℤ) (reservations : List (List ℤ)) (found : Option Breach)
+pub broken_past : (forms : List Tracked) (place : ℕ) (form : Tracked) (amounts changes : List ℤ) (reservations : List (List ℤ)) (found : Option Violation)
     → place < length forms → form ≡ get_or forms place form → found ≡ broken_by form.check amounts changes reservations → is_some found ≡ false
     → broken (checks_of (drop (place + 1) forms)) amounts changes reservations ≡ broken (checks_of (drop place forms)) amounts changes reservations
-broken_past forms place form amounts changes reservations (Some breach) below at is none = absurd (cc)
+broken_past forms place form amounts changes reservations (Some violation) below at is none = absurd (cc)
 broken_past forms place form amounts changes reservations None below at is none =
     rw (drop-cons forms place form, ← at, ← is, add-one) refl
 

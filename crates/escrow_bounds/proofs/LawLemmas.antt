@@ -6,7 +6,7 @@ use Rattle.std.proofs.Common.{◌≡◌, ◌∙◌, cond, refl, sym, ap, ap₂, 
 use Rattle.std.proofs.lemmas.Bool.{cond-true, cond-false, false≢true}
 use Rattle.std.proofs.Math.Dec.{eqb-suc-zero}
 use Rattle.std.proofs.lemmas.Int.{ints, clamps}
-use Rattle.escrow_num.specs.declared.refusal.Breach.{Breach}
+use Rattle.escrow_num.specs.declared.refusal.Violation.{Violation}
 use Rattle.escrow_num.specs.declared.reservation.Reservation.{Reservation}
 use Rattle.escrow_num.specs.declared.session.End.{End}
 use Rattle.escrow_num.specs.declared.span.Side.{Side}
@@ -65,9 +65,9 @@ same_grant_rule (check ∷ checks) amounts changes row held covered =
     let with_new = changed amounts changes in
     let fits : IsCovered check.coeffs with_new = omega (arith, length-changed amounts changes, covered.0) in
     let ends = same_extremes check.coeffs with_new row held fits in
-    let breach : ℤ → ℤ → Option Breach =
+    let violation : ℤ → ℤ → Option Violation =
     λ low high. option_map (λ (limit : Side × ℤ × ℤ). record { check = check.name; side = limit.0; worst = limit.1; limit = limit.2; scale = check.scale }) (first_broken_of check.span low high) in
-    ap₂ first_of_two (ap₂ breach ends.0 ends.1) (same_grant_rule checks amounts changes row held covered.1)
+    ap₂ first_of_two (ap₂ violation ends.0 ends.1) (same_grant_rule checks amounts changes row held covered.1)
 
 -- ---- one row and the others
 

@@ -23,7 +23,7 @@ use crate::changes::deltas;
 use crate::place::Place;
 pub use addition::Addition;
 use escrow_checks::Check;
-use escrow_num::{Amount, Breach, End, Name, Reservation, RowName, Wide};
+use escrow_num::{Amount, End, Name, Reservation, RowName, Violation, Wide};
 use indexmap::IndexMap;
 use std::alloc::{AllocError, Global};
 use std::marker::Model;
@@ -209,7 +209,7 @@ impl Bounds {
     /// The grant rule: what changes of the row whose place stands at an index would break of the first
     /// check, in the table's order, that they can break, over every choice of the reservations that the
     /// place counts which holds them. `None` where they are granted.
-    pub fn verdict_at(&self, index: usize, changes: &[Amount]) -> Option<Breach>
+    pub fn verdict_at(&self, index: usize, changes: &[Amount]) -> Option<Violation>
         requires { (row : RowName) × IsAt self.now row index }
         ensures { (row : RowName) (place : Kept) (reservations : List (List ℤ)) → IsAt self.now row index → place_at self.now row ≡ Some place → Counts place reservations
             → result ≡ broken (checks_of place.checks) place.amounts changes.now reservations }

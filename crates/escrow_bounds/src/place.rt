@@ -15,9 +15,11 @@ ghost use Rattle.escrow_bounds.specs.Recounting.{CanRecount, IsRecounted};
 ghost use Rattle.escrow_bounds.specs.declared.tracked.Tracked.{Tracked};
 
 use crate::changes::deltas;
-use crate::tracked::{Counting, Tracked, all_values, first_breach, push_check, recount, revalue};
+use crate::tracked::{
+    Counting, Tracked, all_values, first_violation, push_check, recount, revalue,
+};
 use escrow_checks::{Check, Coefficients, Sparse};
-use escrow_num::{Amount, Breach, End, Name, Reservation, RowName, Scale, Span, Wide};
+use escrow_num::{Amount, End, Name, Reservation, RowName, Scale, Span, Violation, Wide};
 use std::alloc::{AllocError, Global};
 use std::marker::Model;
 
@@ -120,21 +122,21 @@ impl Place {
     }
 
     /// What changes would break of the first check that they can break, or `None`.
-    pub(crate) fn verdict(&self, changes: &[Amount]) -> Option<Breach>
+    pub(crate) fn verdict(&self, changes: &[Amount]) -> Option<Violation>
         ensures { (reservations : List (List ℤ)) → Counts self.now reservations
             → result ≡ broken (checks_of self.now.checks) self.now.amounts changes.now reservations }
     {
-        first_breach(&self.checks, &self.values, changes)
+        first_violation(&self.checks, &self.values, changes)
     }
 
     /// What the reservations that are counted could break of the first check that they can break,
     /// among some that stand one behind another, or `None`.
-    pub(crate) fn breach(&self, first: usize, count: usize) -> Option<Breach>
+    pub(crate) fn violation(&self, first: usize, count: usize) -> Option<Violation>
         requires { first + count ≤ length self.now.checks }
         ensures { (reservations : List (List ℤ)) → Counts self.now reservations
             → result ≡ broken (take count (drop first (checks_of self.now.checks))) self.now.amounts [] reservations }
     {
-        first_breach(
+        first_violation(
             &self.checks[first..first + count],
             &self.values[first..first + count],
             &[],

@@ -9,7 +9,7 @@ ghost use Rattle.escrow_bounds.specs.Kept.{checks_of};
 ghost use Rattle.escrow_bounds.specs.Recounting.{counted_before, counted_after, AreRecounted, HasRoom};
 
 use escrow_checks::{Check, Sparse, Spread};
-use escrow_num::{Amount, Breach, Span, Wide};
+use escrow_num::{Amount, Span, Violation, Wide};
 use std::alloc::{AllocError, Global};
 
 /// Whether one more reservation is counted, or one of them no more.
@@ -131,7 +131,11 @@ pub(crate) fn revalue(values: &mut [Wide], forms: &[Tracked], amounts: &[Amount]
 /// What changes would break of the first check that they can break, over every choice of the
 /// reservations that are counted, where these are the values of the forms. `None` where they break
 /// nothing.
-pub(crate) fn first_breach(forms: &[Tracked], values: &[Wide], changes: &[Amount]) -> Option<Breach>
+pub(crate) fn first_violation(
+    forms: &[Tracked],
+    values: &[Wide],
+    changes: &[Amount],
+) -> Option<Violation>
     requires each { length values.now ≡ length forms.now }
     requires within { AllByRecursion IsContribution values.now }
     ensures { (amounts : List ℤ) (reservations : List (List ℤ)) → values.now ≡ map (λ check. form check.coeffs amounts) (checks_of forms.now)
@@ -140,9 +144,9 @@ pub(crate) fn first_breach(forms: &[Tracked], values: &[Wide], changes: &[Amount
 {
     let listed = Sparse::of(changes);
     for (i, form) in forms.iter().enumerate() {
-        let breach = form.check.breach_from(values[i], &listed, &form.spread);
-        if breach.is_some() {
-            return breach;
+        let violation = form.check.violation_from(values[i], &listed, &form.spread);
+        if violation.is_some() {
+            return violation;
         }
     }
     None

@@ -12,7 +12,7 @@ use Rattle.sqlite.specs.Steps.{FailsToCommit}
 use Rattle.sqlite.proofs.StateLemmas.{survives_then}
 use Rattle.escrow_cells.specs.declared.step.Step.{Step}
 use Rattle.escrow_cells.specs.Step.{Does}
-use Rattle.escrow_cells.specs.Calls.{Alters}
+use Rattle.escrow_cells.specs.Calls.{Transacts}
 use Rattle.escrow_cells.specs.Inside.{Acts, IsPending, GoesOn}
 use Rattle.escrow_cells.proofs.Steps.{does_more, does_none}
 
@@ -84,7 +84,7 @@ acts_failed old mid new Makes before one = record { done = λ e. absurd (false�
 
 module _ (old last new : State) (settled : IsTrue old.is_open → old.now ≡ old.committed) (Makes : Database → Database → Type 0) where
   -- an error drops the transaction, which rolls back
-  pub undone : (mid : State) → IsPending old mid → IsPending mid last → (HasCleanDisk new → IsRolledBack last new) → Survives last new (λ _. ⊥) → Alters old new false Makes
+  pub undone : (mid : State) → IsPending old mid → IsPending mid last → (HasCleanDisk new → IsRolledBack last new) → Survives last new (λ _. ⊥) → Transacts old new false Makes
   undone mid one two back quiet =
       let pending = pending_then old mid last one two in
       let kept = λ (clean : HasCleanDisk new). pending.kept (omega (arith, quiet.clean)) in
@@ -118,7 +118,7 @@ module _ (old last new : State) (settled : IsTrue old.is_open → old.now ≡ ol
     crash = survives_then old last new _ _ _ (λ _ db none. absurd none) (λ clean db is. (last.now, held.made (was_clean clean), is)) held.pending.survives quiet
 
     pub ends : (r : Result (Unit {0}) Error) → (HasCleanDisk new → OnOk r (IsTrue last.in_transaction × Shows last new last.now last.now false × KeepsCounts last new × (new.marks ≡ [])))
-        → (HasCleanDisk new → IfErr r (FailsToCommit last new)) → Alters old new (is_ok r) Makes
+        → (HasCleanDisk new → IfErr r (FailsToCommit last new)) → Transacts old new (is_ok r) Makes
     ends (Ok x) commits fail = record {
       done = λ _ clean. let shows = (commits clean).1 in (shows.is_open, subst (Makes old.now) (sym shows.now_is) (held.made (was_clean clean)));
       refused = λ e. absurd (false≢true (sym e));

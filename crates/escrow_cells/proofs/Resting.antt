@@ -14,7 +14,7 @@ use Rattle.sqlite.specs.State.{State, HasCleanDisk, Survives, Fails, IsUnchanged
 use Rattle.sqlite.proofs.StateLemmas.{survives_weaker}
 use Rattle.sqlite.proofs.Callers.{unchanged_then}
 use Rattle.escrow_cells.specs.Query.{OnlyReads}
-use Rattle.escrow_cells.specs.Read.{Rests}
+use Rattle.escrow_cells.specs.Read.{LeavesIdle}
 
 -- as it was, or rolled back to what was committed
 abbrev pub IsKept : State → State → Type 0
@@ -71,11 +71,11 @@ begun_reading g sql params old new only (inr h) = absurd (never (understood old.
     never (Err e) is some = some
 
 -- a call that keeps the store, outside a transaction, leaves it as it was
-pub rests_from : {S : Type 0} (g : Ghosts S) (old new : Held S) → (IsTrue (state g old).is_open → (state g old).now ≡ (state g old).committed) → new.in_transaction ≡ false
-    → Survives (state g old) (state g new) (λ _. ⊥) → (HasCleanDisk (state g new) → IsKept (state g old) (state g new)) → Rests g old new
-rests_from g old new settled outside survives kept = record {
+pub idle_from : {S : Type 0} (g : Ghosts S) (old new : Held S) → (IsTrue (state g old).is_open → (state g old).now ≡ (state g old).committed) → new.in_transaction ≡ false
+    → Survives (state g old) (state g new) (λ _. ⊥) → (HasCleanDisk (state g new) → IsKept (state g old) (state g new)) → LeavesIdle g old new
+idle_from g old new settled outside survives kept = record {
   outside = outside;
-  looks = record {
+  only_reads = record {
     same = λ usable. same (kept usable.0) usable.1;
     usable = λ usable. (omega (arith, survives.clean, usable.0), was_open (kept usable.0) usable.1);
     survives = survives;
@@ -91,7 +91,7 @@ rests_from g old new settled outside survives kept = record {
     same (inr h) opened = (h.undone opened).0 ∙ sym (settled (h.was_open opened))
 
 -- a query that does not begin
-pub refused_rests : {S X : Type 0} (g : Ghosts S) (sql : List ℕ) (params : Row) (only : OnlyReads sql) (old new : Held S) (e : Error) → (IsTrue (state g old).is_open → (state g old).now ≡ (state g old).committed)
-    → IsRefused {S = S} g {X = X} sql params old (Err e) new → old.in_transaction ≡ false → Rests g old new
-refused_rests g sql params only old new e settled h outside = rests_from g old new settled (h.mode outside) (survives_reading sql params (state g old) (state g new) only h.survives)
+pub refused_leaves_idle : {S X : Type 0} (g : Ghosts S) (sql : List ℕ) (params : Row) (only : OnlyReads sql) (old new : Held S) (e : Error) → (IsTrue (state g old).is_open → (state g old).now ≡ (state g old).committed)
+    → IsRefused {S = S} g {X = X} sql params old (Err e) new → old.in_transaction ≡ false → LeavesIdle g old new
+refused_leaves_idle g sql params only old new e settled h outside = idle_from g old new settled (h.mode outside) (survives_reading sql params (state g old) (state g new) only h.survives)
     (λ clean. failed_kept sql params (state g old) (state g new) only e (h.err clean))

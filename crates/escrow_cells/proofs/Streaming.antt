@@ -8,8 +8,8 @@ use Rattle.sqlite.specs.State.{State, HasCleanDisk, Survives, IsUnchanged, IsRol
 use Rattle.sqlite.proofs.StateLemmas.{survives_then}
 use Rattle.sqlite.proofs.Callers.{unchanged_then}
 use Rattle.escrow_cells.specs.Query.{OnlyReads}
-use Rattle.escrow_cells.specs.Read.{Rests, Takes}
-use Rattle.escrow_cells.proofs.Resting.{IsKept, begun_reading, survives_reading, shown_from, rests_from}
+use Rattle.escrow_cells.specs.Read.{LeavesIdle, Takes}
+use Rattle.escrow_cells.proofs.Resting.{IsKept, begun_reading, survives_reading, shown_from, idle_from}
 
 rolled_back_then : (a b c : State) → IsUnchanged a b → IsRolledBack b c → IsRolledBack a c
 rolled_back_then a b c same back = record {
@@ -68,13 +68,13 @@ module _ {S K : Type 0} (g : Ghosts S) (HasTaken : K → K → List Row → Type
         let was = so_far.given (early clean) in
         (was.0, shown_from sql params (state g first) (state g now) (state g next) was.0 only (so_far.unchanged (early clean)) (gives sql params was.0 was.1), was.2 begun before h)
 
-    pub taking_rests : (IsTrue (state g first).is_open → (state g first).now ≡ (state g first).committed) → (now.in_transaction ≡ false → next.in_transaction ≡ false)
-        → (HasCleanDisk (state g next) → IsKept (state g now) (state g next)) → first.in_transaction ≡ false → Rests g first next
-    taking_rests settled mode kept outside = rests_from g first next settled (mode (so_far.mode outside)) survives_both (λ clean. kept_then _ (state g now) _ (so_far.unchanged (early clean)) (kept clean))
+    pub taking_leaves_idle : (IsTrue (state g first).is_open → (state g first).now ≡ (state g first).committed) → (now.in_transaction ≡ false → next.in_transaction ≡ false)
+        → (HasCleanDisk (state g next) → IsKept (state g now) (state g next)) → first.in_transaction ≡ false → LeavesIdle g first next
+    taking_leaves_idle settled mode kept outside = idle_from g first next settled (mode (so_far.mode outside)) survives_both (λ clean. kept_then _ (state g now) _ (so_far.unchanged (early clean)) (kept clean))
 
   -- the sink fails, or the rows have no end
-  pub stopped_rests : (now : Held S) (sink : K) → Taking now sink → (IsTrue (state g first).is_open → (state g first).now ≡ (state g first).committed) → first.in_transaction ≡ false → Rests g first now
-  stopped_rests now sink so_far settled outside = rests_from g first now settled (so_far.mode outside) so_far.survives (λ clean. inl (so_far.unchanged clean))
+  pub stopped_leaves_idle : (now : Held S) (sink : K) → Taking now sink → (IsTrue (state g first).is_open → (state g first).now ≡ (state g first).committed) → first.in_transaction ≡ false → LeavesIdle g first now
+  stopped_leaves_idle now sink so_far settled outside = idle_from g first now settled (so_far.mode outside) so_far.survives (λ clean. inl (so_far.unchanged clean))
 
 -- What is known of each answer is known of the rows that were taken. The parameters are equal to those that it speaks of.
 pub taken_answers : {X E K : Type 0} (HasTaken : K → K → List Row → Type 0) (sql : List ℕ) {ps qs : Row} (old new : State) (fresh last : K) {Premise : Type 0} {Answers : List Row → Type 0} (r : Result X E)

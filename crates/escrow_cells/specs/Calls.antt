@@ -10,7 +10,7 @@ IsUsable s = HasCleanDisk s × IsTrue s.is_open
 
 -- a call only reads: where the store can be used after it, it holds what it held, and a crash leaves what
 -- it might have left before
-pub record Looks (old new : State) : Type 0 where
+pub record OnlyReads (old new : State) : Type 0 where
   pub same : IsUsable new → new.now ≡ old.now
   pub usable : IsUsable new → IsUsable old
   pub survives : Survives old new (λ _. ⊥)
@@ -19,7 +19,7 @@ pub record Looks (old new : State) : Type 0 where
 -- is open, its database is one that the call makes of the old one, and a crash leaves this. Else the store
 -- holds what it held. Whatever comes of it, a crash leaves what it might have left before, or a database
 -- that the call makes.
-pub record Alters (old new : State) (is_done : Bool) (Makes : Database → Database → Type 0) : Type 0 where
+pub record Transacts (old new : State) (is_done : Bool) (Makes : Database → Database → Type 0) : Type 0 where
   pub done : is_done ≡ true → HasCleanDisk new → IsTrue new.is_open × Makes old.now new.now
   pub refused : is_done ≡ false → IsUsable new → new.now ≡ old.now
   pub usable : IsUsable new → IsUsable old

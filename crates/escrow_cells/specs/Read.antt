@@ -5,7 +5,7 @@ use Rattle.sqlite_value.specs.declared.value.Value.{Value}
 use Rattle.sqlite_value.specs.Order.{Row, column, value_cmp}
 use Rattle.sqlite_trees.specs.declared.store.Store.{Ghosts}
 use Rattle.sqlite.specs.Held.{Held, state}
-use Rattle.escrow_cells.specs.Calls.{Looks}
+use Rattle.escrow_cells.specs.Calls.{OnlyReads}
 use Rattle.escrow_cells.specs.Step.{same, is_in, is_of}
 
 -- the cells of the row of a key, each by its place and its value, in order of place
@@ -32,9 +32,9 @@ pub record AreTabs (tabs : List Row) (answer : List Row) : Type 0 where
   pub in_order : IsSorted (on (λ r. column r 0) value_cmp) answer
 
 -- a call that only reads leaves a connection outside a transaction, and its store as it was
-pub record Rests {S : Type 0} (g : Ghosts S) (old new : Held S) : Type 0 where
+pub record LeavesIdle {S : Type 0} (g : Ghosts S) (old new : Held S) : Type 0 where
   pub outside : new.in_transaction ≡ false
-  pub looks : Looks (state g old) (state g new)
+  pub only_reads : OnlyReads (state g old) (state g new)
 
 -- a sink that had taken some rows, from when it was a first one on, has then taken those of an answer too
 abbrev pub Takes : {K : Type 0} → (K → K → List Row → Type 0) → (List Row → Type 0) → K → K → Type 0

@@ -1,7 +1,7 @@
 //! A new store.
 ghost use Rattle.std.specs.Prelude.{◌≡◌, false, is_ok, IsTrue};
 ghost use Rattle.sqlite.specs.Held.{state};
-ghost use Rattle.escrow_cells.specs.Calls.{Alters};
+ghost use Rattle.escrow_cells.specs.Calls.{Transacts};
 ghost use Rattle.escrow_cells.specs.Tables.{no_schema};
 ghost use Rattle.escrow_cells.specs.Store.{MakesStore};
 ghost use Rattle.escrow_cells.specs.Inside.{Acts};
@@ -38,7 +38,7 @@ fn make_tables<S: Alter>(tx: &mut Transaction<'_, S>) -> Result<(), Error>
 /// Makes an empty store of a database without objects, in one transaction: all of it, or nothing. A
 /// connection that is inside a transaction is refused.
 pub fn create<S: Alter>(conn: &mut Connection<S>) -> Result<(), Failure>
-    ensures writes { Alters (state S.Store conn.old) (state S.Store conn.new) (is_ok result) MakesStore }
+    ensures writes { Transacts (state S.Store conn.old) (state S.Store conn.new) (is_ok result) MakesStore }
     ensures mode { conn.old.in_transaction ≡ false → conn.new.in_transaction ≡ false }
 {
     if !conn.is_autocommit() {
@@ -51,7 +51,7 @@ pub fn create<S: Alter>(conn: &mut Connection<S>) -> Result<(), Failure>
 fn create_outside<S: Alter>(conn: &mut Connection<S>) -> Result<(), Error>
     requires outside { conn.old.in_transaction ≡ false }
     requires settled { IsTrue (state S.Store conn.old).is_open → (state S.Store conn.old).now ≡ (state S.Store conn.old).committed }
-    ensures writes { Alters (state S.Store conn.old) (state S.Store conn.new) (is_ok result) MakesStore }
+    ensures writes { Transacts (state S.Store conn.old) (state S.Store conn.new) (is_ok result) MakesStore }
     ensures mode { conn.new.in_transaction ≡ false }
 {
     let mut tx = conn.transaction();

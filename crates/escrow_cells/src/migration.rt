@@ -1,7 +1,7 @@
 //! A store of another format.
 ghost use Rattle.std.specs.Prelude.{◌≡◌, false, is_ok, IsTrue};
 ghost use Rattle.sqlite.specs.Held.{state};
-ghost use Rattle.escrow_cells.specs.Calls.{Alters};
+ghost use Rattle.escrow_cells.specs.Calls.{Transacts};
 ghost use Rattle.escrow_cells.specs.Store.{Migrates};
 ghost use Rattle.escrow_cells.specs.Inside.{Acts};
 
@@ -21,7 +21,7 @@ fn update_format<S: Alter>(tx: &mut Transaction<'_, S>) -> Result<(), Error>
 /// Brings a store of whatever format to the known one, in one transaction: its tables and cells stay. A
 /// connection that is inside a transaction is refused.
 pub fn migrate<S: Alter>(conn: &mut Connection<S>) -> Result<(), Failure>
-    ensures writes { Alters (state S.Store conn.old) (state S.Store conn.new) (is_ok result) Migrates }
+    ensures writes { Transacts (state S.Store conn.old) (state S.Store conn.new) (is_ok result) Migrates }
     ensures mode { conn.old.in_transaction ≡ false → conn.new.in_transaction ≡ false }
 {
     if !conn.is_autocommit() {
@@ -34,7 +34,7 @@ pub fn migrate<S: Alter>(conn: &mut Connection<S>) -> Result<(), Failure>
 fn migrate_outside<S: Alter>(conn: &mut Connection<S>) -> Result<(), Error>
     requires outside { conn.old.in_transaction ≡ false }
     requires settled { IsTrue (state S.Store conn.old).is_open → (state S.Store conn.old).now ≡ (state S.Store conn.old).committed }
-    ensures writes { Alters (state S.Store conn.old) (state S.Store conn.new) (is_ok result) Migrates }
+    ensures writes { Transacts (state S.Store conn.old) (state S.Store conn.new) (is_ok result) Migrates }
     ensures mode { conn.new.in_transaction ≡ false }
 {
     let mut tx = conn.transaction();

@@ -6,7 +6,7 @@ ghost use Rattle.sqlite.specs.Held.{state};
 ghost use Rattle.sqlite.specs.State.{HasCleanDisk, Shown};
 ghost use Rattle.escrow_cells.specs.Numbered.{is_above, with_number, with_numbers};
 ghost use Rattle.escrow_cells.specs.Query.{OnlyReads};
-ghost use Rattle.escrow_cells.specs.Read.{Rests};
+ghost use Rattle.escrow_cells.specs.Read.{LeavesIdle};
 ghost use Rattle.escrow_cells.specs.Store.{HasTables, NumbersDiffer, AreAllNumbered};
 ghost use Rattle.escrow_cells.specs.Tables.{meta_tree, tab_tree, cell_tree};
 
@@ -65,7 +65,7 @@ impl Sink for Numbers {
 /// twice in one of them.
 pub fn are_numbered<S: Alter>(conn: &mut Connection<S>) -> Result<bool, Failure>
     ensures numbered { HasCleanDisk (state S.Store conn.new) → IfOk result (λ are. HasTables (state S.Store conn.old).now.schema → (IsTrue are ↔ AreAllNumbered (state S.Store conn.old).now)) }
-    ensures rests { conn.old.in_transaction ≡ false → Rests S.Store conn.old conn.new }
+    ensures leaves_idle { conn.old.in_transaction ≡ false → LeavesIdle S.Store conn.old conn.new }
     ensures is_open { HasCleanDisk (state S.Store conn.new) → OnOk result (IsTrue (state S.Store conn.new).is_open) }
 {
     if !conn.is_autocommit() {
@@ -79,7 +79,7 @@ pub fn are_numbered<S: Alter>(conn: &mut Connection<S>) -> Result<bool, Failure>
 
 fn are_metas_numbered<S: Alter>(conn: &mut Connection<S>) -> Result<bool, Failure>
     ensures numbered { HasCleanDisk (state S.Store conn.new) → IfOk result (λ are. HasTables (state S.Store conn.old).now.schema → (IsTrue are ↔ NumbersDiffer ((state S.Store conn.old).now.trees meta_tree))) }
-    ensures rests { conn.old.in_transaction ≡ false → Rests S.Store conn.old conn.new }
+    ensures leaves_idle { conn.old.in_transaction ≡ false → LeavesIdle S.Store conn.old conn.new }
     ensures is_open { HasCleanDisk (state S.Store conn.new) → OnOk result (IsTrue (state S.Store conn.new).is_open) }
 {
     numbers_rise(conn, "SELECT rowid FROM META ORDER BY rowid")
@@ -87,7 +87,7 @@ fn are_metas_numbered<S: Alter>(conn: &mut Connection<S>) -> Result<bool, Failur
 
 fn are_tabs_numbered<S: Alter>(conn: &mut Connection<S>) -> Result<bool, Failure>
     ensures numbered { HasCleanDisk (state S.Store conn.new) → IfOk result (λ are. HasTables (state S.Store conn.old).now.schema → (IsTrue are ↔ NumbersDiffer ((state S.Store conn.old).now.trees tab_tree))) }
-    ensures rests { conn.old.in_transaction ≡ false → Rests S.Store conn.old conn.new }
+    ensures leaves_idle { conn.old.in_transaction ≡ false → LeavesIdle S.Store conn.old conn.new }
     ensures is_open { HasCleanDisk (state S.Store conn.new) → OnOk result (IsTrue (state S.Store conn.new).is_open) }
 {
     numbers_rise(conn, "SELECT rowid FROM TAB ORDER BY rowid")
@@ -95,7 +95,7 @@ fn are_tabs_numbered<S: Alter>(conn: &mut Connection<S>) -> Result<bool, Failure
 
 fn are_cells_numbered<S: Alter>(conn: &mut Connection<S>) -> Result<bool, Failure>
     ensures numbered { HasCleanDisk (state S.Store conn.new) → IfOk result (λ are. HasTables (state S.Store conn.old).now.schema → (IsTrue are ↔ NumbersDiffer ((state S.Store conn.old).now.trees cell_tree))) }
-    ensures rests { conn.old.in_transaction ≡ false → Rests S.Store conn.old conn.new }
+    ensures leaves_idle { conn.old.in_transaction ≡ false → LeavesIdle S.Store conn.old conn.new }
     ensures is_open { HasCleanDisk (state S.Store conn.new) → OnOk result (IsTrue (state S.Store conn.new).is_open) }
 {
     numbers_rise(conn, "SELECT rowid FROM CELL ORDER BY rowid")
@@ -105,7 +105,7 @@ fn are_cells_numbered<S: Alter>(conn: &mut Connection<S>) -> Result<bool, Failur
 fn numbers_rise<S: Alter>(conn: &mut Connection<S>, sql: &str) -> Result<bool, Failure>
     requires { OnlyReads sql.now }
     ensures rise { HasCleanDisk (state S.Store conn.new) → IfOk result (λ rise. (rows : List Cells) × Shown sql.now [] (state S.Store conn.old) (state S.Store conn.new) rows × (rise ≡ (with_numbers (record { last = None; rise = true }) rows).rise)) }
-    ensures rests { conn.old.in_transaction ≡ false → Rests S.Store conn.old conn.new }
+    ensures leaves_idle { conn.old.in_transaction ≡ false → LeavesIdle S.Store conn.old conn.new }
     ensures is_open { HasCleanDisk (state S.Store conn.new) → OnOk result (IsTrue (state S.Store conn.new).is_open) }
 {
     let mut numbers = Numbers {

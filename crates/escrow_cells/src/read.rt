@@ -7,7 +7,7 @@ ghost use Rattle.sqlite.specs.State.{HasCleanDisk, Shown};
 ghost use Rattle.sqlite.specs.Values.{bound};
 ghost use Rattle.escrow_cells.specs.Step.{kept, same, is_in, is_at};
 ghost use Rattle.escrow_cells.specs.Store.{HasTables, IsStore, cells, metas, tabs};
-ghost use Rattle.escrow_cells.specs.Read.{AreOfRow, AreOfTable, AreKeys, AreTablesOfCells, AreTabs, Rests, Takes};
+ghost use Rattle.escrow_cells.specs.Read.{AreOfRow, AreOfTable, AreKeys, AreTablesOfCells, AreTabs, LeavesIdle, Takes};
 ghost use Rattle.escrow_cells.specs.Span.{AreOfSpan};
 ghost use Rattle.escrow_cells.specs.Query.{OnlyReads};
 
@@ -26,7 +26,7 @@ fn read_all<S: Alter>(
 ) -> Result<Vec<Row>, Failure>
     requires { OnlyReads sql.now }
     ensures shown { HasCleanDisk (state S.Store conn.new) → IfOk result (λ rows. Shown sql.now (bound params.now) (state S.Store conn.old) (state S.Store conn.new) rows.items) }
-    ensures rests { conn.old.in_transaction ≡ false → Rests S.Store conn.old conn.new }
+    ensures leaves_idle { conn.old.in_transaction ≡ false → LeavesIdle S.Store conn.old conn.new }
     ensures is_open { HasCleanDisk (state S.Store conn.new) → OnOk result (IsTrue (state S.Store conn.new).is_open) }
 {
     if !conn.is_autocommit() {
@@ -47,7 +47,7 @@ pub(crate) fn read_each<S: Alter, K: Sink>(
 ) -> Result<(), Failure>
     requires { OnlyReads sql.now }
     ensures taken { HasCleanDisk (state S.Store conn.new) → OnOk result (Takes K.has_taken (Shown sql.now (bound params.now) (state S.Store conn.old) (state S.Store conn.new)) sink.old sink.new) }
-    ensures rests { conn.old.in_transaction ≡ false → Rests S.Store conn.old conn.new }
+    ensures leaves_idle { conn.old.in_transaction ≡ false → LeavesIdle S.Store conn.old conn.new }
     ensures is_open { HasCleanDisk (state S.Store conn.new) → OnOk result (IsTrue (state S.Store conn.new).is_open) }
 {
     if !conn.is_autocommit() {
@@ -73,7 +73,7 @@ pub(crate) fn read_each<S: Alter, K: Sink>(
 /// Gives a sink the rows of META, in any order: each has its K and its V.
 pub fn metas<S: Alter, K: Sink>(conn: &mut Connection<S>, sink: &mut K) -> Result<(), Failure>
     ensures rows { HasCleanDisk (state S.Store conn.new) → OnOk result (HasTables (state S.Store conn.old).now.schema → Takes K.has_taken (IsPermutation (metas (state S.Store conn.old).now)) sink.old sink.new) }
-    ensures rests { conn.old.in_transaction ≡ false → Rests S.Store conn.old conn.new }
+    ensures leaves_idle { conn.old.in_transaction ≡ false → LeavesIdle S.Store conn.old conn.new }
     ensures is_open { HasCleanDisk (state S.Store conn.new) → OnOk result (IsTrue (state S.Store conn.new).is_open) }
 {
     read_each(conn, "SELECT K, V FROM META", &[], sink)
@@ -82,7 +82,7 @@ pub fn metas<S: Alter, K: Sink>(conn: &mut Connection<S>, sink: &mut K) -> Resul
 /// The rows of TAB, in order of ID: each has its ID, its NAME and its DDL.
 pub fn tabs<S: Alter>(conn: &mut Connection<S>) -> Result<Vec<Row>, Failure>
     ensures rows { HasCleanDisk (state S.Store conn.new) → IfOk result (λ rows. IsStore (state S.Store conn.old).now → AreTabs (tabs (state S.Store conn.old).now) rows.items) }
-    ensures rests { conn.old.in_transaction ≡ false → Rests S.Store conn.old conn.new }
+    ensures leaves_idle { conn.old.in_transaction ≡ false → LeavesIdle S.Store conn.old conn.new }
     ensures is_open { HasCleanDisk (state S.Store conn.new) → OnOk result (IsTrue (state S.Store conn.new).is_open) }
 {
     read_all(conn, "SELECT ID, NAME, DDL FROM TAB ORDER BY ID", &[])
@@ -95,7 +95,7 @@ pub fn row_cells<S: Alter>(
     key: Datum<'_>,
 ) -> Result<Vec<Row>, Failure>
     ensures rows { HasCleanDisk (state S.Store conn.new) → IfOk result (λ rows. IsStore (state S.Store conn.old).now → AreOfRow (Int table) (kept key.entry) (cells (state S.Store conn.old).now) rows.items) }
-    ensures rests { conn.old.in_transaction ≡ false → Rests S.Store conn.old conn.new }
+    ensures leaves_idle { conn.old.in_transaction ≡ false → LeavesIdle S.Store conn.old conn.new }
     ensures is_open { HasCleanDisk (state S.Store conn.new) → OnOk result (IsTrue (state S.Store conn.new).is_open) }
 {
     read_all(
@@ -115,7 +115,7 @@ pub fn span_cells<S: Alter>(
     last: i64,
 ) -> Result<Vec<Row>, Failure>
     ensures rows { HasCleanDisk (state S.Store conn.new) → IfOk result (λ rows. IsStore (state S.Store conn.old).now → AreOfSpan first last (Int table) (kept key.entry) (cells (state S.Store conn.old).now) rows.items) }
-    ensures rests { conn.old.in_transaction ≡ false → Rests S.Store conn.old conn.new }
+    ensures leaves_idle { conn.old.in_transaction ≡ false → LeavesIdle S.Store conn.old conn.new }
     ensures is_open { HasCleanDisk (state S.Store conn.new) → OnOk result (IsTrue (state S.Store conn.new).is_open) }
 {
     read_all(
@@ -133,7 +133,7 @@ pub fn table_cells<S: Alter, K: Sink>(
     sink: &mut K,
 ) -> Result<(), Failure>
     ensures rows { HasCleanDisk (state S.Store conn.new) → OnOk result (IsStore (state S.Store conn.old).now → Takes K.has_taken (AreOfTable (Int table) (cells (state S.Store conn.old).now)) sink.old sink.new) }
-    ensures rests { conn.old.in_transaction ≡ false → Rests S.Store conn.old conn.new }
+    ensures leaves_idle { conn.old.in_transaction ≡ false → LeavesIdle S.Store conn.old conn.new }
     ensures is_open { HasCleanDisk (state S.Store conn.new) → OnOk result (IsTrue (state S.Store conn.new).is_open) }
 {
     read_each(
@@ -152,7 +152,7 @@ pub fn key_cells<S: Alter, K: Sink>(
     sink: &mut K,
 ) -> Result<(), Failure>
     ensures rows { HasCleanDisk (state S.Store conn.new) → OnOk result (IsStore (state S.Store conn.old).now → Takes K.has_taken (AreKeys (Int table) (Int place) (cells (state S.Store conn.old).now)) sink.old sink.new) }
-    ensures rests { conn.old.in_transaction ≡ false → Rests S.Store conn.old conn.new }
+    ensures leaves_idle { conn.old.in_transaction ≡ false → LeavesIdle S.Store conn.old conn.new }
     ensures is_open { HasCleanDisk (state S.Store conn.new) → OnOk result (IsTrue (state S.Store conn.new).is_open) }
 {
     read_each(
@@ -170,7 +170,7 @@ pub fn count_keys<S: Alter>(
     place: i64,
 ) -> Result<usize, Failure>
     ensures count { HasCleanDisk (state S.Store conn.new) → IfOk result (λ n. IsStore (state S.Store conn.old).now → n ≡ length (filter (λ c. is_in (Int table) c && same (column c 2) (Int place)) (cells (state S.Store conn.old).now))) }
-    ensures rests { conn.old.in_transaction ≡ false → Rests S.Store conn.old conn.new }
+    ensures leaves_idle { conn.old.in_transaction ≡ false → LeavesIdle S.Store conn.old conn.new }
     ensures is_open { HasCleanDisk (state S.Store conn.new) → OnOk result (IsTrue (state S.Store conn.new).is_open) }
 {
     let mut counter = Counter { rows: 0 };
@@ -186,7 +186,7 @@ pub fn count_cells<S: Alter>(
     place: i64,
 ) -> Result<usize, Failure>
     ensures count { HasCleanDisk (state S.Store conn.new) → IfOk result (λ n. IsStore (state S.Store conn.old).now → n ≡ length (filter (is_at (Int table) (kept key.entry) (Int place)) (cells (state S.Store conn.old).now))) }
-    ensures rests { conn.old.in_transaction ≡ false → Rests S.Store conn.old conn.new }
+    ensures leaves_idle { conn.old.in_transaction ≡ false → LeavesIdle S.Store conn.old conn.new }
     ensures is_open { HasCleanDisk (state S.Store conn.new) → OnOk result (IsTrue (state S.Store conn.new).is_open) }
 {
     let mut counter = Counter { rows: 0 };
@@ -202,7 +202,7 @@ pub fn count_cells<S: Alter>(
 /// Gives a sink the table of each cell, in any order.
 pub fn cell_tables<S: Alter, K: Sink>(conn: &mut Connection<S>, sink: &mut K) -> Result<(), Failure>
     ensures rows { HasCleanDisk (state S.Store conn.new) → OnOk result (HasTables (state S.Store conn.old).now.schema → Takes K.has_taken (AreTablesOfCells (cells (state S.Store conn.old).now)) sink.old sink.new) }
-    ensures rests { conn.old.in_transaction ≡ false → Rests S.Store conn.old conn.new }
+    ensures leaves_idle { conn.old.in_transaction ≡ false → LeavesIdle S.Store conn.old conn.new }
     ensures is_open { HasCleanDisk (state S.Store conn.new) → OnOk result (IsTrue (state S.Store conn.new).is_open) }
 {
     read_each(conn, "SELECT TAB FROM CELL", &[], sink)

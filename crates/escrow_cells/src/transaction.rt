@@ -1,6 +1,6 @@
 ghost use Rattle.std.specs.Prelude.{◌≡◌, false, is_ok, IsTrue};
 ghost use Rattle.sqlite.specs.Held.{state};
-ghost use Rattle.escrow_cells.specs.Calls.{Alters};
+ghost use Rattle.escrow_cells.specs.Calls.{Transacts};
 ghost use Rattle.escrow_cells.specs.Step.{Does};
 
 use crate::failure::failure_of;
@@ -12,7 +12,7 @@ use sqlite::{Alter, Connection, Error};
 /// Does steps, one after another, in one transaction: all of them, or none. A connection that is
 /// inside a transaction is refused.
 pub fn run<S: Alter>(conn: &mut Connection<S>, steps: &[Step<'_>]) -> Result<(), Failure>
-    ensures writes { Alters (state S.Store conn.old) (state S.Store conn.new) (is_ok result) (Does steps.now) }
+    ensures writes { Transacts (state S.Store conn.old) (state S.Store conn.new) (is_ok result) (Does steps.now) }
     ensures mode { conn.old.in_transaction ≡ false → conn.new.in_transaction ≡ false }
 {
     if !conn.is_autocommit() {
@@ -25,7 +25,7 @@ pub fn run<S: Alter>(conn: &mut Connection<S>, steps: &[Step<'_>]) -> Result<(),
 fn transact<S: Alter>(conn: &mut Connection<S>, steps: &[Step<'_>]) -> Result<(), Error>
     requires outside { conn.old.in_transaction ≡ false }
     requires settled { IsTrue (state S.Store conn.old).is_open → (state S.Store conn.old).now ≡ (state S.Store conn.old).committed }
-    ensures writes { Alters (state S.Store conn.old) (state S.Store conn.new) (is_ok result) (Does steps.now) }
+    ensures writes { Transacts (state S.Store conn.old) (state S.Store conn.new) (is_ok result) (Does steps.now) }
     ensures mode { conn.new.in_transaction ≡ false }
 {
     let mut tx = conn.transaction();

@@ -9,7 +9,7 @@ use Rattle.escrow_num.specs.Span.{Holds, low_broken, high_broken, first_of_two, 
 use Rattle.escrow_num.specs.declared.span.Span.{Span}
 use Rattle.escrow_num.specs.declared.span.Side.{Side}
 use Rattle.escrow_num.specs.declared.span.Side.TheVariants.{Low, High}
-use Rattle.escrow_num.specs.declared.refusal.Breach.{Breach}
+use Rattle.escrow_num.specs.declared.refusal.Violation.{Violation}
 use Rattle.escrow_checks.specs.declared.check.Check.{Check}
 use Rattle.escrow_checks.specs.Form.{form, IsCovered, changed, all_changed}
 use Rattle.escrow_checks.specs.Sublists.{sublists}
@@ -178,12 +178,12 @@ found_is_reached span coeffs with_new reservations found e =
       | inr at ↦ let known = high_beyond span span.hi high found refl at in (known.1, reached_at coeffs with_new reservations high found.1 known.0 (greatest_reached coeffs with_new reservations))
     ]
 
-pub refused_names_a_choice : (check : Check) (amounts changes : List ℤ) (reservations : List (List ℤ)) (breach : Breach)
-    → broken_by check amounts changes reservations ≡ Some breach
-    → (breach.check ≡ check.name) × IsBeyond check.span breach.side breach.worst breach.limit × IsReached check.coeffs (changed amounts changes) reservations breach.worst
-    × (breach.scale ≡ check.scale)
-refused_names_a_choice check amounts changes reservations breach refused =
+pub refused_names_a_choice : (check : Check) (amounts changes : List ℤ) (reservations : List (List ℤ)) (violation : Violation)
+    → broken_by check amounts changes reservations ≡ Some violation
+    → (violation.check ≡ check.name) × IsBeyond check.span violation.side violation.worst violation.limit × IsReached check.coeffs (changed amounts changes) reservations violation.worst
+    × (violation.scale ≡ check.scale)
+refused_names_a_choice check amounts changes reservations violation refused =
     let with_new = changed amounts changes in
-    let found = map_some _ (first_broken_of check.span (least check.coeffs with_new reservations) (greatest check.coeffs with_new reservations)) breach refused in
+    let found = map_some _ (first_broken_of check.span (least check.coeffs with_new reservations) (greatest check.coeffs with_new reservations)) violation refused in
     let known = found_is_reached check.span check.coeffs with_new reservations found.0 found.1 in
     rw found.2 (refl, known.0, known.1, refl)

@@ -1,7 +1,7 @@
 -- Believed: when a row meets a check, and the grant rule.
 use Rattle.std.specs.Prelude.{ℤ, List, [], ◌∷◌, All, Option, None, option_map}
 use Rattle.escrow_num.specs.Span.{Holds, first_broken_of, first_of_two}
-use Rattle.escrow_num.specs.declared.refusal.Breach.{Breach}
+use Rattle.escrow_num.specs.declared.refusal.Violation.{Violation}
 use Rattle.escrow_checks.specs.declared.check.Check.{Check}
 use Rattle.escrow_checks.specs.Form.{form, changed, all_changed}
 use Rattle.escrow_checks.specs.Sublists.{sublists}
@@ -17,7 +17,7 @@ AlwaysMeets check amounts reservations = All (λ chosen. Meets check (all_change
 
 -- what a new reservation breaks of a check: the first limit beyond which an extreme lies, over the
 -- choices of the open reservations that hold the new one
-abbrev pub broken_by : Check → List ℤ → List ℤ → List (List ℤ) → Option Breach
+abbrev pub broken_by : Check → List ℤ → List ℤ → List (List ℤ) → Option Violation
 broken_by check amounts changes reservations =
     let with_new = changed amounts changes in
     option_map (λ limit. record { check = check.name; side = limit.0; worst = limit.1; limit = limit.2; scale = check.scale })
@@ -25,6 +25,6 @@ broken_by check amounts changes reservations =
 
 -- the grant rule: the first check, in the table's order, that a new reservation breaks; it is
 -- granted where there is none
-abbrev pub broken : List Check → List ℤ → List ℤ → List (List ℤ) → Option Breach
+abbrev pub broken : List Check → List ℤ → List ℤ → List (List ℤ) → Option Violation
 broken [] amounts changes reservations = None
 broken (check ∷ checks) amounts changes reservations = first_of_two (broken_by check amounts changes reservations) (broken checks amounts changes reservations)

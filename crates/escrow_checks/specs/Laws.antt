@@ -9,7 +9,7 @@ use Rattle.escrow_num.specs.Wide.{IsWide}
 use Rattle.escrow_num.specs.declared.span.Span.{Span}
 use Rattle.escrow_num.specs.declared.span.Side.{Side}
 use Rattle.escrow_num.specs.declared.span.Side.TheVariants.{Low, High}
-use Rattle.escrow_num.specs.declared.refusal.Breach.{Breach}
+use Rattle.escrow_num.specs.declared.refusal.Violation.{Violation}
 use Rattle.escrow_num.specs.declared.wide.TheConstants.Wide.{MAX as MAX_WIDE}
 use Rattle.escrow_sql.specs.declared.statement.CheckText.{CheckText}
 use Rattle.escrow_checks.specs.declared.check.Check.{Check}
@@ -146,10 +146,10 @@ IsBeyond span High worst limit = (span.hi ≡ Some limit) × (limit <ℤ worst)
 -- what is refused names the check, the side and its limit, a value beyond that limit to which some choice with
 -- the new reservation brings the form, and the check's scale, of which both numbers are units
 abbrev pub RefusedNamesAChoice : Type 0
-RefusedNamesAChoice = (check : Check) (amounts changes : List ℤ) (reservations : List (List ℤ)) (breach : Breach)
-    → broken_by check amounts changes reservations ≡ Some breach
-    → (breach.check ≡ check.name) × IsBeyond check.span breach.side breach.worst breach.limit × IsReached check.coeffs (changed amounts changes) reservations breach.worst
-    × (breach.scale ≡ check.scale)
+RefusedNamesAChoice = (check : Check) (amounts changes : List ℤ) (reservations : List (List ℤ)) (violation : Violation)
+    → broken_by check amounts changes reservations ≡ Some violation
+    → (violation.check ≡ check.name) × IsBeyond check.span violation.side violation.worst violation.limit × IsReached check.coeffs (changed amounts changes) reservations violation.worst
+    × (violation.scale ≡ check.scale)
 
 -- ---- of the ends of reservations
 

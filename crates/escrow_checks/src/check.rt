@@ -5,7 +5,7 @@ ghost use Rattle.escrow_checks.specs.Contribution.{IsProduct, IsContribution};
 use crate::coefficients::Coefficients;
 use crate::sparse::Sparse;
 use crate::spread::Spread;
-use escrow_num::{Amount, Breach, Copied, Name, Scale, Seq, Span, Wide, are_same};
+use escrow_num::{Amount, Copied, Name, Scale, Seq, Span, Violation, Wide, are_same};
 use std::alloc::{AllocError, Global};
 
 /// A check of a table: the sum of coefficient times amount, over the RESERVABLE columns of a row,
@@ -94,16 +94,26 @@ impl Check {
     /// What a new reservation breaks of this check: the first limit, the low one first, beyond which
     /// an extreme lies, over every choice of the open reservations that holds the new one. `None`
     /// where it breaks nothing, which is how it is granted.
-    pub fn breach(&self, amounts: &[Amount], changes: &[Amount], spread: &Spread) -> Option<Breach>
+    pub fn violation(
+        &self,
+        amounts: &[Amount],
+        changes: &[Amount],
+        spread: &Spread,
+    ) -> Option<Violation>
         ensures { (reservations : List (List ℤ)) → IsCovered self.now.coeffs amounts.now
             → IsSpread self.now.coeffs reservations spread.now
             → result ≡ broken_by self.now amounts.now changes.now reservations }
     {
-        self.breach_from(self.form(amounts), &Sparse::of(changes), spread)
+        self.violation_from(self.form(amounts), &Sparse::of(changes), spread)
     }
 
     /// The same, from the value that the form has at the row's amounts.
-    pub fn breach_from(&self, value: Wide, changes: &Sparse<'_>, spread: &Spread) -> Option<Breach>
+    pub fn violation_from(
+        &self,
+        value: Wide,
+        changes: &Sparse<'_>,
+        spread: &Spread,
+    ) -> Option<Violation>
         requires { IsContribution value }
         ensures { (amounts : List ℤ) (reservations : List (List ℤ)) → value ≡ form self.now.coeffs amounts
             → IsCovered self.now.coeffs amounts → IsSpread self.now.coeffs reservations spread.now
@@ -112,7 +122,7 @@ impl Check {
         let with_new = value.plus(self.form_of(changes));
         let (least, greatest) = spread.around(with_new);
         let (side, worst, limit) = self.span.first_broken(least, greatest)?;
-        Some(Breach {
+        Some(Violation {
             check: self.name,
             side,
             worst,

@@ -9,7 +9,7 @@ use Rattle.sqlite.specs.Held.{state}
 use Rattle.sqlite.specs.State.{HasCleanDisk}
 use Rattle.sqlite_trees.specs.declared.store.Store.{Ghosts}
 use Rattle.escrow_num.specs.declared.failure.Failure.{Failure}
-use Rattle.escrow_num.specs.declared.refusal.Breach.{Breach}
+use Rattle.escrow_num.specs.declared.refusal.Violation.{Violation}
 use Rattle.escrow_num.specs.declared.refusal.Refusal.{Refusal}
 use Rattle.escrow_num.specs.declared.refusal.Refusal.TheVariants as refusal
 use Rattle.escrow_num.specs.declared.reservation.Reservation.{Reservation}
@@ -48,28 +48,28 @@ use Rattle.escrow_schema.proofs.PrintBack.{sound_of}
 use Rattle.escrow_journal.specs.Open.{Open}
 use Rattle.escrow_tables.specs.Calls.{Reads, Writes}
 use Rattle.escrow_tables.specs.Committed.{Committed}
-use Rattle.escrow_tables.specs.Judged.{first_breach}
+use Rattle.escrow_tables.specs.Judged.{first_violation}
 use Rattle.escrow_machine.specs.declared.reply.Reply.{Reply}
 use Rattle.escrow_machine.specs.declared.reply.Reply.TheVariants as reply
 use Rattle.escrow_machine.specs.Accepted.{IsAccepted, IsRefusal, PassesEarly}
-use Rattle.escrow_machine.specs.Altered.{added_breach, after_alter, drop_refusal_of, new_checks, rows_breach, table_with_check, table_without_check}
+use Rattle.escrow_machine.specs.Altered.{added_violation, after_alter, drop_refusal_of, new_checks, rows_violation, table_with_check, table_without_check}
 use Rattle.escrow_machine.specs.State.{State, is_open}
 use Rattle.escrow_machine.specs.Promised.{asks_store}
 use Rattle.escrow_machine.specs.Step.{step, fails_for}
-use Rattle.escrow_machine.specs.Turn.{turn_of}
+use Rattle.escrow_machine.specs.Transition.{transition_of}
 use Rattle.escrow_machine.specs.Valid.{AreSafeRows, IsOrderly, IsValid}
 use Rattle.escrow_machine.proofs.Refusals.{first_behind, first_in_front}
 use Rattle.escrow_machine.proofs.Safe.{row_unique, some_at, some_from}
 use Rattle.escrow_machine.proofs.Shapes.{covered}
 use Rattle.escrow_machine.proofs.ValidAlter.{add_check_valid, drop_check_valid, alter_orderly, is_added, name_found}
-use Rattle.escrow_core.specs.Altering.{Adds, Judge, CanJudge, adds, alter_refusal, amounts_by, breach_by, drops, new_ones, table_without}
+use Rattle.escrow_core.specs.Altering.{Adds, Judge, CanJudge, adds, alter_refusal, amounts_by, violation_by, drops, new_ones, table_without}
 use Rattle.escrow_core.specs.declared.database.added.AddedChecks.{AddedChecks}
 use Rattle.escrow_core.specs.declared.recent.ReadRow.{ReadRow}
 use Rattle.escrow_core.specs.Inside.{amounts_named, seen_of, AreOfTables, HaveAmounts, Holds, IsOfTable, Keeps}
 use Rattle.escrow_core.specs.Reserved.{Reserved, ArePlaced}
 use Rattle.escrow_core.specs.Seen.{Seen}
 use Rattle.escrow_core.specs.Serves.{Serves}
-use Rattle.escrow_core.specs.Serving.{Looks, answer_of}
+use Rattle.escrow_core.specs.Serving.{OnlyReads, answer_of}
 use Rattle.escrow_core.proofs.Places.{gone_amounts, gone_placed, gone_tables, none_placed}
 use Rattle.escrow_core.proofs.Serving.{accepted_step, forgotten, handed_on, late_applies, none_applies, read_keeps, still_clean, write_failed, wrote, wrote_keeps}
 use Rattle.escrow_core.proofs.Shown.{all_take, free_list}
@@ -79,15 +79,15 @@ use Rattle.escrow_core.proofs.Standing.{standing}
 
 -- what is refused whatever is asked
 pub refused_first : (s : State) (session : ℕ) (table : List ℕ) (asked : TableChange) (r : Refusal) → alter_refusal session table s ≡ Some r
-    → first_refusal (turn_of s session (statement.Alter (record { table = table; change = asked }))).early ≡ Some r
-unfolding turn_of
+    → first_refusal (transition_of s session (statement.Alter (record { table = table; change = asked }))).early ≡ Some r
+unfolding transition_of
 refused_first s session table asked r first =
     first_in_front (refuse_if (is_open session s) refusal.TransactionOpen ∷ refuse_if (is_none (table_named s.catalog table)) refusal.NoSuchTable ∷ []) (drop_refusal_of s table asked ∷ []) r first
 
 -- what is left to refuse early
 left_to_change : (s : State) (session : ℕ) (table : List ℕ) (asked : TableChange) → alter_refusal session table s ≡ None
-    → first_refusal (turn_of s session (statement.Alter (record { table = table; change = asked }))).early ≡ first_refusal (drop_refusal_of s table asked ∷ [])
-unfolding turn_of
+    → first_refusal (transition_of s session (statement.Alter (record { table = table; change = asked }))).early ≡ first_refusal (drop_refusal_of s table asked ∷ [])
+unfolding transition_of
 left_to_change s session table asked none =
     first_behind (refuse_if (is_open session s) refusal.TransactionOpen ∷ refuse_if (is_none (table_named s.catalog table)) refusal.NoSuchTable ∷ []) (drop_refusal_of s table asked ∷ []) none
 
@@ -96,11 +96,11 @@ add_early s session table text none = left_to_change s session table (change.Add
 
 -- a constraint is dropped where a declared check has its name
 pub drop_early : (s : State) (session : ℕ) (table name : List ℕ) (old : TableDef) (index : ℕ) → alter_refusal session table s ≡ None → table_named s.catalog table ≡ Some old
-    → declared_place old name ≡ Some index → first_refusal (turn_of s session (drops table name)).early ≡ None
+    → declared_place old name ≡ Some index → first_refusal (transition_of s session (drops table name)).early ≡ None
 drop_early s session table name old index none named at = left_to_change s session table (change.Drop name) none ∙ rw (named, at) refl
 
 pub drop_lacks : (s : State) (session : ℕ) (table name : List ℕ) (old : TableDef) → alter_refusal session table s ≡ None → table_named s.catalog table ≡ Some old
-    → declared_place old name ≡ None → first_refusal (turn_of s session (drops table name)).early ≡ Some refusal.NoSuchConstraint
+    → declared_place old name ≡ None → first_refusal (transition_of s session (drops table name)).early ≡ Some refusal.NoSuchConstraint
 drop_lacks s session table name old none named at = left_to_change s session table (change.Drop name) none ∙ rw (named, at) refl
 
 -- ADD: LATE REFUSALS
@@ -108,13 +108,13 @@ drop_lacks s session table name old none named at = left_to_change s session tab
 -- a bad definition
 pub add_bad : (s : State) (session : ℕ) (table : List ℕ) (text : CheckText) (old : TableDef) → PassesEarly s session (adds table text) → table_named s.catalog table ≡ Some old
     → with_check old text ≡ None → IsRefusal s session (adds table text) refusal.BadDefinition
-unfolding turn_of
+unfolding transition_of
 add_bad s session table text old early named bad = late_applies s session (adds table text) refusal.BadDefinition early (rw (named, bad) refl)
 
 -- what is left to refuse where there is a table with the checks
 left_to_rows : (s : State) (session : ℕ) (table : List ℕ) (text : CheckText) (made : TableDef) → table_with_check s table text ≡ Some made
-    → first_refusal (turn_of s session (adds table text)).late ≡ first_refusal (option_map refusal.Check (added_breach s table text) ∷ [])
-unfolding turn_of
+    → first_refusal (transition_of s session (adds table text)).late ≡ first_refusal (option_map refusal.Check (added_violation s table text) ∷ [])
+unfolding transition_of
 left_to_rows s session table text made is = rw is refl
 
 -- THE CHECKS THAT ARE ADDED
@@ -168,8 +168,8 @@ more_checks old text made is_table e =
 
 -- where it judges each row as the machine does, so it judges them all
 judged : (judge : Judge) (checks : List Check) (reservations : List Reservation) (rows : List Row)
-    → ((row : Row) → Has rows row → breach_by judge row ≡ broken checks row.amounts [] (map (changes_to row) reservations))
-    → first_breach (breach_by judge) rows ≡ rows_breach checks reservations rows
+    → ((row : Row) → Has rows row → violation_by judge row ≡ broken checks row.amounts [] (map (changes_to row) reservations))
+    → first_violation (violation_by judge) rows ≡ rows_violation checks reservations rows
 judged judge checks reservations [] each = refl
 judged judge checks reservations (row ∷ rows) each =
     ap₂ first_of_two (each row (inl refl)) (judged judge checks reservations rows (λ other has. each other (inr has)))
@@ -213,7 +213,7 @@ goes_none Step (Some old) after is goes = absurd (cc)
 -- a row that isn't reserved is judged by its own amounts, with no open reservation
 pub free_judged : (added : AddedChecks) (reserved : Reserved) (addition : Places) (row : Row) → CanJudge added reserved addition
     → list_any (λ r. same_row r.row row.name) reserved.txns.reservations ≡ false
-    → breach_by (record { added = added; reservations = reserved.txns.reservations; addition = addition }) row ≡ broken (new_ones added) row.amounts [] []
+    → violation_by (record { added = added; reservations = reserved.txns.reservations; addition = addition }) row ≡ broken (new_ones added) row.amounts [] []
 free_judged added reserved addition row can free =
     let reservations = reserved.txns.reservations in
     let none : place_at reserved.places row.name ≡ None = none_placed reservations reserved.places row.name can.placed free in
@@ -242,7 +242,7 @@ module _ (s : State) (old : TableDef) (text : CheckText) (added : AddedChecks) (
   judge = record { added = added; reservations = reserved.txns.reservations; addition = addition }
 
   -- a row of the table is judged as the machine does
-  judged_row : (row : Row) → Has (rows_of s.rows old.name) row → breach_by judge row ≡ broken (new_ones added) row.amounts [] (map (changes_to row) s.reservations)
+  judged_row : (row : Row) → Has (rows_of s.rows old.name) row → violation_by judge row ≡ broken (new_ones added) row.amounts [] (map (changes_to row) s.reservations)
   judged_row row has =
       let there = has_filter (λ (r : Row). bytes_eq r.name.table old.name) s.rows row has in
       let named : table_named s.catalog row.name.table ≡ Some old = ap (table_named s.catalog) (name_same row.name.table old.name there.1) ∙ are.named in
@@ -258,7 +258,7 @@ module _ (s : State) (old : TableDef) (text : CheckText) (added : AddedChecks) (
       ∙ sym (same_grant_rule (new_ones added) row.amounts [] row.name s.reservations covers)
 
   -- so are all of them
-  pub judged_rows : first_breach (breach_by judge) (rows_of s.rows old.name) ≡ added_breach s old.name text
+  pub judged_rows : first_violation (violation_by judge) (rows_of s.rows old.name) ≡ added_violation s old.name text
   judged_rows =
       judged judge (new_ones added) s.reservations (rows_of s.rows old.name) judged_row
       ∙ sym (rw (are.named, new.checks) refl)
@@ -266,10 +266,10 @@ module _ (s : State) (old : TableDef) (text : CheckText) (added : AddedChecks) (
 -- ADD: WHAT THE ROWS DECIDE
 
 module _ (s : State) (session : ℕ) (table : List ℕ) (text : CheckText) (made : TableDef) (early : PassesEarly s session (adds table text)) (is : table_with_check s table text ≡ Some made) where
-  pub add_refused : (breach : Breach) → added_breach s table text ≡ Some breach → IsRefusal s session (adds table text) (refusal.Check breach)
-  add_refused breach broken = late_applies s session (adds table text) (refusal.Check breach) early (left_to_rows s session table text made is ∙ rw broken refl)
+  pub add_refused : (violation : Violation) → added_violation s table text ≡ Some violation → IsRefusal s session (adds table text) (refusal.Check violation)
+  add_refused violation broken = late_applies s session (adds table text) (refusal.Check violation) early (left_to_rows s session table text made is ∙ rw broken refl)
 
-  pub add_accepted : added_breach s table text ≡ None → IsAccepted s session (adds table text)
+  pub add_accepted : added_violation s table text ≡ None → IsAccepted s session (adds table text)
   add_accepted none = none_applies s session (adds table text) early (left_to_rows s session table text made is ∙ rw none refl)
 
 -- THE STEP
@@ -280,20 +280,20 @@ altered_state s made = record s { catalog = with_altered made s.catalog }
 
 add_step : (s : State) (session : ℕ) (table : List ℕ) (text : CheckText) (made : TableDef) → table_with_check s table text ≡ Some made → IsAccepted s session (adds table text)
     → step s session (adds table text) ≡ (reply.Altered table, altered_state s made)
-unfolding turn_of
+unfolding transition_of
 add_step s session table text made is accepted =
     accepted_step s session (adds table text) accepted
     ∙ ap (λ (o : Option TableDef). (reply.Altered table, after_alter s o)) is
 
 drop_step : (s : State) (session : ℕ) (table name : List ℕ) (made : TableDef) → table_without_check s table name ≡ Some made → IsAccepted s session (drops table name)
     → step s session (drops table name) ≡ (reply.Altered table, altered_state s made)
-unfolding turn_of
+unfolding transition_of
 drop_step s session table name made is accepted =
     accepted_step s session (drops table name) accepted
     ∙ ap (λ (o : Option TableDef). (reply.Altered table, after_alter s o)) is
 
 drop_accepted : (s : State) (session : ℕ) (table name : List ℕ) → PassesEarly s session (drops table name) → IsAccepted s session (drops table name)
-unfolding turn_of
+unfolding transition_of
 drop_accepted s session table name early = none_applies s session (drops table name) early refl
 
 -- NOTHING REFUSES IT
@@ -331,7 +331,7 @@ may_drop_check g session table name d old made index early named at is is_table 
 -- with the checks that are added, where no row breaks one
 pub may_add_check : {S : Type 0} (g : Ghosts S) (session : ℕ) (table : List ℕ) (text : CheckText) (d : Seen S) (old : TableDef) (added : AddedChecks)
     → PassesEarly d.state session (adds table text) → table_named d.state.catalog table ≡ Some old → IsTable old → Adds old text added
-    → (HasCleanDisk (state g d.store) → added_breach d.state table text ≡ None) → MayAlter g session (adds table text) d table old added.table
+    → (HasCleanDisk (state g d.store) → added_violation d.state table text ≡ None) → MayAlter g session (adds table text) d table old added.table
 may_add_check g session table text d old added early named is_table are unbroken =
     let s = d.state in
     let is : table_with_check s table text ≡ Some added.table = ap (option_and_then (λ (t : TableDef). with_check t text)) named ∙ are.made in
@@ -439,11 +439,11 @@ can_judge catalog table old text added reserved addition named is_table are plac
 -- and the answer is the machine's
 pub rows_judged : (s : State) (table : List ℕ) (old : TableDef) (text : CheckText) (added : AddedChecks) (reserved : Reserved) (addition : Places) → table_named s.catalog table ≡ Some old → IsTable old
     → Adds old text added → CanJudge added reserved addition → reserved.txns.reservations ≡ s.reservations → AreSafeRows s.catalog s.rows s.reservations → HaveAmounts s.rows reserved.places
-    → first_breach (breach_by (record { added = added; reservations = reserved.txns.reservations; addition = addition })) (rows_of s.rows table) ≡ added_breach s table text
+    → first_violation (violation_by (record { added = added; reservations = reserved.txns.reservations; addition = addition })) (rows_of s.rows table) ≡ added_violation s table text
 rows_judged s table old text added reserved addition named is_table adds can held safe amounts =
     let called : old.name ≡ table = name_found s.catalog table old named in
     let here : table_named s.catalog old.name ≡ Some old = ap (table_named s.catalog) called ∙ named in
-    subst (λ (n : List ℕ). first_breach (breach_by (record { added = added; reservations = reserved.txns.reservations; addition = addition })) (rows_of s.rows n) ≡ added_breach s n text) called
+    subst (λ (n : List ℕ). first_violation (violation_by (record { added = added; reservations = reserved.txns.reservations; addition = addition })) (rows_of s.rows n) ≡ added_violation s n text) called
     (judged_rows s old text added reserved addition (record { named = here; is_table = is_table; adds = adds; can = can; held = held; safe = safe; amounts = amounts }))
 
 -- the judge's table is the one that stands
@@ -452,8 +452,8 @@ pub judges_old : (catalog : List TableDef) (table : List ℕ) (old : TableDef) (
 judges_old catalog table old text added named is_table are = named ∙ ap (λ (t : TableDef). Some t) (sym (are_new old text added is_table are).before)
 
 -- where the rows are read, the state stays
-pub read_looks : {S : Type 0} (g : Ghosts S) (t after : Committed S) (o : Open) → Reads g t after → Looks g (seen_of t o) (seen_of after o)
-read_looks g t after o reads = record {
+pub read_only_reads : {S : Type 0} (g : Ghosts S) (t after : Committed S) (o : Open) → Reads g t after → OnlyReads g (seen_of t o) (seen_of after o)
+read_only_reads g t after o reads = record {
   same = ap (λ (c : _ × _). record (seen_of t o).state { catalog = c.0; rows = c.1 }) (ap₂ (λ a b. (a, b)) reads.catalog reads.rows);
   survives = reads.survives;
 }

@@ -39,7 +39,7 @@ use Rattle.escrow_machine.specs.Accepted.{PassesEarly}
 use Rattle.escrow_machine.specs.State.{State}
 use Rattle.escrow_schema.specs.Rows.{applied}
 use Rattle.escrow_machine.specs.Step.{step, StepOrRefusal}
-use Rattle.escrow_machine.specs.Turn.{turn_of, after_commit, after_rollback}
+use Rattle.escrow_machine.specs.Transition.{transition_of, after_commit, after_rollback}
 use Rattle.escrow_machine.specs.Valid.{IsOrderly, IsValid}
 use Rattle.escrow_machine.proofs.Applying.{applied_none}
 use Rattle.escrow_core.proofs.Served.{commit_serves}
@@ -60,12 +60,12 @@ done session o = reply.Committed (length (own session o.reservations))
 
 -- COMMIT is refused nothing early
 passes : (s : State) (session : ℕ) → PassesEarly s session statement.Commit
-unfolding turn_of
+unfolding transition_of
 passes s session = refl
 
 -- its step
 commit_step : (s : State) (session : ℕ) → step s session statement.Commit ≡ (reply.Committed (length (own session s.reservations)), after_commit s session)
-unfolding turn_of
+unfolding transition_of
 commit_step s session = refl
 
 -- where its session holds none, no row changes

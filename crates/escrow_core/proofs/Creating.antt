@@ -20,14 +20,14 @@ use Rattle.escrow_core.specs.Seen.{Seen}
 use Rattle.escrow_machine.specs.Accepted.{IsRefusal, PassesEarly}
 use Rattle.escrow_machine.specs.State.{State, is_open}
 use Rattle.escrow_machine.specs.Step.{step}
-use Rattle.escrow_machine.specs.Turn.{turn_of}
+use Rattle.escrow_machine.specs.Transition.{transition_of}
 use Rattle.escrow_machine.proofs.Refusals.{passed, failed, none_there}
 use Rattle.escrow_core.proofs.Serving.{MayWrite, accepted_step, late_applies, none_applies}
 use Rattle.escrow_machine.proofs.ValidCreate.{create_orderly, create_valid}
 
 -- a table's name is new where no early refusal applies
 new_text : (s : State) (session : ℕ) (text : CreateText) → PassesEarly s session (statement.Create text) → table_named s.catalog text.table ≡ None
-unfolding turn_of
+unfolding transition_of
 new_text s session text early =
     let exists = refuse_if (is_some (table_named s.catalog text.table)) refusal.TableExists in
     let closed = passed (refuse_if (is_open session s) refusal.TransactionOpen) (exists ∷ []) early in
@@ -40,14 +40,14 @@ new_table s session text table early made = ap (table_named s.catalog) (name_of_
 -- there are as many tables as there may be
 pub full_refused : (s : State) (session : ℕ) (text : CreateText) (table : TableDef) → PassesEarly s session (statement.Create text) → definition_of text ≡ Some table
     → MAX_TABLES ≤ length s.catalog → IsRefusal s session (statement.Create text) refusal.TooManyTables
-unfolding turn_of
+unfolding transition_of
 full_refused s session text table early made full =
     late_applies s session (statement.Create text) refusal.TooManyTables early (rw (made, le-leb MAX_TABLES (length s.catalog) full) refl)
 
 -- the step where there is room for the table
 created_step : (s : State) (session : ℕ) (text : CreateText) (table : TableDef) → PassesEarly s session (statement.Create text) → definition_of text ≡ Some table
     → length s.catalog < MAX_TABLES → step s session (statement.Create text) ≡ (reply.Created text.table, record s { catalog = with_table table s.catalog })
-unfolding turn_of
+unfolding transition_of
 created_step s session text table early made room =
     accepted_step s session (statement.Create text) (none_applies s session (statement.Create text) early (rw (made, lt-leb MAX_TABLES (length s.catalog) room) refl)) ∙ rw made refl
 

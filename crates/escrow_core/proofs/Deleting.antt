@@ -18,7 +18,7 @@ use Rattle.escrow_machine.specs.Accepted.{IsRefusal, PassesEarly}
 use Rattle.escrow_machine.specs.State.{State, is_reserved}
 use Rattle.escrow_schema.specs.Rows.{row_named, without_row}
 use Rattle.escrow_machine.specs.Step.{step}
-use Rattle.escrow_machine.specs.Turn.{turn_of}
+use Rattle.escrow_machine.specs.Transition.{transition_of}
 use Rattle.escrow_machine.proofs.LawsChanges.{other_found}
 use Rattle.escrow_machine.proofs.Refusals.{lacking, standing}
 use Rattle.escrow_core.proofs.Serving.{MayWrite, accepted_step, late_applies, none_applies}
@@ -27,7 +27,7 @@ use Rattle.escrow_machine.proofs.ValidDelete.{delete_valid}
 -- a row that isn't there
 pub delete_lack : (s : State) (session : ℕ) (text : RowText) (name : RowName) → name ≡ named_by s.catalog text.table text.row → PassesEarly s session (statement.Delete text)
     → None ≡ row_named s.rows name → IsRefusal s session (statement.Delete text) refusal.NoSuchRow
-unfolding turn_of
+unfolding transition_of
 delete_lack s session text name is early none =
     let named : RowName = named_by s.catalog text.table text.row in
     let reserved = refuse_if (is_reserved s named) refusal.RowReserved in
@@ -37,14 +37,14 @@ delete_lack s session text name is early none =
 -- a row that is reserved
 pub delete_reserved : (s : State) (session : ℕ) (text : RowText) (name : RowName) → name ≡ named_by s.catalog text.table text.row → PassesEarly s session (statement.Delete text)
     → IsSome (row_named s.rows name) → is_reserved s name ≡ true → IsRefusal s session (statement.Delete text) refusal.RowReserved
-unfolding turn_of
+unfolding transition_of
 delete_reserved s session text name is early stands reserved =
     late_applies s session (statement.Delete text) refusal.RowReserved early
     (rw (standing (row_named s.rows (named_by s.catalog text.table text.row)) (subst (λ (n : RowName). IsSome (row_named s.rows n)) is stands), subst (λ (n : RowName). is_reserved s n ≡ true) is reserved) refl)
 
 delete_step : (s : State) (session : ℕ) (text : RowText) (name : RowName) → name ≡ named_by s.catalog text.table text.row → PassesEarly s session (statement.Delete text)
     → IsSome (row_named s.rows name) → is_reserved s name ≡ false → step s session (statement.Delete text) ≡ (reply.Deleted, record s { rows = without_row name s.rows })
-unfolding turn_of
+unfolding transition_of
 delete_step s session text name is early stands free =
     accepted_step s session (statement.Delete text)
     (none_applies s session (statement.Delete text) early
@@ -55,7 +55,7 @@ delete_step s session text name is early stands free =
 pub may_delete : {S : Type 0} (g : Ghosts S) (session : ℕ) (text : RowText) (name : RowName) (d : Seen S) → name ≡ named_by d.state.catalog text.table text.row
     → PassesEarly d.state session (statement.Delete text) → (HasCleanDisk (state g d.store) → IsSome (row_named d.state.rows name)) → is_reserved d.state name ≡ false
     → MayWrite g session (statement.Delete text) d reply.Deleted (record d.state { rows = without_row name d.state.rows })
-unfolding turn_of
+unfolding transition_of
 may_delete g session text name d is early stands free = record {
   asks = refl;
   early = early;

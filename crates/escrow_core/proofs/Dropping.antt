@@ -19,7 +19,7 @@ use Rattle.escrow_machine.specs.Accepted.{PassesEarly}
 use Rattle.escrow_schema.specs.Rows.{row_named, without_rows_of}
 use Rattle.escrow_machine.specs.State.{State, is_open, is_reserved, is_table_reserved}
 use Rattle.escrow_machine.specs.Step.{step}
-use Rattle.escrow_machine.specs.Turn.{turn_of, after_drop}
+use Rattle.escrow_machine.specs.Transition.{transition_of, after_drop}
 use Rattle.escrow_machine.proofs.Accepted.{DropStands, drop_stands}
 use Rattle.escrow_core.proofs.Serving.{MayWrite, accepted_step, none_applies}
 use Rattle.escrow_machine.proofs.Kept.{find_filter}
@@ -33,18 +33,18 @@ is_there (Some table) e = refl
 -- what is left to refuse it for, where nothing is open and the table stands
 pub left_to_reserved : (s : State) (session : ℕ) (name : List ℕ) (reserved : Bool) → is_open session s ≡ false
     → is_some (table_named s.catalog name) ≡ true → is_table_reserved s name ≡ reserved
-    → first_refusal (turn_of s session (statement.Drop name)).early ≡ refuse_if reserved refusal.TableReserved
-unfolding turn_of
+    → first_refusal (transition_of s session (statement.Drop name)).early ≡ refuse_if reserved refusal.TableReserved
+unfolding transition_of
 left_to_reserved s session name true closed found is = rw (closed, is_there (table_named s.catalog name) found, is) refl
 left_to_reserved s session name false closed found is = rw (closed, is_there (table_named s.catalog name) found, is) refl
 
 -- what is known where no early refusal applies
 pub stands : (s : State) (session : ℕ) (name : List ℕ) → PassesEarly s session (statement.Drop name) → DropStands s name
-unfolding turn_of
+unfolding transition_of
 stands s session name early = drop_stands s session name (none_applies s session (statement.Drop name) early refl)
 
 dropped_step : (s : State) (session : ℕ) (name : List ℕ) → PassesEarly s session (statement.Drop name) → step s session (statement.Drop name) ≡ (reply.Dropped name, after_drop s name)
-unfolding turn_of
+unfolding transition_of
 dropped_step s session name early = accepted_step s session (statement.Drop name) (none_applies s session (statement.Drop name) early refl)
 
 -- no row that is reserved is of a table that isn't

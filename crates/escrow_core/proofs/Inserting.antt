@@ -1,4 +1,4 @@
--- INSERT: what follows for its turn from the row that it makes.
+-- INSERT: what follows for its transition from the row that it makes.
 use Rattle.std.specs.Prelude.{◌≡◌, ◌<◌, ℕ, ℤ, true, nat_le, is_some, option_map, option_and_then, unwrap_or, Option, Some, None, List, [], ◌∷◌, length, bytes_eq}
 use Rattle.std.proofs.Common.{inl, inr, refl, sym, ap, subst, ◌∙◌}
 use Rattle.std.proofs.lemmas.Option.{option_and_then_some}
@@ -6,7 +6,7 @@ use Rattle.sqlite.specs.Held.{state}
 use Rattle.sqlite.specs.State.{HasCleanDisk}
 use Rattle.sqlite_trees.specs.declared.store.Store.{Ghosts}
 use Rattle.std.proofs.lemmas.Bool.{cases_Bool, lt-leb}
-use Rattle.escrow_num.specs.declared.refusal.Breach.{Breach}
+use Rattle.escrow_num.specs.declared.refusal.Violation.{Violation}
 use Rattle.escrow_num.specs.declared.refusal.Refusal.{Refusal}
 use Rattle.escrow_num.specs.declared.refusal.Refusal.TheVariants as refusal
 use Rattle.escrow_num.specs.declared.row.Row.{Row}
@@ -25,24 +25,24 @@ use Rattle.escrow_schema.specs.Fit.{IsRowOf, inserted_row}
 use Rattle.escrow_schema.proofs.LawLemmas.{rows_of_table}
 use Rattle.escrow_schema.specs.declared.table.TheConstants.TableDef.{MAX_ROWS}
 use Rattle.escrow_machine.specs.declared.reply.Reply.TheVariants as reply
-use Rattle.escrow_machine.specs.Asked.{new_row, insert_breach}
+use Rattle.escrow_machine.specs.Asked.{new_row, insert_violation}
 use Rattle.escrow_core.specs.Inside.{amounts_named}
 use Rattle.escrow_core.specs.Seen.{Seen}
 use Rattle.escrow_machine.specs.Accepted.{IsAccepted, IsRefusal, PassesEarly}
 use Rattle.escrow_machine.specs.State.{State}
 use Rattle.escrow_schema.specs.Rows.{row_before, row_named, rows_of, with_row, HasTable}
 use Rattle.escrow_machine.specs.Step.{step}
-use Rattle.escrow_machine.specs.Turn.{turn_of}
+use Rattle.escrow_machine.specs.Transition.{transition_of}
 use Rattle.escrow_machine.proofs.Put.{with_row_put}
 use Rattle.escrow_machine.proofs.Refusals.{passed, failed, below}
 use Rattle.escrow_machine.proofs.Safe.{some_from}
 use Rattle.escrow_core.proofs.Serving.{MayWrite, accepted_step, late_applies, none_applies}
-use Rattle.escrow_machine.proofs.Turns.{inserted_valid}
+use Rattle.escrow_machine.proofs.Transitions.{inserted_valid}
 
 -- why a row of a name that no row has isn't put
 abbrev pub new_refusals : State → InsertText → List (Option Refusal)
 new_refusals s text =
-    refuse_if (nat_le MAX_ROWS (length (rows_of s.rows text.table))) refusal.TableFull ∷ option_map refusal.Check (insert_breach s text) ∷ []
+    refuse_if (nat_le MAX_ROWS (length (rows_of s.rows text.table))) refusal.TableFull ∷ option_map refusal.Check (insert_violation s text) ∷ []
 
 -- and what of it is decided by the row, its table and how many rows that has
 abbrev pub refusals_of : TableDef → ℕ → Row → List (Option Refusal)
@@ -77,10 +77,10 @@ decided s text row table count named made is =
     rw (named, fits, is) refl
 
 -- where the table isn't full only a check can be broken
-pub unfull : (count : ℕ) (o : Option Breach) (r : Option Refusal) → count < MAX_ROWS → r ≡ option_map refusal.Check o
+pub unfull : (count : ℕ) (o : Option Violation) (r : Option Refusal) → count < MAX_ROWS → r ≡ option_map refusal.Check o
     → r ≡ first_refusal (refuse_if (nat_le MAX_ROWS count) refusal.TableFull ∷ option_map refusal.Check o ∷ [])
 unfull count None r room is = rw (lt-leb MAX_ROWS count room) is
-unfull count (Some breach) r room is = rw (lt-leb MAX_ROWS count room) is
+unfull count (Some violation) r room is = rw (lt-leb MAX_ROWS count room) is
 
 pub made_row : (s : State) (text : InsertText) (row : Row) (table : TableDef) → table_named s.catalog text.table ≡ Some table → new_row s text ≡ Some row → IsRowOf table row
 made_row s text row table named made = rows_of_table table text row (rw named at made)
@@ -88,8 +88,8 @@ made_row s text row table named made = rows_of_table table text row (rw named at
 -- LATE REFUSALS
 
 late_is : (s : State) (session : ℕ) (text : InsertText) (row : Row) → new_row s text ≡ Some row
-    → first_refusal (turn_of s session (statement.Insert text)).late ≡ first_refusal (refuse_if (is_some (row_named s.rows row.name)) refusal.RowExists ∷ new_refusals s text)
-unfolding turn_of
+    → first_refusal (transition_of s session (statement.Insert text)).late ≡ first_refusal (refuse_if (is_some (row_named s.rows row.name)) refusal.RowExists ∷ new_refusals s text)
+unfolding transition_of
 late_is s session text row made =
     ap (λ (o : Option Row). first_refusal (refuse_if (is_some (option_and_then (λ (r : Row). row_named s.rows r.name) o)) refusal.RowExists ∷ new_refusals s text)) made
 
@@ -108,7 +108,7 @@ row_exists s session text row made early stands =
 
 -- and a new one for its table's room and its checks alone
 new_late : (s : State) (session : ℕ) (text : InsertText) (row : Row) → new_row s text ≡ Some row → row_named s.rows row.name ≡ None
-    → first_refusal (turn_of s session (statement.Insert text)).late ≡ first_refusal (new_refusals s text)
+    → first_refusal (transition_of s session (statement.Insert text)).late ≡ first_refusal (new_refusals s text)
 new_late s session text row made new =
     late_is s session text row made ∙ new_first (row_named s.rows row.name) (new_refusals s text) new
 
@@ -127,13 +127,13 @@ pub new_room : (s : State) (text : InsertText) → first_refusal (new_refusals s
 new_room s text none =
     let rows = length (rows_of s.rows text.table) in
     let full = refuse_if (nat_le MAX_ROWS rows) refusal.TableFull in
-    below MAX_ROWS rows (failed (nat_le MAX_ROWS rows) refusal.TableFull (passed full (option_map refusal.Check (insert_breach s text) ∷ []) none).first)
+    below MAX_ROWS rows (failed (nat_le MAX_ROWS rows) refusal.TableFull (passed full (option_map refusal.Check (insert_violation s text) ∷ []) none).first)
 
 -- THE STEP
 
 pub insert_step : (s : State) (session : ℕ) (text : InsertText) (row : Row) → new_row s text ≡ Some row → IsAccepted s session (statement.Insert text)
     → step s session (statement.Insert text) ≡ (reply.Inserted, record s { rows = with_row row s.rows })
-unfolding turn_of
+unfolding transition_of
 insert_step s session text row made accepted =
     accepted_step s session (statement.Insert text) accepted
     ∙ ap (λ (o : Option Row). (reply.Inserted, record s { rows = unwrap_or (option_map (λ r. with_row r s.rows) o) s.rows })) made

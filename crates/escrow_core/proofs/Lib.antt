@@ -1,5 +1,5 @@
 pub mod Altering
-pub mod Breaches
+pub mod Violations
 pub mod Committing
 pub mod Counting
 pub mod Creating

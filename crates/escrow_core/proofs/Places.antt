@@ -207,7 +207,7 @@ module _ (row : RowName) (amounts : List ℤ) where
       ∙ commits_add rest (done ++ r ∷ []) (λ front back is. fronts front back (is ∙ joined))
       ∙ ap with_changes joined
 
--- a front of a list is a choice of it
+-- a prefix of a list is a choice of it
 front_choice : {A : Type 0} (front back : List A) → IsChoice (front ++ back) front
 front_choice [] back = choice_none back
 front_choice (x ∷ front) back = inr (front, front_choice front back, refl)

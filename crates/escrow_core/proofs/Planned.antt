@@ -1,4 +1,4 @@
--- UPDATE: what follows for its turn from the plan, or from why there is none.
+-- UPDATE: what follows for its transition from the plan, or from why there is none.
 use Rattle.std.specs.Prelude.{◌≡◌, ◌⊎◌, ℕ, ℤ, Option, Some, None, Result, Ok, Err, IfErr, IsErrOf, IsOk, IsSomeAnd, List, length}
 use Rattle.std.specs.Result.{result_ok}
 use Rattle.std.proofs.Common.{inl, inr, refl, sym, ap, subst, ◌∙◌}
@@ -20,7 +20,7 @@ use Rattle.escrow_machine.specs.Asked.{plan_of}
 use Rattle.escrow_machine.specs.Accepted.{IsAccepted, IsRefusal, PassesEarly}
 use Rattle.escrow_machine.specs.State.{State}
 use Rattle.escrow_machine.specs.Step.{refusals}
-use Rattle.escrow_machine.specs.Turn.{turn_of, update_refusals}
+use Rattle.escrow_machine.specs.Transition.{transition_of, update_refusals}
 use Rattle.escrow_machine.proofs.Safe.{some_from}
 use Rattle.escrow_schema.proofs.PlanLemmas.{plans_of_whole_row}
 
@@ -44,12 +44,12 @@ whole_plan s text key changes is =
 
 -- where there is a plan its refusals are those of the statement
 late_alone : (s : State) (session : ℕ) (text : UpdateText) (asked : Plan) (table : TableDef) → table_named s.catalog text.table ≡ Some table → planned table text ≡ Ok asked
-    → first_refusal (refusals (turn_of s session (statement.Update text))) ≡ first_refusal (update_refusals s session text.table asked)
-unfolding turn_of
+    → first_refusal (refusals (transition_of s session (statement.Update text))) ≡ first_refusal (update_refusals s session text.table asked)
+unfolding transition_of
 late_alone s session text asked table named at = rw (named, at) refl
 
 left_to_plan : (s : State) (session : ℕ) (text : UpdateText) (asked : Plan) → plan_of s text ≡ Some asked
-    → first_refusal (refusals (turn_of s session (statement.Update text))) ≡ first_refusal (update_refusals s session text.table asked)
+    → first_refusal (refusals (transition_of s session (statement.Update text))) ≡ first_refusal (update_refusals s session text.table asked)
 left_to_plan s session text asked is = planned_in s text asked is (late_alone s session text asked)
 
 pub plan_refused : (s : State) (session : ℕ) (text : UpdateText) (asked : Plan) (r : Refusal) → plan_of s text ≡ Some asked
@@ -63,7 +63,7 @@ plan_accepted s session text asked is none = left_to_plan s session text asked i
 -- and none of them is early
 early_none : (s : State) (session : ℕ) (text : UpdateText) (asked : Plan) (table : TableDef) → table_named s.catalog text.table ≡ Some table → planned table text ≡ Ok asked
     → PassesEarly s session (statement.Update text)
-unfolding turn_of
+unfolding transition_of
 early_none s session text asked table named at = rw (named, at) refl
 
 pub planned_early : (s : State) (session : ℕ) (text : UpdateText) (asked : Plan) → plan_of s text ≡ Some asked → PassesEarly s session (statement.Update text)
@@ -72,12 +72,12 @@ planned_early s session text asked is = planned_in s text asked is (early_none s
 -- a refusal to plan is one of the statement
 early_refuses : (s : State) (session : ℕ) (text : UpdateText) (table : TableDef) (r : Refusal) → table_named s.catalog text.table ≡ Some table → planned table text ≡ Err r
     → IsRefusal s session (statement.Update text) r
-unfolding turn_of
+unfolding transition_of
 early_refuses s session text table r named at = inl (rw (named, at) refl)
 
 plan_wants : (s : State) (session : ℕ) (text : UpdateText) (table : TableDef) (asked : Plan) → table_named s.catalog text.table ≡ Some table → planned table text ≡ Ok asked
     → IsRefusal s session (statement.Update text) refusal.Memory
-unfolding turn_of
+unfolding transition_of
 plan_wants s session text table asked named at = inr (failure.Memory, refl, rw (named, at) refl)
 
 wanting : (s : State) (session : ℕ) (text : UpdateText) (table : TableDef) (asked : Result Plan Refusal) → table_named s.catalog text.table ≡ Some table → planned table text ≡ asked

@@ -17,12 +17,12 @@ use Rattle.escrow_core.specs.Seen.{Seen}
 use Rattle.escrow_core.specs.Serves.{Serves}
 use Rattle.escrow_machine.specs.State.{State}
 use Rattle.escrow_machine.specs.Step.{step, fails_for, may_fail, IsStep}
-use Rattle.escrow_machine.specs.Turn.{turn_of}
+use Rattle.escrow_machine.specs.Transition.{transition_of}
 use Rattle.escrow_machine.proofs.LawsPromised.{plain_refused}
 use Rattle.escrow_machine.proofs.LawsSteps.{step_has}
 use Rattle.escrow_machine.proofs.Refusals.{first_among, first_in_front}
-use Rattle.escrow_machine.proofs.TurnWords.{NeedsMore}
-use Rattle.escrow_machine.proofs.Turns.{is_turn}
+use Rattle.escrow_machine.proofs.TransitionWords.{NeedsMore}
+use Rattle.escrow_machine.proofs.Transitions.{is_transition}
 
 -- where no early refusal applies, the first that applies is a late one
 late_first : (early late : List (Option Refusal)) (r : Refusal) → is_none (first_refusal early) ≡ true → first_refusal (early ++ late) ≡ Some r → first_refusal late ≡ Some r
@@ -31,27 +31,27 @@ late_first (None ∷ early) late r none first = late_first early late r none fir
 late_first (Some other ∷ early) late r none first = absurd (cc)
 
 -- so the machine's reply isn't a refusal without need
-none_plain : (s : State) (session : ℕ) (asked : Statement) → is_none (first_refusal (turn_of s session asked).early) ≡ true
+none_plain : (s : State) (session : ℕ) (asked : Statement) → is_none (first_refusal (transition_of s session asked).early) ≡ true
     → ¬ (is_plain_refusal asked (step s session asked).0 ≡ true)
 none_plain s session asked none =
-    let turn = turn_of s session asked in
+    let transition = transition_of s session asked in
     step_has (λ (p : Reply × State). ¬ (is_plain_refusal asked p.0 ≡ true)) s session asked
     (λ r first e.
-    let more : NeedsMore asked r = first_among (NeedsMore asked) turn.late (is_turn s session asked).late r (late_first turn.early turn.late r none first) in
+    let more : NeedsMore asked r = first_among (NeedsMore asked) transition.late (is_transition s session asked).late r (late_first transition.early transition.late r none first) in
     absurd (cc))
-    (λ _ e. let refused = plain_refused asked turn.reply e in (is_turn s session asked).answers refused.0 refused.1)
+    (λ _ e. let refused = plain_refused asked transition.reply e in (is_transition s session asked).answers refused.0 refused.1)
 
 -- what is refused without need is refused early
-early_at : (s : State) (session : ℕ) (asked : Statement) (o : Option Refusal) → first_refusal (turn_of s session asked).early ≡ o
-    → is_plain_refusal asked (step s session asked).0 ≡ true → (r : Refusal) × (first_refusal (turn_of s session asked).early ≡ Some r)
+early_at : (s : State) (session : ℕ) (asked : Statement) (o : Option Refusal) → first_refusal (transition_of s session asked).early ≡ o
+    → is_plain_refusal asked (step s session asked).0 ≡ true → (r : Refusal) × (first_refusal (transition_of s session asked).early ≡ Some r)
 early_at s session asked None is plain = absurd (none_plain s session asked (ap (λ (o : Option Refusal). is_none o) is) plain)
 early_at s session asked (Some r) is plain = (r, is)
 
 -- and that refusal is the step
-early_step : (s : State) (session : ℕ) (asked : Statement) (r : Refusal) → first_refusal (turn_of s session asked).early ≡ Some r → (reply.Refused r, s) ≡ step s session asked
+early_step : (s : State) (session : ℕ) (asked : Statement) (r : Refusal) → first_refusal (transition_of s session asked).early ≡ Some r → (reply.Refused r, s) ≡ step s session asked
 early_step s session asked r first =
-    let turn = turn_of s session asked in
-    sym (ap (λ (o : Option Refusal). unwrap_or (option_map (λ (q : Refusal). (reply.Refused q, s)) o) (turn.reply, turn.next)) (first_in_front turn.early turn.late r first))
+    let transition = transition_of s session asked in
+    sym (ap (λ (o : Option Refusal). unwrap_or (option_map (λ (q : Refusal). (reply.Refused q, s)) o) (transition.reply, transition.next)) (first_in_front transition.early transition.late r first))
 
 -- what needs neither memory nor the store fails for neither
 takes_nothing : (s : State) (session : ℕ) (asked : Statement) (f : Failure) → needs_nothing s session asked ≡ true → fails_for s session asked f ≡ false
@@ -67,7 +67,7 @@ reads_nothing s session asked none = takes_nothing s session asked failure.Store
 
 never_fails : (s : State) (session : ℕ) (asked : Statement) (f : Failure) → needs_nothing s session asked ≡ true → ¬ (may_fail s session asked f ≡ true)
 never_fails s session asked f none = λ may.
-    let takes = (and_parts (is_none (first_refusal (turn_of s session asked).early)) (fails_for s session asked f) may).1 in
+    let takes = (and_parts (is_none (first_refusal (transition_of s session asked).early)) (fails_for s session asked f) may).1 in
     absurd (true≢false (sym takes ∙ takes_nothing s session asked f none))
 
 kept : (s : State) (session : ℕ) (asked : Statement) (answer : Reply) (new : State) (o : Option Failure) → needs_nothing s session asked ≡ true
@@ -85,7 +85,7 @@ promised {S} g session asked old answer new serves promise =
         (serves.apart (takes_nothing s session asked failure.Store none)).0,
         kept s session asked answer new.state (failure_of answer) none (serves.unread (reads_nothing s session asked none)),
       )
-      | inr plain ↦ (let first = early_at s session asked (first_refusal (turn_of s session asked).early) refl plain in
+      | inr plain ↦ (let first = early_at s session asked (first_refusal (transition_of s session asked).early) refl plain in
           let is = serves.early first.0 first.1 in
           let stays : (answer, new.state) ≡ (reply.Refused first.0, s) = ap₂ (λ (a : Reply) (d : Seen S). (a, d.state)) is.0 is.1 in
           (ap (λ (d : Seen S). d.store) is.1, record { is_step = stays ∙ early_step s session asked first.0 first.1 }))

@@ -23,7 +23,7 @@ use Rattle.escrow_core.specs.Serving.{is_known}
 use Rattle.escrow_machine.specs.State.{State}
 use Rattle.escrow_schema.specs.Rows.{row_named, row_before}
 use Rattle.escrow_machine.specs.Step.{StepOrRefusal}
-use Rattle.escrow_machine.specs.Turn.{turn_of}
+use Rattle.escrow_machine.specs.Transition.{transition_of}
 use Rattle.escrow_rows.proofs.OneRow.{rows_named}
 use Rattle.escrow_machine.proofs.Refusals.{lacking, none_there, some_found}
 use Rattle.escrow_core.specs.Inside.{amounts_named}
@@ -34,7 +34,7 @@ use Rattle.escrow_core.proofs.Served.{rule_serves, accepted_serves, memory_serve
 -- SELECT that isn't refused early: none applies
 pub select_answers : (s : State) (session : ℕ) (text : SelectText) (answer : Reply) → PassesEarly s session (statement.Select text) → answer ≡ select_reply s text
     → StepOrRefusal s session (statement.Select text) answer s
-unfolding turn_of
+unfolding transition_of
 select_answers s session text answer early is =
     subst (λ (r : Reply). StepOrRefusal s session (statement.Select text) r s) (sym is) (accepted_serves s session (statement.Select text) (none_applies s session (statement.Select text) early refl))
 
@@ -46,7 +46,7 @@ selects_one rows name found order is = ap option_to_list is ∙ sym (rows_named 
 -- SHOW BOUNDS that isn't refused early: only a row that isn't there is refused late
 pub bounds_lack : (s : State) (session : ℕ) (text : RowText) → PassesEarly s session (statement.ShowBounds text)
     → None ≡ amounts_named s.rows (named_by s.catalog text.table text.row) → IsRefusal s session (statement.ShowBounds text) refusal.NoSuchRow
-unfolding turn_of
+unfolding transition_of
 bounds_lack s session text early none =
     let name = named_by s.catalog text.table text.row in
     late_applies s session (statement.ShowBounds text) refusal.NoSuchRow early (lacking (row_named s.rows name) refusal.NoSuchRow [] (no_row s.rows name none))
@@ -59,7 +59,7 @@ bounds_found s text table row named found = rw (found, named) refl
 pub bounds_answers : (s : State) (session : ℕ) (text : RowText) (table : TableDef) (amounts : List ℤ) → PassesEarly s session (statement.ShowBounds text)
     → table_named s.catalog text.table ≡ Some table → amounts_named s.rows (named_by s.catalog text.table text.row) ≡ Some amounts
     → StepOrRefusal s session (statement.ShowBounds text) (bounds_in s.reservations table (named_by s.catalog text.table text.row) amounts) s
-unfolding turn_of
+unfolding transition_of
 bounds_answers s session text table amounts early named has =
     let row = standing s.rows (named_by s.catalog text.table text.row) amounts has in
     let accepted = none_applies s session (statement.ShowBounds text) early (rw row.found refl) in
@@ -69,43 +69,43 @@ bounds_answers s session text table amounts early named has =
 
 -- SHOW JOURNAL of a table that is there, or of all, and of one that isn't
 journal_accepted : (s : State) (session : ℕ) (table : Option (List ℕ)) → is_known s table ≡ true → IsAccepted s session (statement.ShowJournal table)
-unfolding turn_of
+unfolding transition_of
 journal_accepted s session None known = refl
 journal_accepted s session (Some name) known = let found = some_found (table_named s.catalog name) known in rw found.1 refl
 
 pub journal_serves : (s : State) (session : ℕ) (table : Option (List ℕ)) → is_known s table ≡ true
     → StepOrRefusal s session (statement.ShowJournal table) (journal_reply s table) s
-unfolding turn_of
+unfolding transition_of
 journal_serves s session table known = accepted_serves s session (statement.ShowJournal table) (journal_accepted s session table known)
 
 pub journal_wants : (s : State) (session : ℕ) (table : Option (List ℕ)) → is_known s table ≡ true → IsRefusal s session (statement.ShowJournal table) refusal.Memory
-unfolding turn_of
+unfolding transition_of
 journal_wants s session None known = inr (failure.Memory, refl, refl)
 journal_wants s session (Some name) known = let found = some_found (table_named s.catalog name) known in inr (failure.Memory, refl, rw found.1 refl)
 
 pub journal_refuses : (s : State) (session : ℕ) (table : Option (List ℕ)) → is_known s table ≡ false → IsRefusal s session (statement.ShowJournal table) refusal.NoSuchTable
-unfolding turn_of
+unfolding transition_of
 journal_refuses s session None unknown = absurd (true≢false unknown)
 journal_refuses s session (Some name) unknown = inl (rw (none_there (table_named s.catalog name) unknown) refl)
 
 -- SHOW TABLE of a table that isn't there, and of one that is
 pub show_refuses : (s : State) (session : ℕ) (name : List ℕ) → table_named s.catalog name ≡ None
     → StepOrRefusal s session (statement.ShowTable name) (reply.Refused refusal.NoSuchTable) s
-unfolding turn_of
+unfolding transition_of
 show_refuses s session name unknown = rule_serves s session (statement.ShowTable name) refusal.NoSuchTable (rw unknown refl)
 
 show_accepted : (s : State) (session : ℕ) (name : List ℕ) (table : TableDef) → table_named s.catalog name ≡ Some table → IsAccepted s session (statement.ShowTable name)
-unfolding turn_of
+unfolding transition_of
 show_accepted s session name table named = rw named refl
 
 pub show_serves : (s : State) (session : ℕ) (name : List ℕ) (table : TableDef) → table_named s.catalog name ≡ Some table
     → StepOrRefusal s session (statement.ShowTable name) (reply.Table (canonical table)) s
-unfolding turn_of
+unfolding transition_of
 show_serves s session name table named =
     subst (λ (o : Option TableDef). StepOrRefusal s session (statement.ShowTable name) (unwrap_or (option_map (λ (t : TableDef). reply.Table (canonical t)) o) (reply.Table [])) s)
     named (accepted_serves s session (statement.ShowTable name) (show_accepted s session name table named))
 
 pub show_wants : (s : State) (session : ℕ) (name : List ℕ) (table : TableDef) → table_named s.catalog name ≡ Some table
     → StepOrRefusal s session (statement.ShowTable name) (reply.Refused refusal.Memory) s
-unfolding turn_of
+unfolding transition_of
 show_wants s session name table named = memory_serves s session (statement.ShowTable name) (show_accepted s session name table named) refl

@@ -21,11 +21,11 @@ use Rattle.escrow_journal.specs.Reservations.{own}
 use Rattle.escrow_journal.specs.Savepoints.{savepoint_of, after}
 use Rattle.escrow_machine.specs.State.{State, open_in, with_open}
 use Rattle.escrow_machine.specs.Step.{refusals, step, fails_for, may_fail, IsStep, StepOrRefusal}
-use Rattle.escrow_machine.specs.Turn.{turn_of, update_reply, after_update, after_commit, after_rollback, after_savepoint, after_rollback_to}
+use Rattle.escrow_machine.specs.Transition.{transition_of, update_reply, after_update, after_commit, after_rollback, after_savepoint, after_rollback_to}
 use Rattle.escrow_machine.specs.Asked.{plan_of}
 use Rattle.escrow_machine.proofs.Refusals.{none_in_front, first_among}
-use Rattle.escrow_machine.proofs.TurnWords.{IsJudged}
-use Rattle.escrow_machine.proofs.Turns.{is_turn}
+use Rattle.escrow_machine.proofs.TransitionWords.{IsJudged}
+use Rattle.escrow_machine.proofs.Transitions.{is_transition}
 
 -- a reply that is no failure is the step's
 pub stepped : (s : State) (session : ℕ) (asked : Statement) (answer : Reply) (new : State) → failure_of answer ≡ None
@@ -35,12 +35,12 @@ stepped s session asked answer new succeeds is =
     (sym succeeds) (record { is_step = is })
 
 -- a refusal, with the state equal: the first that applies
-pub rule_serves : (s : State) (session : ℕ) (asked : Statement) (r : Refusal) → first_refusal (refusals (turn_of s session asked)) ≡ Some r
+pub rule_serves : (s : State) (session : ℕ) (asked : Statement) (r : Refusal) → first_refusal (refusals (transition_of s session asked)) ≡ Some r
     → StepOrRefusal s session asked (reply.Refused r) s
 rule_serves s session asked r first =
-    let turn = turn_of s session asked in
-    stepped s session asked (reply.Refused r) s (first_among IsJudged (refusals turn) (is_turn s session asked).judged r first)
-    (sym (ap (λ (o : Option Refusal). unwrap_or (option_map (λ (q : Refusal). (reply.Refused q, s)) o) (turn.reply, turn.next)) first))
+    let transition = transition_of s session asked in
+    stepped s session asked (reply.Refused r) s (first_among IsJudged (refusals transition) (is_transition s session asked).judged r first)
+    (sym (ap (λ (o : Option Refusal). unwrap_or (option_map (λ (q : Refusal). (reply.Refused q, s)) o) (transition.reply, transition.next)) first))
 
 -- a failure that the statement may meet
 told_serves : (s : State) (session : ℕ) (asked : Statement) (f : Failure) → IsTrue (may_fail s session asked f) → StepOrRefusal s session asked (reply.Refused (refusal_for f)) s
@@ -57,56 +57,56 @@ refused_serves s session asked r (inr failing) =
 
 -- the reply and the next state where no refusal applies
 pub accepted_serves : (s : State) (session : ℕ) (asked : Statement) → IsAccepted s session asked
-    → StepOrRefusal s session asked (turn_of s session asked).reply (turn_of s session asked).next
+    → StepOrRefusal s session asked (transition_of s session asked).reply (transition_of s session asked).next
 accepted_serves s session asked accepted =
-    let turn = turn_of s session asked in
-    stepped s session asked turn.reply turn.next (is_turn s session asked).succeeds
-    (sym (ap (λ (o : Option Refusal). unwrap_or (option_map (λ (q : Refusal). (reply.Refused q, s)) o) (turn.reply, turn.next)) accepted))
+    let transition = transition_of s session asked in
+    stepped s session asked transition.reply transition.next (is_transition s session asked).succeeds
+    (sym (ap (λ (o : Option Refusal). unwrap_or (option_map (λ (q : Refusal). (reply.Refused q, s)) o) (transition.reply, transition.next)) accepted))
 
 -- out of memory where no refusal applies, of a statement that may be so
 pub memory_serves : (s : State) (session : ℕ) (asked : Statement) → IsAccepted s session asked → fails_for s session asked failure.Memory ≡ true
     → StepOrRefusal s session asked (reply.Refused refusal.Memory) s
 memory_serves s session asked accepted wants =
-    let turn = turn_of s session asked in
-    let none_early : is_none (first_refusal turn.early) ≡ true = ap (λ (o : Option Refusal). is_none o) (none_in_front turn.early turn.late accepted) in
-    (and_from (is_none (first_refusal turn.early)) (fails_for s session asked failure.Memory) none_early wants, refl)
+    let transition = transition_of s session asked in
+    let none_early : is_none (first_refusal transition.early) ≡ true = ap (λ (o : Option Refusal). is_none o) (none_in_front transition.early transition.late accepted) in
+    (and_from (is_none (first_refusal transition.early)) (fails_for s session asked failure.Memory) none_early wants, refl)
 
 -- UPDATE
 pub update_serves : (s : State) (session : ℕ) (text : UpdateText) (asked : Plan) → IsAccepted s session (statement.Update text) → plan_of s text ≡ Some asked
     → StepOrRefusal s session (statement.Update text) (update_reply s asked) (after_update s session text.table asked)
-unfolding turn_of
+unfolding transition_of
 update_serves s session text asked accepted is =
     subst (λ (o : Option Plan). StepOrRefusal s session (statement.Update text) (unwrap_or (option_map (update_reply s) o) reply.Updated) (unwrap_or (option_map (after_update s session text.table) o) s))
     is (accepted_serves s session (statement.Update text) accepted)
 
 -- COMMIT and ROLLBACK
 pub commit_serves : (s : State) (session : ℕ) → StepOrRefusal s session statement.Commit (reply.Committed (length (own session s.reservations))) (after_commit s session)
-unfolding turn_of
+unfolding transition_of
 commit_serves s session = accepted_serves s session statement.Commit refl
 
 pub rollback_serves : (s : State) (session : ℕ) → StepOrRefusal s session statement.Rollback (reply.RolledBack (length (own session s.reservations))) (after_rollback s session)
-unfolding turn_of
+unfolding transition_of
 rollback_serves s session = accepted_serves s session statement.Rollback refl
 
 -- SAVEPOINT: made where there is no reason against it, else refused for the reason, or out of memory
 pub savepoint_accepted : (s : State) (session : ℕ) (name : List ℕ) → savepoint_refusal session name (open_in s) ≡ None → IsAccepted s session (statement.Savepoint name)
-unfolding turn_of
+unfolding transition_of
 savepoint_accepted s session name room = ap (λ (o : Option Refusal). first_refusal (o ∷ [])) room
 
 pub savepoint_serves : (s : State) (session : ℕ) (name : List ℕ) → savepoint_refusal session name (open_in s) ≡ None
     → StepOrRefusal s session (statement.Savepoint name) (reply.Savepoint name) (after_savepoint s session name)
-unfolding turn_of
+unfolding transition_of
 savepoint_serves s session name room = accepted_serves s session (statement.Savepoint name) (savepoint_accepted s session name room)
 
 savepoint_refused : (s : State) (session : ℕ) (name : List ℕ) (r : Refusal) → savepoint_refusal session name (open_in s) ≡ Some r
     → StepOrRefusal s session (statement.Savepoint name) (reply.Refused r) s
-unfolding turn_of
+unfolding transition_of
 savepoint_refused s session name r full =
     rule_serves s session (statement.Savepoint name) r (ap (λ (o : Option Refusal). first_refusal (o ∷ [])) full)
 
 savepoint_wants : (s : State) (session : ℕ) (name : List ℕ) → savepoint_refusal session name (open_in s) ≡ None
     → StepOrRefusal s session (statement.Savepoint name) (reply.Refused refusal.Memory) s
-unfolding turn_of
+unfolding transition_of
 savepoint_wants s session name room =
     memory_serves s session (statement.Savepoint name) (savepoint_accepted s session name room) refl
 
@@ -130,13 +130,13 @@ same_reason (Some e) result r refused err = let same : Err e ≡ Err r = sym ref
 -- ROLLBACK TO, by how many reservations came after the savepoint, if there is one
 back_at : (s : State) (session : ℕ) (name : List ℕ) (o : Option Savepoint) (count : ℕ) → savepoint_of session name s.savepoints ≡ o
     → option_map (λ p. length (after p s.reservations)) o ≡ Some count → IsAccepted s session (statement.RollbackTo name)
-unfolding turn_of
+unfolding transition_of
 back_at s session name None count is e = absurd (cc)
 back_at s session name (Some p) count is e = rw is refl
 
 pub back_serves : (s : State) (session : ℕ) (name : List ℕ) (count : ℕ) → released session name (open_in s) ≡ Some count
     → StepOrRefusal s session (statement.RollbackTo name) (reply.RolledBackTo name count) (after_rollback_to s session name)
-unfolding turn_of
+unfolding transition_of
 back_serves s session name count e =
     subst (λ (o : Option ℕ). StepOrRefusal s session (statement.RollbackTo name) (reply.RolledBackTo name (unwrap_or o 0)) (after_rollback_to s session name))
     e (accepted_serves s session (statement.RollbackTo name) (back_at s session name (savepoint_of session name s.savepoints) count refl e))
@@ -144,7 +144,7 @@ back_serves s session name count e =
 back_none : (s : State) (session : ℕ) (name : List ℕ) (o : Option Savepoint) → savepoint_of session name s.savepoints ≡ o
     → option_map (λ p. length (after p s.reservations)) o ≡ None
     → StepOrRefusal s session (statement.RollbackTo name) (reply.Refused refusal.NoSuchSavepoint) (with_open s (unwrap_or (option_map (returned_to (open_in s)) o) (open_in s)))
-unfolding turn_of
+unfolding transition_of
 back_none s session name None is e = rule_serves s session (statement.RollbackTo name) refusal.NoSuchSavepoint (rw is refl)
 back_none s session name (Some p) is e = absurd (cc)
 

@@ -31,10 +31,10 @@ use Rattle.escrow_machine.specs.Reply.{failure_of, is_refused, tells_write}
 use Rattle.escrow_core.specs.Seen.{Seen, IsKept}
 use Rattle.escrow_core.specs.Serves.{AreAfter, AreHeldOf, Serves}
 use Rattle.escrow_machine.specs.Accepted.{IsAccepted, IsRefusal, PassesEarly}
-use Rattle.escrow_core.specs.Serving.{Looks, answer_of}
+use Rattle.escrow_core.specs.Serving.{OnlyReads, answer_of}
 use Rattle.escrow_machine.specs.State.{State, is_reserved}
 use Rattle.escrow_machine.specs.Step.{refusals, step, fails_for, may_fail, IsStep, StepOrRefusal}
-use Rattle.escrow_machine.specs.Turn.{turn_of}
+use Rattle.escrow_machine.specs.Transition.{transition_of}
 use Rattle.escrow_machine.specs.Valid.{IsOrderly, AreSafeRows, IsValid}
 use Rattle.escrow_machine.proofs.LawsSteps.{early_refusals_stand, refused_stays}
 use Rattle.escrow_machine.proofs.Refusals.{first_behind, first_in_front}
@@ -42,44 +42,44 @@ use Rattle.escrow_machine.proofs.Shapes.{HasOrder}
 use Rattle.escrow_core.proofs.Places.{amounts_stay, tables_stay}
 use Rattle.escrow_core.proofs.Served.{refused_serves, stepped}
 
--- where no refusal applies the step is the turn's
+-- where no refusal applies the step is the transition's
 pub accepted_step : (s : State) (session : ℕ) (asked : Statement) → IsAccepted s session asked
-    → step s session asked ≡ ((turn_of s session asked).reply, (turn_of s session asked).next)
+    → step s session asked ≡ ((transition_of s session asked).reply, (transition_of s session asked).next)
 accepted_step s session asked accepted =
-    let turn = turn_of s session asked in
-    ap (λ (o : Option Refusal). unwrap_or (option_map (λ (q : Refusal). (reply.Refused q, s)) o) (turn.reply, turn.next)) accepted
+    let transition = transition_of s session asked in
+    ap (λ (o : Option Refusal). unwrap_or (option_map (λ (q : Refusal). (reply.Refused q, s)) o) (transition.reply, transition.next)) accepted
 
 -- a statement that passes its early refusals may fail for what it takes
 pub fails : (s : State) (session : ℕ) (asked : Statement) (f : Failure) → PassesEarly s session asked → fails_for s session asked f ≡ true → IsRefusal s session asked (refusal_for f)
 fails s session asked f early takes = inr (f, refl, rw (early, takes) refl)
 
 -- a late refusal applies where no early one does, and where neither does none applies
-pub late_applies : (s : State) (session : ℕ) (asked : Statement) (r : Refusal) → PassesEarly s session asked → first_refusal (turn_of s session asked).late ≡ Some r
+pub late_applies : (s : State) (session : ℕ) (asked : Statement) (r : Refusal) → PassesEarly s session asked → first_refusal (transition_of s session asked).late ≡ Some r
     → IsRefusal s session asked r
 late_applies s session asked r early first =
-    let turn = turn_of s session asked in
-    inl (first_behind turn.early turn.late early ∙ first)
+    let transition = transition_of s session asked in
+    inl (first_behind transition.early transition.late early ∙ first)
 
-pub none_applies : (s : State) (session : ℕ) (asked : Statement) → PassesEarly s session asked → first_refusal (turn_of s session asked).late ≡ None
+pub none_applies : (s : State) (session : ℕ) (asked : Statement) → PassesEarly s session asked → first_refusal (transition_of s session asked).late ≡ None
     → IsAccepted s session asked
 none_applies s session asked early none =
-    let turn = turn_of s session asked in
-    first_behind turn.early turn.late early ∙ none
+    let transition = transition_of s session asked in
+    first_behind transition.early transition.late early ∙ none
 
 -- no early refusal applies to an equal state
 pub still_passes : (old new : State) (session : ℕ) (asked : Statement) → new ≡ old → PassesEarly old session asked → PassesEarly new session asked
 still_passes old new session asked same early = subst (λ (s : State). PassesEarly s session asked) (sym same) early
 
 -- an early refusal is the one that is answered
-early_answered : (s : State) (session : ℕ) (asked : Statement) (r other : Refusal) → IsRefusal s session asked r → first_refusal (turn_of s session asked).early ≡ Some other → r ≡ other
+early_answered : (s : State) (session : ℕ) (asked : Statement) (r other : Refusal) → IsRefusal s session asked r → first_refusal (transition_of s session asked).early ≡ Some other → r ≡ other
 early_answered s session asked r other (inl first) early =
-    let turn = turn_of s session asked in
-    let in_front : first_refusal (refusals turn) ≡ Some other = first_in_front turn.early turn.late other early in
+    let transition = transition_of s session asked in
+    let in_front : first_refusal (refusals transition) ≡ Some other = first_in_front transition.early transition.late other early in
     cc
 early_answered s session asked r other (inr failing) early =
-    let turn = turn_of s session asked in
+    let transition = transition_of s session asked in
     let may = failing.2 in
-    let parts = and_parts (is_none (first_refusal turn.early)) (fails_for s session asked failing.0) may in
+    let parts = and_parts (is_none (first_refusal transition.early)) (fails_for s session asked failing.0) may in
     let none : is_none (Some other) ≡ true = subst (λ (o : Option Refusal). is_none o ≡ true) early parts.0 in
     absurd (false≢true none)
 
@@ -151,7 +151,7 @@ not_by_store : (s : State) (session : ℕ) (asked : Statement) (answer : Reply) 
     → ¬ (failure_of answer ≡ Some failure.Store)
 not_by_store s session asked answer new event none is =
     let failed = subst (λ (o : Option Failure). MatchOption o (IsStep s session asked answer new) (λ f. IsTrue (may_fail s session asked f) × (new ≡ s))) is event in
-    absurd (false≢true (sym none ∙ (and_parts (is_none (first_refusal (turn_of s session asked).early)) (fails_for s session asked failure.Store) failed.0).1))
+    absurd (false≢true (sym none ∙ (and_parts (is_none (first_refusal (transition_of s session asked).early)) (fails_for s session asked failure.Store) failed.0).1))
 
 module _ {S : Type 0} (g : Ghosts S) (session : ℕ) (asked : Statement) where
   -- refused before the store is asked: all stays
@@ -167,10 +167,10 @@ module _ {S : Type 0} (g : Ghosts S) (session : ℕ) (asked : Statement) where
   }
 
   -- refused early
-  pub early_refused : (d : Seen S) (r : Refusal) → first_refusal (turn_of d.state session asked).early ≡ Some r → Serves g session asked d (reply.Refused r) d
+  pub early_refused : (d : Seen S) (r : Refusal) → first_refusal (transition_of d.state session asked).early ≡ Some r → Serves g session asked d (reply.Refused r) d
   early_refused d r first =
-      let turn = turn_of d.state session asked in
-      refused d r (inl (first_in_front turn.early turn.late r first))
+      let transition = transition_of d.state session asked in
+      refused d r (inl (first_in_front transition.early transition.late r first))
 
   -- a statement that asks the store, and is refused nothing early, is served by what else there is to say
   pub served : (old new : Seen S) (answer : Reply) → asks_store old.state session asked ≡ true → PassesEarly old.state session asked
@@ -201,18 +201,18 @@ module _ {S : Type 0} (g : Ghosts S) (session : ℕ) (asked : Statement) where
   late_refused d r asks early is = answered d (reply.Refused r) asks early refl (λ u. refused_serves d.state session asked r (is u))
 
   -- what is served after a look at the store is served from before it
-  pub after_look : (old mid new : Seen S) (answer : Reply) → Looks g old mid → (HasCleanDisk (state g mid.store) → IsTrue (state g old.store).is_open → IsTrue (state g mid.store).is_open)
+  pub after_look : (old mid new : Seen S) (answer : Reply) → OnlyReads g old mid → (HasCleanDisk (state g mid.store) → IsTrue (state g old.store).is_open → IsTrue (state g mid.store).is_open)
       → asks_store old.state session asked ≡ true → PassesEarly old.state session asked → Serves g session asked mid answer new → Serves g session asked old answer new
-  after_look old mid new answer looks stays asks early serves =
+  after_look old mid new answer only_reads stays asks early serves =
       let crashes = survives_then (state g old.store) (state g mid.store) (state g new.store) (λ _. ⊥) _
       (λ trees. IsTrue (state g old.store).is_open → AreAfter old.state session asked trees)
       (λ clean trees none. absurd none)
       (λ clean trees k. λ was_open.
-      subst (λ (s : State). AreAfter s session asked trees) looks.same (k (stays (still_clean _ _ _ serves.survives clean) was_open)))
-      looks.survives serves.survives in
+      subst (λ (s : State). AreAfter s session asked trees) only_reads.same (k (stays (still_clean _ _ _ serves.survives clean) was_open)))
+      only_reads.survives serves.survives in
       served old new answer asks early
-      (λ clean. subst (λ (s : State). StepOrRefusal s session asked answer new.state) looks.same (serves.event clean))
-      (λ is. serves.refused is ∙ looks.same) crashes serves.durable
+      (λ clean. subst (λ (s : State). StepOrRefusal s session asked answer new.state) only_reads.same (serves.event clean))
+      (λ is. serves.refused is ∙ only_reads.same) crashes serves.durable
 
   -- a statement is served that leaves the store, and tells of no write
   pub served_apart : (old new : Seen S) (answer : Reply) → tells_write answer ≡ false → new.store ≡ old.store → StepOrRefusal old.state session asked answer new.state
@@ -251,20 +251,20 @@ module _ {S : Type 0} (g : Ghosts S) (session : ℕ) (asked : Statement) where
       }
 
   -- answered for what was looked at, without a write
-  pub look_answered : (old new : Seen S) (answer : Reply) → Looks g old new → asks_store old.state session asked ≡ true → PassesEarly old.state session asked
+  pub look_answered : (old new : Seen S) (answer : Reply) → OnlyReads g old new → asks_store old.state session asked ≡ true → PassesEarly old.state session asked
       → tells_write answer ≡ false → (HasCleanDisk (state g new.store) → StepOrRefusal old.state session asked answer old.state) → Serves g session asked old answer new
-  look_answered old new answer looks asks early quiet event =
+  look_answered old new answer only_reads asks early quiet event =
       served old new answer asks early
-      (λ clean. subst (λ (s : State). StepOrRefusal old.state session asked answer s) (sym looks.same) (event clean))
-      (λ _. looks.same)
-      (survives_weaker (state g old.store) (state g new.store) (λ _. ⊥) _ (λ _ trees none. absurd none) looks.survives)
+      (λ clean. subst (λ (s : State). StepOrRefusal old.state session asked answer s) (sym only_reads.same) (event clean))
+      (λ _. only_reads.same)
+      (survives_weaker (state g old.store) (state g new.store) (λ _. ⊥) _ (λ _ trees none. absurd none) only_reads.survives)
       (λ e. absurd (false≢true (sym quiet ∙ e)))
 
   -- a look that failed, or after which the statement is refused
-  pub look_refused : (old new : Seen S) (r : Refusal) → Looks g old new → asks_store old.state session asked ≡ true → PassesEarly old.state session asked
+  pub look_refused : (old new : Seen S) (r : Refusal) → OnlyReads g old new → asks_store old.state session asked ≡ true → PassesEarly old.state session asked
       → (HasCleanDisk (state g new.store) → IsRefusal old.state session asked r) → Serves g session asked old (reply.Refused r) new
-  look_refused old new r looks asks early is =
-      look_answered old new (reply.Refused r) looks asks early refl (λ clean. refused_serves old.state session asked r (is clean))
+  look_refused old new r only_reads asks early is =
+      look_answered old new (reply.Refused r) only_reads asks early refl (λ clean. refused_serves old.state session asked r (is clean))
 
   -- a crash leaves what the step makes, where a write leaves it
   crashed : (t new : Committed S) (o : Open) (answer : Reply) (next : State) (is_done : Bool) → Writes g t new is_done next.catalog next.rows
@@ -337,18 +337,18 @@ module _ {S : Type 0} (g : Ghosts S) (session : ℕ) (asked : Statement) where
   pub refusal_serves : (d : Seen S) (result : Result Reply Refusal) (r : Refusal) → IsErrAnd result (λ e. e ≡ r) → IsRefusal d.state session asked r → Serves g session asked d (answer_of result) d
   refusal_serves d result r is_error is = handed_on d d result r is_error (refused d r is)
 
-  pub early_serves : (d : Seen S) (result : Result Reply Refusal) (r : Refusal) → IsErrAnd result (λ e. e ≡ r) → Some r ≡ first_refusal (turn_of d.state session asked).early
+  pub early_serves : (d : Seen S) (result : Result Reply Refusal) (r : Refusal) → IsErrAnd result (λ e. e ≡ r) → Some r ≡ first_refusal (transition_of d.state session asked).early
       → Serves g session asked d (answer_of result) d
   early_serves d result r is_error first = handed_on d d result r is_error (early_refused d r (sym first))
 
   -- a look that failed
-  pub look_failed : (old new : Seen S) (f : Failure) → Looks g old new → asks_store old.state session asked ≡ true → PassesEarly old.state session asked
+  pub look_failed : (old new : Seen S) (f : Failure) → OnlyReads g old new → asks_store old.state session asked ≡ true → PassesEarly old.state session asked
       → fails_for old.state session asked f ≡ true → Serves g session asked old (reply.Refused (refusal_for f)) new
-  look_failed old new f looks asks early takes = look_refused old new (refusal_for f) looks asks early (λ _. fails old.state session asked f early takes)
+  look_failed old new f only_reads asks early takes = look_refused old new (refusal_for f) only_reads asks early (λ _. fails old.state session asked f early takes)
 
 -- the store was looked at for a statement that asks it, and that nothing refuses early
 pub record HasLooked {S : Type 0} (g : Ghosts S) (session : ℕ) (asked : Statement) (old mid : Seen S) : Type 0 where
-  pub looks : Looks g old mid
+  pub only_reads : OnlyReads g old mid
   pub stays : HasCleanDisk (state g mid.store) → IsTrue (state g old.store).is_open → IsTrue (state g mid.store).is_open
   pub asks : asks_store old.state session asked ≡ true
   pub early : PassesEarly old.state session asked
@@ -356,15 +356,15 @@ pub record HasLooked {S : Type 0} (g : Ghosts S) (session : ℕ) (asked : Statem
 module _ {S : Type 0} (g : Ghosts S) (session : ℕ) (asked : Statement) (old mid : Seen S) (looked : HasLooked g session asked old mid) where
   -- what is served from then on
   pub since_look : (new : Seen S) (answer : Reply) → Serves g session asked mid answer new → Serves g session asked old answer new
-  since_look new answer serves = after_look g session asked old mid new answer looked.looks looked.stays looked.asks looked.early serves
+  since_look new answer serves = after_look g session asked old mid new answer looked.only_reads looked.stays looked.asks looked.early serves
 
   pub early_since : PassesEarly mid.state session asked
-  early_since = still_passes old.state mid.state session asked looked.looks.same looked.early
+  early_since = still_passes old.state mid.state session asked looked.only_reads.same looked.early
 
   -- refused for what was looked at
   pub refused_since : (r : Refusal) → (HasCleanDisk (state g mid.store) → IsRefusal mid.state session asked r) → Serves g session asked old (reply.Refused r) mid
   refused_since r is =
-      look_refused g session asked old mid r looked.looks looked.asks looked.early (λ clean. subst (λ (s : State). IsRefusal s session asked r) looked.looks.same (is clean))
+      look_refused g session asked old mid r looked.only_reads looked.asks looked.early (λ clean. subst (λ (s : State). IsRefusal s session asked r) looked.only_reads.same (is clean))
 
 -- nothing refuses a statement that writes: its step makes this answer and this state, in which the same is open, and each row
 -- that is reserved has its table and its amounts

@@ -8,7 +8,7 @@ use Rattle.sqlite.specs.State.{HasCleanDisk}
 use Rattle.sqlite_trees.specs.declared.store.Store.{Ghosts}
 use Rattle.escrow_num.specs.declared.failure.Failure.{Failure}
 use Rattle.escrow_num.specs.declared.failure.Failure.TheVariants as failure
-use Rattle.escrow_num.specs.declared.refusal.Breach.{Breach}
+use Rattle.escrow_num.specs.declared.refusal.Violation.{Violation}
 use Rattle.escrow_num.specs.declared.refusal.Refusal.{Refusal}
 use Rattle.escrow_num.specs.declared.refusal.Refusal.TheVariants as refusal
 use Rattle.escrow_num.specs.declared.reservation.TheConstants.Reservation.{MAX_ID}
@@ -51,19 +51,19 @@ use Rattle.escrow_machine.specs.Promised.{asks_store}
 use Rattle.escrow_machine.specs.Reply.{failure_of, failure_of_refusal}
 use Rattle.escrow_machine.specs.State.{State, is_open, is_reserved, open_in, with_open}
 use Rattle.escrow_machine.specs.Step.{step, fails_for, StepOrRefusal}
-use Rattle.escrow_machine.specs.Turn.{turn_of, update_refusals, update_reply, after_update}
+use Rattle.escrow_machine.specs.Transition.{transition_of, update_refusals, update_reply, after_update}
 use Rattle.escrow_machine.specs.Valid.{IsOrderly, IsValid}
 use Rattle.escrow_machine.proofs.Lengths.{find_map}
 use Rattle.escrow_machine.proofs.Refusals.{passed}
 use Rattle.escrow_machine.proofs.Shapes.{HasOrder, covered, few_reservations, is_table_found}
-use Rattle.escrow_machine.proofs.TurnUpdate.{reserved_valid, replaced_valid}
+use Rattle.escrow_machine.proofs.TransitionUpdate.{reserved_valid, replaced_valid}
 use Rattle.escrow_machine.proofs.ValidPlain.{same_test, values_both}
 use Rattle.escrow_machine.proofs.ValidUpdate.{granted_orderly}
 use Rattle.escrow_core.specs.Inside.{amounts_named, AreOfTables, HaveAmounts, IsOfTable, Keeps}
 use Rattle.escrow_core.specs.Reserved.{reason_against, reason_by}
 use Rattle.escrow_core.specs.Seen.{Seen, IsKept}
 use Rattle.escrow_core.specs.Serves.{Serves}
-use Rattle.escrow_core.specs.Serving.{Looks}
+use Rattle.escrow_core.specs.Serving.{OnlyReads}
 use Rattle.escrow_core.proofs.Places.{becomes_some, granted_placed, made_amounts, made_tables, put_at, put_others, same_amounts, same_placed, same_tables, some_of, some_same, taken_amounts, taken_tables}
 use Rattle.escrow_core.proofs.Planned.{planned_in, plan_refused, plan_accepted, planned_early}
 use Rattle.escrow_core.proofs.Served.{refused_serves, update_serves}
@@ -95,7 +95,7 @@ plain_accepted s session text key values is closed stands =
 -- the step of a plan
 update_step : (s : State) (session : ℕ) (text : UpdateText) (asked : Plan) → plan_of s text ≡ Some asked → IsAccepted s session (statement.Update text)
     → step s session (statement.Update text) ≡ (update_reply s asked, after_update s session text.table asked)
-unfolding turn_of
+unfolding transition_of
 update_step s session text asked is accepted =
     accepted_step s session (statement.Update text) accepted
     ∙ ap (λ (p : Option Plan). (unwrap_or (option_map (update_reply s) p) reply.Updated, unwrap_or (option_map (after_update s session text.table) p) s)) is
@@ -185,12 +185,12 @@ short_plan s text key changes orderly is =
     omega (arith, whole, few))
 
 -- a reason against it is no failure
-no_failure : (many none_left : Bool) (o : Option Breach) (r : Refusal)
+no_failure : (many none_left : Bool) (o : Option Violation) (r : Refusal)
     → first_refusal (first_refusal (refuse_if many refusal.TooManyReservations ∷ refuse_if none_left refusal.NoMoreIds ∷ []) ∷ option_map refusal.Check o ∷ []) ≡ Some r
     → failure_of_refusal r ≡ None
 no_failure true none_left o r is = subst (λ (q : Refusal). failure_of_refusal q ≡ None) (some_same is) refl
 no_failure false true o r is = subst (λ (q : Refusal). failure_of_refusal q ≡ None) (some_same is) refl
-no_failure false false (Some breach) r is = subst (λ (q : Refusal). failure_of_refusal q ≡ None) (some_same is) refl
+no_failure false false (Some violation) r is = subst (λ (q : Refusal). failure_of_refusal q ≡ None) (some_same is) refl
 no_failure false false None r is = absurd (cc)
 
 -- the first reason against it is that by its row's amounts and the checks of its table
@@ -200,11 +200,11 @@ reason_is : (s : State) (session : ℕ) (name : RowName) (table : TableDef) (amo
 reason_is s session name table amounts changes named is_table many has =
     let row = standing s.rows name amounts has in
     let reason = grant_refusal session (open_in s) in
-    let breach : List ℤ → RowName → Option Refusal = λ zs n. option_map refusal.Check (broken table.checks zs (deltas changes) (map (changes_at n) s.reservations)) in
+    let violation : List ℤ → RowName → Option Refusal = λ zs n. option_map refusal.Check (broken table.checks zs (deltas changes) (map (changes_at n) s.reservations)) in
     let same : broken table.checks amounts (deltas changes) (map (changes_at name) s.reservations) ≡ broken table.checks amounts (deltas changes) (of_row name s.reservations) =
     same_grant_rule table.checks amounts (deltas changes) name s.reservations (covered table amounts is_table many) in
-    rw (row.found, named) refl ∙ ap₂ (λ (zs : List ℤ) (n : RowName). first_refusal (reason ∷ breach zs n ∷ [])) row.has row.named
-    ∙ ap (λ (o : Option Breach). first_refusal (reason ∷ option_map refusal.Check o ∷ [])) same
+    rw (row.found, named) refl ∙ ap₂ (λ (zs : List ℤ) (n : RowName). first_refusal (reason ∷ violation zs n ∷ [])) row.has row.named
+    ∙ ap (λ (o : Option Violation). first_refusal (reason ∷ option_map refusal.Check o ∷ [])) same
 
 -- a reservation of changes of a row is planned, in the table that the text names
 pub record IsPlanned (s : State) (text : UpdateText) (name : RowName) (changes : List (Option ℤ)) : Type 0 where
@@ -306,7 +306,7 @@ module _ {S : Type 0} (g : Ghosts S) (session : ℕ) (text : UpdateText) (name :
         (λ is. absurd (false≢true is))
 
   -- where the amounts of its row were looked at
-  module _ (old mid : Seen S) (planned : IsPlanned old.state text name changes) (first : is_reserved old.state name ≡ false) (looks : Looks g old mid) where
+  module _ (old mid : Seen S) (planned : IsPlanned old.state text name changes) (first : is_reserved old.state name ≡ false) (only_reads : OnlyReads g old mid) where
     asks : asks_store old.state session (statement.Update text) ≡ true
     asks = asks_first old.state session text name changes planned first
 
@@ -319,19 +319,19 @@ module _ {S : Type 0} (g : Ghosts S) (session : ℕ) (text : UpdateText) (name :
     takes failure.Store = asks
 
     pub first_fails : (f : Failure) → Serves g session (statement.Update text) old (reply.Refused (refusal_for f)) mid
-    first_fails f = look_failed g session (statement.Update text) old mid f looks asks early (takes f)
+    first_fails f = look_failed g session (statement.Update text) old mid f only_reads asks early (takes f)
 
     -- for want of the row
     pub first_lacks : (HasCleanDisk (state g mid.store) → None ≡ amounts_named old.state.rows name) → Serves g session (statement.Update text) old (reply.Refused refusal.NoSuchRow) mid
     first_lacks read =
-        look_refused g session (statement.Update text) old mid refusal.NoSuchRow looks asks early
+        look_refused g session (statement.Update text) old mid refusal.NoSuchRow only_reads asks early
         (λ clean. plan_refused old.state session text (plan.Reserve name.key changes) refusal.NoSuchRow planned.plan
         (refusals_are old.state session text name changes planned ∙ rw (no_row old.state.rows name (read clean)) refl))
 
     module _ (table : TableDef) (amounts : List ℤ) (orderly : HasOrder mid.state) (named : table_named mid.state.catalog name.table ≡ Some table)
         (many : length amounts ≡ length (reservables table.columns)) (read : HasCleanDisk (state g mid.store) → amounts_named mid.state.rows name ≡ Some amounts) where
       planned_now : IsPlanned mid.state text name changes
-      planned_now = still_planned old.state mid.state text name changes looks.same planned
+      planned_now = still_planned old.state mid.state text name changes only_reads.same planned
 
       abbrev why : Option Refusal
       why = reason_by session table.checks amounts (deltas changes) (of_row name mid.state.reservations) (open_in mid.state)
@@ -339,8 +339,8 @@ module _ {S : Type 0} (g : Ghosts S) (session : ℕ) (text : UpdateText) (name :
       -- refused
       pub first_refused : (r : Refusal) → (why ≡ Some r) ⊎ (r ≡ refusal.Memory) → Serves g session (statement.Update text) old (reply.Refused r) mid
       first_refused r (inl is) =
-          look_refused g session (statement.Update text) old mid r looks asks early
-          (λ clean. subst (λ (s : State). IsRefusal s session (statement.Update text) r) looks.same
+          look_refused g session (statement.Update text) old mid r only_reads asks early
+          (λ clean. subst (λ (s : State). IsRefusal s session (statement.Update text) r) only_reads.same
           (row_refuses mid.state session text name changes planned_now table amounts orderly named many (read clean) r is))
       first_refused r (inr is) = subst (λ (q : Refusal). Serves g session (statement.Update text) old (reply.Refused q) mid) (sym is) (first_fails failure.Memory)
 
@@ -349,8 +349,8 @@ module _ {S : Type 0} (g : Ghosts S) (session : ℕ) (text : UpdateText) (name :
           → Serves g session (statement.Update text) old (reply.Reserved mid.state.next_id) (record { store = mid.store; state = with_open mid.state (txn.granted session name changes (open_in mid.state)) })
       first_granted stays none =
           let new : Seen S = record { store = mid.store; state = with_open mid.state (txn.granted session name changes (open_in mid.state)) } in
-          let still_first : is_reserved mid.state name ≡ false = subst (λ (s : State). is_reserved s name ≡ false) (sym looks.same) first in
-          after_look g session (statement.Update text) old mid new (reply.Reserved mid.state.next_id) looks stays asks early
+          let still_first : is_reserved mid.state name ≡ false = subst (λ (s : State). is_reserved s name ≡ false) (sym only_reads.same) first in
+          after_look g session (statement.Update text) old mid new (reply.Reserved mid.state.next_id) only_reads stays asks early
           (served g session (statement.Update text) mid new (reply.Reserved mid.state.next_id) (asks_first mid.state session text name changes planned_now still_first)
           (passes mid.state session text name changes planned_now)
           (λ clean. grant_step mid.state session text name changes planned_now (row_accepts mid.state session text name changes planned_now table amounts orderly named many (read clean) none))

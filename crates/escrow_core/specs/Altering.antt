@@ -1,6 +1,6 @@
 -- Helps: words of ALTER TABLE.
 use Rattle.std.specs.Prelude.{◌≡◌, ℕ, ℤ, ◌≤◌, ◌+◌, is_none, Option, Some, option_map, unwrap_or, List, [], ◌∷◌, ◌++◌, length, take, drop}
-use Rattle.escrow_num.specs.declared.refusal.Breach.{Breach}
+use Rattle.escrow_num.specs.declared.refusal.Violation.{Violation}
 use Rattle.escrow_num.specs.declared.refusal.Refusal.{Refusal}
 use Rattle.escrow_num.specs.declared.refusal.Refusal.TheVariants as refusal
 use Rattle.escrow_num.specs.declared.reservation.Reservation.{Reservation}
@@ -66,8 +66,8 @@ abbrev pub amounts_by : Judge → Row → List ℤ
 amounts_by judge row = unwrap_or (option_map (λ (place : Kept). place.amounts) (place_at judge.addition row.name)) row.amounts
 
 -- what the open reservations of a row, some of them or none, could break of the checks that are added
-abbrev pub breach_by : Judge → Row → Option Breach
-breach_by judge row = broken (new_ones judge.added) (amounts_by judge row) [] (of_row row.name judge.reservations)
+abbrev pub violation_by : Judge → Row → Option Violation
+violation_by judge row = broken (new_ones judge.added) (amounts_by judge row) [] (of_row row.name judge.reservations)
 
 -- the added checks are some of a table's, and an addition was prepared for the rows of it that are reserved
 pub record CanJudge (added : AddedChecks) (reserved : Reserved) (addition : Places) : Type 0 where

@@ -18,7 +18,7 @@ use Rattle.escrow_machine.specs.Settle.{settled}
 use Rattle.escrow_core.specs.Seen.{Seen}
 use Rattle.escrow_machine.specs.State.{State}
 use Rattle.escrow_machine.specs.Step.{step, StepOrRefusal}
-use Rattle.escrow_machine.specs.Turn.{turn_of}
+use Rattle.escrow_machine.specs.Transition.{transition_of}
 
 -- what a disk has is a database that holds the tables and the rows of a state
 abbrev pub AreHeldOf : State → Trees → Type 0
@@ -39,7 +39,7 @@ AreAfterEnds plan s trees = (n : ℕ) × AreHeldOf (settled (take n plan) s) tre
 -- makes; after a reply that tells of a write, it leaves the tables and rows that there then are.
 pub record Serves {S : Type 0} (g : Ghosts S) (session : ℕ) (asked : Statement) (old : Seen S) (answer : Reply) (new : Seen S) : Type 0 where
   pub event : HasCleanDisk (state g new.store) → StepOrRefusal old.state session asked answer new.state
-  pub early : (r : Refusal) → first_refusal (turn_of old.state session asked).early ≡ Some r → (answer ≡ reply.Refused r) × (new ≡ old)
+  pub early : (r : Refusal) → first_refusal (transition_of old.state session asked).early ≡ Some r → (answer ≡ reply.Refused r) × (new ≡ old)
   pub apart : asks_store old.state session asked ≡ false → (new.store ≡ old.store) × ¬ (failure_of answer ≡ Some failure.Store)
   pub unread : reads_rows old.state session asked ≡ false → StepOrRefusal old.state session asked answer new.state
   pub refused : IsTrue (is_refused answer) → new.state ≡ old.state

@@ -19,10 +19,10 @@ use Rattle.escrow_machine.specs.declared.reply.Reply.TheVariants as reply
 use Rattle.escrow_machine.specs.Asked.{key_refusal_of}
 use Rattle.escrow_machine.specs.Settle.{after_end}
 use Rattle.escrow_machine.specs.State.{State}
-use Rattle.escrow_machine.specs.Turn.{turn_of}
+use Rattle.escrow_machine.specs.Transition.{transition_of}
 
 -- A call looked at the store: the state stays.
-pub record Looks {S : Type 0} (g : Ghosts S) (old new : Seen S) : Type 0 where
+pub record OnlyReads {S : Type 0} (g : Ghosts S) (old new : Seen S) : Type 0 where
   pub same : new.state ≡ old.state
   pub survives : Survives (state g old.store) (state g new.store) (λ _. ⊥)
 
@@ -46,7 +46,7 @@ Answers g session asked old result new = Serves g session asked old (answer_of r
 
 -- a call fails just where a statement is refused early, for its first early refusal
 abbrev pub IsEarly : {T : Type 0} → State → ℕ → Statement → Result T Refusal → Type 0
-IsEarly s session asked result = result_err result ≡ first_refusal (turn_of s session asked).early
+IsEarly s session asked result = result_err result ≡ first_refusal (transition_of s session asked).early
 
 -- why the row that a text names isn't looked for: there is no such table, or its WHERE names no row
 abbrev pub row_refusal : State → RowText → Option Refusal

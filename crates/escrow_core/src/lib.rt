@@ -6,12 +6,12 @@
 //! where the statement may fail, and the state is equal.
 #![tactic(auto)]
 
-mod breach;
 mod database;
 mod recent;
 mod reserved;
 mod shown_bounds;
 mod shown_journal;
+mod violation;
 
 pub use database::Database;
 pub use escrow_machine::{

@@ -12,7 +12,7 @@ ghost use Rattle.escrow_journal.specs.Open.{cut_back};
 ghost use Rattle.escrow_journal.specs.Reservations.{own};
 ghost use Rattle.escrow_machine.specs.Walked.{IsShort};
 
-use crate::breach::first_breach;
+use crate::violation::first_violation;
 use escrow_bounds::{Addition, Bounds, deltas};
 use escrow_checks::Check;
 use escrow_num::{Amount, Changes, End, Name, Refusal, RowName, Session};
@@ -182,7 +182,7 @@ impl Reserved {
         if let Some(refusal) = self.txns.grant_refusal(session) {
             return Some(refusal);
         }
-        first_breach(checks, amounts, changes).map(Refusal::Check)
+        first_violation(checks, amounts, changes).map(Refusal::Check)
     }
 
     /// Grants a session one more reservation of changes of a row that has open ones, and whose place stands at an

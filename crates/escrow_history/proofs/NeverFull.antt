@@ -23,16 +23,16 @@ use Rattle.escrow_schema.specs.Catalog.{table_named}
 use Rattle.escrow_journal.proofs.Free.{grant_among}
 use Rattle.escrow_machine.specs.declared.reply.Reply.{Reply}
 use Rattle.escrow_machine.specs.declared.reply.Reply.TheVariants as reply
-use Rattle.escrow_machine.specs.Altered.{added_breach, drop_refusal_of}
-use Rattle.escrow_machine.specs.Asked.{breach_of, insert_breach, plan_of, reservation_from, row_name}
+use Rattle.escrow_machine.specs.Altered.{added_violation, drop_refusal_of}
+use Rattle.escrow_machine.specs.Asked.{violation_of, insert_violation, plan_of, reservation_from, row_name}
 use Rattle.escrow_machine.specs.Reply.{failure_of}
 use Rattle.escrow_machine.specs.State.{State, open_in}
 use Rattle.escrow_machine.specs.Step.{IsStep, refusals, step}
-use Rattle.escrow_machine.specs.Turn.{Turn, turn_of, alter_refusals, update_refusals}
+use Rattle.escrow_machine.specs.Transition.{Transition, transition_of, alter_refusals, update_refusals}
 use Rattle.escrow_machine.proofs.LawsSteps.{step_has}
 use Rattle.escrow_machine.proofs.Plans.{key_among, plan_among, select_among}
 use Rattle.escrow_machine.proofs.Refusals.{check_among, first_among, if_among}
-use Rattle.escrow_machine.proofs.Turns.{is_turn}
+use Rattle.escrow_machine.proofs.Transitions.{is_transition}
 use Rattle.escrow_transcript.specs.declared.base.Base.{Base}
 use Rattle.escrow_transcript.specs.declared.entry.Entry.{Entry}
 use Rattle.escrow_transcript.specs.Image.{started}
@@ -47,18 +47,18 @@ is_full _ = false
 abbrev HasRoom : Refusal → Type 0
 HasRoom r = is_full r ≡ false
 
--- no refusal of a turn is
-abbrev AllHaveRoom : Turn → Type 0
-AllHaveRoom turn = AllByRecursion (λ o. IfSome o HasRoom) (refusals turn)
+-- no refusal of a transition is
+abbrev AllHaveRoom : Transition → Type 0
+AllHaveRoom transition = AllByRecursion (λ o. IfSome o HasRoom) (refusals transition)
 
 -- THE TURNS
 
-create_room : (s : State) (session : ℕ) (text : CreateText) → AllHaveRoom (turn_of s session (statement.Create text))
-unfolding turn_of
+create_room : (s : State) (session : ℕ) (text : CreateText) → AllHaveRoom (transition_of s session (statement.Create text))
+unfolding transition_of
 create_room s session text = (if_among HasRoom _ _ refl, (if_among HasRoom _ _ refl, (if_among HasRoom _ _ refl, (if_among HasRoom _ _ refl, tt))))
 
-drop_room : (s : State) (session : ℕ) (name : List ℕ) → AllHaveRoom (turn_of s session (statement.Drop name))
-unfolding turn_of
+drop_room : (s : State) (session : ℕ) (name : List ℕ) → AllHaveRoom (transition_of s session (statement.Drop name))
+unfolding transition_of
 drop_room s session name = (if_among HasRoom _ _ refl, (if_among HasRoom _ _ refl, (if_among HasRoom _ _ refl, tt)))
 
 -- the refusals of an ALTER TABLE are those of its change
@@ -67,28 +67,28 @@ lacking_room s name (change.Add text) = tt
 lacking_room s name (change.Drop check) = if_among HasRoom _ _ refl
 
 change_room : (s : State) (name : List ℕ) (asked : TableChange) → AllByRecursion (λ (o : Option Refusal). IfSome o HasRoom) (alter_refusals s name asked)
-change_room s name (change.Add text) = (if_among HasRoom _ _ refl, (check_among HasRoom (added_breach s name text) (λ _. refl), tt))
+change_room s name (change.Add text) = (if_among HasRoom _ _ refl, (check_among HasRoom (added_violation s name text) (λ _. refl), tt))
 change_room s name (change.Drop check) = tt
 
-alter_room : (s : State) (session : ℕ) (text : AlterText) → AllHaveRoom (turn_of s session (statement.Alter text))
-unfolding turn_of
+alter_room : (s : State) (session : ℕ) (text : AlterText) → AllHaveRoom (transition_of s session (statement.Alter text))
+unfolding transition_of
 alter_room s session text = (if_among HasRoom _ _ refl, (if_among HasRoom _ _ refl, (lacking_room s text.table text.change, change_room s text.table text.change)))
 
-insert_room : (s : State) (session : ℕ) (text : InsertText) → AllHaveRoom (turn_of s session (statement.Insert text))
-unfolding turn_of
+insert_room : (s : State) (session : ℕ) (text : InsertText) → AllHaveRoom (transition_of s session (statement.Insert text))
+unfolding transition_of
 insert_room s session text = (
   if_among HasRoom _ _ refl,
   (
     if_among HasRoom _ _ refl,
     (
       if_among HasRoom _ _ refl,
-      (if_among HasRoom _ _ refl, (if_among HasRoom _ _ refl, (check_among HasRoom (insert_breach s text) (λ _. refl), tt))),
+      (if_among HasRoom _ _ refl, (if_among HasRoom _ _ refl, (check_among HasRoom (insert_violation s text) (λ _. refl), tt))),
     ),
   ),
 )
 
-delete_room : (s : State) (session : ℕ) (text : RowText) → AllHaveRoom (turn_of s session (statement.Delete text))
-unfolding turn_of
+delete_room : (s : State) (session : ℕ) (text : RowText) → AllHaveRoom (transition_of s session (statement.Delete text))
+unfolding transition_of
 delete_room s session text = (
   if_among HasRoom _ _ refl,
   (if_among HasRoom _ _ refl, (key_among HasRoom s text.table text.row refl refl, (if_among HasRoom _ _ refl, (if_among HasRoom _ _ refl, tt)))),
@@ -102,52 +102,52 @@ late_room s session text (Some (plan.Reserve key changes)) = (
   if_among HasRoom _ _ refl,
   (
     grant_among HasRoom session (open_in s) refl refl,
-    (check_among HasRoom (breach_of s (reservation_from s session (row_name text.table key) changes)) (λ _. refl), tt),
+    (check_among HasRoom (violation_of s (reservation_from s session (row_name text.table key) changes)) (λ _. refl), tt),
   ),
 )
 late_room s session text (Some (plan.Plain key values)) = (if_among HasRoom _ _ refl, (if_among HasRoom _ _ refl, tt))
 
-update_room : (s : State) (session : ℕ) (text : UpdateText) → AllHaveRoom (turn_of s session (statement.Update text))
-unfolding turn_of
+update_room : (s : State) (session : ℕ) (text : UpdateText) → AllHaveRoom (transition_of s session (statement.Update text))
+unfolding transition_of
 update_room s session text = (if_among HasRoom _ _ refl, (plan_among HasRoom s text refl refl refl, late_room s session text (plan_of s text)))
 
-select_room : (s : State) (session : ℕ) (text : SelectText) → AllHaveRoom (turn_of s session (statement.Select text))
-unfolding turn_of
+select_room : (s : State) (session : ℕ) (text : SelectText) → AllHaveRoom (transition_of s session (statement.Select text))
+unfolding transition_of
 select_room s session text = (if_among HasRoom _ _ refl, (select_among HasRoom s text refl refl, tt))
 
-show_room : (s : State) (session : ℕ) (name : List ℕ) → AllHaveRoom (turn_of s session (statement.ShowTable name))
-unfolding turn_of
+show_room : (s : State) (session : ℕ) (name : List ℕ) → AllHaveRoom (transition_of s session (statement.ShowTable name))
+unfolding transition_of
 show_room s session name = (if_among HasRoom _ _ refl, tt)
 
-bounds_room : (s : State) (session : ℕ) (text : RowText) → AllHaveRoom (turn_of s session (statement.ShowBounds text))
-unfolding turn_of
+bounds_room : (s : State) (session : ℕ) (text : RowText) → AllHaveRoom (transition_of s session (statement.ShowBounds text))
+unfolding transition_of
 bounds_room s session text = (if_among HasRoom _ _ refl, (key_among HasRoom s text.table text.row refl refl, (if_among HasRoom _ _ refl, tt)))
 
 journal_among : (s : State) (table : Option (List ℕ)) → IfSome (option_and_then (λ name. refuse_if (is_none (table_named s.catalog name)) refusal.NoSuchTable) table) HasRoom
 journal_among s None = tt
 journal_among s (Some name) = if_among HasRoom _ _ refl
 
-journal_room : (s : State) (session : ℕ) (table : Option (List ℕ)) → AllHaveRoom (turn_of s session (statement.ShowJournal table))
-unfolding turn_of
+journal_room : (s : State) (session : ℕ) (table : Option (List ℕ)) → AllHaveRoom (transition_of s session (statement.ShowJournal table))
+unfolding transition_of
 journal_room s session table = (journal_among s table, tt)
 
-savepoint_room : (s : State) (session : ℕ) (name : List ℕ) → AllHaveRoom (turn_of s session (statement.Savepoint name))
-unfolding turn_of
+savepoint_room : (s : State) (session : ℕ) (name : List ℕ) → AllHaveRoom (transition_of s session (statement.Savepoint name))
+unfolding transition_of
 savepoint_room s session name = (if_among HasRoom _ _ refl, tt)
 
-back_room : (s : State) (session : ℕ) (name : List ℕ) → AllHaveRoom (turn_of s session (statement.RollbackTo name))
-unfolding turn_of
+back_room : (s : State) (session : ℕ) (name : List ℕ) → AllHaveRoom (transition_of s session (statement.RollbackTo name))
+unfolding transition_of
 back_room s session name = (if_among HasRoom _ _ refl, tt)
 
-commit_room : (s : State) (session : ℕ) → AllHaveRoom (turn_of s session statement.Commit)
-unfolding turn_of
+commit_room : (s : State) (session : ℕ) → AllHaveRoom (transition_of s session statement.Commit)
+unfolding transition_of
 commit_room s session = tt
 
-rollback_room : (s : State) (session : ℕ) → AllHaveRoom (turn_of s session statement.Rollback)
-unfolding turn_of
+rollback_room : (s : State) (session : ℕ) → AllHaveRoom (transition_of s session statement.Rollback)
+unfolding transition_of
 rollback_room s session = tt
 
-has_room : (s : State) (session : ℕ) (asked : Statement) → AllHaveRoom (turn_of s session asked)
+has_room : (s : State) (session : ℕ) (asked : Statement) → AllHaveRoom (transition_of s session asked)
 has_room s session (statement.Create text) = create_room s session text
 has_room s session (statement.Drop name) = drop_room s session name
 has_room s session (statement.Alter text) = alter_room s session text
@@ -171,8 +171,8 @@ not_full r room same = let is : r ≡ refusal.TranscriptFull = cc in false≢tru
 never_full : (s : State) (session : ℕ) (asked : Statement) → ¬ ((step s session asked).0 ≡ reply.Refused refusal.TranscriptFull)
 never_full s session asked =
     step_has (λ (p : Reply × State). ¬ (p.0 ≡ reply.Refused refusal.TranscriptFull)) s session asked
-    (λ r first. not_full r (first_among HasRoom (refusals (turn_of s session asked)) (has_room s session asked) r first))
-    (λ _. (is_turn s session asked).answers refusal.TranscriptFull)
+    (λ r first. not_full r (first_among HasRoom (refusals (transition_of s session asked)) (has_room s session asked) r first))
+    (λ _. (is_transition s session asked).answers refusal.TranscriptFull)
 
 -- nor does a reply that is no failure tell of memory or the store
 is_answer : (s : State) (session : ℕ) (asked : Statement) (answer : Reply) (new : State) → failure_of answer ≡ None → IsStep s session asked answer new → IsAnswer answer

@@ -35,9 +35,9 @@ use Rattle.escrow_journal.specs.Savepoints.{without_savepoint}
 use Rattle.escrow_machine.specs.Accepted.{IsAccepted}
 use Rattle.escrow_machine.specs.State.{State, open_in, is_open, is_reserved, is_table_reserved}
 use Rattle.escrow_schema.specs.Rows.{row_named, rows_of, changes_to}
-use Rattle.escrow_machine.specs.Turn.{turn_of, alter_refusals, update_refusals}
-use Rattle.escrow_machine.specs.Altered.{table_with_check, table_without_check, added_breach, drop_refusal_of, table_altered}
-use Rattle.escrow_machine.specs.Asked.{new_row, insert_breach, plan_of, plan_refusal_of, row_name, reservation_from, breach_of, named_by, key_refusal_of}
+use Rattle.escrow_machine.specs.Transition.{transition_of, alter_refusals, update_refusals}
+use Rattle.escrow_machine.specs.Altered.{table_with_check, table_without_check, added_violation, drop_refusal_of, table_altered}
+use Rattle.escrow_machine.specs.Asked.{new_row, insert_violation, plan_of, plan_refusal_of, row_name, reservation_from, violation_of, named_by, key_refusal_of}
 use Rattle.escrow_journal.proofs.Free.{IsFree, is_free}
 use Rattle.escrow_machine.proofs.Refusals.{passed, failed, unbroken, none_there, some_there, below}
 
@@ -49,7 +49,7 @@ pub record CreateStands (s : State) (session : ℕ) (text : CreateText) : Type 0
   pub room : length s.catalog < MAX_TABLES
 
 pub create_stands : (s : State) (session : ℕ) (text : CreateText) → IsAccepted s session (statement.Create text) → CreateStands s session text
-unfolding turn_of
+unfolding transition_of
 create_stands s session text accepted =
     let is_open = refuse_if (is_open session s) refusal.TransactionOpen in
     let exists = refuse_if (is_some (table_named s.catalog text.table)) refusal.TableExists in
@@ -84,11 +84,11 @@ fits_in : (s : State) (text : InsertText) (table : TableDef) (row : Row) → tab
 fits_in s text table row named made = rw named at made
 
 safe_in : (s : State) (text : InsertText) (table : TableDef) (row : Row) → table_named s.catalog text.table ≡ Some table → inserted_row table text ≡ Some row
-    → insert_breach s text ≡ None → broken table.checks row.amounts [] [] ≡ None
+    → insert_violation s text ≡ None → broken table.checks row.amounts [] [] ≡ None
 safe_in s text table row named fits unbroken_all = rw (named, fits) at unbroken_all
 
 pub insert_stands : (s : State) (session : ℕ) (text : InsertText) → IsAccepted s session (statement.Insert text) → InsertStands s session text
-unfolding turn_of
+unfolding transition_of
 insert_stands s session text accepted =
     let stands : Row → Option Row = λ r. row_named s.rows r.name in
     let is_open = refuse_if (is_open session s) refusal.TransactionOpen in
@@ -96,18 +96,18 @@ insert_stands s session text accepted =
     let bad = refuse_if (is_none (new_row s text)) refusal.BadValue in
     let exists = refuse_if (is_some (option_and_then stands (new_row s text))) refusal.RowExists in
     let full = refuse_if (nat_le MAX_ROWS (length (rows_of s.rows text.table))) refusal.TableFull in
-    let breach = option_map refusal.Check (insert_breach s text) in
-    let closed = passed is_open (unknown ∷ bad ∷ exists ∷ full ∷ breach ∷ []) accepted in
-    let known = passed unknown (bad ∷ exists ∷ full ∷ breach ∷ []) closed.others in
-    let good = passed bad (exists ∷ full ∷ breach ∷ []) known.others in
-    let new = passed exists (full ∷ breach ∷ []) good.others in
-    let room = passed full (breach ∷ []) new.others in
-    let kept = passed breach [] room.others in
+    let violation = option_map refusal.Check (insert_violation s text) in
+    let closed = passed is_open (unknown ∷ bad ∷ exists ∷ full ∷ violation ∷ []) accepted in
+    let known = passed unknown (bad ∷ exists ∷ full ∷ violation ∷ []) closed.others in
+    let good = passed bad (exists ∷ full ∷ violation ∷ []) known.others in
+    let new = passed exists (full ∷ violation ∷ []) good.others in
+    let room = passed full (violation ∷ []) new.others in
+    let kept = passed violation [] room.others in
     let table = some_there (table_named s.catalog text.table) (failed (is_none (table_named s.catalog text.table)) refusal.NoSuchTable known.first) in
     let row = some_there (new_row s text) (failed (is_none (new_row s text)) refusal.BadValue good.first) in
     let none_stands : option_and_then stands (new_row s text) ≡ None =
     none_there (option_and_then stands (new_row s text)) (failed (is_some (option_and_then stands (new_row s text))) refusal.RowExists new.first) in
-    let unbroken_all : insert_breach s text ≡ None = unbroken (insert_breach s text) kept.first in
+    let unbroken_all : insert_violation s text ≡ None = unbroken (insert_violation s text) kept.first in
     let fits = fits_in s text table.0 row.0 table.1 row.1 in
     record {
       table = table.0;
@@ -127,7 +127,7 @@ pub record DropStands (s : State) (name : List ℕ) : Type 0 where
   pub free : is_table_reserved s name ≡ false
 
 pub drop_stands : (s : State) (session : ℕ) (name : List ℕ) → IsAccepted s session (statement.Drop name) → DropStands s name
-unfolding turn_of
+unfolding transition_of
 drop_stands s session name accepted =
     let is_open = refuse_if (is_open session s) refusal.TransactionOpen in
     let unknown = refuse_if (is_none (table_named s.catalog name)) refusal.NoSuchTable in
@@ -150,13 +150,13 @@ alter_makes : (s : State) (name : List ℕ) (asked : TableChange) → drop_refus
     → (made : TableDef) × (table_altered s name asked ≡ Some made)
 alter_makes s name (change.Add text) early late =
     let bad = refuse_if (is_none (table_with_check s name text)) refusal.BadDefinition in
-    let good = passed bad (option_map refusal.Check (added_breach s name text) ∷ []) late in
+    let good = passed bad (option_map refusal.Check (added_violation s name text) ∷ []) late in
     some_there (table_with_check s name text) (failed (is_none (table_with_check s name text)) refusal.BadDefinition good.first)
 alter_makes s name (change.Drop check) early late =
     some_there (table_without_check s name check) (failed (is_none (table_without_check s name check)) refusal.NoSuchConstraint early)
 
 pub alter_stands : (s : State) (session : ℕ) (text : AlterText) → IsAccepted s session (statement.Alter text) → AlterStands s text
-unfolding turn_of
+unfolding transition_of
 alter_stands s session text accepted =
     let is_open = refuse_if (is_open session s) refusal.TransactionOpen in
     let unknown = refuse_if (is_none (table_named s.catalog text.table)) refusal.NoSuchTable in
@@ -170,11 +170,11 @@ alter_stands s session text accepted =
     record { table = table.0; named = table.1; made = made.0; makes = made.1; safe = whole.others }
 
 -- what is added breaks nothing
-pub add_unbroken : (s : State) (name : List ℕ) (text : CheckText) → first_refusal (alter_refusals s name (change.Add text)) ≡ None → added_breach s name text ≡ None
+pub add_unbroken : (s : State) (name : List ℕ) (text : CheckText) → first_refusal (alter_refusals s name (change.Add text)) ≡ None → added_violation s name text ≡ None
 add_unbroken s name text late =
     let bad = refuse_if (is_none (table_with_check s name text)) refusal.BadDefinition in
-    let breach = option_map refusal.Check (added_breach s name text) in
-    unbroken (added_breach s name text) (passed breach [] (passed bad (breach ∷ []) late).others).first
+    let violation = option_map refusal.Check (added_violation s name text) in
+    unbroken (added_violation s name text) (passed violation [] (passed bad (violation ∷ []) late).others).first
 
 -- a row that is deleted
 pub record DeleteStands (s : State) (text : RowText) : Type 0 where
@@ -183,7 +183,7 @@ pub record DeleteStands (s : State) (text : RowText) : Type 0 where
   pub free : is_reserved s (named_by s.catalog text.table text.row) ≡ false
 
 pub delete_stands : (s : State) (session : ℕ) (text : RowText) → IsAccepted s session (statement.Delete text) → DeleteStands s text
-unfolding turn_of
+unfolding transition_of
 delete_stands s session text accepted =
     let name = named_by s.catalog text.table text.row in
     let is_open = refuse_if (is_open session s) refusal.TransactionOpen in
@@ -227,12 +227,12 @@ plan_there s text late accepted =
 
 -- an UPDATE that is accepted has a plan, and no late refusal of it applies
 pub update_plan : (s : State) (session : ℕ) (text : UpdateText) → IsAccepted s session (statement.Update text) → UpdatePlan s text
-unfolding turn_of
+unfolding transition_of
 update_plan s session text accepted = plan_there s text (unwrap_or (option_map (update_refusals s session text.table) (plan_of s text)) []) accepted
 
 late_passed : (s : State) (session : ℕ) (text : UpdateText) (asked : Plan) → plan_of s text ≡ Some asked → IsAccepted s session (statement.Update text)
     → first_refusal (update_refusals s session text.table asked) ≡ None
-unfolding turn_of
+unfolding transition_of
 late_passed s session text asked is accepted =
     let unknown = refuse_if (is_none (table_named s.catalog text.table)) refusal.NoSuchTable in
     let late = unwrap_or (option_map (update_refusals s session text.table) (plan_of s text)) [] in
@@ -265,12 +265,12 @@ reserve_stands s session text key changes is accepted =
     let p = update_plan s session text accepted in
     let no_row = refuse_if (is_none (row_named s.rows name)) refusal.NoSuchRow in
     let not_free = grant_refusal session (open_in s) in
-    let breach = option_map refusal.Check (breach_of s r) in
-    let stands = passed no_row (not_free ∷ breach ∷ []) (late_passed s session text (plan.Reserve key changes) is accepted) in
-    let free = passed not_free (breach ∷ []) stands.others in
-    let kept = passed breach [] free.others in
+    let violation = option_map refusal.Check (violation_of s r) in
+    let stands = passed no_row (not_free ∷ violation ∷ []) (late_passed s session text (plan.Reserve key changes) is accepted) in
+    let free = passed not_free (violation ∷ []) stands.others in
+    let kept = passed violation [] free.others in
     let row = some_there (row_named s.rows name) (failed (is_none (row_named s.rows name)) refusal.NoSuchRow stands.first) in
-    let none_broken : breach_of s r ≡ None = unbroken (breach_of s r) kept.first in
+    let none_broken : violation_of s r ≡ None = unbroken (violation_of s r) kept.first in
     let in_table : option_and_then (λ (x : Row). broken p.table.checks x.amounts (deltas changes) (map (changes_to x) s.reservations)) (row_named s.rows name) ≡ None =
     subst (λ (o : Option TableDef). option_and_then (λ (t : TableDef). option_and_then (λ (x : Row). broken t.checks x.amounts (deltas changes) (map (changes_to x) s.reservations)) (row_named s.rows name)) o ≡ None)
     p.named none_broken in
@@ -307,7 +307,7 @@ plain_stands s session text key values is accepted =
 -- a savepoint that is made has room
 pub savepoint_room : (s : State) (session : ℕ) (name : List ℕ) → IsAccepted s session (statement.Savepoint name)
     → length (own_savepoints session (without_savepoint session name s.savepoints)) < MAX_SAVEPOINTS
-unfolding turn_of
+unfolding transition_of
 savepoint_room s session name accepted =
     let others = length (own_savepoints session (without_savepoint session name s.savepoints)) in
     let full = refuse_if (nat_le MAX_SAVEPOINTS others) refusal.TooManySavepoints in

@@ -25,13 +25,13 @@ use Rattle.escrow_journal.specs.Reservations.{own, savepoint_before}
 use Rattle.escrow_journal.specs.Savepoints.{is_named, savepoint_of, without_savepoint, through, is_after, after, not_after}
 use Rattle.escrow_machine.specs.declared.reply.Reply.{Reply}
 use Rattle.escrow_machine.specs.declared.reply.Reply.TheVariants as reply
-use Rattle.escrow_machine.specs.Asked.{plan_of, plan_refusal_of, row_name, reservation_from, breach_of}
+use Rattle.escrow_machine.specs.Asked.{plan_of, plan_refusal_of, row_name, reservation_from, violation_of}
 use Rattle.escrow_machine.specs.Laws.{BackAtOnceChangesNothing, BackRefusesNothing}
 use Rattle.escrow_machine.specs.Accepted.{IsAccepted}
 use Rattle.escrow_machine.specs.State.{State, open_in}
 use Rattle.escrow_schema.specs.Rows.{changes_to}
 use Rattle.escrow_machine.specs.Step.{step}
-use Rattle.escrow_machine.specs.Turn.{turn_of, after_savepoint, after_rollback_to, update_refusals, update_reply}
+use Rattle.escrow_machine.specs.Transition.{transition_of, after_savepoint, after_rollback_to, update_refusals, update_reply}
 use Rattle.escrow_machine.specs.Valid.{IsValid, IsReservationIn}
 use Rattle.escrow_machine.proofs.Accepted.{reserve_stands}
 use Rattle.escrow_machine.proofs.Choices.{IsChoice, choice_filter, choice_map}
@@ -48,7 +48,7 @@ use Rattle.escrow_machine.proofs.ValidEnds.{returned_to, back_has}
 -- the step of a ROLLBACK TO a savepoint that there is
 pub back_step : (s : State) (session : ℕ) (name : List ℕ) (p : Savepoint) → savepoint_of session name s.savepoints ≡ Some p
     → step s session (statement.RollbackTo name) ≡ (reply.RolledBackTo name (length (after p s.reservations)), returned_to s p)
-unfolding turn_of
+unfolding transition_of
 back_step s session name p found = rw found refl
 
 -- the savepoint that a SAVEPOINT makes
@@ -88,7 +88,7 @@ back_at_once s session name valid =
     ∙ ap₂ (λ (n : ℕ) (u : State). (reply.RolledBackTo name n, u)) (ap length none) same
 
 pub back_at_once_changes_nothing : BackAtOnceChangesNothing
-unfolding turn_of
+unfolding transition_of
 back_at_once_changes_nothing s session name valid =
     step_has (λ (p : Reply × State). p.0 ≡ reply.Savepoint name
     → (p.1 ≡ record s { savepoints = p.1.savepoints }) × (step p.1 session (statement.RollbackTo name) ≡ (reply.RolledBackTo name 0, p.1)))
@@ -124,7 +124,7 @@ late_beside s keep savepoints session text key changes is accepted =
     let stands = reserve_stands s session text key changes is accepted in
     let name = row_name text.table key in
     let left = fewer s keep savepoints in
-    let unbroken : breach_of left (reservation_from s session name changes) ≡ None =
+    let unbroken : violation_of left (reservation_from s session name changes) ≡ None =
     rw (stands.named, stands.found) (fewer_break keep s.reservations stands.table stands.row (deltas changes) stands.safe) in (
       rw stands.found refl,
       (
@@ -138,7 +138,7 @@ late_beside s keep savepoints session text key changes is accepted =
 
 accepted_beside : (s : State) (keep : Reservation → Bool) (savepoints : List Savepoint) (session : ℕ) (text : UpdateText) (key : Value) (changes : List (Option ℤ))
     → plan_of s text ≡ Some (plan.Reserve key changes) → IsAccepted s session (statement.Update text) → IsAccepted (fewer s keep savepoints) session (statement.Update text)
-unfolding turn_of
+unfolding transition_of
 accepted_beside s keep savepoints session text key changes is accepted =
     let t : State = fewer s keep savepoints in
     let unknown = refuse_if (is_none (table_named s.catalog text.table)) refusal.NoSuchTable in
@@ -153,15 +153,15 @@ accepted_beside s keep savepoints session text key changes is accepted =
 
 -- the reply to a reservation that is accepted
 reserved_reply : (s : State) (session : ℕ) (text : UpdateText) (key : Value) (changes : List (Option ℤ)) → plan_of s text ≡ Some (plan.Reserve key changes)
-    → (turn_of s session (statement.Update text)).reply ≡ reply.Reserved s.next_id
-unfolding turn_of
+    → (transition_of s session (statement.Update text)).reply ≡ reply.Reserved s.next_id
+unfolding transition_of
 reserved_reply s session text key changes is = ap (λ (o : Option Plan). unwrap_or (option_map (update_reply s) o) reply.Updated) is
 
 accepted_reply : (s : State) (session : ℕ) (text : UpdateText) → IsAccepted s session (statement.Update text)
-    → (step s session (statement.Update text)).0 ≡ (turn_of s session (statement.Update text)).reply
+    → (step s session (statement.Update text)).0 ≡ (transition_of s session (statement.Update text)).reply
 accepted_reply s session text accepted =
-    let turn = turn_of s session (statement.Update text) in
-    ap (λ (o : Option Refusal). let answered : Reply × State = unwrap_or (option_map (λ (r : Refusal). (reply.Refused r, s)) o) (turn.reply, turn.next) in answered.0) accepted
+    let transition = transition_of s session (statement.Update text) in
+    ap (λ (o : Option Refusal). let answered : Reply × State = unwrap_or (option_map (λ (r : Refusal). (reply.Refused r, s)) o) (transition.reply, transition.next) in answered.0) accepted
 
 granted_beside : (s : State) (keep : Reservation → Bool) (savepoints : List Savepoint) (session : ℕ) (text : UpdateText) (id : ℕ)
     → (step s session (statement.Update text)).0 ≡ reply.Reserved id → (step (fewer s keep savepoints) session (statement.Update text)).0 ≡ reply.Reserved id
@@ -175,8 +175,8 @@ granted_beside s keep savepoints session text id granted =
     ∙ none.1
 
 -- the state after a ROLLBACK TO that is accepted
-back_next : (s : State) (session : ℕ) (name : List ℕ) → (turn_of s session (statement.RollbackTo name)).next ≡ after_rollback_to s session name
-unfolding turn_of
+back_next : (s : State) (session : ℕ) (name : List ℕ) → (transition_of s session (statement.RollbackTo name)).next ≡ after_rollback_to s session name
+unfolding transition_of
 back_next s session name = refl
 
 pub back_refuses_nothing : BackRefusesNothing

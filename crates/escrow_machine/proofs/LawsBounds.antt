@@ -41,7 +41,7 @@ use Rattle.escrow_machine.specs.Accepted.{IsAccepted}
 use Rattle.escrow_machine.specs.State.{State}
 use Rattle.escrow_schema.specs.Rows.{row_named, changes_to, row_after}
 use Rattle.escrow_machine.specs.Step.{step}
-use Rattle.escrow_machine.specs.Turn.{turn_of}
+use Rattle.escrow_machine.specs.Transition.{transition_of}
 use Rattle.escrow_machine.specs.Valid.{IsValid}
 use Rattle.escrow_machine.proofs.BoundsLemmas.{split}
 use Rattle.escrow_machine.proofs.Choices.{IsChoice, all_choices, choices_all, choice_map}
@@ -177,7 +177,7 @@ record Stands (s : State) (text : RowText) : Type 0 where
   found : row_named s.rows (named_by s.catalog text.table text.row) ≡ Some row
 
 bounds_stand : (s : State) (session : ℕ) (text : RowText) → IsAccepted s session (statement.ShowBounds text) → Stands s text
-unfolding turn_of
+unfolding transition_of
 bounds_stand s session text accepted =
     let name = named_by s.catalog text.table text.row in
     let unknown = refuse_if (is_none (table_named s.catalog text.table)) refusal.NoSuchTable in
@@ -191,8 +191,8 @@ bounds_stand s session text accepted =
     record { table = table.0; named = table.1; row = row.0; found = row.1 }
 
 reply_in : (s : State) (session : ℕ) (text : RowText) (stands : Stands s text)
-    → (turn_of s session (statement.ShowBounds text)).reply ≡ reply.Bounds (columns_of s stands.table stands.row) (checks_of s stands.table stands.row)
-unfolding turn_of columns_of checks_of
+    → (transition_of s session (statement.ShowBounds text)).reply ≡ reply.Bounds (columns_of s stands.table stands.row) (checks_of s stands.table stands.row)
+unfolding transition_of columns_of checks_of
 reply_in s session text stands =
     let shown : TableDef → Row → Reply = λ table row. bounds_in s.reservations table row.name row.amounts in
     let at_row : (table : TableDef) → option_map (shown table) (row_named s.rows (named_by s.catalog text.table text.row)) ≡ Some (shown table stands.row) =
@@ -215,11 +215,11 @@ bounds_are_reached s session text columns checks valid =
 
 -- ---- whoever asks
 
-shows_alone : (s : State) (session : ℕ) (asked : Statement) → (turn_of s session asked).next ≡ s → (step s session asked).1 ≡ s
+shows_alone : (s : State) (session : ℕ) (asked : Statement) → (transition_of s session asked).next ≡ s → (step s session asked).1 ≡ s
 shows_alone s session asked same = step_has (λ (p : Reply × State). p.1 ≡ s) s session asked (λ _ _. refl) (λ _. same)
 
 pub queries_ignore_who_asks : QueriesIgnoreWhoAsks
-unfolding turn_of
+unfolding transition_of
 queries_ignore_who_asks s session other (statement.Select text) shows = (shows_alone s session (statement.Select text) refl, refl)
 queries_ignore_who_asks s session other (statement.ShowTable name) shows = (shows_alone s session (statement.ShowTable name) refl, refl)
 queries_ignore_who_asks s session other (statement.ShowJournal table) shows = (shows_alone s session (statement.ShowJournal table) refl, refl)

@@ -31,7 +31,7 @@ use Rattle.escrow_machine.specs.Accepted.{IsAccepted}
 use Rattle.escrow_machine.specs.State.{State}
 use Rattle.escrow_schema.specs.Rows.{row_named, rows_of, without_row, without_rows_of, with_values, with_plain}
 use Rattle.escrow_machine.specs.Step.{step}
-use Rattle.escrow_machine.specs.Turn.{turn_of, after_drop, update_reply, after_update}
+use Rattle.escrow_machine.specs.Transition.{transition_of, after_drop, update_reply, after_update}
 use Rattle.escrow_machine.specs.Valid.{IsReservationIn, HasRow}
 use Rattle.escrow_machine.proofs.Accepted.{AlterStands, alter_stands, delete_stands, update_plan}
 use Rattle.escrow_machine.proofs.Filters.{filter_within, filter_none, none_found}
@@ -72,7 +72,7 @@ dropped s name = (
 )
 
 pub drops_one_table : DropsOneTable
-unfolding turn_of
+unfolding transition_of
 drops_one_table s session name =
     step_has (λ (p : Reply × State). p.0 ≡ reply.Dropped name → Dropped s name p.1) s session (statement.Drop name)
     (λ _ _ e. absurd (cc)) (λ _ _. dropped s name)
@@ -127,7 +127,7 @@ altered s text stands =
     )
 
 pub alters_one_table : AltersOneTable
-unfolding turn_of
+unfolding transition_of
 alters_one_table s session text =
     step_has (λ (p : Reply × State). p.0 ≡ reply.Altered text.table → Altered s text.table p.1) s session (statement.Alter text)
     (λ _ _ e. absurd (cc)) (λ accepted _. altered s text (alter_stands s session text accepted))
@@ -157,7 +157,7 @@ deleted s name stands = (
 )
 
 pub deletes_one_row : DeletesOneRow
-unfolding turn_of
+unfolding transition_of
 deletes_one_row s session text =
     let name = named_by s.catalog text.table text.row in
     step_has (λ (p : Reply × State). p.0 ≡ reply.Deleted → Deleted s name p.1) s session (statement.Delete text)
@@ -210,8 +210,8 @@ by_plan s session text table (plan.Plain key values) named at e =
     subst (λ (n : RowName). Replaced s n (record s { rows = with_plain (row_name text.table key) values s.rows })) name (replaced_one s (row_name text.table key) values)
 
 updated : (s : State) (session : ℕ) (text : UpdateText) → IsAccepted s session (statement.Update text)
-    → (turn_of s session (statement.Update text)).reply ≡ reply.Updated → Replaced s (named_by s.catalog text.table text.row) (turn_of s session (statement.Update text)).next
-unfolding turn_of
+    → (transition_of s session (statement.Update text)).reply ≡ reply.Updated → Replaced s (named_by s.catalog text.table text.row) (transition_of s session (statement.Update text)).next
+unfolding transition_of
 updated s session text accepted e =
     let p = update_plan s session text accepted in
     let answered : update_reply s p.plan ≡ reply.Updated = subst (λ (o : Option Plan). unwrap_or (option_map (update_reply s) o) reply.Updated ≡ reply.Updated) p.is e in

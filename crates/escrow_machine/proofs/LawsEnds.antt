@@ -12,7 +12,7 @@ use Rattle.escrow_machine.specs.Settle.{after_end, after_ends}
 use Rattle.escrow_journal.specs.Reservations.{own, others}
 use Rattle.escrow_machine.specs.State.{State}
 use Rattle.escrow_schema.specs.Rows.{changes_to, applied}
-use Rattle.escrow_machine.specs.Turn.{turn_of}
+use Rattle.escrow_machine.specs.Transition.{transition_of}
 use Rattle.escrow_machine.specs.Valid.{IsValid}
 use Rattle.escrow_machine.proofs.Changes.{all_changed_later}
 use Rattle.escrow_machine.proofs.Filters.{filters_commute, filter_within}
@@ -53,7 +53,7 @@ both_commit rows a b reservations differ =
 
 -- the ends of two sessions lead to one state in either order
 pub transactions_commute : (s : State) (a b : ℕ) (x y : End) → ¬ (a ≡ b) → after_end (after_end s a x) b y ≡ after_end (after_end s b y) a x
-unfolding turn_of
+unfolding transition_of
 transactions_commute s a b end.Commit end.Commit differ =
     same_state s _ _ _ _ _ _ (both_commit s.rows a b s.reservations differ)
     (filters_commute (λ (r : Reservation). not (r.session == b)) (λ (r : Reservation). not (r.session == a)) s.reservations)
@@ -73,7 +73,7 @@ transactions_commute s a b end.Rollback end.Rollback differ =
 
 -- an end keeps a valid state valid
 end_valid : (s : State) (session : ℕ) (x : End) → IsValid s → IsValid (after_end s session x)
-unfolding turn_of
+unfolding transition_of
 end_valid s session end.Commit valid = commit_valid s session valid
 end_valid s session end.Rollback valid = rollback_valid s session valid
 

@@ -5,7 +5,7 @@ use Rattle.std.proofs.Common.{inl, inr, refl, sym, ap, ◌∙◌, subst}
 use Rattle.std.proofs.lemmas.List.{map_push}
 use Rattle.std.proofs.lemmas.List.Elements.{Contains-append_left, Contains-append_right, Contains-push, All-from_recursion}
 use Rattle.std.proofs.lemmas.Option.{option_and_then_some}
-use Rattle.escrow_num.specs.declared.refusal.Breach.{Breach}
+use Rattle.escrow_num.specs.declared.refusal.Violation.{Violation}
 use Rattle.escrow_num.specs.declared.refusal.Refusal.{Refusal}
 use Rattle.escrow_num.specs.declared.refusal.Refusal.TheVariants as refusal
 use Rattle.escrow_num.specs.declared.reservation.Reservation.{Reservation}
@@ -29,15 +29,15 @@ use Rattle.escrow_schema.specs.declared.table.TableDef.{TableDef}
 use Rattle.escrow_schema.specs.Catalog.{table_named}
 use Rattle.escrow_machine.specs.declared.reply.Reply.{Reply}
 use Rattle.escrow_machine.specs.declared.reply.Reply.TheVariants as reply
-use Rattle.escrow_machine.specs.Laws.{IsAsked, MeetsWith, IsReachedBreach}
+use Rattle.escrow_machine.specs.Laws.{IsAsked, MeetsWith, IsReachedViolation}
 use Rattle.escrow_journal.specs.Open.{grant_refusal}
 use Rattle.escrow_journal.specs.Reservations.{others}
 use Rattle.escrow_machine.specs.Accepted.{IsAccepted}
-use Rattle.escrow_machine.specs.Asked.{plan_of, plan_refusal_of, reservation_from, row_name, reserved_by, reservation_of, breach_of}
+use Rattle.escrow_machine.specs.Asked.{plan_of, plan_refusal_of, reservation_from, row_name, reserved_by, reservation_of, violation_of}
 use Rattle.escrow_machine.specs.State.{State, open_in, is_open}
 use Rattle.escrow_schema.specs.Rows.{row_named, changes_to, row_after}
 use Rattle.escrow_machine.specs.Step.{refusals, step}
-use Rattle.escrow_machine.specs.Turn.{turn_of, update_refusals, update_reply}
+use Rattle.escrow_machine.specs.Transition.{transition_of, update_refusals, update_reply}
 use Rattle.escrow_machine.proofs.Accepted.{reserve_stands}
 use Rattle.escrow_machine.proofs.Applying.{changes_own}
 use Rattle.escrow_machine.proofs.Changes.{all_changed_push}
@@ -48,7 +48,7 @@ use Rattle.escrow_machine.proofs.LawsSteps.{step_has}
 use Rattle.escrow_journal.proofs.Free.{grant_among}
 use Rattle.escrow_machine.proofs.Refusals.{if_among, passed_over}
 use Rattle.escrow_machine.proofs.Plans.{plan_among}
-use Rattle.escrow_machine.proofs.Turns.{is_turn}
+use Rattle.escrow_machine.proofs.Transitions.{is_transition}
 
 -- an item is contained
 pub has_contains : {A : Type 0} (xs : List A) (x : A) → Has xs x → Contains xs x
@@ -88,9 +88,9 @@ row_is_named s r row found = (find_has (λ (x : Row). same_row x.name r.row) s.r
 
 -- what is granted has no refusal, and its plan is to reserve changes
 pub granted_none : (s : State) (session : ℕ) (text : UpdateText) (id : ℕ) → (step s session (statement.Update text)).0 ≡ reply.Reserved id
-    → IsAccepted s session (statement.Update text) × ((turn_of s session (statement.Update text)).reply ≡ reply.Reserved id)
+    → IsAccepted s session (statement.Update text) × ((transition_of s session (statement.Update text)).reply ≡ reply.Reserved id)
 granted_none s session text id =
-    step_has (λ (p : Reply × State). p.0 ≡ reply.Reserved id → IsAccepted s session (statement.Update text) × ((turn_of s session (statement.Update text)).reply ≡ reply.Reserved id))
+    step_has (λ (p : Reply × State). p.0 ≡ reply.Reserved id → IsAccepted s session (statement.Update text) × ((transition_of s session (statement.Update text)).reply ≡ reply.Reserved id))
     s session (statement.Update text) (λ _ _ e. absurd (cc)) (λ accepted e. (accepted, e))
 
 abbrev pub IsReserve : Option Plan → Type 0
@@ -101,8 +101,8 @@ reserve_of_reply s id None e = absurd (cc)
 reserve_of_reply s id (Some (plan.Reserve key changes)) e = (key, changes, refl)
 reserve_of_reply s id (Some (plan.Plain key values)) e = absurd (cc)
 
-pub granted_plan : (s : State) (session : ℕ) (text : UpdateText) (id : ℕ) → (turn_of s session (statement.Update text)).reply ≡ reply.Reserved id → IsReserve (plan_of s text)
-unfolding turn_of
+pub granted_plan : (s : State) (session : ℕ) (text : UpdateText) (id : ℕ) → (transition_of s session (statement.Update text)).reply ≡ reply.Reserved id → IsReserve (plan_of s text)
+unfolding transition_of
 granted_plan s session text id e = reserve_of_reply s id (plan_of s text) e
 
 -- the reservation that is granted
@@ -155,69 +155,69 @@ own_increment_not_spent s session text id granted =
     )
 
 -- what a check refuses
-pub refused_first : (s : State) (session : ℕ) (text : UpdateText) (breach : Breach) → (step s session (statement.Update text)).0 ≡ reply.Refused (refusal.Check breach)
-    → first_refusal (refusals (turn_of s session (statement.Update text))) ≡ Some (refusal.Check breach)
-refused_first s session text breach =
-    step_has (λ (p : Reply × State). p.0 ≡ reply.Refused (refusal.Check breach) → first_refusal (refusals (turn_of s session (statement.Update text))) ≡ Some (refusal.Check breach))
-    s session (statement.Update text) (λ r first e. let same : r ≡ refusal.Check breach = cc in first ∙ ap Some same)
-    (λ _ e. absurd ((is_turn s session (statement.Update text)).answers (refusal.Check breach) e))
+pub refused_first : (s : State) (session : ℕ) (text : UpdateText) (violation : Violation) → (step s session (statement.Update text)).0 ≡ reply.Refused (refusal.Check violation)
+    → first_refusal (refusals (transition_of s session (statement.Update text))) ≡ Some (refusal.Check violation)
+refused_first s session text violation =
+    step_has (λ (p : Reply × State). p.0 ≡ reply.Refused (refusal.Check violation) → first_refusal (refusals (transition_of s session (statement.Update text))) ≡ Some (refusal.Check violation))
+    s session (statement.Update text) (λ r first e. let same : r ≡ refusal.Check violation = cc in first ∙ ap Some same)
+    (λ _ e. absurd ((is_transition s session (statement.Update text)).answers (refusal.Check violation) e))
 
-last_breach : (o : Option Breach) (breach : Breach) → first_refusal (option_map refusal.Check o ∷ []) ≡ Some (refusal.Check breach) → o ≡ Some breach
-last_breach None breach e = absurd (cc)
-last_breach (Some other) breach e = cc
+last_violation : (o : Option Violation) (violation : Violation) → first_refusal (option_map refusal.Check o ∷ []) ≡ Some (refusal.Check violation) → o ≡ Some violation
+last_violation None violation e = absurd (cc)
+last_violation (Some other) violation e = cc
 
--- is the breach of its reservation: a plan of plain values has none
-late_breach : (s : State) (session : ℕ) (text : UpdateText) (o : Option Plan) (breach : Breach)
-    → first_refusal (unwrap_or (option_map (update_refusals s session text.table) o) []) ≡ Some (refusal.Check breach)
-    → option_and_then (breach_of s) (option_and_then (reserved_by s session text.table) o) ≡ Some breach
-late_breach s session text None breach first = absurd (cc)
-late_breach s session text (Some (plan.Reserve key changes)) breach first =
-    let P : Refusal → Type 0 = λ other. ¬ (other ≡ refusal.Check breach) in
+-- is the violation of its reservation: a plan of plain values has none
+late_violation : (s : State) (session : ℕ) (text : UpdateText) (o : Option Plan) (violation : Violation)
+    → first_refusal (unwrap_or (option_map (update_refusals s session text.table) o) []) ≡ Some (refusal.Check violation)
+    → option_and_then (violation_of s) (option_and_then (reserved_by s session text.table) o) ≡ Some violation
+late_violation s session text None violation first = absurd (cc)
+late_violation s session text (Some (plan.Reserve key changes)) violation first =
+    let P : Refusal → Type 0 = λ other. ¬ (other ≡ refusal.Check violation) in
     let name = row_name text.table key in
     let no_row = refuse_if (is_none (row_named s.rows name)) refusal.NoSuchRow in
     let not_free = grant_refusal session (open_in s) in
-    let o = breach_of s (reservation_from s session name changes) in
+    let o = violation_of s (reservation_from s session name changes) in
     let last = option_map refusal.Check o in
-    let here = refusal.Check breach in
+    let here = refusal.Check violation in
     let past_row = passed_over no_row (not_free ∷ last ∷ []) here (if_among P _ _ (λ q. absurd (cc))) first in
     let past_free = passed_over not_free (last ∷ []) here (grant_among P session (open_in s) (λ q. absurd (cc)) (λ q. absurd (cc))) past_row in
-    last_breach o breach past_free
-late_breach s session text (Some (plan.Plain key values)) breach first =
-    let P : Refusal → Type 0 = λ other. ¬ (other ≡ refusal.Check breach) in
+    last_violation o violation past_free
+late_violation s session text (Some (plan.Plain key values)) violation first =
+    let P : Refusal → Type 0 = λ other. ¬ (other ≡ refusal.Check violation) in
     let is_open = refuse_if (is_open session s) refusal.TransactionOpen in
     let no_row = refuse_if (is_none (row_named s.rows (row_name text.table key))) refusal.NoSuchRow in
-    let here = refusal.Check breach in
+    let here = refusal.Check violation in
     let past_open = passed_over is_open (no_row ∷ []) here (if_among P _ _ (λ q. absurd (cc))) first in
     let past_row = passed_over no_row [] here (if_among P _ _ (λ q. absurd (cc))) past_open in
     absurd (cc)
 
-pub refused_breach : (s : State) (session : ℕ) (text : UpdateText) (breach : Breach)
-    → first_refusal (refusals (turn_of s session (statement.Update text))) ≡ Some (refusal.Check breach)
-    → option_and_then (breach_of s) (reservation_of s session text) ≡ Some breach
-unfolding turn_of
-refused_breach s session text breach first =
-    let P : Refusal → Type 0 = λ other. ¬ (other ≡ refusal.Check breach) in
+pub refused_violation : (s : State) (session : ℕ) (text : UpdateText) (violation : Violation)
+    → first_refusal (refusals (transition_of s session (statement.Update text))) ≡ Some (refusal.Check violation)
+    → option_and_then (violation_of s) (reservation_of s session text) ≡ Some violation
+unfolding transition_of
+refused_violation s session text violation first =
+    let P : Refusal → Type 0 = λ other. ¬ (other ≡ refusal.Check violation) in
     let unknown = refuse_if (is_none (table_named s.catalog text.table)) refusal.NoSuchTable in
     let unplanned = plan_refusal_of s text in
     let late = unwrap_or (option_map (update_refusals s session text.table) (plan_of s text)) [] in
-    let here = refusal.Check breach in
+    let here = refusal.Check violation in
     let past_table = passed_over unknown (unplanned ∷ late) here (if_among P _ _ (λ q. absurd (cc))) first in
     let past_plan = passed_over unplanned late here (plan_among P s text (λ q. absurd (cc)) (λ q. absurd (cc)) (λ q. absurd (cc))) past_table in
-    late_breach s session text (plan_of s text) breach past_plan
+    late_violation s session text (plan_of s text) violation past_plan
 
--- a breach of a list of checks is one of a check in it
-either_broken : (checks : List Check) (amounts changes : List ℤ) (reservations : List (List ℤ)) (breach : Breach) (check : Check) (o : Option Breach)
-    → broken_by check amounts changes reservations ≡ o → first_of_two o (broken checks amounts changes reservations) ≡ Some breach
-    → (broken checks amounts changes reservations ≡ Some breach → (c : Check) × Has checks c × (broken_by c amounts changes reservations ≡ Some breach))
-    → (c : Check) × Has (check ∷ checks) c × (broken_by c amounts changes reservations ≡ Some breach)
-either_broken checks amounts changes reservations breach check None is e rest = let found = rest e in (found.0, inr found.1, found.2)
-either_broken checks amounts changes reservations breach check (Some b) is e rest = (check, inl refl, is ∙ e)
+-- a violation of a list of checks is one of a check in it
+either_broken : (checks : List Check) (amounts changes : List ℤ) (reservations : List (List ℤ)) (violation : Violation) (check : Check) (o : Option Violation)
+    → broken_by check amounts changes reservations ≡ o → first_of_two o (broken checks amounts changes reservations) ≡ Some violation
+    → (broken checks amounts changes reservations ≡ Some violation → (c : Check) × Has checks c × (broken_by c amounts changes reservations ≡ Some violation))
+    → (c : Check) × Has (check ∷ checks) c × (broken_by c amounts changes reservations ≡ Some violation)
+either_broken checks amounts changes reservations violation check None is e rest = let found = rest e in (found.0, inr found.1, found.2)
+either_broken checks amounts changes reservations violation check (Some b) is e rest = (check, inl refl, is ∙ e)
 
-broken_check : (checks : List Check) (amounts changes : List ℤ) (reservations : List (List ℤ)) (breach : Breach) → broken checks amounts changes reservations ≡ Some breach
-    → (check : Check) × Has checks check × (broken_by check amounts changes reservations ≡ Some breach)
-broken_check [] amounts changes reservations breach e = absurd (cc)
-broken_check (check ∷ checks) amounts changes reservations breach e =
-    either_broken checks amounts changes reservations breach check (broken_by check amounts changes reservations) refl e (broken_check checks amounts changes reservations breach)
+broken_check : (checks : List Check) (amounts changes : List ℤ) (reservations : List (List ℤ)) (violation : Violation) → broken checks amounts changes reservations ≡ Some violation
+    → (check : Check) × Has checks check × (broken_by check amounts changes reservations ≡ Some violation)
+broken_check [] amounts changes reservations violation e = absurd (cc)
+broken_check (check ∷ checks) amounts changes reservations violation e =
+    either_broken checks amounts changes reservations violation check (broken_by check amounts changes reservations) refl e (broken_check checks amounts changes reservations violation)
 
 -- and some choice reaches it
 reached_with : (row : Row) (r : Reservation) (reservations : List Reservation) (coeffs : List ℤ) (worst : ℤ) → same_row row.name r.row ≡ true
@@ -233,18 +233,18 @@ reached_with row r reservations coeffs worst same reached =
           ∙ reached.2,
     )
 
-breach_reached : (s : State) (table : TableDef) (row : Row) (r : Reservation) (breach : Breach) → row_named s.rows r.row ≡ Some row
-    → broken table.checks row.amounts (deltas r.changes) (map (changes_to row) s.reservations) ≡ Some breach
-    → IsReachedBreach table row s.reservations r breach
-breach_reached s table row r breach found e =
-    let check = broken_check table.checks row.amounts (deltas r.changes) (map (changes_to row) s.reservations) breach e in
-    let known = refused_names_a_choice check.0 row.amounts (deltas r.changes) (map (changes_to row) s.reservations) breach check.2 in (
+violation_reached : (s : State) (table : TableDef) (row : Row) (r : Reservation) (violation : Violation) → row_named s.rows r.row ≡ Some row
+    → broken table.checks row.amounts (deltas r.changes) (map (changes_to row) s.reservations) ≡ Some violation
+    → IsReachedViolation table row s.reservations r violation
+violation_reached s table row r violation found e =
+    let check = broken_check table.checks row.amounts (deltas r.changes) (map (changes_to row) s.reservations) violation e in
+    let known = refused_names_a_choice check.0 row.amounts (deltas r.changes) (map (changes_to row) s.reservations) violation check.2 in (
       check.0,
       has_contains table.checks check.0 check.1,
       known.0,
       known.3,
       known.1,
-      reached_with row r s.reservations check.0.coeffs breach.worst (row_is_named s r row found) known.2,
+      reached_with row r s.reservations check.0.coeffs violation.worst (row_is_named s r row found) known.2,
     )
 
 -- a reservation that is asked is of the table that is named
@@ -255,17 +255,17 @@ asked_table s session text (Some (plan.Reserve key changes)) r e =
     let same : reservation_from s session (row_name text.table key) changes ≡ r = cc in ap (λ (x : Reservation). x.row.table) (sym same)
 asked_table s session text (Some (plan.Plain key values)) r e = absurd (cc)
 
-pub refused_by_a_choice : (s : State) (session : ℕ) (text : UpdateText) (breach : Breach)
-    → (step s session (statement.Update text)).0 ≡ reply.Refused (refusal.Check breach)
-    → (table : TableDef) × (row : Row) × (new : Reservation) × IsAsked s session text table row new × IsReachedBreach table row s.reservations new breach
-refused_by_a_choice s session text breach refused =
-    option_and_then_some (breach_of s) (reservation_of s session text) breach (refused_breach s session text breach (refused_first s session text breach refused))
+pub refused_by_a_choice : (s : State) (session : ℕ) (text : UpdateText) (violation : Violation)
+    → (step s session (statement.Update text)).0 ≡ reply.Refused (refusal.Check violation)
+    → (table : TableDef) × (row : Row) × (new : Reservation) × IsAsked s session text table row new × IsReachedViolation table row s.reservations new violation
+refused_by_a_choice s session text violation refused =
+    option_and_then_some (violation_of s) (reservation_of s session text) violation (refused_violation s session text violation (refused_first s session text violation refused))
     (λ r is_asked of_reservation.
-    option_and_then_some (λ (table : TableDef). option_and_then (broken_in r table) (row_named s.rows r.row)) (table_named s.catalog r.row.table) breach of_reservation
-    (λ table named of_table. option_and_then_some (broken_in r table) (row_named s.rows r.row) breach of_table
+    option_and_then_some (λ (table : TableDef). option_and_then (broken_in r table) (row_named s.rows r.row)) (table_named s.catalog r.row.table) violation of_reservation
+    (λ table named of_table. option_and_then_some (broken_in r table) (row_named s.rows r.row) violation of_table
     (λ row found e.
     let of_text : table_named s.catalog text.table ≡ Some table = ap (table_named s.catalog) (sym (asked_table s session text (plan_of s text) r is_asked)) ∙ named in
-    (table, row, r, (of_text, is_asked, found), breach_reached s table row r breach found e))))
+    (table, row, r, (of_text, is_asked, found), violation_reached s table row r violation found e))))
   where
-    broken_in : Reservation → TableDef → Row → Option Breach
+    broken_in : Reservation → TableDef → Row → Option Violation
     broken_in r table row = broken table.checks row.amounts (deltas r.changes) (map (changes_to row) s.reservations)

@@ -25,7 +25,7 @@ use Rattle.escrow_machine.specs.Laws.{BackDropsWhatCameAfter, IdsAreUsedOnce, Id
 use Rattle.escrow_machine.specs.Reply.{failure_of}
 use Rattle.escrow_machine.specs.State.{State}
 use Rattle.escrow_machine.specs.Step.{step, may_fail, IsStep, IsRun, StepOrRefusal}
-use Rattle.escrow_machine.specs.Turn.{turn_of, after_savepoint}
+use Rattle.escrow_machine.specs.Transition.{transition_of, after_savepoint}
 use Rattle.escrow_machine.specs.Valid.{IsValid, IsReservationIn, IsSavepointIn}
 use Rattle.escrow_machine.proofs.Filters.{filter_none, filter_within, filters_commute}
 use Rattle.escrow_machine.proofs.LawsBack.{back_step, made_in}
@@ -195,7 +195,7 @@ made_beside s session name other differ =
     (false_from_ne_true (is_named session name q) (λ u. differ (sym (eqb-true q.session other t) ∙ (named_is session name q u).0))))
 
 pub savepoints_stand_as_made : SavepointsStandAsMade
-unfolding turn_of
+unfolding transition_of
 savepoints_stand_as_made s session name valid =
     step_has (λ (p : Reply × State). p.0 ≡ reply.Savepoint name
     → (p.1 ≡ record s { savepoints = p.1.savepoints })
@@ -306,7 +306,7 @@ back_from s session name p found =
 -- without the savepoint a ROLLBACK TO is refused
 no_savepoint : (s : State) (session : ℕ) (name : List ℕ) → savepoint_of session name s.savepoints ≡ None
     → step s session (statement.RollbackTo name) ≡ (reply.Refused refusal.NoSuchSavepoint, s)
-unfolding turn_of
+unfolding transition_of
 no_savepoint s session name none = rw none refl
 
 back_by : (s : State) (session : ℕ) (name : List ℕ) (count : ℕ) (o : Option Savepoint) → savepoint_of session name s.savepoints ≡ o

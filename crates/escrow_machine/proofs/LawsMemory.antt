@@ -13,7 +13,7 @@ use Rattle.escrow_machine.specs.Asked.{plan_of}
 use Rattle.escrow_machine.specs.Reply.{failure_of, holds_memory}
 use Rattle.escrow_machine.specs.State.{State}
 use Rattle.escrow_machine.specs.Step.{may_fail, IsStep, StepOrRefusal}
-use Rattle.escrow_machine.specs.Turn.{turn_of, update_reply}
+use Rattle.escrow_machine.specs.Transition.{transition_of, update_reply}
 use Rattle.escrow_machine.proofs.LawsSteps.{step_has}
 
 -- the reply to an UPDATE holds none
@@ -22,30 +22,30 @@ update_holds_none s None holds = false≢true holds
 update_holds_none s (Some (plan.Reserve key changes)) holds = false≢true holds
 update_holds_none s (Some (plan.Plain key values)) holds = false≢true holds
 
--- a turn whose reply holds memory has the state as it was for its next one
-turn_stays : (s : State) (session : ℕ) (asked : Statement) → holds_memory (turn_of s session asked).reply ≡ true → (turn_of s session asked).next ≡ s
-unfolding turn_of
-turn_stays s session (statement.Create text) holds = absurd (false≢true holds)
-turn_stays s session (statement.Drop name) holds = absurd (false≢true holds)
-turn_stays s session (statement.Alter text) holds = absurd (false≢true holds)
-turn_stays s session (statement.Insert text) holds = absurd (false≢true holds)
-turn_stays s session (statement.Update text) holds = absurd (update_holds_none s (plan_of s text) holds)
-turn_stays s session (statement.Delete text) holds = absurd (false≢true holds)
-turn_stays s session (statement.Select text) holds = refl
-turn_stays s session (statement.ShowTable name) holds = refl
-turn_stays s session (statement.ShowBounds text) holds = refl
-turn_stays s session (statement.ShowJournal table) holds = refl
-turn_stays s session (statement.Savepoint name) holds = absurd (false≢true holds)
-turn_stays s session statement.Commit holds = absurd (false≢true holds)
-turn_stays s session statement.Rollback holds = absurd (false≢true holds)
-turn_stays s session (statement.RollbackTo name) holds = absurd (false≢true holds)
+-- a transition whose reply holds memory has the state as it was for its next one
+transition_stays : (s : State) (session : ℕ) (asked : Statement) → holds_memory (transition_of s session asked).reply ≡ true → (transition_of s session asked).next ≡ s
+unfolding transition_of
+transition_stays s session (statement.Create text) holds = absurd (false≢true holds)
+transition_stays s session (statement.Drop name) holds = absurd (false≢true holds)
+transition_stays s session (statement.Alter text) holds = absurd (false≢true holds)
+transition_stays s session (statement.Insert text) holds = absurd (false≢true holds)
+transition_stays s session (statement.Update text) holds = absurd (update_holds_none s (plan_of s text) holds)
+transition_stays s session (statement.Delete text) holds = absurd (false≢true holds)
+transition_stays s session (statement.Select text) holds = refl
+transition_stays s session (statement.ShowTable name) holds = refl
+transition_stays s session (statement.ShowBounds text) holds = refl
+transition_stays s session (statement.ShowJournal table) holds = refl
+transition_stays s session (statement.Savepoint name) holds = absurd (false≢true holds)
+transition_stays s session statement.Commit holds = absurd (false≢true holds)
+transition_stays s session statement.Rollback holds = absurd (false≢true holds)
+transition_stays s session (statement.RollbackTo name) holds = absurd (false≢true holds)
 
 -- so does a step
 pub step_stays : (s : State) (session : ℕ) (asked : Statement) (answer : Reply) (new : State) → IsStep s session asked answer new → holds_memory answer ≡ true → new ≡ s
 step_stays s session asked answer new event holds =
     ap (λ (p : Reply × State). p.1) event.is_step
     ∙ step_has (λ (p : Reply × State). holds_memory p.0 ≡ true → p.1 ≡ s) s session asked
-    (λ _ _ h. absurd (false≢true h)) (λ _ h. turn_stays s session asked h)
+    (λ _ _ h. absurd (false≢true h)) (λ _ h. transition_stays s session asked h)
     (subst (λ (p : Reply × State). holds_memory p.0 ≡ true) event.is_step holds)
 
 -- and what comes in its place

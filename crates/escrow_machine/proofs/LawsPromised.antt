@@ -11,29 +11,29 @@ use Rattle.escrow_machine.specs.Promised.{is_plain_refusal, is_promised, needs_n
 use Rattle.escrow_machine.specs.Reply.{holds_memory}
 use Rattle.escrow_machine.specs.State.{State}
 use Rattle.escrow_machine.specs.Step.{step}
-use Rattle.escrow_machine.specs.Turn.{turn_of}
+use Rattle.escrow_machine.specs.Transition.{transition_of}
 use Rattle.escrow_machine.proofs.LawsSteps.{step_has}
 
 -- the reply of what needs neither memory nor the store holds none
-turn_holds_none : (s : State) (session : ℕ) (asked : Statement) → needs_nothing s session asked ≡ true → holds_memory (turn_of s session asked).reply ≡ false
-unfolding turn_of
-turn_holds_none s session (statement.Create text) none = absurd (cc)
-turn_holds_none s session (statement.Drop name) none = absurd (cc)
-turn_holds_none s session (statement.Alter text) none = absurd (cc)
-turn_holds_none s session (statement.Insert text) none = absurd (cc)
-turn_holds_none s session (statement.Update text) none = absurd (cc)
-turn_holds_none s session (statement.Delete text) none = absurd (cc)
-turn_holds_none s session (statement.Select text) none = absurd (cc)
-turn_holds_none s session (statement.ShowTable name) none = absurd (cc)
-turn_holds_none s session (statement.ShowJournal table) none = absurd (cc)
-turn_holds_none s session (statement.ShowBounds text) none = absurd (cc)
-turn_holds_none s session (statement.Savepoint name) none = refl
-turn_holds_none s session statement.Commit none = refl
-turn_holds_none s session statement.Rollback none = refl
-turn_holds_none s session (statement.RollbackTo name) none = refl
+transition_holds_none : (s : State) (session : ℕ) (asked : Statement) → needs_nothing s session asked ≡ true → holds_memory (transition_of s session asked).reply ≡ false
+unfolding transition_of
+transition_holds_none s session (statement.Create text) none = absurd (cc)
+transition_holds_none s session (statement.Drop name) none = absurd (cc)
+transition_holds_none s session (statement.Alter text) none = absurd (cc)
+transition_holds_none s session (statement.Insert text) none = absurd (cc)
+transition_holds_none s session (statement.Update text) none = absurd (cc)
+transition_holds_none s session (statement.Delete text) none = absurd (cc)
+transition_holds_none s session (statement.Select text) none = absurd (cc)
+transition_holds_none s session (statement.ShowTable name) none = absurd (cc)
+transition_holds_none s session (statement.ShowJournal table) none = absurd (cc)
+transition_holds_none s session (statement.ShowBounds text) none = absurd (cc)
+transition_holds_none s session (statement.Savepoint name) none = refl
+transition_holds_none s session statement.Commit none = refl
+transition_holds_none s session statement.Rollback none = refl
+transition_holds_none s session (statement.RollbackTo name) none = refl
 
 step_holds_none : (s : State) (session : ℕ) (asked : Statement) → needs_nothing s session asked ≡ true → holds_memory (step s session asked).0 ≡ false
-step_holds_none s session asked none = step_has (λ (p : Reply × State). holds_memory p.0 ≡ false) s session asked (λ _ _. refl) (λ _. turn_holds_none s session asked none)
+step_holds_none s session asked none = step_has (λ (p : Reply × State). holds_memory p.0 ≡ false) s session asked (λ _ _. refl) (λ _. transition_holds_none s session asked none)
 
 -- a reply that is a refusal without need is a refusal
 pub plain_refused : (asked : Statement) (answer : Reply) → is_plain_refusal asked answer ≡ true → (r : Refusal) × (answer ≡ reply.Refused r)

@@ -27,7 +27,7 @@ use Rattle.escrow_machine.specs.Laws.{BackLeavesWhatWas, MakesNone}
 use Rattle.escrow_machine.specs.Reply.{failure_of}
 use Rattle.escrow_machine.specs.State.{State, open_in, with_open}
 use Rattle.escrow_machine.specs.Step.{step, may_fail, IsServed, IsStep, IsRun}
-use Rattle.escrow_machine.specs.Turn.{turn_of, after_update, after_commit, after_rollback, after_savepoint}
+use Rattle.escrow_machine.specs.Transition.{transition_of, after_update, after_commit, after_rollback, after_savepoint}
 use Rattle.escrow_machine.specs.Valid.{IsValid, IsSavepointIn}
 use Rattle.escrow_machine.proofs.Filters.{filters_commute, filter_within, filter_within_items, filter_none}
 use Rattle.escrow_machine.proofs.Kept.{find_filter}
@@ -174,28 +174,28 @@ kept_by_back p s session name (Some q) valid found =
     (ap (λ (k : ℕ). savepoint_of k q.name s.savepoints) named.0 ∙ ap (λ (n : List ℕ). savepoint_of session n s.savepoints) named.1 ∙ found)
 
 -- each statement that doesn't make it anew
-kept_by_turn : (p : Savepoint) (s : State) (session : ℕ) (asked : Statement) → IsValid s → (session ≡ p.session → ¬ (asked ≡ statement.Savepoint p.name))
-    → Keeps p s (turn_of s session asked).next
-unfolding turn_of
-kept_by_turn p s session (statement.Create text) valid other = inr (refl, λ _. refl)
-kept_by_turn p s session (statement.Drop name) valid other = inr (refl, λ _. refl)
-kept_by_turn p s session (statement.Alter text) valid other = inr (refl, λ _. refl)
-kept_by_turn p s session (statement.Insert text) valid other = inr (refl, λ _. refl)
-kept_by_turn p s session (statement.Update text) valid other = kept_by_update p s session text (plan_of s text) valid
-kept_by_turn p s session (statement.Delete text) valid other = inr (refl, λ _. refl)
-kept_by_turn p s session (statement.Select text) valid other = inr (refl, λ _. refl)
-kept_by_turn p s session (statement.ShowTable name) valid other = inr (refl, λ _. refl)
-kept_by_turn p s session (statement.ShowJournal table) valid other = inr (refl, λ _. refl)
-kept_by_turn p s session (statement.ShowBounds text) valid other = inr (refl, λ _. refl)
-kept_by_turn p s session (statement.Savepoint name) valid other = kept_by_savepoint p s session name (λ mine named. other mine (ap statement.Savepoint named))
-kept_by_turn p s session statement.Commit valid other = kept_by_end p s (after_commit s session) session refl refl
-kept_by_turn p s session statement.Rollback valid other = kept_by_end p s (after_rollback s session) session refl refl
-kept_by_turn p s session (statement.RollbackTo name) valid other = kept_by_back p s session name (savepoint_of session name s.savepoints) valid refl
+kept_by_transition : (p : Savepoint) (s : State) (session : ℕ) (asked : Statement) → IsValid s → (session ≡ p.session → ¬ (asked ≡ statement.Savepoint p.name))
+    → Keeps p s (transition_of s session asked).next
+unfolding transition_of
+kept_by_transition p s session (statement.Create text) valid other = inr (refl, λ _. refl)
+kept_by_transition p s session (statement.Drop name) valid other = inr (refl, λ _. refl)
+kept_by_transition p s session (statement.Alter text) valid other = inr (refl, λ _. refl)
+kept_by_transition p s session (statement.Insert text) valid other = inr (refl, λ _. refl)
+kept_by_transition p s session (statement.Update text) valid other = kept_by_update p s session text (plan_of s text) valid
+kept_by_transition p s session (statement.Delete text) valid other = inr (refl, λ _. refl)
+kept_by_transition p s session (statement.Select text) valid other = inr (refl, λ _. refl)
+kept_by_transition p s session (statement.ShowTable name) valid other = inr (refl, λ _. refl)
+kept_by_transition p s session (statement.ShowJournal table) valid other = inr (refl, λ _. refl)
+kept_by_transition p s session (statement.ShowBounds text) valid other = inr (refl, λ _. refl)
+kept_by_transition p s session (statement.Savepoint name) valid other = kept_by_savepoint p s session name (λ mine named. other mine (ap statement.Savepoint named))
+kept_by_transition p s session statement.Commit valid other = kept_by_end p s (after_commit s session) session refl refl
+kept_by_transition p s session statement.Rollback valid other = kept_by_end p s (after_rollback s session) session refl refl
+kept_by_transition p s session (statement.RollbackTo name) valid other = kept_by_back p s session name (savepoint_of session name s.savepoints) valid refl
 
 kept_by_step : (p : Savepoint) (s : State) (session : ℕ) (asked : Statement) → IsValid s → (session ≡ p.session → ¬ (asked ≡ statement.Savepoint p.name))
     → Keeps p s (step s session asked).1
 kept_by_step p s session asked valid other =
-    step_has (λ (x : Reply × State). Keeps p s x.1) s session asked (λ _ _. inr (refl, λ _. refl)) (λ _. kept_by_turn p s session asked valid other)
+    step_has (λ (x : Reply × State). Keeps p s x.1) s session asked (λ _ _. inr (refl, λ _. refl)) (λ _. kept_by_transition p s session asked valid other)
 
 -- and what comes in place of a step
 kept_by_event : (p : Savepoint) (s : State) (session : ℕ) (asked : Statement) (answer : Reply) (new : State) (o : Option Failure) → IsValid s
@@ -264,8 +264,8 @@ left_by_back s session name later (inr stands) still =
     subst (LeavesWhatWas s session later) (sym (ap (λ (x : Reply × State). x.1) (back_step later session name p stands.0))) left
 
 -- the state after a SAVEPOINT that is accepted
-made_next : (s : State) (session : ℕ) (name : List ℕ) → (turn_of s session (statement.Savepoint name)).next ≡ after_savepoint s session name
-unfolding turn_of
+made_next : (s : State) (session : ℕ) (name : List ℕ) → (transition_of s session (statement.Savepoint name)).next ≡ after_savepoint s session name
+unfolding transition_of
 made_next s session name = refl
 
 pub back_leaves_what_was : BackLeavesWhatWas

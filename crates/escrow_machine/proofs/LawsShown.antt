@@ -33,7 +33,7 @@ use Rattle.escrow_machine.specs.Asked.{heading_of, is_shown, key_refusal_of, nam
 use Rattle.escrow_machine.specs.Journal.{entry_of, of_table, journal_reply}
 use Rattle.escrow_machine.specs.Laws.{SelectsShowRows, ShowsTheTable, ShowsTheJournal, IsJournal, IsOfTable, entry_before, QueriesIgnoreWhatIsOpen, IsSelected, IsKeyed}
 use Rattle.escrow_machine.specs.State.{State}
-use Rattle.escrow_machine.specs.Turn.{turn_of}
+use Rattle.escrow_machine.specs.Transition.{transition_of}
 use Rattle.escrow_schema.specs.Rows.{row_before}
 use Rattle.escrow_machine.proofs.Keys.{key_is}
 use Rattle.escrow_machine.proofs.LawsGrants.{has_contains}
@@ -118,7 +118,7 @@ unrefused s text accepted =
     keyed.first
 
 pub selects_show_rows : SelectsShowRows
-unfolding turn_of
+unfolding transition_of
 selects_show_rows s session text headings values =
     step_has (λ (p : Reply × State). p.0 ≡ reply.Rows headings values → IsSelected s text headings values × (p.1 ≡ s)) s session (statement.Select text)
     (λ _ _ e. absurd (cc))
@@ -127,7 +127,7 @@ selects_show_rows s session text headings values =
     (selected_in s text headings values table.0 table.1 (unrefused s text accepted) e, refl))
 
 pub shows_the_table : ShowsTheTable
-unfolding turn_of
+unfolding transition_of
 shows_the_table s session name shown =
     step_has (λ (p : Reply × State). p.0 ≡ reply.Table shown → ((table : TableDef) × (table_named s.catalog name ≡ Some table) × (shown ≡ canonical table)) × (p.1 ≡ s)) s session (statement.ShowTable name)
     (λ _ _ e. absurd (cc))
@@ -179,7 +179,7 @@ journal_in s table entries e =
     }
 
 pub shows_the_journal : ShowsTheJournal
-unfolding turn_of
+unfolding transition_of
 shows_the_journal s session table entries =
     step_has (λ (p : Reply × State). p.0 ≡ reply.Journal entries → IsJournal s table entries × (p.1 ≡ s)) s session (statement.ShowJournal table)
     (λ _ _ e. absurd (cc)) (λ _ e. (journal_in s table entries e, refl))

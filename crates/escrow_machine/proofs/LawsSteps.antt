@@ -19,12 +19,12 @@ use Rattle.escrow_machine.specs.Laws.{SeesCommitsAlone, ShowsAfter}
 use Rattle.escrow_journal.specs.Reservations.{own}
 use Rattle.escrow_machine.specs.State.{State}
 use Rattle.escrow_machine.specs.Step.{refusals, step, fails_for, may_fail, IsStep, StepOrRefusal, IsServed, IsRun}
-use Rattle.escrow_machine.specs.Turn.{turn_of}
+use Rattle.escrow_machine.specs.Transition.{transition_of}
 use Rattle.escrow_machine.specs.Valid.{IsValid}
 use Rattle.escrow_machine.proofs.Queries.{shows_just}
 use Rattle.escrow_machine.proofs.Refusals.{first_among, first_in_front}
-use Rattle.escrow_machine.proofs.TurnWords.{IsJudged}
-use Rattle.escrow_machine.proofs.Turns.{is_turn}
+use Rattle.escrow_machine.proofs.TransitionWords.{IsJudged}
+use Rattle.escrow_machine.proofs.Transitions.{is_transition}
 use Rattle.escrow_machine.proofs.ValidEmpty.{opened_valid}
 
 -- what holds of a refusal with an equal state, and of the reply with the new state where nothing is
@@ -36,17 +36,17 @@ unless_at P s None done new refused accepted = accepted refl
 unless_at P s (Some r) done new refused accepted = refused r refl
 
 pub step_has : (P : Reply × State → Type 0) (s : State) (session : ℕ) (asked : Statement)
-    → ((r : Refusal) → first_refusal (refusals (turn_of s session asked)) ≡ Some r → P (reply.Refused r, s))
-    → (first_refusal (refusals (turn_of s session asked)) ≡ None → P ((turn_of s session asked).reply, (turn_of s session asked).next))
+    → ((r : Refusal) → first_refusal (refusals (transition_of s session asked)) ≡ Some r → P (reply.Refused r, s))
+    → (first_refusal (refusals (transition_of s session asked)) ≡ None → P ((transition_of s session asked).reply, (transition_of s session asked).next))
     → P (step s session asked)
 step_has P s session asked refused accepted =
-    let turn = turn_of s session asked in
-    unless_at P s (first_refusal (refusals turn)) turn.reply turn.next refused accepted
+    let transition = transition_of s session asked in
+    unless_at P s (first_refusal (refusals transition)) transition.reply transition.next refused accepted
 
 -- a step keeps a valid state valid
 pub step_keeps_valid : (s : State) (session : ℕ) (asked : Statement) → IsValid s → IsSession session → IsValid (step s session asked).1
 step_keeps_valid s session asked valid of_session =
-    step_has (λ (p : Reply × State). IsValid p.1) s session asked (λ _ _. valid) (λ accepted. (is_turn s session asked).valid accepted valid of_session)
+    step_has (λ (p : Reply × State). IsValid p.1) s session asked (λ _ _. valid) (λ accepted. (is_transition s session asked).valid accepted valid of_session)
 
 -- and so does a step or a failure
 pub event_keeps_valid : (s : State) (session : ℕ) (asked : Statement) (answer : Reply) (new : State) (o : Option Failure) → IsValid s → IsSession session
@@ -78,7 +78,7 @@ pub refused_changes_nothing : (s : State) (session : ℕ) (asked : Statement) (r
     → (step s session asked).0 ≡ reply.Refused r → (step s session asked).1 ≡ s
 refused_changes_nothing s session asked r =
     step_has (λ (p : Reply × State). p.0 ≡ reply.Refused r → p.1 ≡ s) s session asked (λ _ _ _. refl)
-    (λ _ e. absurd ((is_turn s session asked).answers r e))
+    (λ _ e. absurd ((is_transition s session asked).answers r e))
 
 -- what is told to be a refusal is one
 pub refused_is : (answer : Reply) → is_refused answer ≡ true → (r : Refusal) × (answer ≡ reply.Refused r)
@@ -101,47 +101,47 @@ refused_stays s session asked answer new event is =
 -- the machine never fails
 pub machine_never_fails : (s : State) (session : ℕ) (asked : Statement) → failure_of (step s session asked).0 ≡ None
 machine_never_fails s session asked =
-    let turn = is_turn s session asked in
+    let transition = is_transition s session asked in
     step_has (λ (p : Reply × State). failure_of p.0 ≡ None) s session asked
-    (first_among IsJudged (refusals (turn_of s session asked)) turn.judged) (λ _. turn.succeeds)
+    (first_among IsJudged (refusals (transition_of s session asked)) transition.judged) (λ _. transition.succeeds)
 
 -- where an early refusal applies nothing fails, and it is the answer
 early_at : (s : State) (session : ℕ) (asked : Statement) (answer : Reply) (new : State) (r : Refusal) (o : Option Failure)
     → MatchOption o (IsStep s session asked answer new) (λ f. IsTrue (may_fail s session asked f) × (new ≡ s))
-    → first_refusal (turn_of s session asked).early ≡ Some r → (answer ≡ reply.Refused r) × (new ≡ s)
+    → first_refusal (transition_of s session asked).early ≡ Some r → (answer ≡ reply.Refused r) × (new ≡ s)
 early_at s session asked answer new r None event first =
-    let turn = turn_of s session asked in
-    let refused : first_refusal (refusals turn) ≡ Some r = first_in_front turn.early turn.late r first in
+    let transition = transition_of s session asked in
+    let refused : first_refusal (refusals transition) ≡ Some r = first_in_front transition.early transition.late r first in
     let is : (answer, new) ≡ (reply.Refused r, s) =
-    event.is_step ∙ ap (λ (o : Option Refusal). unwrap_or (option_map (λ (q : Refusal). (reply.Refused q, s)) o) (turn.reply, turn.next)) refused in
+    event.is_step ∙ ap (λ (o : Option Refusal). unwrap_or (option_map (λ (q : Refusal). (reply.Refused q, s)) o) (transition.reply, transition.next)) refused in
     (ap (λ (p : Reply × State). p.0) is, ap (λ (p : Reply × State). p.1) is)
 early_at s session asked answer new r (Some f) event first =
-    let turn = turn_of s session asked in
-    let may : is_none (first_refusal turn.early) ≡ true = (and_parts (is_none (first_refusal turn.early)) (fails_for s session asked f) event.0).0 in
+    let transition = transition_of s session asked in
+    let may : is_none (first_refusal transition.early) ≡ true = (and_parts (is_none (first_refusal transition.early)) (fails_for s session asked f) event.0).0 in
     absurd (cc)
 
 pub early_refusals_stand : (s : State) (session : ℕ) (asked : Statement) (answer : Reply) (new : State) (r : Refusal)
-    → StepOrRefusal s session asked answer new → first_refusal (turn_of s session asked).early ≡ Some r
+    → StepOrRefusal s session asked answer new → first_refusal (transition_of s session asked).early ≡ Some r
     → (answer ≡ reply.Refused r) × (new ≡ s)
 early_refusals_stand s session asked answer new r event first = early_at s session asked answer new r (failure_of answer) event first
 
 -- what COMMIT and ROLLBACK are answered
 pub commit_answers : (s : State) (session : ℕ) → (step s session statement.Commit).0 ≡ reply.Committed (length (own session s.reservations))
-unfolding turn_of
+unfolding transition_of
 commit_answers s session = refl
 
 pub rollback_answers : (s : State) (session : ℕ) → (step s session statement.Rollback).0 ≡ reply.RolledBack (length (own session s.reservations))
-unfolding turn_of
+unfolding transition_of
 rollback_answers s session = refl
 
 -- what queries see after a statement
 pub queries_see_commits_alone : (s : State) (session : ℕ) (asked : Statement) → SeesCommitsAlone s session asked (step s session asked).0 (step s session asked).1
 queries_see_commits_alone s session asked =
-    let turn = is_turn s session asked in
+    let transition = is_transition s session asked in
     record {
       before = shows_just s s.catalog s.rows refl refl;
       refused = λ is. let refused = refused_is (step s session asked).0 is in refused_changes_nothing s session asked refused.0 refused.1;
-      accepted = step_has (λ (p : Reply × State). is_refused p.0 ≡ false → ShowsAfter s session asked p.1) s session asked (λ _ _ e. absurd (cc)) (λ accepted _. turn.seen accepted);
+      accepted = step_has (λ (p : Reply × State). is_refused p.0 ≡ false → ShowsAfter s session asked p.1) s session asked (λ _ _ e. absurd (cc)) (λ accepted _. transition.seen accepted);
     }
 
 -- the id of a reservation
@@ -149,9 +149,9 @@ pub reserved_takes_the_next_id : (s : State) (session : ℕ) (asked : Statement)
     → (step s session asked).0 ≡ reply.Reserved id → (id ≡ s.next_id) × ((step s session asked).1.next_id ≡ s.next_id + 1)
 reserved_takes_the_next_id s session asked id =
     step_has (λ (p : Reply × State). p.0 ≡ reply.Reserved id → (id ≡ s.next_id) × (p.1.next_id ≡ s.next_id + 1)) s session asked
-    (λ _ _ e. absurd (cc)) (λ accepted e. (is_turn s session asked).next accepted id e)
+    (λ _ _ e. absurd (cc)) (λ accepted e. (is_transition s session asked).next accepted id e)
 
 -- no step lowers the next id
 pub ids_never_fall : (s : State) (session : ℕ) (asked : Statement) → s.next_id ≤ (step s session asked).1.next_id
 ids_never_fall s session asked =
-    step_has (λ (p : Reply × State). s.next_id ≤ p.1.next_id) s session asked (λ _ _. le_refl _) (is_turn s session asked).ids
+    step_has (λ (p : Reply × State). s.next_id ≤ p.1.next_id) s session asked (λ _ _. le_refl _) (is_transition s session asked).ids

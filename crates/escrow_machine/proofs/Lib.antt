@@ -30,10 +30,10 @@ pub mod SavepointNames
 pub mod Savepoints
 pub mod Settling
 pub mod Shapes
-pub mod TurnSavepoints
-pub mod TurnUpdate
-pub mod TurnWords
-pub mod Turns
+pub mod TransitionSavepoints
+pub mod TransitionUpdate
+pub mod TransitionWords
+pub mod Transitions
 pub mod ValidAlter
 pub mod ValidCreate
 pub mod ValidDelete

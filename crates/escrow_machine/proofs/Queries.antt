@@ -18,7 +18,7 @@ use Rattle.escrow_machine.specs.Asked.{select_reply, select_refusal_of, show_rep
 use Rattle.escrow_machine.specs.Laws.{IsQuery, ShowsJust}
 use Rattle.escrow_machine.specs.State.{State, opened}
 use Rattle.escrow_machine.specs.Step.{step}
-use Rattle.escrow_machine.specs.Turn.{turn_of}
+use Rattle.escrow_machine.specs.Transition.{transition_of}
 
 -- the reply alone
 reply_part : (s : State) (o : Option Refusal) (done : Reply)
@@ -32,14 +32,14 @@ beside s reservations savepoints next_id = record s { reservations = reservation
 
 select_alike : (s : State) (session other : ℕ) (text : SelectText) (reservations : List Reservation) (savepoints : List Savepoint) (next_id : ℕ)
     → (step (beside s reservations savepoints next_id) other (statement.Select text)).0 ≡ (step s session (statement.Select text)).0
-unfolding turn_of
+unfolding transition_of
 select_alike s session other text reservations savepoints next_id =
     let o = first_refusal (refuse_if (is_none (table_named s.catalog text.table)) refusal.NoSuchTable ∷ select_refusal_of s text ∷ []) in
     reply_part (beside s reservations savepoints next_id) o (select_reply s text) ∙ sym (reply_part s o (select_reply s text))
 
 show_alike : (s : State) (session other : ℕ) (name : List ℕ) (reservations : List Reservation) (savepoints : List Savepoint) (next_id : ℕ)
     → (step (beside s reservations savepoints next_id) other (statement.ShowTable name)).0 ≡ (step s session (statement.ShowTable name)).0
-unfolding turn_of
+unfolding transition_of
 show_alike s session other name reservations savepoints next_id =
     let o = first_refusal (refuse_if (is_none (table_named s.catalog name)) refusal.NoSuchTable ∷ []) in
     reply_part (beside s reservations savepoints next_id) o (show_reply s name) ∙ sym (reply_part s o (show_reply s name))

@@ -3,7 +3,7 @@ use Rattle.std.specs.Prelude.{◌≡◌, ℕ, ◌<◌, ◌≤◌, Bool, true, fa
 use Rattle.std.specs.List.{AllByRecursion}
 use Rattle.std.proofs.Common.{refl, subst, arith}
 use Rattle.std.proofs.lemmas.Bool.Decides.{nat_tests}
-use Rattle.escrow_num.specs.declared.refusal.Breach.{Breach}
+use Rattle.escrow_num.specs.declared.refusal.Violation.{Violation}
 use Rattle.escrow_num.specs.declared.refusal.Refusal.{Refusal}
 use Rattle.escrow_num.specs.declared.refusal.Refusal.TheVariants as refusal
 use Rattle.escrow_num.specs.Refusal.{refuse_if, first_refusal}
@@ -39,8 +39,8 @@ pub failed : (b : Bool) (r : Refusal) → refuse_if b r ≡ None → b ≡ false
 failed true r e = absurd (cc)
 failed false r e = refl
 
-pub unbroken : (o : Option Breach) → option_map refusal.Check o ≡ None → o ≡ None
-unbroken (Some breach) e = absurd (cc)
+pub unbroken : (o : Option Violation) → option_map refusal.Check o ≡ None → o ≡ None
+unbroken (Some violation) e = absurd (cc)
 unbroken None e = refl
 
 pub none_there : {A : Type 0} (o : Option A) → is_some o ≡ false → o ≡ None
@@ -84,9 +84,9 @@ pub if_among : (P : Refusal → Type 0) (b : Bool) (r : Refusal) → P r → IfS
 if_among P true r h = h
 if_among P false r h = tt
 
-pub check_among : (P : Refusal → Type 0) (o : Option Breach) → ((breach : Breach) → P (refusal.Check breach)) → IfSome (option_map refusal.Check o) P
+pub check_among : (P : Refusal → Type 0) (o : Option Violation) → ((violation : Violation) → P (refusal.Check violation)) → IfSome (option_map refusal.Check o) P
 check_among P None h = tt
-check_among P (Some breach) h = h breach
+check_among P (Some violation) h = h violation
 
 -- the first that applies is one of the last, where no one before it is such
 pub passed_over : (o : Option Refusal) (refusals : List (Option Refusal)) (r : Refusal) → IfSome o (λ other. ¬ (other ≡ r))

@@ -18,7 +18,7 @@ use Rattle.escrow_machine.specs.Walked.{counted_end}
 use Rattle.escrow_machine.specs.Settle.{end_of, is_commit, is_rollback, committed_by, released_by, settled, AreCounts, IsStop, after_end, after_ends}
 use Rattle.escrow_machine.specs.State.{State}
 use Rattle.escrow_schema.specs.Rows.{changes_to, applied}
-use Rattle.escrow_machine.specs.Turn.{turn_of, after_rollback}
+use Rattle.escrow_machine.specs.Transition.{transition_of, after_rollback}
 use Rattle.escrow_machine.specs.Valid.{IsValid}
 use Rattle.escrow_machine.proofs.Applying.{applied_none}
 use Rattle.escrow_machine.proofs.Changes.{all_changed_later}
@@ -174,7 +174,7 @@ module _ (a : ℕ) (plan : List (ℕ × End)) where
 
   -- what a plan leaves is what the rest of it leaves of the state after its first entry
   settled_first : (s : State) (x : End) → settled ((a, x) ∷ plan) s ≡ settled plan (after_end s a x)
-  unfolding turn_of
+  unfolding transition_of
   settled_first s end.Commit =
       same_state s _ _ _ _ _ _ (rows_first s.rows s.reservations) (open_first end.Commit s.reservations) (savepoints_first end.Commit s.savepoints)
   settled_first s end.Rollback =
@@ -270,7 +270,7 @@ counts_fit s whole rest reservations done a count orderly so_far is =
 
 -- a ROLLBACK ends a transaction
 pub rolled_back : (s : State) (session : ℕ) → after_rollback s session ≡ after_end s session end.Rollback
-unfolding turn_of
+unfolding transition_of
 rolled_back s session = refl
 
 -- one more end

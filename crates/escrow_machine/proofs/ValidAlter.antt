@@ -27,7 +27,7 @@ use Rattle.escrow_schema.specs.Rows.{rows_of, changes_to, row_after, applied, Ha
 use Rattle.escrow_schema.proofs.AlteredLemmas.{with_check_table, without_check_table, place_declared}
 use Rattle.escrow_schema.proofs.CatalogLemmas.{found_table, with_one_altered}
 use Rattle.escrow_schema.proofs.PrintBack.{over, sound_of}
-use Rattle.escrow_machine.specs.Altered.{new_checks, rows_breach, added_breach}
+use Rattle.escrow_machine.specs.Altered.{new_checks, rows_violation, added_violation}
 use Rattle.escrow_machine.specs.State.{State}
 use Rattle.escrow_machine.specs.Valid.{IsValid, IsOrderly}
 use Rattle.escrow_machine.proofs.Changes.{changed_nil}
@@ -130,15 +130,15 @@ none_of_two None b e = (refl, e)
 none_of_two (Some x) b e = absurd (cc)
 
 -- where rows break no check, none of them does
-unbroken_row : (checks : List Check) (reservations : List Reservation) (rows : List Row) (row : Row) → rows_breach checks reservations rows ≡ None → Has rows row
+unbroken_row : (checks : List Check) (reservations : List Reservation) (rows : List Row) (row : Row) → rows_violation checks reservations rows ≡ None → Has rows row
     → broken checks row.amounts [] (map (changes_to row) reservations) ≡ None
 unbroken_row checks reservations [] row e h = absurd h
 unbroken_row checks reservations (other ∷ rows) row e (inl same) =
     subst (λ (r : Row). broken checks r.amounts [] (map (changes_to r) reservations) ≡ None) same
-    (none_of_two (broken checks other.amounts [] (map (changes_to other) reservations)) (rows_breach checks reservations rows) e).0
+    (none_of_two (broken checks other.amounts [] (map (changes_to other) reservations)) (rows_violation checks reservations rows) e).0
 unbroken_row checks reservations (other ∷ rows) row e (inr h) =
     unbroken_row checks reservations rows row
-    (none_of_two (broken checks other.amounts [] (map (changes_to other) reservations)) (rows_breach checks reservations rows) e).1 h
+    (none_of_two (broken checks other.amounts [] (map (changes_to other) reservations)) (rows_violation checks reservations rows) e).1 h
 
 -- and it meets them in each choice
 meets_added : (checks : List Check) (reservations chosen : List Reservation) (row : Row) → broken checks row.amounts [] (map (changes_to row) reservations) ≡ None
@@ -182,16 +182,16 @@ all_added P declared more ranges old new =
 
 -- ADD keeps a valid state valid, where the table's rows break none of the new checks
 pub add_check_valid : (s : State) (name : List ℕ) (text : CheckText) (table made : TableDef) → IsValid s → table_named s.catalog name ≡ Some table
-    → with_check table text ≡ Some made → added_breach s name text ≡ None → IsValid (record s { catalog = with_altered made s.catalog })
+    → with_check table text ≡ Some made → added_violation s name text ≡ None → IsValid (record s { catalog = with_altered made s.catalog })
 add_check_valid s name text table made valid named e unbroken =
     let added = is_added table text made e in
     let called = name_found s.catalog name table named in
     let is_table = found_table s.catalog name table valid.orderly.tables named in
-    let of_table : option_and_then (λ (checks : List Check). rows_breach checks s.reservations (rows_of s.rows name)) (new_checks table text) ≡ None =
-    subst (λ (o : Option TableDef). option_and_then (λ (t : TableDef). option_and_then (λ (checks : List Check). rows_breach checks s.reservations (rows_of s.rows name)) (new_checks t text)) o ≡ None)
+    let of_table : option_and_then (λ (checks : List Check). rows_violation checks s.reservations (rows_of s.rows name)) (new_checks table text) ≡ None =
+    subst (λ (o : Option TableDef). option_and_then (λ (t : TableDef). option_and_then (λ (checks : List Check). rows_violation checks s.reservations (rows_of s.rows name)) (new_checks t text)) o ≡ None)
     named unbroken in
-    let of_checks : rows_breach added.more s.reservations (rows_of s.rows name) ≡ None =
-    subst (λ (o : Option (List Check)). option_and_then (λ (checks : List Check). rows_breach checks s.reservations (rows_of s.rows name)) o ≡ None) added.new of_table in
+    let of_checks : rows_violation added.more s.reservations (rows_of s.rows name) ≡ None =
+    subst (λ (o : Option (List Check)). option_and_then (λ (checks : List Check). rows_violation checks s.reservations (rows_of s.rows name)) o ≡ None) added.new of_table in
     let meets : (chosen : List Reservation) → IsChoice s.reservations chosen → (row : Row) → Has s.rows row → row.name.table ≡ table.name
     → MeetsAll (row_after chosen row).amounts table.checks → MeetsAll (row_after chosen row).amounts made.checks = λ chosen choice row h of_name old.
     let P : Check → Type 0 = λ check. Meets check (row_after chosen row).amounts in

@@ -10,7 +10,7 @@ use Rattle.escrow_schema.specs.declared.table.TableDef.{TableDef}
 use Rattle.escrow_schema.specs.Catalog.{table_named, without_table}
 use Rattle.escrow_schema.specs.Column.{reservables}
 use Rattle.escrow_machine.specs.State.{State, is_table_reserved}
-use Rattle.escrow_machine.specs.Turn.{after_drop}
+use Rattle.escrow_machine.specs.Transition.{after_drop}
 use Rattle.escrow_machine.specs.Valid.{IsValid, IsOrderly}
 use Rattle.escrow_machine.proofs.Kept.{any_none, find_filter, kept_safe, over_catalog}
 use Rattle.escrow_schema.proofs.CatalogLemmas.{without_one}

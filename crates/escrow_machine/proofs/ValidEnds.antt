@@ -19,7 +19,7 @@ use Rattle.escrow_journal.specs.Reservations.{own, others, own_savepoints, other
 use Rattle.escrow_journal.specs.Savepoints.{savepoint_of, through, is_after}
 use Rattle.escrow_machine.specs.State.{State, open_in, with_open}
 use Rattle.escrow_schema.specs.Rows.{row_named, changes_to, row_after, applied, HasTable, MeetsChecks, row_before}
-use Rattle.escrow_machine.specs.Turn.{after_commit, after_rollback, after_rollback_to}
+use Rattle.escrow_machine.specs.Transition.{after_commit, after_rollback, after_rollback_to}
 use Rattle.escrow_machine.specs.Valid.{IsValid, IsOrderly, AreSafeRows, IsReservationIn, IsSavepointIn, HasRow}
 use Rattle.escrow_num.proofs.Items.{Has, all_has, has_all, has_filter, has_map, all_filter}
 use Rattle.escrow_machine.proofs.Choices.{IsChoice, all_choices, choices_all, choice_filter, map_all}

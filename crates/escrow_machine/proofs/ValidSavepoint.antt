@@ -9,7 +9,7 @@ use Rattle.escrow_journal.specs.declared.journal.TheConstants.Journal.{MAX_SAVEP
 use Rattle.escrow_journal.specs.Reservations.{own_savepoints, savepoint_before}
 use Rattle.escrow_journal.specs.Savepoints.{is_named, without_savepoint, put_savepoint}
 use Rattle.escrow_machine.specs.State.{State}
-use Rattle.escrow_machine.specs.Turn.{after_savepoint}
+use Rattle.escrow_machine.specs.Transition.{after_savepoint}
 use Rattle.escrow_machine.specs.Valid.{IsOrderly, IsSavepointIn, IsValid}
 use Rattle.escrow_machine.proofs.Lengths.{length-filter_filter}
 use Rattle.escrow_machine.proofs.Savepoints.{IsEarlier, has_put_savepoint, put_ascending, few_put, other_name}

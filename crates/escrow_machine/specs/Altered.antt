@@ -1,6 +1,6 @@
 -- Believed: what an ALTER TABLE asks of a state.
 use Rattle.std.specs.Prelude.{ℕ, ◌+◌, Option, None, is_none, option_map, option_and_then, unwrap_or, List, [], ◌∷◌, length, map}
-use Rattle.escrow_num.specs.declared.refusal.Breach.{Breach}
+use Rattle.escrow_num.specs.declared.refusal.Violation.{Violation}
 use Rattle.escrow_num.specs.declared.refusal.Refusal.{Refusal}
 use Rattle.escrow_num.specs.declared.refusal.Refusal.TheVariants as refusal
 use Rattle.escrow_num.specs.declared.reservation.Reservation.{Reservation}
@@ -35,15 +35,15 @@ new_checks table text =
 
 -- what rows break of checks, over every choice of the open reservations, the empty one too: of the first row,
 -- in their order, that breaks one of them, the first that it breaks
-abbrev pub rows_breach : List Check → List Reservation → List Row → Option Breach
-rows_breach checks reservations [] = None
-rows_breach checks reservations (row ∷ rows) =
-    first_of_two (broken checks row.amounts [] (map (changes_to row) reservations)) (rows_breach checks reservations rows)
+abbrev pub rows_violation : List Check → List Reservation → List Row → Option Violation
+rows_violation checks reservations [] = None
+rows_violation checks reservations (row ∷ rows) =
+    first_of_two (broken checks row.amounts [] (map (changes_to row) reservations)) (rows_violation checks reservations rows)
 
 -- what the rows of a table, in order of key, break of the checks that a CHECK adds to it
-abbrev pub added_breach : State → List ℕ → CheckText → Option Breach
-added_breach s name text =
-    option_and_then (λ table. option_and_then (λ checks. rows_breach checks s.reservations (rows_of s.rows name)) (new_checks table text)) (table_named s.catalog name)
+abbrev pub added_violation : State → List ℕ → CheckText → Option Violation
+added_violation s name text =
+    option_and_then (λ table. option_and_then (λ checks. rows_violation checks s.reservations (rows_of s.rows name)) (new_checks table text)) (table_named s.catalog name)
 
 -- DROP CONSTRAINT
 

@@ -2,7 +2,7 @@
 use Rattle.std.specs.Prelude.{ℕ, ℤ, Option, Some, None, option_map, option_and_then, unwrap_or, Bool, false, List, [], map, filter, bytes_eq}
 use Rattle.std.specs.Result.{result_ok, result_err}
 use Rattle.escrow_num.specs.declared.refusal.Refusal.{Refusal}
-use Rattle.escrow_num.specs.declared.refusal.Breach.{Breach}
+use Rattle.escrow_num.specs.declared.refusal.Violation.{Violation}
 use Rattle.escrow_num.specs.declared.row.Row.{Row}
 use Rattle.escrow_num.specs.declared.reservation.Reservation.{Reservation}
 use Rattle.escrow_num.specs.declared.value.RowName.{RowName}
@@ -37,8 +37,8 @@ abbrev pub new_row : State → InsertText → Option Row
 new_row s text = option_and_then (λ table. inserted_row table text) (table_named s.catalog text.table)
 
 -- what a new row breaks of its table's checks, judged with no open reservation and no change
-abbrev pub insert_breach : State → InsertText → Option Breach
-insert_breach s text =
+abbrev pub insert_violation : State → InsertText → Option Violation
+insert_violation s text =
     option_and_then (λ table. option_and_then (λ row. broken table.checks row.amounts [] []) (new_row s text)) (table_named s.catalog text.table)
 
 -- UPDATE
@@ -78,8 +78,8 @@ abbrev pub reserves_beside : State → UpdateText → Bool
 reserves_beside s text = unwrap_or (option_map (is_beside s text.table) (plan_of s text)) false
 
 -- what a reservation breaks of its table's checks, over every choice of the open ones that holds it
-abbrev pub breach_of : State → Reservation → Option Breach
-breach_of s r =
+abbrev pub violation_of : State → Reservation → Option Violation
+violation_of s r =
     option_and_then (λ table. option_and_then (λ row. broken table.checks row.amounts (deltas r.changes) (map (changes_to row) s.reservations))
     (row_named s.rows r.row)) (table_named s.catalog r.row.table)
 

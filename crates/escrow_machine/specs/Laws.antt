@@ -1,7 +1,7 @@
 -- Believed: the statements of the laws in src/laws.rt.
 use Rattle.std.specs.Prelude.{◌≡◌, ◌↔◌, ℕ, nat_lt, ℤ, ◌+◌, ◌<◌, ◌≤◌, ◌+ℤ◌, ◌≤ℤ◌, Bool, false, Option, Some, None, IsSome, IsSomeAnd, List, [], ◌∷◌, ◌++◌, length, map, take, slice_get, Contains, IsTrue}
 use Rattle.std.specs.List.{AllByRecursion, AllZip}
-use Rattle.escrow_num.specs.declared.refusal.Breach.{Breach}
+use Rattle.escrow_num.specs.declared.refusal.Violation.{Violation}
 use Rattle.escrow_num.specs.declared.refusal.Refusal.{Refusal}
 use Rattle.escrow_num.specs.declared.refusal.Refusal.TheVariants as refusal
 use Rattle.escrow_num.specs.declared.reservation.Reservation.{Reservation}
@@ -59,7 +59,7 @@ use Rattle.escrow_machine.specs.Settle.{end_of, settled, after_end, after_ends}
 use Rattle.escrow_machine.specs.State.{State, empty, opened}
 use Rattle.escrow_schema.specs.Rows.{row_named, rows_of, changes_to, row_after, applied, with_row, without_row, without_rows_of, with_plain, MeetsChecks, row_before}
 use Rattle.escrow_machine.specs.Step.{step, StepOrRefusal, IsRun}
-use Rattle.escrow_machine.specs.Turn.{turn_of}
+use Rattle.escrow_machine.specs.Transition.{transition_of}
 use Rattle.escrow_machine.specs.Valid.{IsValid}
 
 -- VALIDITY
@@ -104,7 +104,7 @@ MachineNeverFails = (s : State) (session : ℕ) (asked : Statement) → failure_
 -- where an early refusal applies, the first of them is the answer, whatever memory there is
 abbrev pub EarlyRefusalsStand : Type 0
 EarlyRefusalsStand = (s : State) (session : ℕ) (asked : Statement) (answer : Reply) (new : State) (r : Refusal)
-    → StepOrRefusal s session asked answer new → first_refusal (turn_of s session asked).early ≡ Some r
+    → StepOrRefusal s session asked answer new → first_refusal (transition_of s session asked).early ≡ Some r
     → (answer ≡ reply.Refused r) × (new ≡ s)
 
 -- COMMIT is answered with the number of the session's reservations, in every state
@@ -459,19 +459,19 @@ OwnIncrementNotSpent = (s : State) (session : ℕ) (text : UpdateText) (id : ℕ
     → (table : TableDef) × (row : Row) × (new : Reservation) × IsAsked s session text table row new
     × AllByRecursion (MeetsWith table row new) (sublists (others session s.reservations))
 
--- a breach that happens: with the new reservation some choice of the open ones brings the form of the
+-- a violation that happens: with the new reservation some choice of the open ones brings the form of the
 -- named check to the named worst value, which lies beyond the named limit; both in units of its scale
-abbrev pub IsReachedBreach : TableDef → Row → List Reservation → Reservation → Breach → Type 0
-IsReachedBreach table row reservations new breach = (check : Check) × Contains table.checks check × (breach.check ≡ check.name) × (breach.scale ≡ check.scale)
-    × IsBeyond check.span breach.side breach.worst breach.limit
-    × ((chosen : List Reservation) × Contains (sublists reservations) chosen × (form check.coeffs (row_after (chosen ++ new ∷ []) row).amounts ≡ breach.worst))
+abbrev pub IsReachedViolation : TableDef → Row → List Reservation → Reservation → Violation → Type 0
+IsReachedViolation table row reservations new violation = (check : Check) × Contains table.checks check × (violation.check ≡ check.name) × (violation.scale ≡ check.scale)
+    × IsBeyond check.span violation.side violation.worst violation.limit
+    × ((chosen : List Reservation) × Contains (sublists reservations) chosen × (form check.coeffs (row_after (chosen ++ new ∷ []) row).amounts ≡ violation.worst))
 
 -- what is refused by a check: some choice of the open reservations with the new one breaks that check
 abbrev pub RefusedByAChoice : Type 0
-RefusedByAChoice = (s : State) (session : ℕ) (text : UpdateText) (breach : Breach)
-    → (step s session (statement.Update text)).0 ≡ reply.Refused (refusal.Check breach)
+RefusedByAChoice = (s : State) (session : ℕ) (text : UpdateText) (violation : Violation)
+    → (step s session (statement.Update text)).0 ≡ reply.Refused (refusal.Check violation)
     → (table : TableDef) × (row : Row) × (new : Reservation) × IsAsked s session text table row new
-    × IsReachedBreach table row s.reservations new breach
+    × IsReachedViolation table row s.reservations new violation
 
 -- moved by what changes add to a check's form, both of its bounds are within its limits
 abbrev pub StaysWithin : Row → List Reservation → List ℤ → Check → Type 0
@@ -485,5 +485,5 @@ StaysWithin row reservations changes check =
 abbrev pub BoundsDecideGrants : Type 0
 BoundsDecideGrants = (s : State) (session : ℕ) (text : UpdateText) (table : TableDef) (row : Row) (new : Reservation) → IsValid s → IsAsked s session text table row new
     → ((id : ℕ) → (step s session (statement.Update text)).0 ≡ reply.Reserved id → AllByRecursion (StaysWithin row s.reservations (deltas new.changes)) table.checks)
-    × ((breach : Breach) → (step s session (statement.Update text)).0 ≡ reply.Refused (refusal.Check breach)
+    × ((violation : Violation) → (step s session (statement.Update text)).0 ≡ reply.Refused (refusal.Check violation)
     → ¬ (AllByRecursion (StaysWithin row s.reservations (deltas new.changes)) table.checks))

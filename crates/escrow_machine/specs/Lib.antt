@@ -11,6 +11,6 @@ pub mod Settle
 pub mod State
 pub mod StateCode
 pub mod Step
-pub mod Turn
+pub mod Transition
 pub mod Valid
 pub mod Walked

@@ -15,11 +15,11 @@ use Rattle.escrow_num.specs.declared.failure.Failure.TheVariants as failure
 use Rattle.escrow_machine.specs.Reply.{failure_of}
 use Rattle.escrow_machine.specs.Asked.{reserves_beside}
 use Rattle.escrow_machine.specs.State.{State, opened}
-use Rattle.escrow_machine.specs.Turn.{Turn, turn_of}
+use Rattle.escrow_machine.specs.Transition.{Transition, transition_of}
 
--- all refusals of a turn, in their order
-abbrev pub refusals : Turn → List (Option Refusal)
-refusals turn = turn.early ++ turn.late
+-- all refusals of a transition, in their order
+abbrev pub refusals : Transition → List (Option Refusal)
+refusals transition = transition.early ++ transition.late
 
 -- the first refusal that applies is the reply, and the state stays; otherwise the reply and the new state
 abbrev pub unless_refused : State → List (Option Refusal) → Reply → State → Reply × State
@@ -27,7 +27,7 @@ unless_refused s refusals done new = unwrap_or (option_map (λ r. (reply.Refused
 
 -- THE STEP: the reply to a statement of a session, and the state after it
 abbrev pub step : State → ℕ → Statement → Reply × State
-step s session asked = let turn = turn_of s session asked in unless_refused s (refusals turn) turn.reply turn.next
+step s session asked = let transition = transition_of s session asked in unless_refused s (refusals transition) transition.reply transition.next
 
 -- the reply and the new state are those of the step
 pub record IsStep (s : State) (session : ℕ) (asked : Statement) (answer : Reply) (new : State) : Type 0 where
@@ -49,7 +49,7 @@ fails_for s session asked f = true
 -- a statement may fail, out of memory or refused by the store, where no early refusal applies, and
 -- only for what it takes
 abbrev pub may_fail : State → ℕ → Statement → Failure → Bool
-may_fail s session asked failure = is_none (first_refusal (turn_of s session asked).early) && fails_for s session asked failure
+may_fail s session asked failure = is_none (first_refusal (transition_of s session asked).early) && fails_for s session asked failure
 
 -- the step, or a failure that the statement may meet, which leaves the state equal
 abbrev pub StepOrRefusal : State → ℕ → Statement → Reply → State → Type 0

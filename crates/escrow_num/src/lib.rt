@@ -33,7 +33,7 @@ pub use copied::{Copied, are_same, copy_all};
 pub use decimal::Decimal;
 pub use failure::Failure;
 pub use name::Name;
-pub use refusal::{Breach, Refusal};
+pub use refusal::{Refusal, Violation};
 pub use reservation::{Reservation, Savepoint};
 pub use row::Row;
 pub use scale::Scale;

@@ -11,7 +11,7 @@ use std::alloc::{AllocError, AllocFailed};
 /// The limit of a check that a change could break: the check's name, the side, the worst value on
 /// that side, and the limit beyond which it lies. Both numbers are in units of the check's scale.
 #[derive(Clone, Copy, Debug, PartialEq, Eq)]
-pub struct Breach {
+pub struct Violation {
     /// The check's name.
     pub check: Name,
     /// The side on which the worst value lies beyond the limit.
@@ -24,9 +24,9 @@ pub struct Breach {
     pub scale: Scale,
 }
 
-impl Breach {
+impl Violation {
     /// Whether two are the same: the check, the side, the worst value, the limit and the scale.
-    pub fn is_same(&self, other: &Breach) -> bool
+    pub fn is_same(&self, other: &Violation) -> bool
         ensures { IsTrue result ↔ (self.now ≡ other.now) }
     {
         self.check == other.check
@@ -73,7 +73,7 @@ pub enum Refusal {
     /// 35: the catalog has 32 tables.
     TooManyTables,
     /// 41: a check could be broken.
-    Check(Breach),
+    Check(Violation),
     /// 42: the session holds 256 reservations.
     TooManyReservations,
     /// 43: the transaction has no savepoint of that name.
@@ -129,7 +129,7 @@ impl Refusal {
         }
     }
 
-    /// Whether two refusals are the same: the number, and the column or the breach where there is
+    /// Whether two refusals are the same: the number, and the column or the violation where there is
     /// one.
     pub fn is_same(&self, other: &Refusal) -> bool
         ensures { IsTrue result ↔ (self.now ≡ other.now) }

@@ -4,7 +4,7 @@ use Rattle.std.specs.Int.{is_negative}
 use Rattle.std.specs.List.{flat_map, join_by}
 use Rattle.escrow_num.specs.declared.span.Side.{Side}
 use Rattle.escrow_num.specs.declared.span.Side.TheVariants as side
-use Rattle.escrow_num.specs.declared.refusal.Breach.{Breach}
+use Rattle.escrow_num.specs.declared.refusal.Violation.{Violation}
 use Rattle.escrow_num.specs.declared.refusal.Refusal.{Refusal}
 use Rattle.escrow_num.specs.declared.refusal.Refusal.TheVariants as refusal
 use Rattle.escrow_num.specs.Refusal.{number_of}
@@ -61,8 +61,8 @@ side_text side.Low = codes "low"
 side_text side.High = codes "high"
 
 -- a limit that could be broken: the check, the side, the worst value, the limit, both with the check's scale
-abbrev pub breach_text : Breach → List ℕ
-breach_text b = b.check ++ codes " " ++ side_text b.side ++ codes " " ++ scaled_text b.scale b.worst ++ codes " limit " ++ scaled_text b.scale b.limit
+abbrev pub violation_text : Violation → List ℕ
+violation_text b = b.check ++ codes " " ++ side_text b.side ++ codes " " ++ scaled_text b.scale b.worst ++ codes " limit " ++ scaled_text b.scale b.limit
 
 -- the words for a refusal
 abbrev pub refusal_text : Refusal → List ℕ
@@ -82,7 +82,7 @@ refusal_text refusal.RowReserved = codes "row reserved"
 refusal_text refusal.TableReserved = codes "table reserved"
 refusal_text refusal.TableFull = codes "table full"
 refusal_text refusal.TooManyTables = codes "too many tables"
-refusal_text (refusal.Check b) = breach_text b
+refusal_text (refusal.Check b) = violation_text b
 refusal_text refusal.TooManyReservations = codes "too many reservations"
 refusal_text refusal.NoSuchSavepoint = codes "no such savepoint"
 refusal_text refusal.TooManySavepoints = codes "too many savepoints"

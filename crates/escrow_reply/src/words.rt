@@ -1,10 +1,10 @@
 ghost use Rattle.std.specs.Prelude.{◌≡◌, ◌≤◌, ◌+◌, ◌++◌, OnOk, length, codes, decimal};
 ghost use Rattle.escrow_reply.specs.Room.{TakesRoom};
-ghost use Rattle.escrow_reply.specs.Text.{reply_text, refusal_text, breach_text, side_text};
+ghost use Rattle.escrow_reply.specs.Text.{reply_text, refusal_text, violation_text, side_text};
 
 use crate::push::{push_bytes, push_counted, push_measure, push_text};
 use escrow_machine::Reply;
-use escrow_num::{Breach, Name, Refusal, Side};
+use escrow_num::{Name, Refusal, Side, Violation};
 use std::alloc::AllocError;
 
 /// The words of a reply's last line.
@@ -89,7 +89,7 @@ fn push_refusal(line: &mut Vec<u8>, refusal: &Refusal) -> Result<(), AllocError>
         Refusal::TableReserved => push_text(line, " table reserved"),
         Refusal::TableFull => push_text(line, " table full"),
         Refusal::TooManyTables => push_text(line, " too many tables"),
-        Refusal::Check(breach) => push_breach(line, breach),
+        Refusal::Check(violation) => push_violation(line, violation),
         Refusal::TooManyReservations => push_text(line, " too many reservations"),
         Refusal::NoSuchSavepoint => push_text(line, " no such savepoint"),
         Refusal::TooManySavepoints => push_text(line, " too many savepoints"),
@@ -103,13 +103,18 @@ fn push_refusal(line: &mut Vec<u8>, refusal: &Refusal) -> Result<(), AllocError>
 }
 
 /// A limit that could be broken, behind a space: the check, the side, the worst value and the limit.
-fn push_breach(line: &mut Vec<u8>, breach: &Breach) -> Result<(), AllocError>
-    ensures text { OnOk result (line.new.items ≡ line.old.items ++ (codes " " ++ breach_text breach.now)) }
+fn push_violation(line: &mut Vec<u8>, violation: &Violation) -> Result<(), AllocError>
+    ensures text { OnOk result (line.new.items ≡ line.old.items ++ (codes " " ++ violation_text violation.now)) }
     ensures room { TakesRoom result line.old line.new 130 }
 {
-    push_named(line, " ", breach.check)?;
-    push_measure(line, side_words(breach.side), breach.worst, breach.scale)?;
-    push_measure(line, " limit ", breach.limit, breach.scale)
+    push_named(line, " ", violation.check)?;
+    push_measure(
+        line,
+        side_words(violation.side),
+        violation.worst,
+        violation.scale,
+    )?;
+    push_measure(line, " limit ", violation.limit, violation.scale)
 }
 
 /// The word for a side, between two spaces.

@@ -7,19 +7,19 @@ use Rattle.sqlite.specs.Held.{Held, state}
 use Rattle.sqlite.specs.State.{State}
 use Rattle.sqlite.proofs.StateLemmas.{survives_then}
 use Rattle.escrow_cells.specs.Read.{Takes}
-use Rattle.escrow_rows.specs.Answers.{Looks}
+use Rattle.escrow_rows.specs.Answers.{OnlyReads}
 
 -- nothing was read
-pub looks_none : (s : State) → Looks s s
-looks_none s = record {
+pub only_reads_none : (s : State) → OnlyReads s s
+only_reads_none s = record {
   same = λ usable. refl;
   usable = λ usable. usable;
   survives = record { clean = omega arith; shield = λ h. h; counts = omega arith; limit = refl; closes = λ clean still. inl still; crash = λ clean db h. inl h };
 }
 
 -- one read after others
-pub looks_then : (a b c : State) → Looks a b → Looks b c → Looks a c
-looks_then a b c one two = record {
+pub only_reads_then : (a b c : State) → OnlyReads a b → OnlyReads b c → OnlyReads a c
+only_reads_then a b c one two = record {
   same = λ usable. two.same usable ∙ one.same (two.usable usable);
   usable = λ usable. one.usable (two.usable usable);
   survives = survives_then a b c _ _ _ (λ clean db none. none) (λ clean db none. none) one.survives two.survives;

@@ -14,7 +14,7 @@ impl<S: Alter> RowStore<S> {
     ghost use Rattle.sqlite.specs.Held.{state};
     ghost use Rattle.sqlite.specs.State.{HasCleanDisk};
     ghost use Rattle.escrow_schema.specs.Definition.{IsTable};
-    ghost use Rattle.escrow_rows.specs.Answers.{Looks, TellsAllValues};
+    ghost use Rattle.escrow_rows.specs.Answers.{OnlyReads, TellsAllValues};
 
     /// The values of each row of a table, in column order; the rows in order of key. They are read one cell
     /// at a time.
@@ -25,7 +25,7 @@ impl<S: Alter> RowStore<S> {
     ) -> Result<Seq<Seq<Value>>, Failure>
         requires { IsTable table.now.table }
         ensures told { HasCleanDisk (state S.Store self.new) → IfOk result (λ rows. IsTrue (state S.Store self.new).is_open × TellsAllValues table.now (state S.Store self.old).now rows) }
-        ensures looks { Looks (state S.Store self.old) (state S.Store self.new) }
+        ensures only_reads { OnlyReads (state S.Store self.old) (state S.Store self.new) }
     {
         match self.read_rows(alloc, table, Seq::new(alloc))? {
             Some(rows) => Ok(rows),

@@ -1,7 +1,7 @@
 ghost use Rattle.std.specs.Prelude.{◌≡◌, IfOk, OnOk, is_ok, drop, fold, option_map};
 ghost use Rattle.sqlite.specs.Held.{state};
 ghost use Rattle.escrow_num.specs.declared.value.Value.TheVariants.{Number};
-ghost use Rattle.escrow_cells.specs.Calls.{Alters};
+ghost use Rattle.escrow_cells.specs.Calls.{Transacts};
 ghost use Rattle.escrow_cells.specs.Step.{Contents, done, kept};
 ghost use Rattle.escrow_rows.specs.Changes.{PutsAmounts};
 ghost use Rattle.escrow_rows.specs.Image.{stored};
@@ -30,7 +30,7 @@ pub struct NewAmounts<'a> {
 impl<S: Alter> RowStore<S> {
     /// Puts new amounts into rows, in one transaction.
     pub fn put_amounts(&mut self, alloc: Global, news: &[NewAmounts<'_>]) -> Result<(), Failure>
-        ensures { Alters (state S.Store self.old) (state S.Store self.new) (is_ok result) (PutsAmounts news.now) }
+        ensures { Transacts (state S.Store self.old) (state S.Store self.new) (is_ok result) (PutsAmounts news.now) }
     {
         let steps = all_steps(alloc, news)?;
         run(&mut self.conn, steps.as_slice())

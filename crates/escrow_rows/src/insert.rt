@@ -14,13 +14,13 @@ use std::alloc::{AllocError, Global};
 impl<S: Alter> RowStore<S> {
     ghost use Rattle.std.specs.Prelude.{◌≡◌, is_ok};
     ghost use Rattle.sqlite.specs.Held.{state};
-    ghost use Rattle.escrow_cells.specs.Calls.{Alters};
+    ghost use Rattle.escrow_cells.specs.Calls.{Transacts};
     ghost use Rattle.escrow_rows.specs.Changes.{Inserts};
 
     /// Puts a row of a table among its rows.
     pub fn insert(&mut self, alloc: Global, table: &StoredTable, row: &Row) -> Result<(), Failure>
         requires { row.now.name.table ≡ table.now.table.name }
-        ensures { Alters (state S.Store self.old) (state S.Store self.new) (is_ok result) (Inserts table.now row.now) }
+        ensures { Transacts (state S.Store self.old) (state S.Store self.new) (is_ok result) (Inserts table.now row.now) }
     {
         let values = values_of(alloc, &table.table, row)?;
         let steps = cell_steps(alloc, table.id, &row.name.key, values.as_slice())?;

@@ -15,7 +15,7 @@ use std::alloc::{AllocError, Global};
 impl<S: Alter> RowStore<S> {
     ghost use Rattle.std.specs.Prelude.{is_ok};
     ghost use Rattle.sqlite.specs.Held.{state};
-    ghost use Rattle.escrow_cells.specs.Calls.{Alters};
+    ghost use Rattle.escrow_cells.specs.Calls.{Transacts};
     ghost use Rattle.escrow_rows.specs.Changes.{SetsPlain};
 
     /// Replaces plain values of the row of a key: for each column that is neither RESERVABLE nor the
@@ -27,7 +27,7 @@ impl<S: Alter> RowStore<S> {
         key: &Value,
         values: &[Option<Value>],
     ) -> Result<(), Failure>
-        ensures { Alters (state S.Store self.old) (state S.Store self.new) (is_ok result) (SetsPlain table.now key.now values.now) }
+        ensures { Transacts (state S.Store self.old) (state S.Store self.new) (is_ok result) (SetsPlain table.now key.now values.now) }
     {
         let steps = plain_steps(alloc, table, key, values)?;
         run(&mut self.conn, steps.as_slice())

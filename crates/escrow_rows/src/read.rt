@@ -26,7 +26,7 @@ impl<S: Alter> RowStore<S> {
     ghost use Rattle.sqlite.specs.Held.{state};
     ghost use Rattle.sqlite.specs.State.{HasCleanDisk};
     ghost use Rattle.escrow_schema.specs.Definition.{IsTable};
-    ghost use Rattle.escrow_rows.specs.Answers.{Looks, Tells, TellsAmounts, TellsValues};
+    ghost use Rattle.escrow_rows.specs.Answers.{OnlyReads, Tells, TellsAmounts, TellsValues};
     ghost use Rattle.escrow_rows.specs.Placed.{TellsCells, TellsSpan};
 
     /// The amounts of the row of a key, one for each RESERVABLE column in column order, or `None` where no row
@@ -40,7 +40,7 @@ impl<S: Alter> RowStore<S> {
         requires { IsTable table.now.table }
         ensures told { HasCleanDisk (state S.Store self.new) → IfOk result (λ found. IsTrue (state S.Store self.new).is_open × TellsAmounts table.now key.now (state S.Store self.old).now found) }
         ensures many { IfOk result (λ found. IfSome found (λ amounts. length amounts ≡ length (reservables table.now.table.columns))) }
-        ensures looks { Looks (state S.Store self.old) (state S.Store self.new) }
+        ensures only_reads { OnlyReads (state S.Store self.old) (state S.Store self.new) }
     {
         let columns = table.table.columns.as_slice();
         let span = reservable_span(columns);
@@ -61,7 +61,7 @@ impl<S: Alter> RowStore<S> {
     ) -> Result<Option<Seq<Value>>, Failure>
         requires { IsTable table.now.table }
         ensures told { HasCleanDisk (state S.Store self.new) → IfOk result (λ found. IsTrue (state S.Store self.new).is_open × TellsValues table.now key.now (state S.Store self.old).now found) }
-        ensures looks { Looks (state S.Store self.old) (state S.Store self.new) }
+        ensures only_reads { OnlyReads (state S.Store self.old) (state S.Store self.new) }
     {
         let Some(cells) = self.cells_of(table, key)? else {
             return Ok(None);
@@ -73,7 +73,7 @@ impl<S: Alter> RowStore<S> {
     /// Whether a row has a key: it has then one cell at the first place. Takes no memory of its own.
     pub fn stands(&mut self, table: &StoredTable, key: &Value) -> Result<bool, Failure>
         ensures told { HasCleanDisk (state S.Store self.new) → IfOk result (λ stands. IsTrue (state S.Store self.new).is_open × Tells table.now (λ rows. is_some (row_named rows (name_in table.now key.now))) (state S.Store self.old).now stands) }
-        ensures looks { Looks (state S.Store self.old) (state S.Store self.new) }
+        ensures only_reads { OnlyReads (state S.Store self.old) (state S.Store self.new) }
     {
         let cells = count_cells(&mut self.conn, table.id, datum(key), 1)?;
         Ok(cells > 0)
@@ -85,7 +85,7 @@ impl<S: Alter> RowStore<S> {
         requires { IsTable table.now.table }
         ensures told { HasCleanDisk (state S.Store self.new) → IfOk result (λ found. IsTrue (state S.Store self.new).is_open × TellsCells table.now key.now (state S.Store self.old).now found) }
         ensures many { IfOk result (λ found. IfSome found (λ cells. length cells ≡ length table.now.table.columns)) }
-        ensures looks { Looks (state S.Store self.old) (state S.Store self.new) }
+        ensures only_reads { OnlyReads (state S.Store self.old) (state S.Store self.new) }
     {
         let cells = row_cells(&mut self.conn, table.id, datum(key))?;
         some_cells(table.table.columns.len(), cells)
@@ -104,7 +104,7 @@ impl<S: Alter> RowStore<S> {
         requires few { span.start + span.len < 2 ^ 63 }
         ensures told { HasCleanDisk (state S.Store self.new) → IfOk result (λ found. IsTrue (state S.Store self.new).is_open × TellsSpan span.start span.len table.now key.now (state S.Store self.old).now found) }
         ensures many { IfOk result (λ found. IfSome found (λ cells. length cells ≡ span.len)) }
-        ensures looks { Looks (state S.Store self.old) (state S.Store self.new) }
+        ensures only_reads { OnlyReads (state S.Store self.old) (state S.Store self.new) }
     {
         let first = span.start as i64 + 1;
         let last = (span.start + span.len) as i64;

@@ -20,7 +20,7 @@ impl<S: Alter> RowStore<S> {
     ghost use Rattle.sqlite.specs.State.{HasCleanDisk};
     ghost use Rattle.escrow_schema.specs.Definition.{IsTable};
     ghost use Rattle.escrow_cells.specs.Store.{IsStore};
-    ghost use Rattle.escrow_rows.specs.Answers.{Looks};
+    ghost use Rattle.escrow_rows.specs.Answers.{OnlyReads};
     ghost use Rattle.escrow_rows.specs.Reading.{ReadsRows};
 
     /// Gives a taker the rows of a table, in order of key, and hands it back. The store need not be known to
@@ -34,7 +34,7 @@ impl<S: Alter> RowStore<S> {
     ) -> Result<Option<T>, Failure>
         requires { IsTable table.now.table }
         ensures read { HasCleanDisk (state S.Store self.new) → IfOk result (λ found. IsTrue (state S.Store self.new).is_open × (IsStore (state S.Store self.old).now → ReadsRows T.has_taken table.now (state S.Store self.old).now taker found)) }
-        ensures looks { Looks (state S.Store self.old) (state S.Store self.new) }
+        ensures only_reads { OnlyReads (state S.Store self.old) (state S.Store self.new) }
     {
         let mut reader = RowReader {
             alloc,

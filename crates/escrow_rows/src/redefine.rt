@@ -10,7 +10,7 @@ impl<S: Alter> RowStore<S> {
     ghost use Rattle.std.specs.Prelude.{◌≡◌, is_ok};
     ghost use Rattle.sqlite.specs.Held.{state};
     ghost use Rattle.escrow_schema.specs.Definition.{IsTable};
-    ghost use Rattle.escrow_cells.specs.Calls.{Alters};
+    ghost use Rattle.escrow_cells.specs.Calls.{Transacts};
     ghost use Rattle.escrow_rows.specs.Changes.{Redefines};
 
     /// Puts another definition in the place of a table's: one that differs in its checks alone. The
@@ -23,7 +23,7 @@ impl<S: Alter> RowStore<S> {
     ) -> Result<(), Failure>
         requires defined { IsTable altered.now }
         requires alike { altered.now ≡ record table.now.table { checks = altered.now.checks } }
-        ensures { Alters (state S.Store self.old) (state S.Store self.new) (is_ok result) (Redefines table.now altered.now.checks) }
+        ensures { Transacts (state S.Store self.old) (state S.Store self.new) (is_ok result) (Redefines table.now altered.now.checks) }
     {
         let text = print_table(alloc, altered)?;
         run(

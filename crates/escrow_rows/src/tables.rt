@@ -16,14 +16,14 @@ impl<S: Alter> RowStore<S> {
     ghost use Rattle.sqlite.specs.Held.{state};
     ghost use Rattle.sqlite.specs.State.{HasCleanDisk};
     ghost use Rattle.escrow_schema.specs.Definition.{IsTable};
-    ghost use Rattle.escrow_cells.specs.Calls.{Looks, Alters};
+    ghost use Rattle.escrow_cells.specs.Calls.{OnlyReads, Transacts};
     ghost use Rattle.escrow_rows.specs.Answers.{TellsCount, TellsTables};
     ghost use Rattle.escrow_rows.specs.Changes.{Creates, Drops};
 
     /// Puts a new table, without rows.
     pub fn create_table(&mut self, alloc: Global, table: &StoredTable) -> Result<(), Failure>
         requires { IsTable table.now.table }
-        ensures { Alters (state S.Store self.old) (state S.Store self.new) (is_ok result) (Creates table.now) }
+        ensures { Transacts (state S.Store self.old) (state S.Store self.new) (is_ok result) (Creates table.now) }
     {
         let text = print_table(alloc, &table.table)?;
         run(
@@ -38,7 +38,7 @@ impl<S: Alter> RowStore<S> {
 
     /// Takes out a table and its rows. Takes no memory of its own.
     pub fn drop_table(&mut self, table: &StoredTable) -> Result<(), Failure>
-        ensures { Alters (state S.Store self.old) (state S.Store self.new) (is_ok result) (Drops table.now) }
+        ensures { Transacts (state S.Store self.old) (state S.Store self.new) (is_ok result) (Drops table.now) }
     {
         run(
             &mut self.conn,
@@ -52,7 +52,7 @@ impl<S: Alter> RowStore<S> {
     /// The tables, in order of their numbers.
     pub fn tables(&mut self, alloc: Global) -> Result<Vec<ListedTable>, Failure>
         ensures told { HasCleanDisk (state S.Store self.new) → IfOk result (λ listed. IsTrue (state S.Store self.new).is_open × TellsTables (state S.Store self.old).now listed.items) }
-        ensures looks { Looks (state S.Store self.old) (state S.Store self.new) }
+        ensures only_reads { OnlyReads (state S.Store self.old) (state S.Store self.new) }
     {
         let rows = tabs(&mut self.conn)?;
         listed_tables(alloc, rows.as_slice())
@@ -61,7 +61,7 @@ impl<S: Alter> RowStore<S> {
     /// How many rows a table has: each has one cell at the first place. Takes no memory of its own.
     pub fn count(&mut self, table: &StoredTable) -> Result<usize, Failure>
         ensures told { HasCleanDisk (state S.Store self.new) → IfOk result (λ n. IsTrue (state S.Store self.new).is_open × TellsCount table.now (state S.Store self.old).now n) }
-        ensures looks { Looks (state S.Store self.old) (state S.Store self.new) }
+        ensures only_reads { OnlyReads (state S.Store self.old) (state S.Store self.new) }
     {
         count_keys(&mut self.conn, table.id, 1)
     }

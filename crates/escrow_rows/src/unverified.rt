@@ -11,7 +11,7 @@ impl<S: Alter> RowStore<S> {
     ghost use Rattle.sqlite.specs.State.{HasCleanDisk};
     ghost use Rattle.escrow_cells.specs.Store.{HasTables, IsStore, IsStoreSchema, AreAllNumbered, cells, metas, tabs};
     ghost use Rattle.escrow_cells.specs.Read.{AreTablesOfCells, AreTabs, Takes};
-    ghost use Rattle.escrow_rows.specs.Answers.{Looks};
+    ghost use Rattle.escrow_rows.specs.Answers.{OnlyReads};
 
     /// Whether the schema is that of a store. Makes no store call.
     pub fn is_store(&self) -> bool
@@ -24,7 +24,7 @@ impl<S: Alter> RowStore<S> {
     /// Gives a sink the rows of META, in any order: each has its K and its V.
     pub fn metas<K: Sink>(&mut self, sink: &mut K) -> Result<(), Failure>
         ensures rows { HasCleanDisk (state S.Store self.new) → OnOk result (IsTrue (state S.Store self.new).is_open × (HasTables (state S.Store self.old).now.schema → Takes K.has_taken (IsPermutation (metas (state S.Store self.old).now)) sink.old sink.new)) }
-        ensures looks { Looks (state S.Store self.old) (state S.Store self.new) }
+        ensures only_reads { OnlyReads (state S.Store self.old) (state S.Store self.new) }
     {
         escrow_cells::metas(&mut self.conn, sink)
     }
@@ -33,7 +33,7 @@ impl<S: Alter> RowStore<S> {
     /// twice in one of them.
     pub fn are_numbered(&mut self) -> Result<bool, Failure>
         ensures numbered { HasCleanDisk (state S.Store self.new) → IfOk result (λ are. IsTrue (state S.Store self.new).is_open × (HasTables (state S.Store self.old).now.schema → (IsTrue are ↔ AreAllNumbered (state S.Store self.old).now))) }
-        ensures looks { Looks (state S.Store self.old) (state S.Store self.new) }
+        ensures only_reads { OnlyReads (state S.Store self.old) (state S.Store self.new) }
     {
         escrow_cells::are_numbered(&mut self.conn)
     }
@@ -41,7 +41,7 @@ impl<S: Alter> RowStore<S> {
     /// The rows of TAB, in order of ID: each has its ID, its NAME and its DDL.
     pub fn tabs(&mut self) -> Result<Vec<Row>, Failure>
         ensures rows { HasCleanDisk (state S.Store self.new) → IfOk result (λ rows. IsTrue (state S.Store self.new).is_open × (IsStore (state S.Store self.old).now → AreTabs (tabs (state S.Store self.old).now) rows.items)) }
-        ensures looks { Looks (state S.Store self.old) (state S.Store self.new) }
+        ensures only_reads { OnlyReads (state S.Store self.old) (state S.Store self.new) }
     {
         escrow_cells::tabs(&mut self.conn)
     }
@@ -49,7 +49,7 @@ impl<S: Alter> RowStore<S> {
     /// Gives a sink the table of each cell, in any order.
     pub fn cell_tables<K: Sink>(&mut self, sink: &mut K) -> Result<(), Failure>
         ensures rows { HasCleanDisk (state S.Store self.new) → OnOk result (IsTrue (state S.Store self.new).is_open × (HasTables (state S.Store self.old).now.schema → Takes K.has_taken (AreTablesOfCells (cells (state S.Store self.old).now)) sink.old sink.new)) }
-        ensures looks { Looks (state S.Store self.old) (state S.Store self.new) }
+        ensures only_reads { OnlyReads (state S.Store self.old) (state S.Store self.new) }
     {
         escrow_cells::cell_tables(&mut self.conn, sink)
     }

@@ -26,12 +26,12 @@ pub fn gather(replies: &mut Vec<u8>, reply: Vec<u8>) -> Result<(), AllocError>
     replies.extend_from_slice(reply.as_slice())
 }
 
-/// Writes what is gathered, after which nothing is gathered, or a front of it.
+/// Writes what is gathered, after which nothing is gathered, or a prefix of it.
 ///
 /// # Errors
 ///
 /// [`ServeFault::Write`], and no other: the writer answered an error, or took nothing of what was left. What it
-/// took before is a front of what is gathered, and not all of it.
+/// took before is a prefix of what is gathered, and not all of it.
 pub fn write_gathered<W: Write>(writer: &mut W, replies: &mut Vec<u8>) -> Result<(), ServeFault>
     ensures ok { OnOk result (Appends (W.contents writer.old) (W.contents writer.new) replies.old.items) }
     ensures none { OnOk result (replies.new.items ≡ []) }
@@ -59,7 +59,7 @@ pub fn out_of_memory<W: Write>(writer: &mut W, replies: &mut Vec<u8>) -> ServeFa
 /// # Errors
 ///
 /// [`ServeFault::Write`], and no other: the writer answered an error, or took nothing of what was left. What it
-/// took before is a front of the bytes, and not all of them.
+/// took before is a prefix of the bytes, and not all of them.
 pub fn write_whole<W: Write>(writer: &mut W, bytes: &[u8]) -> Result<(), ServeFault>
     ensures ok { OnOk result (Appends (W.contents writer.old) (W.contents writer.new) bytes.now) }
     ensures err { OnErr result ((len : ℕ) × (len < length bytes.now) × Appends (W.contents writer.old) (W.contents writer.new) (take len bytes.now)) }

@@ -17,7 +17,7 @@ use Rattle.escrow_server.specs.declared.fault.RunFault.TheVariants as run_fault
 use Rattle.escrow_script.specs.declared.fault.ServeFault.TheVariants as fault
 use Rattle.escrow_server.specs.Free.{RunsFree}
 use Rattle.escrow_server.specs.Output.{ServesWhole, StopsWithin}
-use Rattle.escrow_server.specs.Program.{empty_states, file_of, migrated_line, run_status, AreLinesOf, EndsFree, EndsInMemory, EndsOverFiles, EndsScript, IsQuiet, SaysReason, SaysWhy, Stops, TellsOfMigrated, TellsOfStoresAlone, WritesFront, WritesNothing}
+use Rattle.escrow_server.specs.Program.{empty_states, file_of, migrated_line, run_status, AreLinesOf, EndsFree, EndsInMemory, EndsOverFiles, EndsScript, IsQuiet, SaysReason, SaysWhy, Stops, TellsOfMigrated, TellsOfStoresAlone, WritesPrefix, WritesNothing}
 use Rattle.escrow_script.proofs.WrittenLemmas.{appends_more, appends_none}
 use Rattle.escrow_server.proofs.ServeLemmas.{stopped_unserved}
 
@@ -31,20 +31,20 @@ pub writes_of : {X Z : Type 0} (old new : Option (List ℕ)) (bytes : List ℕ) 
 writes_of old new bytes (Ok x) ok err = ok
 writes_of old new bytes (Err z) ok err = err
 
--- a front was written, however the call ended
-pub front_of : {X Z : Type 0} (old new : Option (List ℕ)) (bytes : List ℕ) (r : Result X Z) → Writes old new bytes r → WritesFront old new bytes
+-- a prefix was written, however the call ended
+pub front_of : {X Z : Type 0} (old new : Option (List ℕ)) (bytes : List ℕ) (r : Result X Z) → Writes old new bytes r → WritesPrefix old new bytes
 front_of old new bytes (Ok x) wrote = (length bytes, subst (λ (b : List ℕ). Appends old new b) (sym (take_all (length bytes) bytes (omega arith))) wrote)
 front_of old new bytes (Err z) wrote = (wrote.0, wrote.2)
 
--- a front of what stands first is one of the whole
-pub front_first : {X Z : Type 0} (old new : Option (List ℕ)) (first second : List ℕ) (r : Result X Z) → Writes old new first r → is_ok r ≡ false → WritesFront old new (first ++ second)
+-- a prefix of what stands first is one of the whole
+pub front_first : {X Z : Type 0} (old new : Option (List ℕ)) (first second : List ℕ) (r : Result X Z) → Writes old new first r → is_ok r ≡ false → WritesPrefix old new (first ++ second)
 front_first old new first second (Ok x) wrote failed = absurd (true≢false failed)
 front_first old new first second (Err z) wrote failed =
     (wrote.0, subst (λ (b : List ℕ). Appends old new b) (sym (take-append-le wrote.0 first second (omega (arith, wrote.1)))) wrote.2)
 
--- and so is a front of what stands second, behind the first
+-- and so is a prefix of what stands second, behind the first
 pub front_second : {X Z : Type 0} (old mid new : Option (List ℕ)) (first second : List ℕ) (r : Result X Z) → Writes old mid first r → is_ok r ≡ true
-    → WritesFront mid new second → WritesFront old new (first ++ second)
+    → WritesPrefix mid new second → WritesPrefix old new (first ++ second)
 front_second old mid new first second (Ok x) wrote went more =
     (length first + more.0, subst (λ (b : List ℕ). Appends old new b) (sym (take-append-add first second more.0)) (appends_more old mid new first (take more.0 second) wrote more.1))
 front_second old mid new first second (Err z) wrote went more = absurd (true≢false (sym went))

@@ -212,7 +212,7 @@ stopped why states new totals (Some bytes) (Some rest) old_bytes new_bytes gathe
   leaves = leaves;
 }
 
--- a front of what was gathered is written
+-- a prefix of what was gathered is written
 stood_in_front : (states new : List State) (totals : List Totals) (script rest old_bytes mid_bytes new_bytes : Option (List ℕ)) (front back : List ℕ) (budget : ℕ)
     → Stood states new totals script rest old_bytes mid_bytes (front ++ back) budget → Appends mid_bytes new_bytes front → Stood states new totals script rest old_bytes new_bytes back budget
 stood_in_front states new totals script rest old_bytes mid_bytes new_bytes front back budget stood wrote = record {
@@ -226,7 +226,7 @@ stood_in_front states new totals script rest old_bytes mid_bytes new_bytes front
   rests = stood.rests;
 }
 
--- a fault of the writer, which took a front of what was gathered
+-- a fault of the writer, which took a prefix of what was gathered
 pub stopped_writing : (why : ServeFault) (states new : List State) (totals : List Totals) (script rest old_bytes mid_bytes new_bytes : Option (List ℕ)) (gathered : List ℕ) (len budget : ℕ)
     → Leaves why (drop len gathered) → Stood states new totals script rest old_bytes mid_bytes gathered budget → Appends mid_bytes new_bytes (take len gathered)
     → IfSome script (λ bytes. StopsWithin why bytes states new old_bytes new_bytes)

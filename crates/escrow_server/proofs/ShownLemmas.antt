@@ -14,28 +14,28 @@ use Rattle.escrow_machine.specs.declared.reply.Reply.TheVariants as reply
 use Rattle.escrow_machine.specs.Reply.{failure_of, holds_memory}
 use Rattle.escrow_machine.specs.State.{State}
 use Rattle.escrow_machine.specs.Step.{fails_for, may_fail, IsStep, StepOrRefusal}
-use Rattle.escrow_machine.specs.Turn.{turn_of}
+use Rattle.escrow_machine.specs.Transition.{transition_of}
 use Rattle.escrow_machine.proofs.LawsMemory.{step_stays}
 use Rattle.escrow_machine.proofs.LawsSteps.{step_has}
 use Rattle.escrow_machine.proofs.Refusals.{none_in_front}
 use Rattle.escrow_server.specs.Output.{Answers}
 
--- a turn that shows something takes memory
-turn_takes : (s : State) (session : ℕ) (asked : Statement) → holds_memory (turn_of s session asked).reply ≡ true → fails_for s session asked failure.Memory ≡ true
-unfolding turn_of
-turn_takes s session statement.Commit holds = absurd (false≢true holds)
-turn_takes s session statement.Rollback holds = absurd (false≢true holds)
-turn_takes s session (statement.RollbackTo name) holds = absurd (false≢true holds)
-turn_takes s session _ holds = refl
+-- a transition that shows something takes memory
+transition_takes : (s : State) (session : ℕ) (asked : Statement) → holds_memory (transition_of s session asked).reply ≡ true → fails_for s session asked failure.Memory ≡ true
+unfolding transition_of
+transition_takes s session statement.Commit holds = absurd (false≢true holds)
+transition_takes s session statement.Rollback holds = absurd (false≢true holds)
+transition_takes s session (statement.RollbackTo name) holds = absurd (false≢true holds)
+transition_takes s session _ holds = refl
 
 -- so may a step fail for memory that shows something
 step_may : (s : State) (session : ℕ) (asked : Statement) (answer : Reply) (new : State) → IsStep s session asked answer new → holds_memory answer ≡ true
     → may_fail s session asked failure.Memory ≡ true
 step_may s session asked answer new event holds =
-    let turn = turn_of s session asked in
+    let transition = transition_of s session asked in
     step_has (λ (p : Reply × State). holds_memory p.0 ≡ true → may_fail s session asked failure.Memory ≡ true) s session asked
     (λ _ _ h. absurd (false≢true h))
-    (λ accepted h. ap₂ (λ (o : Option Refusal) (takes : Bool). is_none o && takes) (none_in_front turn.early turn.late accepted) (turn_takes s session asked h))
+    (λ accepted h. ap₂ (λ (o : Option Refusal) (takes : Bool). is_none o && takes) (none_in_front transition.early transition.late accepted) (transition_takes s session asked h))
     (subst (λ (p : Reply × State). holds_memory p.0 ≡ true) event.is_step holds)
 
 -- what shows something is no failure

@@ -135,7 +135,7 @@ pub record ServesWhole (script : List ℕ) (states new : List State) (old_bytes 
   pub output : Output script states out new
   pub appends : Appends old_bytes new_bytes out
 
--- What a fault leaves: some lines of the script from its first on were served, and a front of their
+-- What a fault leaves: some lines of the script from its first on were served, and a prefix of their
 -- output was written.
 pub record StopsWithin (fault : ServeFault) (script : List ℕ) (states new : List State) (old_bytes new_bytes : Option (List ℕ)) : Type 0 where
   pub served : List (List ℕ)

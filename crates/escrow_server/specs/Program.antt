@@ -47,8 +47,8 @@ abbrev pub empty_states : ℕ → List State
 empty_states count = replicate count empty
 
 -- some of a text was written, from its first byte on
-abbrev pub WritesFront : Option (List ℕ) → Option (List ℕ) → List ℕ → Type 0
-WritesFront old_bytes new_bytes text = (len : ℕ) × Appends old_bytes new_bytes (take len text)
+abbrev pub WritesPrefix : Option (List ℕ) → Option (List ℕ) → List ℕ → Type 0
+WritesPrefix old_bytes new_bytes text = (len : ℕ) × Appends old_bytes new_bytes (take len text)
 
 -- nothing was written
 abbrev pub WritesNothing : Option (List ℕ) → Option (List ℕ) → Type 0
@@ -69,11 +69,11 @@ nameless_line = migrated_line (codes "a store")
 -- such lines were written of the stores of a path, as far as the writer took them, and nothing of stores in memory
 abbrev pub TellsOfMigrated : Option (List ℕ) → Option (List ℕ) → Option (List ℕ) → Type 0
 TellsOfMigrated None old_bytes new_bytes = WritesNothing old_bytes new_bytes
-TellsOfMigrated (Some path) old_bytes new_bytes = (text : List ℕ) × (AreLinesOf path text ⊎ (text ≡ nameless_line)) × WritesFront old_bytes new_bytes text
+TellsOfMigrated (Some path) old_bytes new_bytes = (text : List ℕ) × (AreLinesOf path text ⊎ (text ≡ nameless_line)) × WritesPrefix old_bytes new_bytes text
 
 -- a reason was said: the program's name, a colon and a text, as far as the writer took them
 abbrev pub SaysReason : Option (List ℕ) → Option (List ℕ) → Type 0
-SaysReason old_bytes new_bytes = (text : List ℕ) × WritesFront old_bytes new_bytes (codes "escrowd: " ++ text)
+SaysReason old_bytes new_bytes = (text : List ℕ) × WritesPrefix old_bytes new_bytes (codes "escrowd: " ++ text)
 
 -- why the program ends was said, behind the lines of a path's stores that were migrated
 abbrev pub SaysWhy : Option (List ℕ) → Option (List ℕ) → Option (List ℕ) → Type 0
@@ -81,7 +81,7 @@ SaysWhy path old_bytes new_bytes = (told_bytes : Option (List ℕ)) × TellsOfMi
 
 -- stores that can't be closed were told of, as far as the writer took it
 abbrev pub TellsOfStores : Option (List ℕ) → Option (List ℕ) → Type 0
-TellsOfStores old_bytes new_bytes = (text : List ℕ) × WritesFront old_bytes new_bytes (codes "escrowd: the store of " ++ text)
+TellsOfStores old_bytes new_bytes = (text : List ℕ) × WritesPrefix old_bytes new_bytes (codes "escrowd: the store of " ++ text)
 
 -- nothing was said, or of stores alone that can't be closed
 abbrev pub TellsOfStoresAlone : Option (List ℕ) → Option (List ℕ) → Type 0

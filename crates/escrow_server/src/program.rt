@@ -7,7 +7,7 @@ ghost use Rattle.escrow_server.specs.Free.{HoldCleanDisks, RunsFree};
 ghost use Rattle.escrow_server.specs.Args.{asked_by, asked_path, fault_status, refused_status};
 ghost use Rattle.escrow_server.specs.Output.{states_of, HaveCleanDisks, ServesWhole};
 ghost use Rattle.escrow_server.specs.Opened.{IsOpened};
-ghost use Rattle.escrow_server.specs.Program.{file_of, help_of, migrated_line, run_status, unread_status, AreLinesOf, EndsInMemory, EndsOverFiles, IsQuiet, SaysReason, SaysWhy, Stops, TellsOfMigrated, TellsOfStoresAlone, WritesFront, WritesNothing};
+ghost use Rattle.escrow_server.specs.Program.{file_of, help_of, migrated_line, run_status, unread_status, AreLinesOf, EndsInMemory, EndsOverFiles, IsQuiet, SaysReason, SaysWhy, Stops, TellsOfMigrated, TellsOfStoresAlone, WritesPrefix, WritesNothing};
 
 use crate::args::{ArgFault, Args, Mode, read_args};
 use crate::databases::{Unclosed, close_databases, open_databases};
@@ -304,7 +304,7 @@ fn migrated_line(alloc: Global, path: &str, place: u8) -> Result<String, AllocEr
 /// Prints help where it is asked, or else says what is wrong, and answers the exit status.
 fn refuse<W: Write, F: Write>(output: &mut W, errors: &mut F, fault: &ArgFault) -> u8
     ensures status { result ≡ fault_status fault.now }
-    ensures help { WritesFront (W.contents output.old) (W.contents output.new) (help_of fault.now) }
+    ensures help { WritesPrefix (W.contents output.old) (W.contents output.new) (help_of fault.now) }
     ensures unserved { result ≢ 0 → WritesNothing (W.contents output.old) (W.contents output.new) }
     ensures silent { result ≡ 0 → WritesNothing (F.contents errors.old) (F.contents errors.new) }
     ensures said { result ≢ 0 → SaysReason (F.contents errors.old) (F.contents errors.new) }
@@ -319,7 +319,7 @@ fn refuse<W: Write, F: Write>(output: &mut W, errors: &mut F, fault: &ArgFault) 
 
 /// Prints a text, as far as it is taken: the exit status is the same.
 fn print<W: Write>(output: &mut W, text: &str)
-    ensures { WritesFront (W.contents output.old) (W.contents output.new) text.now }
+    ensures { WritesPrefix (W.contents output.old) (W.contents output.new) text.now }
 {
     let _ = write_whole(output, text.as_bytes());
 }
@@ -462,14 +462,14 @@ fn unclosed_line(
 /// Writes the program's name, a colon and a text. Where they can't be written, nothing is left to
 /// say it to.
 fn say_why<F: Write>(errors: &mut F, text: &str)
-    ensures { WritesFront (F.contents errors.old) (F.contents errors.new) (codes "escrowd: " ++ text.now) }
+    ensures { WritesPrefix (F.contents errors.old) (F.contents errors.new) (codes "escrowd: " ++ text.now) }
 {
     say(errors, "escrowd: ", text);
 }
 
 /// Writes a head and a text, as far as they are taken.
 fn say<F: Write>(errors: &mut F, head: &str, text: &str)
-    ensures { WritesFront (F.contents errors.old) (F.contents errors.new) (head.now ++ text.now) }
+    ensures { WritesPrefix (F.contents errors.old) (F.contents errors.new) (head.now ++ text.now) }
 {
     if write_whole(errors, head.as_bytes()).is_ok() {
         let _ = write_whole(errors, text.as_bytes());

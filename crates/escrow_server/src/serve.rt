@@ -34,7 +34,7 @@ use std::io::{Read, Write};
 /// session was answered in this call, since the last restart of its database.
 ///
 /// After a fault the lines served so far stand in the databases, and all of their replies were written,
-/// unless the writer failed: then a front of them. A line is served only once there is room for a short reply,
+/// unless the writer failed: then a prefix of them. A line is served only once there is room for a short reply,
 /// as any is but a query's; a query whose lines can't be had for want of memory is answered 51.
 pub fn serve_script<S: Alter, R: Read, W: Write>(
     alloc: Global,
@@ -51,7 +51,7 @@ pub fn serve_script<S: Alter, R: Read, W: Write>(
         ServesWhole script (states_of databases.old.items) (states_of databases.new.items) (W.contents writer.old) (W.contents writer.new))) }
     ensures end { OnOk result (IfSome (R.remaining reader.old) (λ script. IsAtEnd (R.remaining reader.new))) }
 
-    // After a fault some lines were served, and their output was written, or a front of it where the writer failed.
+    // After a fault some lines were served, and their output was written, or a prefix of it where the writer failed.
     ensures fault { HaveCleanDisks S.Store databases.new.items → IfErr result (λ fault. IfSome (R.remaining reader.old) (λ script.
         StopsWithin fault script (states_of databases.old.items) (states_of databases.new.items) (W.contents writer.old) (W.contents writer.new))) }
 

@@ -18,7 +18,7 @@ use Rattle.escrow_transcript.specs.Legal.{IsLegal}
 use Rattle.escrow_transcript.proofs.Legals.{one_more_is_legal}
 use Rattle.escrow_history.specs.History.{History}
 use Rattle.escrow_history.specs.Calls.{Appends, Stays}
-use Rattle.escrow_stats.specs.Watching.{Boarded, IsFront}
+use Rattle.escrow_stats.specs.Watching.{Boarded, IsPrefix}
 use Rattle.escrow_shards.specs.Piece.{Piece}
 use Rattle.escrow_shards.specs.Shown.{doubts_of, EndsWith, IsShown}
 
@@ -75,7 +75,7 @@ module _ {S : Type 0} (g : Ghosts S) where
         (let a = next_number in let z = shown.first in omega (arith, a, z))
 
     -- one statement was served
-    pub more_shown : (after : Boarded) → after.base ≡ b.base → after.entries ≡ b.entries ++ added ∷ [] → IsFront after.shown after.entries → after.doubts ≤ doubts_of g new.store
+    pub more_shown : (after : Boarded) → after.base ≡ b.base → after.entries ≡ b.entries ++ added ∷ [] → IsPrefix after.shown after.entries → after.doubts ≤ doubts_of g new.store
         → IsShown g new after
     more_shown after base entries begins fewer = record {
       first = ap (λ (x : Base). x.before) base ∙ shown.first;

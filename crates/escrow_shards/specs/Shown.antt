@@ -8,7 +8,7 @@ use Rattle.sqlite_trees.specs.View.{doubt}
 use Rattle.escrow_transcript.specs.declared.entry.Entry.{Entry}
 use Rattle.escrow_transcript.specs.Legal.{IsLegal}
 use Rattle.escrow_history.specs.History.{History, history_code}
-use Rattle.escrow_stats.specs.Watching.{Boarded, boarded_code, IsFront}
+use Rattle.escrow_stats.specs.Watching.{Boarded, boarded_code, IsPrefix}
 
 -- what contracts see of a database that is watched: the database with its transcript, how many parts of its history
 -- were handed out, and the board
@@ -39,5 +39,5 @@ pub record IsShown {S : Type 0} (g : Ghosts S) (h : History S) (b : Boarded) : T
   pub legal : HasCleanDisk (state g h.store) → IsLegal b.base b.entries h.state
   pub long : length b.entries ≡ h.base.before + length h.entries
   pub ends : EndsWith b.entries h.entries
-  pub begins : IsFront b.shown b.entries
+  pub begins : IsPrefix b.shown b.entries
   pub fewer : b.doubts ≤ doubts_of g h.store

@@ -3,7 +3,7 @@ ghost use Rattle.sqlite.specs.Held.{state};
 ghost use Rattle.sqlite.specs.State.{HasCleanDisk};
 ghost use Rattle.escrow_transcript.specs.declared.transcript.TheConstants.Transcript.{MAX_NUMBER};
 ghost use Rattle.escrow_transcript.specs.Legal.{IsLegal};
-ghost use Rattle.escrow_stats.specs.Watching.{IsFront};
+ghost use Rattle.escrow_stats.specs.Watching.{IsPrefix};
 ghost use Rattle.escrow_shards.specs.Shown.{doubts_of};
 
 use crate::locked::Locked;
@@ -101,7 +101,7 @@ fn show<S: Alter, R: Wait + Drop, T: Wait>(
     requires more { board.old.doubts ≤ doubts_of S.Store audited.now.store }
     ensures base { board.new.base ≡ board.old.base }
     ensures entries { board.new.entries ≡ board.old.entries ++ entry.now ∷ [] }
-    ensures shown { IsFront board.new.shown board.new.entries }
+    ensures shown { IsPrefix board.new.shown board.new.entries }
     ensures doubts { board.new.doubts ≤ doubts_of S.Store audited.now.store }
 {
     show_as(board, rt, entry, audited);
@@ -121,7 +121,7 @@ fn show_as<S: Alter, R: Wait + Drop, T: Wait>(
     requires more { board.old.doubts ≤ doubts }
     ensures base { board.new.base ≡ board.old.base }
     ensures entries { board.new.entries ≡ board.old.entries ++ entry.now ∷ [] }
-    ensures shown { IsFront board.new.shown board.new.entries }
+    ensures shown { IsPrefix board.new.shown board.new.entries }
     ensures doubts { board.new.doubts ≤ doubts }
 {
     board.post(rt, entry);

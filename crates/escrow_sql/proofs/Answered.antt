@@ -33,7 +33,7 @@ answer_lexed text (Err column) l = inr (column, inl l)
 pub some_answer : (text : List ℕ) → ((r : Request) × Asks text r) ⊎ ((column : ℕ) × IsFaultColumn text column)
 some_answer text = let lexed = each_lexed text in answer_lexed text lexed.0 lexed.1
 
--- a front of tokens with which a sentence begins
+-- a prefix of tokens with which a sentence begins
 begins_sooner : {V : Type 0} (g : Grammar V) (ts : List Token) (m n : ℕ) → n ≤ m → Begins g (take m ts) → Begins g (take n ts)
 begins_sooner g ts m n l b =
     let front = take m ts in

@@ -8,7 +8,7 @@ use Rattle.escrow_sql.specs.Predictive.{run, ended, whole_of, run_whole, is_pred
 use Rattle.escrow_sql.proofs.Heads.{SameHead}
 use Rattle.escrow_sql.proofs.Reading.{Read}
 use Rattle.escrow_sql.proofs.Sentences.{reads_back}
-use Rattle.escrow_sql.proofs.Fronts.{took, stuck}
+use Rattle.escrow_sql.proofs.Prefixes.{took, stuck}
 
 -- the value of a sentence is read
 pub sentence_read : {V : Type 0} (g : Grammar V) → is_predictive g ≡ true → (ts : List Token) (v : V) → Sentence g ts v → run_whole g ts ≡ Ok v

@@ -3,7 +3,7 @@ pub mod AnyCase
 pub mod ClassLemmas
 pub mod Factoring
 pub mod Faults
-pub mod Fronts
+pub mod Prefixes
 pub mod Heads
 pub mod NameLemmas
 pub mod NumberLemmas

@@ -19,7 +19,7 @@ use Rattle.escrow_sql.specs.declared.token.Kind.{Kind}
 use Rattle.escrow_sql.specs.Lex.{plain_piece, name_piece, number_piece, symbol_piece, goes_on, is_blank, begins, word_or_name}
 use Rattle.escrow_sql.specs.Scan.{IsWithin, piece_of, text_piece}
 
--- a front that begins with a byte that passes
+-- a prefix that begins with a byte that passes
 prefix_len-first : (p : ℕ → Bool) (c : ℕ) (next : List ℕ) → p c ≡ true → 1 ≤ prefix_len p (c ∷ next)
 prefix_len-first p c next h = rw h (omega arith)
 

@@ -23,7 +23,7 @@ use Rattle.escrow_sql.proofs.Pieces.{is_lexed}
 use Rattle.escrow_sql.proofs.QuotedLemmas.{text_alone}
 use Rattle.escrow_sql.proofs.TokenLemmas.{after, by_piece, tokens_from-piece, with_token-Ok, whole_at_end}
 
--- a front that passes, alone, passes whole
+-- a prefix that passes, alone, passes whole
 prefix_alone : (p : ℕ → Bool) (xs : List ℕ) → prefix_len p (take (prefix_len p xs) xs) ≡ prefix_len p xs
 prefix_alone p xs =
     let n = prefix_len p xs in

@@ -23,8 +23,8 @@ use Rattle.left_right.specs.declared.Absorb.{Ghosts as Absorb}
 use Rattle.crossbeam_utils.specs.declared.rule.Protocol.{Ghosts as Protocol}
 use Rattle.escrow_stats.specs.contracts.board.Board as Board
 use Rattle.escrow_stats.specs.contracts.board.Board.TheInside as Inside
-use Rattle.escrow_stats.specs.contracts.known.Fronts as Fronts
-use Rattle.escrow_stats.specs.contracts.known.FrontsProtocolShownKnown.TheImpl as Rule
+use Rattle.escrow_stats.specs.contracts.known.Prefixes as Prefixes
+use Rattle.escrow_stats.specs.contracts.known.PrefixesProtocolShownKnown.TheImpl as Rule
 use Rattle.escrow_stats.specs.contracts.known.Known as Known
 use Rattle.escrow_stats.specs.contracts.shown.Post as Post
 use Rattle.escrow_stats.specs.contracts.shown.ShownAbsorbPost.TheImpl as Absorbing
@@ -72,7 +72,7 @@ module _ (S : RattleType) (alter : Alter S.Denot) (store : Ghosts S.Denot) where
   inside R rt =
       let T = Inside.the_type S R alter store in
       recorded_send (Struct (shape T)) T.D T.to T.to_one
-      (struct_send (shape T) (writer_send Known.the_row (Fronts.the_row S) (Tuple (Tally.the_row ∷ Post.the_row ∷ [])) (Rule.ghosts S alter Rule.no_dict store Rule.no_dict) Absorbing.ghosts, (search (sendable, crosses) depth 20, (search (sendable, crosses) depth 20, (search (rt, sendable), tt)))))
+      (struct_send (shape T) (writer_send Known.the_row (Prefixes.the_row S) (Tuple (Tally.the_row ∷ Post.the_row ∷ [])) (Rule.ghosts S alter Rule.no_dict store Rule.no_dict) Absorbing.ghosts, (search (sendable, crosses) depth 20, (search (sendable, crosses) depth 20, (search (rt, sendable), tt)))))
 
   pub board_send : (R : RattleType) → IsSend R → IsSend (Board.the_row S R alter store)
   board_send R rt = search (inside R rt, sendable) depth 10

@@ -13,8 +13,8 @@ use Rattle.escrow_stats.specs.declared.tally.Tally.{Tally}
 use Rattle.escrow_stats.specs.Tally.{tally_of}
 use Rattle.sqlite_trees.specs.declared.store.Store.{Ghosts}
 use Rattle.escrow_stats.specs.declared.known.Known.{Known}
-use Rattle.escrow_stats.specs.Watching.{Boarded, IsAlwaysClean, IsFront, IsLegalFrom, replies_of}
-use Rattle.escrow_stats.specs.Fronts.{IsBoard, IsNamed, IsPosted, IsPostOf, MayShow, newcomer}
+use Rattle.escrow_stats.specs.Watching.{Boarded, IsAlwaysClean, IsPrefix, IsLegalFrom, replies_of}
+use Rattle.escrow_stats.specs.Prefixes.{IsBoard, IsNamed, IsPosted, IsPostOf, MayShow, newcomer}
 use Rattle.escrow_stats.proofs.Rule.{last_post, whole_front}
 
 -- the totals with one entry more
@@ -66,7 +66,7 @@ first_board start totals first x y v w pending later names zero shown none new s
         named = ap (λ (k : Known). k.base) known ∙ ap (λ (p : Post). Some p.base.value.value) post ∙ ap Some names;
         shows = ap (λ (p : Post). p.base.value.value) post ∙ names;
         counted = ap (λ (k : Known). length k.shown) known ∙ sym (ap (λ (p : Post). p.count) post ∙ zero);
-        begins = subst (λ (k : Known). IsFront k.shown k.entries) (sym known) (whole_front []);
+        begins = subst (λ (k : Known). IsPrefix k.shown k.entries) (sym known) (whole_front []);
       };
       tallied = nothing ∙ ap (λ (k : Known). tally_of (replies_of k.entries)) (sym known);
       idle = idle;

@@ -15,22 +15,22 @@ use Rattle.escrow_stats.specs.declared.known.Known.{Known}
 use Rattle.escrow_stats.specs.declared.shown.Post.{Post}
 use Rattle.escrow_stats.specs.declared.shown.Shown.{Shown}
 use Rattle.escrow_stats.specs.declared.tally.Tally.{Tally}
-use Rattle.escrow_stats.specs.Watching.{IsFront, IsLegalFrom}
-use Rattle.escrow_stats.specs.Fronts.{newcomer, IsPostOf, Holds, Keeps, IsNamed, IsPublished, IsRead, introduced, acquainted, Writes, IsPosted, MayShow}
+use Rattle.escrow_stats.specs.Watching.{IsPrefix, IsLegalFrom}
+use Rattle.escrow_stats.specs.Prefixes.{newcomer, IsPostOf, Holds, Keeps, IsNamed, IsPublished, IsRead, introduced, acquainted, Writes, IsPosted, MayShow}
 
 -- FRONTS
 
-pub no_front : (entries : List Entry) → IsFront [] entries
+pub no_front : (entries : List Entry) → IsPrefix [] entries
 no_front entries = (entries, refl)
 
-pub whole_front : (entries : List Entry) → IsFront entries entries
+pub whole_front : (entries : List Entry) → IsPrefix entries entries
 whole_front entries = ([], sym (append-nil entries))
 
-pub front_of_more : (front entries more : List Entry) → IsFront front entries → IsFront front (entries ++ more)
+pub front_of_more : (front entries more : List Entry) → IsPrefix front entries → IsPrefix front (entries ++ more)
 front_of_more front entries more (rest, is) = (rest ++ more, ap (λ (es : List Entry). es ++ more) is ∙ append_assoc front rest more)
 
 -- a front as long as the whole is the whole
-long_front : (front entries : List Entry) → IsFront front entries → length front ≡ length entries → front ≡ entries
+long_front : (front entries : List Entry) → IsPrefix front entries → length front ≡ length entries → front ≡ entries
 long_front front entries (rest, is) long =
     let none : rest ≡ [] = nil_from_length rest (let n : length entries ≡ length front + length rest = ap length is ∙ length-append front rest in omega (arith, n, long)) in
     sym (append-nil front) ∙ ap (λ (es : List Entry). front ++ es) (sym none) ∙ sym is
@@ -151,7 +151,7 @@ module _ {S : Type 0} (g : Ghosts S) where
         },
       )
 
-  -- what was true of a front is true of a longer list, with no fewer doubts
+  -- what was true of a prefix is true of a longer list, with no fewer doubts
   still_holds : (start : Base) (all rest : List Entry) (more : Entry) (doubts next : ℕ) (u : Known) → doubts ≤ next
       → Holds start all doubts u → Holds start ((all ++ rest) ++ more ∷ []) next u
   still_holds start all rest more doubts next u fewer known = record {

@@ -1,4 +1,4 @@
-pub mod Fronts
+pub mod Prefixes
 pub mod Laws
 pub mod Next
 pub mod Tally

@@ -15,7 +15,7 @@ abbrev pub kind_of_refusal : Refusal → Kind
 kind_of_refusal refusal.Memory = kind.Unserved
 kind_of_refusal refusal.TranscriptFull = kind.Unserved
 kind_of_refusal refusal.Store = kind.Unserved
-kind_of_refusal (refusal.Check breach) = kind.Broken
+kind_of_refusal (refusal.Check violation) = kind.Broken
 kind_of_refusal _ = kind.Refused
 
 -- the kind of any reply. No session is answered a restart, 12, 61 or 62, so no session's tally meets these

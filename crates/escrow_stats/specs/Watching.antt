@@ -16,9 +16,9 @@ use Rattle.escrow_transcript.specs.Legal.{IsLegal}
 abbrev pub replies_of : List Entry → List Reply
 replies_of entries = map (λ e. e.reply) entries
 
--- entries that begin others: a front of them, which may be all or nothing
-abbrev pub IsFront : List Entry → List Entry → Type 0
-IsFront front entries = (rest : List Entry) × (entries ≡ front ++ rest)
+-- entries that begin others: a prefix of them, which may be all or nothing
+abbrev pub IsPrefix : List Entry → List Entry → Type 0
+IsPrefix front entries = (rest : List Entry) × (entries ≡ front ++ rest)
 
 -- entries are a legal transcript from a base, up to some state
 abbrev pub IsLegalFrom : Base → List Entry → Type 0
@@ -51,7 +51,7 @@ pub record IsNewWatcher (start : Base) (w : Watching) : Type 0 where
   pub begins : w.base ≡ start
   pub unread : w.entries ≡ []
 
--- What contracts see of a board: the base where the history of its database begins; all entries since, and a front of
+-- What contracts see of a board: the base where the history of its database begins; all entries since, and a prefix of
 -- them, whose totals it shows; and the doubts of the disk when these were shown.
 pub record Boarded : Type 0 where
   pub base : Base

@@ -1,7 +1,7 @@
 ghost use Rattle.std.specs.Prelude.{◌≡◌};
 
 use crate::board_fault::BoardFault;
-use crate::known::{Fronts, Introduces, Known, Names, Next, Publishes};
+use crate::known::{Introduces, Known, Names, Next, Prefixes, Publishes};
 use crate::shown::{Post, Shown};
 use crate::tally::Tally;
 use crate::watcher::Watcher;
@@ -27,7 +27,7 @@ pub struct Board<S: Alter, R: Wait + Drop> {
     rt: R,
 }
 
-type Writing<S> = Writer<Shown, Post, Known, Fronts<S>>;
+type Writing<S> = Writer<Shown, Post, Known, Prefixes<S>>;
 
 impl<S: Alter, R: Wait + Drop> Drop for Board<S, R> {
     fn drop(self) {
@@ -44,7 +44,7 @@ impl<S: Alter, R: Wait + Drop> Drop for Board<S, R> {
 impl<S: Alter, R: Wait + Drop> Model for Board<S, R> {
     ghost use Rattle.std.specs.Prelude.{drop};
     ghost use Rattle.left_right.specs.Sides.{view as seen};
-    ghost use Rattle.escrow_stats.specs.Fronts.{IsBoard};
+    ghost use Rattle.escrow_stats.specs.Prefixes.{IsBoard};
     ghost use Rattle.escrow_stats.specs.Watching.{Boarded, boarded_code};
 
     ghost Value = { Boarded };
@@ -61,8 +61,8 @@ impl<S: Alter, R: Wait + Drop> Board<S, R> {
     ghost use Rattle.escrow_stats.specs.declared.board.TheConstants.{MAX_WATCHERS};
     ghost use Rattle.escrow_transcript.specs.declared.transcript.TheConstants.Transcript.{MAX_NUMBER};
     ghost use Rattle.left_right.specs.Sides.{view as seen};
-    ghost use Rattle.escrow_stats.specs.Fronts.{IsPosted, IsPublished, MayShow, Writes};
-    ghost use Rattle.escrow_stats.specs.Watching.{IsAlwaysClean, IsFront, IsLegalFrom, IsNewBoard, IsNewWatcher};
+    ghost use Rattle.escrow_stats.specs.Prefixes.{IsPosted, IsPublished, MayShow, Writes};
+    ghost use Rattle.escrow_stats.specs.Watching.{IsAlwaysClean, IsPrefix, IsLegalFrom, IsNewBoard, IsNewWatcher};
 
     /// A board of a history that begins at a base, and so many watchers. It shows that nothing was served.
     ///
@@ -143,7 +143,7 @@ impl<S: Alter, R: Wait + Drop> Board<S, R> {
         requires always { IsAlwaysClean S.Store → doubts ≡ 0 }
         ensures base { self.new.base ≡ self.old.base }
         ensures entries { self.new.entries ≡ self.old.entries ++ entry.now ∷ [] }
-        ensures shown { IsFront self.new.shown self.new.entries }
+        ensures shown { IsPrefix self.new.shown self.new.entries }
         ensures doubts { self.new.doubts ≤ doubts }
     {
         self.post_as::<Brand, T>(rt, entry);
@@ -158,7 +158,7 @@ impl<S: Alter, R: Wait + Drop> Board<S, R> {
         requires always { IsAlwaysClean S.Store → N.doubts ≡ 0 }
         ensures base { self.new.base ≡ self.old.base }
         ensures entries { self.new.entries ≡ self.old.entries ++ entry.now ∷ [] }
-        ensures shown { IsFront self.new.shown self.new.entries }
+        ensures shown { IsPrefix self.new.shown self.new.entries }
         ensures doubts { self.new.doubts ≤ N.doubts }
     {
         let count = entry.number;

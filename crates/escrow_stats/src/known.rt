@@ -20,12 +20,12 @@ pub struct Known {
 
 /// The rule of a board: what it shows are the totals of a list of entries, which is a legal history while the disk had
 /// returned what was written, and begins with what each end has seen.
-pub struct Fronts<S> {
+pub struct Prefixes<S> {
     of: Snapshot<S>,
 }
 
-impl<S: Alter> Protocol<Shown, Known> for Fronts<S> {
-    ghost use Rattle.escrow_stats.specs.Fronts.{Keeps, newcomer};
+impl<S: Alter> Protocol<Shown, Known> for Prefixes<S> {
+    ghost use Rattle.escrow_stats.specs.Prefixes.{Keeps, newcomer};
 
     ghost holds = { Keeps S.Store };
 
@@ -55,7 +55,7 @@ impl Next for Brand {
 pub struct Names;
 
 impl Outcome<Shown, Known> for Names {
-    ghost use Rattle.escrow_stats.specs.Fronts.{IsNamed};
+    ghost use Rattle.escrow_stats.specs.Prefixes.{IsNamed};
 
     ghost then = { IsNamed };
 }
@@ -66,7 +66,7 @@ pub struct Publishes<N> {
 }
 
 impl<N: Next> Outcome<Shown, Known> for Publishes<N> {
-    ghost use Rattle.escrow_stats.specs.Fronts.{IsPublished};
+    ghost use Rattle.escrow_stats.specs.Prefixes.{IsPublished};
 
     ghost then = { IsPublished N.more N.doubts };
 }
@@ -77,7 +77,7 @@ pub struct Reads<S> {
 }
 
 impl<S: Alter> Outcome<Shown, Known> for Reads<S> {
-    ghost use Rattle.escrow_stats.specs.Fronts.{IsRead};
+    ghost use Rattle.escrow_stats.specs.Prefixes.{IsRead};
 
     ghost then = { IsRead S.Store };
 }
@@ -86,7 +86,7 @@ impl<S: Alter> Outcome<Shown, Known> for Reads<S> {
 pub struct Introduces;
 
 impl Split<Known> for Introduces {
-    ghost use Rattle.escrow_stats.specs.Fronts.{introduced};
+    ghost use Rattle.escrow_stats.specs.Prefixes.{introduced};
 
     ghost left = { λ v. v };
 
@@ -94,7 +94,7 @@ impl Split<Known> for Introduces {
 }
 
 impl Join<Known> for Introduces {
-    ghost use Rattle.escrow_stats.specs.Fronts.{acquainted, newcomer};
+    ghost use Rattle.escrow_stats.specs.Prefixes.{acquainted, newcomer};
 
     ghost both = { acquainted };
 

@@ -1,9 +1,9 @@
 ghost use Rattle.std.specs.Prelude.{◌≡◌, IfSome, IfNone};
 ghost use Rattle.left_right.specs.Sides.{view};
 ghost use Rattle.escrow_stats.specs.declared.shown.Shown.{Shown};
-ghost use Rattle.escrow_stats.specs.Fronts.{IsRead};
+ghost use Rattle.escrow_stats.specs.Prefixes.{IsRead};
 
-use crate::known::{Fronts, Known, Reads};
+use crate::known::{Known, Prefixes, Reads};
 use crate::shown::Shown;
 use crate::tally::Tally;
 use core::mem::replace_with;
@@ -22,11 +22,11 @@ pub struct Watcher<S: Alter> {
     base: Snapshot<Snapshot<Base>>,
 }
 
-type Reading<S> = Reader<Shown, Known, Fronts<S>>;
+type Reading<S> = Reader<Shown, Known, Prefixes<S>>;
 
 impl<S: Alter> Model for Watcher<S> {
     ghost use Rattle.left_right.specs.Sides.{view as seen};
-    ghost use Rattle.escrow_stats.specs.Fronts.{IsWatcher};
+    ghost use Rattle.escrow_stats.specs.Prefixes.{IsWatcher};
     ghost use Rattle.escrow_stats.specs.Watching.{Watching, watching_code};
 
     ghost Value = { Watching };
@@ -42,7 +42,7 @@ impl<S: Alter> Watcher<S> {
     ghost use Rattle.std.specs.Prelude.{◌≡◌, ◌≤◌, [], Some};
     ghost use Rattle.left_right.specs.Sides.{view};
     ghost use Rattle.escrow_stats.specs.Tally.{tally_of};
-    ghost use Rattle.escrow_stats.specs.Watching.{IsFront, IsNewWatcher, IsSound, replies_of};
+    ghost use Rattle.escrow_stats.specs.Watching.{IsPrefix, IsNewWatcher, IsSound, replies_of};
 
     /// A watcher that has read nothing, of a history that begins at a base.
     pub(crate) fn new(reader: Reading<S>, base: &Snapshot<Base>) -> Self
@@ -62,7 +62,7 @@ impl<S: Alter> Watcher<S> {
     /// those that were read last. It waits for nobody.
     pub fn read(&mut self) -> Tally
         ensures totals { result ≡ tally_of (replies_of self.new.entries) }
-        ensures rises { IsFront self.old.entries self.new.entries }
+        ensures rises { IsPrefix self.old.entries self.new.entries }
         ensures base { self.new.base ≡ self.old.base }
         ensures sound { IsSound S.Store self.new }
         ensures doubts { self.old.doubts ≤ self.new.doubts }

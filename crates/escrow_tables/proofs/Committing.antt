@@ -7,7 +7,7 @@ use Rattle.sqlite.specs.Held.{Held, state}
 use Rattle.sqlite.specs.State.{HasCleanDisk}
 use Rattle.escrow_num.specs.declared.reservation.Reservation.{Reservation}
 use Rattle.escrow_num.specs.declared.row.Row.{Row}
-use Rattle.escrow_cells.specs.Calls.{Alters}
+use Rattle.escrow_cells.specs.Calls.{Transacts}
 use Rattle.escrow_rows.specs.Answers.{IsUsable}
 use Rattle.escrow_rows.specs.Changes.{PutsAmounts}
 use Rattle.escrow_rows.specs.View.{rows_in}
@@ -23,7 +23,7 @@ use Rattle.escrow_tables.proofs.Writing.{keeps_on, seen, writes}
 module _ {S : Type 0} (g : Ghosts S) (old new was later : Held S) (tables : List CountedTable) (reservations : List Reservation) (news : List NewAmounts) (is_done : Bool)
     (keeps : Keeps (state g old) (state g was) tables) (puts : ArePuts (stored_of tables) reservations news)
     (told : HasCleanDisk (state g old) → AllByRecursion (TellsPut (rows_in (stored_of tables) (state g was).now) reservations) news)
-    (it : Alters (state g old) (state g new) is_done (PutsAmounts news)) (if_done : is_done ≡ true → later ≡ new) (if_not : is_done ≡ false → later ≡ was) where
+    (it : Transacts (state g old) (state g new) is_done (PutsAmounts news)) (if_done : is_done ≡ true → later ≡ new) (if_not : is_done ≡ false → later ≡ was) where
   abbrev rows : List Row
   rows = applied (rows_in (stored_of tables) (state g was).now) reservations
 

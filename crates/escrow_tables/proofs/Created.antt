@@ -24,7 +24,7 @@ use Rattle.escrow_schema.specs.Catalog.{IsCatalog, table_before, table_named, wi
 use Rattle.escrow_schema.specs.Definition.{IsTable}
 use Rattle.escrow_schema.specs.Fit.{IsRowOf}
 use Rattle.escrow_schema.proofs.CatalogLemmas.{with_new, with_table_put}
-use Rattle.escrow_cells.specs.Calls.{Alters}
+use Rattle.escrow_cells.specs.Calls.{Transacts}
 use Rattle.escrow_rows.specs.declared.stored.StoredTable.{StoredTable}
 use Rattle.escrow_rows.specs.Changes.{Creates}
 use Rattle.escrow_rows.specs.Image.{AreTables, AreRows, IsOfTables, stored_named}
@@ -184,7 +184,7 @@ module _ (tables : List CountedTable) (c : CountedTable) (none : c.rows ≡ 0) (
         counts = all-permutation (HasCount rows) (c ∷ tables) (with_counted c tables) whole (counted, held.counts);
       }
 
-  module _ {S : Type 0} (g : Ghosts S) (old after was later : Held S) (is_done : Bool) (it : Alters (state g old) (state g after) is_done (Creates c.stored)) (fields : List CountedTable)
+  module _ {S : Type 0} (g : Ghosts S) (old after was later : Held S) (is_done : Bool) (it : Transacts (state g old) (state g after) is_done (Creates c.stored)) (fields : List CountedTable)
       (keeps : Keeps (state g old) (state g was) tables) (if_done : is_done ≡ true → (fields ≡ with_counted c tables) × (later ≡ after)) (if_not : is_done ≡ false → (fields ≡ tables) × (later ≡ was)) where
     pub create_writes : Writes g (seen g old was tables) (seen g after later fields) is_done (with_table c.stored.table (catalog_of tables)) (rows_in (stored_of tables) (state g was).now)
     create_writes =

@@ -17,7 +17,7 @@ use Rattle.escrow_schema.specs.Catalog.{place_named, IsCatalog, without_table}
 use Rattle.escrow_schema.specs.Definition.{IsTable}
 use Rattle.escrow_schema.specs.Fit.{IsRowOf}
 use Rattle.escrow_schema.proofs.CatalogLemmas.{Once, once_named, taken_out, without_one}
-use Rattle.escrow_cells.specs.Calls.{Alters}
+use Rattle.escrow_cells.specs.Calls.{Transacts}
 use Rattle.escrow_rows.specs.declared.stored.StoredTable.{StoredTable}
 use Rattle.escrow_rows.specs.Changes.{Drops, without_stored}
 use Rattle.escrow_schema.specs.Rows.{without_rows_of, rows_of}
@@ -113,7 +113,7 @@ module _ (tables : List CountedTable) (name : List ℕ) (c : CountedTable) (name
         counts = has_all (HasCount (without_rows_of name rows)) (without_counted name tables) count;
       }
 
-  module _ {S : Type 0} (g : Ghosts S) (old new was later : Held S) (is_done : Bool) (it : Alters (state g old) (state g new) is_done (Drops c.stored)) (fields : List CountedTable)
+  module _ {S : Type 0} (g : Ghosts S) (old new was later : Held S) (is_done : Bool) (it : Transacts (state g old) (state g new) is_done (Drops c.stored)) (fields : List CountedTable)
       (keeps : Keeps (state g old) (state g was) tables) (if_done : is_done ≡ true → (fields ≡ without_counted name tables) × (later ≡ new)) (if_not : is_done ≡ false → (fields ≡ tables) × (later ≡ was)) where
     pub drop_writes : Writes g (seen g old was tables) (seen g new later fields) is_done (without_table name (catalog_of tables)) (without_rows_of name (rows_in (stored_of tables) (state g was).now))
     drop_writes =

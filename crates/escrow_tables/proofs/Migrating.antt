@@ -9,9 +9,9 @@ use Rattle.escrow_num.specs.declared.row.Row.{Row}
 use Rattle.escrow_schema.specs.Catalog.{IsCatalog}
 use Rattle.escrow_schema.specs.Rows.{MeetsChecks}
 use Rattle.escrow_schema.specs.declared.table.TableDef.{TableDef}
-use Rattle.escrow_cells.specs.Calls.{Alters}
+use Rattle.escrow_cells.specs.Calls.{Transacts}
 use Rattle.escrow_cells.specs.declared.formats.TheConstants.{FORMAT_BEFORE}
-use Rattle.escrow_rows.specs.Answers.{IsUsable, Looks}
+use Rattle.escrow_rows.specs.Answers.{IsUsable, OnlyReads}
 use Rattle.escrow_rows.specs.Changes.{Migrates}
 use Rattle.escrow_rows.specs.Image.{AreTables, IsImageIn}
 use Rattle.escrow_rows.specs.View.{rows_in}
@@ -29,8 +29,8 @@ abbrev pub Told : Database → State → List CountedTable → Type 0
 Told db mid found = HasCleanDisk mid → IsTrue mid.is_open × (rows : List Row) × IsStoreBefore (stored_of found) rows db × AllByRecursion (HasCount rows) found
 
 -- a store was looked at, and then brought to the known format
-module _ (old mid last : State) (found : List CountedTable) (are : AreTables (stored_of found) × IsCatalog (catalog_of found)) (told : Told old.now mid found) (looks : Looks old mid)
-    (is_done : Bool) (it : Alters mid last is_done Migrates) where
+module _ (old mid last : State) (found : List CountedTable) (are : AreTables (stored_of found) × IsCatalog (catalog_of found)) (told : Told old.now mid found) (only_reads : OnlyReads old mid)
+    (is_done : Bool) (it : Transacts mid last is_done Migrates) where
   was_clean : HasCleanDisk last → HasCleanDisk mid
   was_clean clean = omega (arith, it.survives.clean, clean)
 
@@ -42,7 +42,7 @@ module _ (old mid last : State) (found : List CountedTable) (are : AreTables (st
   held_by : (clean : HasCleanDisk mid) (db : Database) → Migrates mid.now db → IsHeld found (told clean).1 db
   held_by clean db migrates =
       let was = told clean in
-      let image = subst (IsImageIn FORMAT_BEFORE (stored_of found) was.1) (sym (looks.same (clean, was.0))) was.2.store.image in
+      let image = subst (IsImageIn FORMAT_BEFORE (stored_of found) was.1) (sym (only_reads.same (clean, was.0))) was.2.store.image in
       record { are_rows = was.2.store.are_rows; image = migrates FORMAT_BEFORE (stored_of found) was.1 image; counts = was.3 }
 
   -- so does what a crash leaves, if it leaves anything new
@@ -52,9 +52,9 @@ module _ (old mid last : State) (found : List CountedTable) (are : AreTables (st
       let at = was_clean clean in
       let usable : IsUsable mid = (at, (told at).0) in
       record {
-        is_open = (looks.usable usable).1;
+        is_open = (only_reads.usable usable).1;
         is_migrated = (catalog_of found, (told at).1, was_held at, (made.0, holds found (told at).1 made.0 are.0 (held_by at made.0 made.1), made.2));
-      }) looks.survives it.survives
+      }) only_reads.survives it.survives
 
   held_now : (done : is_done ≡ true) (clean : HasCleanDisk last) → IsHeld found (told (was_clean clean)).1 last.now
   held_now done clean = held_by (was_clean clean) last.now (it.done done clean).1
@@ -85,11 +85,11 @@ module _ (old mid last : State) (found : List CountedTable) (are : AreTables (st
   held_before done clean = subst (λ (rows : List Row). HoldsBefore (catalog_of found) rows old.now) (sym (rows_now done clean)) (was_held (was_clean clean))
 
 -- what opening a store that was looked at made, if anything
-pub made_then : (old mid last : State) → Looks old mid → Survives mid last (WasMigrated mid) → Survives old last (IsMade old.now)
-made_then old mid last looks it = survives_then old mid last _ _ _ (λ _ db none. absurd none)
+pub made_then : (old mid last : State) → OnlyReads old mid → Survives mid last (WasMigrated mid) → Survives old last (IsMade old.now)
+made_then old mid last only_reads it = survives_then old mid last _ _ _ (λ _ db none. absurd none)
     (λ clean trees made.
     let usable : IsUsable mid = (omega (arith, it.clean, clean), made.is_open) in
-    inr (subst (λ (was : Database). IsMigrated was trees) (looks.same usable) made.is_migrated)) looks.survives it
+    inr (subst (λ (was : Database). IsMigrated was trees) (only_reads.same usable) made.is_migrated)) only_reads.survives it
 
 -- founding made an empty store
 pub founding_makes : (was : Database) (old new : State) → Survives old new (IsFounded was) → Survives old new (IsMade was)

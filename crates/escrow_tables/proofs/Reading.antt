@@ -6,7 +6,7 @@ use Rattle.sqlite.specs.Effect.{Database}
 use Rattle.sqlite.specs.State.{State, HasCleanDisk}
 use Rattle.escrow_num.specs.declared.row.Row.{Row}
 use Rattle.escrow_num.specs.declared.value.Value.{Value}
-use Rattle.escrow_rows.specs.Answers.{IsUsable, Looks, Tells}
+use Rattle.escrow_rows.specs.Answers.{IsUsable, OnlyReads, Tells}
 use Rattle.escrow_rows.specs.Changes.{name_in}
 use Rattle.escrow_rows.specs.View.{rows_in}
 use Rattle.escrow_verify.specs.declared.counted_table.CountedTable.{CountedTable}
@@ -14,12 +14,12 @@ use Rattle.escrow_tables.specs.Inside.{Keeps, stored_of}
 use Rattle.escrow_tables.proofs.Named.{IsNamed}
 
 -- what the fields keep, they keep over a call that reads
-pub keeps_reading : (old new last : State) (tables : List CountedTable) → Keeps old last tables → Looks old new → Keeps new last tables
-keeps_reading old new last tables keeps looks = record {
+pub keeps_reading : (old new last : State) (tables : List CountedTable) → Keeps old last tables → OnlyReads old new → Keeps new last tables
+keeps_reading old new last tables keeps only_reads = record {
   are_tables = keeps.are_tables;
   is_catalog = keeps.is_catalog;
-  held = λ clean. keeps.held (omega (arith, looks.survives.clean, clean));
-  same = λ usable. looks.same usable ∙ keeps.same (looks.usable usable);
+  held = λ clean. keeps.held (omega (arith, only_reads.survives.clean, clean));
+  same = λ usable. only_reads.same usable ∙ keeps.same (only_reads.usable usable);
 }
 
 module _ (tables : List CountedTable) (name : List ℕ) (c : CountedTable) (named : IsNamed tables name c) where

@@ -21,7 +21,7 @@ use Rattle.escrow_schema.specs.Fit.{IsRowOf}
 use Rattle.escrow_schema.specs.Rows.{rows_of}
 use Rattle.escrow_schema.specs.declared.table.TableDef.{TableDef}
 use Rattle.escrow_schema.proofs.CatalogLemmas.{Once, once_named, put_over, taken_out, with_one_altered}
-use Rattle.escrow_cells.specs.Calls.{Alters}
+use Rattle.escrow_cells.specs.Calls.{Transacts}
 use Rattle.escrow_rows.specs.declared.stored.StoredTable.{StoredTable}
 use Rattle.escrow_rows.specs.Changes.{Redefines, with_checks, with_redefined}
 use Rattle.escrow_rows.specs.Image.{AreRows, AreTables, IsOfTables, stored_named}
@@ -183,7 +183,7 @@ module _ (tables : List CountedTable) (place : ℕ) (c : CountedTable) (table : 
           counts = all_set (HasCount rows) tables place (record { stored = record { id = c.stored.id; table = table }; rows = c.rows }) count held.counts;
         }
 
-    module _ {S : Type 0} (g : Ghosts S) (old new was later : Held S) (is_done : Bool) (it : Alters (state g old) (state g new) is_done (Redefines c.stored table.checks)) (fields : List CountedTable)
+    module _ {S : Type 0} (g : Ghosts S) (old new was later : Held S) (is_done : Bool) (it : Transacts (state g old) (state g new) is_done (Redefines c.stored table.checks)) (fields : List CountedTable)
         (keeps : Keeps (state g old) (state g was) tables) (if_done : is_done ≡ true → (fields ≡ after) × (later ≡ new)) (if_not : is_done ≡ false → (fields ≡ tables) × (later ≡ was)) where
       pub redefine_writes : Writes g (seen g old was tables) (seen g new later fields) is_done (with_altered table (catalog_of tables)) (rows_in (stored_of tables) (state g was).now)
       redefine_writes =

@@ -13,7 +13,7 @@ use Rattle.escrow_num.specs.declared.value.RowName.{RowName}
 use Rattle.escrow_num.specs.declared.value.Value.{Value}
 use Rattle.escrow_schema.specs.Catalog.{IsCatalog}
 use Rattle.escrow_schema.specs.declared.table.TableDef.{TableDef}
-use Rattle.escrow_cells.specs.Calls.{Alters}
+use Rattle.escrow_cells.specs.Calls.{Transacts}
 use Rattle.escrow_rows.specs.Answers.{IsUsable}
 use Rattle.escrow_schema.specs.Rows.{row_named, with_plain, with_row, without_row, rows_of, HasTable}
 use Rattle.escrow_rows.specs.Changes.{TurnsRows}
@@ -39,7 +39,7 @@ pub record Turned (tables : List CountedTable) (place : ℕ) (c : CountedTable) 
 module _ {S : Type 0} (g : Ghosts S) (old new was later : Held S) (tables : List CountedTable) (name : List ℕ) (place : ℕ) (c : CountedTable) (placed : IsPlaced tables name place c)
     (after : List Row → List Row) (n : ℕ) (keeps : Keeps (state g old) (state g was) tables)
     (turned : HasCleanDisk (state g old) → Turned tables place c n (after (rows_in (stored_of tables) (state g was).now)))
-    (is_done : Bool) (it : Alters (state g old) (state g new) is_done (TurnsRows c.stored after)) (count : ℕ)
+    (is_done : Bool) (it : Transacts (state g old) (state g new) is_done (TurnsRows c.stored after)) (count : ℕ)
     (if_done : is_done ≡ true → (count ≡ n) × (later ≡ new)) (if_not : is_done ≡ false → (count ≡ c.rows) × (later ≡ was)) where
   are_after : AreTables (stored_of (recounted tables place c n))
   are_after = subst AreTables (sym (stored_recounted tables name place c placed n)) keeps.are_tables

@@ -25,7 +25,7 @@ use Rattle.escrow_schema.specs.Definition.{IsTable, definition_of}
 use Rattle.escrow_schema.specs.Print.{canonical}
 use Rattle.escrow_schema.specs.declared.table.TableDef.{TableDef}
 use Rattle.escrow_schema.proofs.PrintBack.{read_back}
-use Rattle.escrow_rows.specs.Answers.{IsUsable, Looks}
+use Rattle.escrow_rows.specs.Answers.{IsUsable, OnlyReads}
 use Rattle.escrow_rows.specs.Image.{AreTables, tab_row}
 use Rattle.escrow_rows.specs.View.{rows_in}
 use Rattle.escrow_rows.specs.declared.stored.StoredTable.{StoredTable}
@@ -114,7 +114,7 @@ pub record IsVerified (old new : State) (found : List CountedTable) : Type 0 whe
   pub are_tables : AreTables (stored_of found)
   pub is_catalog : IsCatalog (catalog_of found)
   pub store : HasCleanDisk new → IsTrue new.is_open × (rows : List Row) × IsStoreOf (stored_of found) rows old.now × AllByRecursion (HasCount rows) found
-  pub looks : Looks old new
+  pub only_reads : OnlyReads old new
 
 -- the tables of a store, and its rows, are kept from then on
 pub keeps_found : (old new : State) (found : List CountedTable) → IsVerified old new found → Keeps new new found
@@ -125,7 +125,7 @@ keeps_found old new found is = record {
       let told = is.store clean in
       let store = told.2 in
       let held = held_itself found told.1 old.now is.are_tables (record { are_rows = store.are_rows; image = store.image; counts = told.3 }) in
-      subst (λ (db : Database). IsHeld found (rows_in (stored_of found) db) db) (sym (is.looks.same (clean, told.0))) held;
+      subst (λ (db : Database). IsHeld found (rows_in (stored_of found) db) db) (sym (is.only_reads.same (clean, told.0))) held;
   same = λ _. refl;
 }
 
@@ -138,7 +138,7 @@ found_holds old new found is clean =
     let met = meet_read found told.1 old.now told.2 in (
       told.0,
       holds found _ new.now is.are_tables ((keeps_found old new found is).held clean),
-      subst (λ (db : Database). AllByRecursion (MeetsChecks (catalog_of found)) (rows_in (stored_of found) db)) (sym (is.looks.same usable)) met,
+      subst (λ (db : Database). AllByRecursion (MeetsChecks (catalog_of found)) (rows_in (stored_of found) db)) (sym (is.only_reads.same usable)) met,
     )
 
 -- where it was known which tables a store has, they are found again, and their rows meet their checks
@@ -146,7 +146,7 @@ pub meet_again : (old new last : State) (tables found : List CountedTable) → K
     → AllByRecursion (MeetsChecks (catalog_of tables)) (rows_in (stored_of tables) last.now)
 meet_again old new last tables found keeps is clean =
     let told = is.store clean in
-    let usable = is.looks.usable (clean, told.0) in
+    let usable = is.only_reads.usable (clean, told.0) in
     let store = subst (λ (db : Database). IsStoreOf (stored_of found) told.1 db) (keeps.same usable) told.2 in
     let held = keeps.held usable.0 in
     let same = tables_once tables found _ keeps.are_tables keeps.is_catalog held.image.tabs_are is.are_tables is.is_catalog store.image.tabs_are in

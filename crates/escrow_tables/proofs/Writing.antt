@@ -9,7 +9,7 @@ use Rattle.sqlite.proofs.StateLemmas.{survives_weaker}
 use Rattle.escrow_num.specs.declared.row.Row.{Row}
 use Rattle.escrow_schema.specs.Catalog.{IsCatalog}
 use Rattle.escrow_schema.specs.declared.table.TableDef.{TableDef}
-use Rattle.escrow_cells.specs.Calls.{Alters}
+use Rattle.escrow_cells.specs.Calls.{Transacts}
 use Rattle.escrow_rows.specs.Answers.{IsUsable}
 use Rattle.escrow_rows.specs.Image.{AreTables}
 use Rattle.escrow_rows.specs.View.{rows_in}
@@ -61,7 +61,7 @@ untouched g it catalog rows = record {
 module _ {S : Type 0} (g : Ghosts S) (old new : Held S) (D : Database → Database → Type 0) where
   -- The tables that stand are kept, and how the store was when it was last written; the change makes others of
   -- them, with other rows. The fields have these, and the store as it is then, where the call is done.
-  module _ (is_done : Bool) (it : Alters (state g old) (state g new) is_done D) (was later : Held S) (tables after fields : List CountedTable) (rows : List Row) (keeps : Keeps (state g old) (state g was) tables)
+  module _ (is_done : Bool) (it : Transacts (state g old) (state g new) is_done D) (was later : Held S) (tables after fields : List CountedTable) (rows : List Row) (keeps : Keeps (state g old) (state g was) tables)
       (are_after : AreTables (stored_of after)) (turns : IsUsable (state g old) → (db : Database) → D (state g was).now db → IsHeld after rows db)
       (if_done : is_done ≡ true → (fields ≡ after) × (later ≡ new)) (if_not : is_done ≡ false → (fields ≡ tables) × (later ≡ was)) where
     -- a clean disk was clean before

@@ -1,16 +1,16 @@
 -- Helps: what is said of the rows of a table while they are judged.
 use Rattle.std.specs.Prelude.{◌≡◌, Option, List, map}
 use Rattle.escrow_num.specs.Span.{first_of_two}
-use Rattle.escrow_num.specs.declared.refusal.Breach.{Breach}
+use Rattle.escrow_num.specs.declared.refusal.Violation.{Violation}
 use Rattle.escrow_num.specs.declared.row.Row.{Row}
 use Rattle.escrow_schema.specs.declared.table.TableDef.{TableDef}
 use Rattle.escrow_rows.specs.declared.keyed_row.KeyedRow.{KeyedRow}
 use Rattle.escrow_tables.specs.declared.judged.RowsJudged.{RowsJudged}
-use Rattle.escrow_tables.specs.Judged.{first_breach}
+use Rattle.escrow_tables.specs.Judged.{first_violation}
 use Rattle.escrow_tables.specs.Whole.{rows_with}
 
 -- rows have been judged: what was found is what was found before, or what the first of them that breaks
 -- something does
-pub record HasJudged {J : Type 0} (table : J → TableDef) (breach : J → Row → Option Breach) (first now : RowsJudged J) (taken : List KeyedRow) : Type 0 where
+pub record HasJudged {J : Type 0} (table : J → TableDef) (violation : J → Row → Option Violation) (first now : RowsJudged J) (taken : List KeyedRow) : Type 0 where
   pub same : now.judged ≡ first.judged
-  pub found : now.found ≡ first_of_two first.found (first_breach (breach first.judged) (rows_with (table first.judged) (map (λ row. row.values) taken)))
+  pub found : now.found ≡ first_of_two first.found (first_violation (violation first.judged) (rows_with (table first.judged) (map (λ row. row.values) taken)))

@@ -1,11 +1,11 @@
 //! What judges the rows of a table.
 ghost use Rattle.std.specs.Prelude.{◌≡◌, Option};
-ghost use Rattle.escrow_num.specs.declared.refusal.Breach.{Breach as Broken};
+ghost use Rattle.escrow_num.specs.declared.refusal.Violation.{Violation as Broken};
 ghost use Rattle.escrow_num.specs.declared.row.Row.{Row as Held};
 ghost use Rattle.escrow_schema.specs.Fit.{IsRowOf};
 ghost use Rattle.escrow_schema.specs.declared.table.TableDef.{TableDef as Table};
 
-use escrow_num::{Breach, Row};
+use escrow_num::{Row, Violation};
 
 /// Judges the rows of a table, one after another.
 pub trait RowJudge {
@@ -13,10 +13,10 @@ pub trait RowJudge {
     ghost table: { Self → Table };
 
     // What a row breaks, if anything.
-    ghost breach: { Self → Held → Option Broken };
+    ghost violation: { Self → Held → Option Broken };
 
     /// What a row of the table breaks, if anything. Takes no memory.
-    fn breach(&self, row: &Row) -> Option<Breach>
+    fn violation(&self, row: &Row) -> Option<Violation>
         requires { IsRowOf (table self.now) row.now }
-        ensures { result ≡ breach self.now row.now };
+        ensures { result ≡ violation self.now row.now };
 }

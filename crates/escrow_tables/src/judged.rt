@@ -1,13 +1,13 @@
 //! What the rows of a table break.
 ghost use Rattle.std.specs.Prelude.{◌≡◌, [], ◌∷◌, IfOk};
 ghost use Rattle.escrow_schema.specs.Definition.{IsTable};
-ghost use Rattle.escrow_tables.specs.Judged.{first_breach};
+ghost use Rattle.escrow_tables.specs.Judged.{first_violation};
 ghost use Rattle.escrow_tables.specs.Whole.{rows_with};
 
 use crate::judge::RowJudge;
 use crate::tables::Tables;
 use crate::whole::made_row;
-use escrow_num::{Breach, Failure, Name, Value};
+use escrow_num::{Failure, Name, Value, Violation};
 use escrow_rows::{KeyedRow, RowTaker};
 use escrow_schema::TableDef;
 use sqlite::Alter;
@@ -24,16 +24,16 @@ impl<S: Alter> Tables<S> {
 
     /// What the rows of the table of a name break, in order of key: what the first that breaks something
     /// does. The table stands at a place. One row is kept at a time.
-    pub fn first_breach<J: RowJudge>(
+    pub fn first_violation<J: RowJudge>(
         &mut self,
         alloc: Global,
         place: usize,
         name: Name,
         judge: &J,
-    ) -> Result<Option<Breach>, Failure>
+    ) -> Result<Option<Violation>, Failure>
         requires place { place_named self.old.catalog name ≡ Some place }
         requires table { table_named self.old.catalog name ≡ Some (J.table judge.now) }
-        ensures told { HasCleanDisk (state S.Store self.new.store) → IfOk result (λ found. found ≡ first_breach (J.breach judge.now) (rows_of self.old.rows name)) }
+        ensures told { HasCleanDisk (state S.Store self.new.store) → IfOk result (λ found. found ≡ first_violation (J.violation judge.now) (rows_of self.old.rows name)) }
         ensures reads { Reads S.Store self.old self.new }
         ensures open { HasCleanDisk (state S.Store self.new.store) → OnOk result (IsTrue (state S.Store self.new.store).is_open) }
     {
@@ -78,11 +78,11 @@ impl<'a, J: RowJudge> JudgedTable<'a, J> {
     }
 
     /// What the row that values make breaks, if anything. Values that make no row of the table are refused.
-    fn breach(&self, alloc: Global, values: &[Value]) -> Result<Option<Breach>, Failure>
-        ensures { IfOk result (λ found. found ≡ first_breach (J.breach self.now) (rows_with (J.table self.now) (values.now ∷ []))) }
+    fn violation(&self, alloc: Global, values: &[Value]) -> Result<Option<Violation>, Failure>
+        ensures { IfOk result (λ found. found ≡ first_violation (J.violation self.now) (rows_with (J.table self.now) (values.now ∷ []))) }
     {
         let row = made_row(alloc, self.table, values)?;
-        Ok(self.judge.breach(&row))
+        Ok(self.judge.violation(&row))
     }
 }
 
@@ -92,17 +92,17 @@ struct RowsJudged<'a, J: RowJudge> {
     alloc: Global,
     judged: JudgedTable<'a, J>,
     /// What the first row that breaks something does, if one did.
-    found: Option<Breach>,
+    found: Option<Violation>,
 }
 
 impl<J: RowJudge> RowTaker for RowsJudged<'_, J> {
     ghost use Rattle.escrow_tables.specs.Judging.{HasJudged};
 
-    ghost has_taken = { HasJudged J.table J.breach };
+    ghost has_taken = { HasJudged J.table J.violation };
 
     fn take(&mut self, row: KeyedRow) -> Result<(), Failure> {
         if self.found.is_none() {
-            self.found = self.judged.breach(self.alloc, row.values.as_slice())?;
+            self.found = self.judged.violation(self.alloc, row.values.as_slice())?;
         }
         Ok(())
     }

@@ -5,7 +5,7 @@ ghost use Rattle.sqlite.specs.State.{HasCleanDisk, Survives};
 ghost use Rattle.sqlite_trees.specs.Tree.{Trees};
 ghost use Rattle.escrow_num.specs.declared.failure.Failure.{Failure as Why};
 ghost use Rattle.escrow_cells.specs.Tables.{no_schema};
-ghost use Rattle.escrow_rows.specs.Answers.{IsUsable, Looks};
+ghost use Rattle.escrow_rows.specs.Answers.{IsUsable, OnlyReads};
 ghost use Rattle.escrow_verify.specs.declared.unverified.Unverified.TheVariants.{Failed, ForeignStore, OtherFormat};
 ghost use Rattle.escrow_verify.specs.Stored.{IsNoStore, HasOtherFormat};
 ghost use Rattle.escrow_schema.specs.Rows.{MeetsChecks};
@@ -112,8 +112,8 @@ fn read_tables<S: Alter>(
     ensures version { IfErr result (λ f. IsUsable (state S.Store f.connection) → f.cause ≡ OtherFormat → HasOtherFormat (state S.Store connection).now) }
     ensures other { IfErr result (λ f. IsUsable (state S.Store f.connection) → f.cause ≡ ForeignStore → HasOtherFormat (state S.Store connection).now → ⊥) }
     ensures outside { IfErr result (λ f. f.connection.in_transaction ≡ false) }
-    ensures looks { IfOk result (λ t. Looks (state S.Store connection) (state S.Store t.store)) }
-    ensures looks_refused { IfErr result (λ f. Looks (state S.Store connection) (state S.Store f.connection)) }
+    ensures only_reads { IfOk result (λ t. OnlyReads (state S.Store connection) (state S.Store t.store)) }
+    ensures only_reads_refused { IfErr result (λ f. OnlyReads (state S.Store connection) (state S.Store f.connection)) }
 {
     match Tables::read(alloc, RowStore::over(connection)) {
         Ok(tables) => Ok(tables),

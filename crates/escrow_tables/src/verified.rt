@@ -11,7 +11,7 @@ impl<S: Alter> Tables<S> {
     ghost use Rattle.std.specs.List.{AllByRecursion};
     ghost use Rattle.sqlite.specs.Held.{state};
     ghost use Rattle.sqlite.specs.State.{HasCleanDisk};
-    ghost use Rattle.escrow_rows.specs.Answers.{IsUsable, Looks};
+    ghost use Rattle.escrow_rows.specs.Answers.{IsUsable, OnlyReads};
     ghost use Rattle.escrow_verify.specs.declared.unverified.Unverified.TheVariants.{ForeignStore, OtherFormat};
     ghost use Rattle.escrow_verify.specs.Stored.{IsNoStore, HasOtherFormat};
     ghost use Rattle.escrow_schema.specs.Rows.{MeetsChecks};
@@ -29,8 +29,8 @@ impl<S: Alter> Tables<S> {
         ensures foreign { IfErr result (λ f. IsUsable (state S.Store f.0) → f.1 ≡ ForeignStore → IsNoStore (state S.Store store).now) }
         ensures version { IfErr result (λ f. IsUsable (state S.Store f.0) → f.1 ≡ OtherFormat → HasOtherFormat (state S.Store store).now) }
         ensures other { IfErr result (λ f. IsUsable (state S.Store f.0) → f.1 ≡ ForeignStore → HasOtherFormat (state S.Store store).now → ⊥) }
-        ensures looks { IfOk result (λ t. Looks (state S.Store store) (state S.Store t.store)) }
-        ensures looks_refused { IfErr result (λ f. Looks (state S.Store store) (state S.Store f.0)) }
+        ensures only_reads { IfOk result (λ t. OnlyReads (state S.Store store) (state S.Store t.store)) }
+        ensures only_reads_refused { IfErr result (λ f. OnlyReads (state S.Store store) (state S.Store f.0)) }
     {
         match verify(alloc, &mut store) {
             Ok(tables) => Ok(Tables {

@@ -47,7 +47,7 @@ LegalsJoin = (base next : Base) (entries more : List Entry) (end : State)
     → IsLegal base entries (started next.image) → next.before ≡ base.before + length entries → IsLegal next more end
     → IsLegal base (entries ++ more) end
 
--- and a legal transcript is two, wherever it is cut: its front is legal up to some state, from which on
+-- and a legal transcript is two, wherever it is cut: its prefix is legal up to some state, from which on
 -- the rest are the machine's steps
 abbrev pub LegalsPart : Type 0
 LegalsPart = (base : Base) (front rest : List Entry) (end : State) → IsLegal base (front ++ rest) end

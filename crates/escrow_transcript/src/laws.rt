@@ -32,7 +32,7 @@ pub fn legals_join()
     ensures { LegalsJoin }
 {}
 
-/// Wherever a legal transcript is cut, its front is legal, and the rest are the machine's steps from
+/// Wherever a legal transcript is cut, its prefix is legal, and the rest are the machine's steps from
 /// the state where the front ends.
 pub fn legals_part()
     ensures { LegalsPart }

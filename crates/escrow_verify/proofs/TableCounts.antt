@@ -7,7 +7,7 @@ use Rattle.sqlite.specs.State.{State, HasCleanDisk}
 use Rattle.escrow_num.specs.declared.row.Row.{Row}
 use Rattle.escrow_cells.specs.Store.{IsStore}
 use Rattle.escrow_rows.specs.declared.stored.StoredTable.{StoredTable}
-use Rattle.escrow_rows.specs.Answers.{IsUsable, Looks}
+use Rattle.escrow_rows.specs.Answers.{IsUsable, OnlyReads}
 use Rattle.escrow_verify.specs.declared.counted_table.CountedTable.{CountedTable}
 use Rattle.escrow_verify.specs.Inside.{AreRowsIn, HasRows, HaveRows}
 
@@ -28,7 +28,7 @@ pub counts_none : (s : State) → HaveTheirRows s s []
 counts_none s clean was = (was, λ store. tt)
 
 -- one more table
-pub counts_more : (first mid new : State) (counted : List CountedTable) (c : CountedTable) → Looks first mid → Looks mid new → HaveTheirRows first mid counted
+pub counts_more : (first mid new : State) (counted : List CountedTable) (c : CountedTable) → OnlyReads first mid → OnlyReads mid new → HaveTheirRows first mid counted
     → (HasCleanDisk new → IsTrue new.is_open × (IsStore mid.now → HasRows mid.now c)) → HaveTheirRows first new (counted ++ c ∷ [])
 counts_more first mid new counted c one two so_far more clean was =
     let now = more clean in
@@ -37,7 +37,7 @@ counts_more first mid new counted c one two so_far more clean was =
     (now.0, λ store. all-append (HasRows first.now) counted (c ∷ []) ((so_far usable.0 was).1 store) (subst (λ (db : Database). HasRows db c) same (now.1 (subst IsStore (sym same) store)), tt))
 
 -- a table without such rows
-pub none_have : (first mid new : State) (tables done left : List StoredTable) (s : StoredTable) → Looks first mid → Looks mid new → done ++ s ∷ left ≡ tables → IsUsable new
+pub none_have : (first mid new : State) (tables done left : List StoredTable) (s : StoredTable) → OnlyReads first mid → OnlyReads mid new → done ++ s ∷ left ≡ tables → IsUsable new
     → (IsStore mid.now → (rows : List Row) → AreRowsIn s rows mid.now → ⊥) → IsStore first.now → HaveRows first.now tables → ⊥
 none_have first mid new tables done left s one two is usable none store have =
     let same = one.same (two.usable usable) in

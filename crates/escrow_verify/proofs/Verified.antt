@@ -10,7 +10,7 @@ use Rattle.escrow_num.proofs.Items.{has_all}
 use Rattle.escrow_schema.specs.Catalog.{IsCatalog}
 use Rattle.escrow_cells.specs.Store.{HasTables, IsStore}
 use Rattle.escrow_rows.specs.declared.stored.StoredTable.{StoredTable}
-use Rattle.escrow_rows.specs.Answers.{IsUsable, Looks}
+use Rattle.escrow_rows.specs.Answers.{IsUsable, OnlyReads}
 use Rattle.escrow_rows.specs.Image.{AreTables}
 use Rattle.escrow_schema.specs.Rows.{rows_of}
 use Rattle.escrow_rows.proofs.ImageTables.{has_permutation}
@@ -33,17 +33,17 @@ by_part (Err e) call (Failed failure) is was refused = absurd (cc)
 by_part (Err e) call Foreign is was refused = was
 
 -- what is clean was clean
-was_clean : (a b : State) → Looks a b → HasCleanDisk b → HasCleanDisk a
-was_clean a b looks clean = let more = looks.survives.clean in omega arith
+was_clean : (a b : State) → OnlyReads a b → HasCleanDisk b → HasCleanDisk a
+was_clean a b only_reads clean = let more = only_reads.survives.clean in omega arith
 
 -- a database whose format was tested is of no other
-pub not_another : (number : ℤ) (first format last : State) → (HasCleanDisk format → IsTrue format.is_open × IsKnown number first.now) → Looks format last → IsUsable last → HasFormatBut number first.now → ⊥
-not_another number first format last known looks usable = not_other first.now number (known (looks.usable usable).0).1.format_is
+pub not_another : (number : ℤ) (first format last : State) → (HasCleanDisk format → IsTrue format.is_open × IsKnown number first.now) → OnlyReads format last → IsUsable last → HasFormatBut number first.now → ⊥
+not_another number first format last known only_reads usable = not_other first.now number (known (only_reads.usable usable).0).1.format_is
 
 -- tables are found in a store: its format is tested, then TAB is read
 pub record Finds (number : ℤ) (first format tab : State) (tables : List StoredTable) : Type 0 where
-  pub to_format : Looks first format
-  pub to_tab : Looks format tab
+  pub to_format : OnlyReads first format
+  pub to_tab : OnlyReads format tab
   pub known : HasCleanDisk format → IsTrue format.is_open × IsKnown number first.now
   pub found : HasCleanDisk tab → IsTrue tab.is_open × (IsStore format.now → AreTablesIn tables format.now)
 
@@ -57,19 +57,19 @@ module _ (number : ℤ) (first format tab : State) (tables : List StoredTable) (
       subst (AreTablesIn tables) same ((finds.found usable.0).1 (subst IsStore (sym same) store))
 
   -- cells of no table are in no store
-  pub strange_cells : (cells : State) → Looks tab cells → IsUsable cells → (HasTables tab.now.schema → AreOfTables tables tab.now → ⊥) → IsNoStoreIn number first.now
+  pub strange_cells : (cells : State) → OnlyReads tab cells → IsUsable cells → (HasTables tab.now.schema → AreOfTables tables tab.now → ⊥) → IsNoStoreIn number first.now
   strange_cells cells to_cells usable strange others rows is =
       let before = to_cells.usable usable in
       let same = tab_same before in
       strange (subst (λ (db : Database). HasTables db.schema) (sym same) is.image.store.tables)
       (subst (AreOfTables tables) (sym same) (store_cells tables others rows first.now (found_in before is.image.store) is))
 
-  module _ (cells : State) (to_cells : Looks tab cells) where
+  module _ (cells : State) (to_cells : OnlyReads tab cells) where
     cells_same : IsUsable cells → cells.now ≡ first.now
     cells_same usable = to_cells.same usable ∙ tab_same (to_cells.usable usable)
 
     -- nor are rows that no table has
-    pub strange_rows : (last : State) → Looks cells last → IsUsable last → (IsStore cells.now → HaveRows cells.now tables → ⊥) → IsNoStoreIn number first.now
+    pub strange_rows : (last : State) → OnlyReads cells last → IsUsable last → (IsStore cells.now → HaveRows cells.now tables → ⊥) → IsNoStoreIn number first.now
     strange_rows last to_last usable strange others rows is =
         let before = to_last.usable usable in
         let same = cells_same before in
@@ -80,7 +80,7 @@ module _ (number : ℤ) (first format tab : State) (tables : List StoredTable) (
         (has_all (λ (s : StoredTable). (mine : List Row) × AreRowsIn s mine first.now) tables (λ s has. (rows_of rows s.table.name, store_rows others rows first.now s (has_permutation tables others one s has) is))))
 
     -- tables that are counted are those of a store
-    pub verified : (counted : List CountedTable) (last : State) → Looks cells last → IsCatalog (map (λ s. s.table) tables)
+    pub verified : (counted : List CountedTable) (last : State) → OnlyReads cells last → IsCatalog (map (λ s. s.table) tables)
         → (HasCleanDisk cells → IsTrue cells.is_open × (HasTables tab.now.schema → AreOfTables tables tab.now))
         → stored_of counted ≡ tables
         → (HasCleanDisk last → IsTrue cells.is_open → IsTrue last.is_open × (IsStore cells.now → AllByRecursion (HasRows cells.now) counted))

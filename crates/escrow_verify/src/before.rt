@@ -6,7 +6,7 @@ ghost use Rattle.sqlite.specs.State.{HasCleanDisk};
 ghost use Rattle.escrow_num.specs.declared.row.Row.{Row};
 ghost use Rattle.escrow_cells.specs.declared.formats.TheConstants.{FORMAT_BEFORE as BEFORE};
 ghost use Rattle.escrow_schema.specs.Catalog.{IsCatalog};
-ghost use Rattle.escrow_rows.specs.Answers.{IsUsable, Looks};
+ghost use Rattle.escrow_rows.specs.Answers.{IsUsable, OnlyReads};
 ghost use Rattle.escrow_rows.specs.Image.{AreTables};
 ghost use Rattle.escrow_verify.specs.Stored.{IsWhole, IsStoreBefore, IsNoStoreBefore, HasFormatBut, HasCount, stored_of, catalog_of};
 ghost use Rattle.escrow_verify.specs.declared.counted_table.CountedTable.{CountedTable as Counted};
@@ -37,7 +37,7 @@ pub fn verify_before<S: Alter>(
     ensures foreign { IsUsable (state S.Store store.new) → result ≡ Err unverified.ForeignStore → IsNoStoreBefore (state S.Store store.old).now }
     ensures version { IsUsable (state S.Store store.new) → result ≡ Err unverified.OtherFormat → HasFormatBut BEFORE (state S.Store store.old).now }
     ensures other { IsUsable (state S.Store store.new) → result ≡ Err unverified.ForeignStore → HasFormatBut BEFORE (state S.Store store.old).now → ⊥ }
-    ensures looks { Looks (state S.Store store.old) (state S.Store store.new) }
+    ensures only_reads { OnlyReads (state S.Store store.old) (state S.Store store.new) }
 {
     match verify_format(alloc, store, Format::Before) {
         Ok(tables) if are_whole(&tables) => Ok(tables),

@@ -5,7 +5,7 @@ ghost use Rattle.std.specs.List.{list_any};
 ghost use Rattle.sqlite.specs.Held.{state};
 ghost use Rattle.sqlite.specs.State.{HasCleanDisk};
 ghost use Rattle.escrow_cells.specs.Store.{HasTables};
-ghost use Rattle.escrow_rows.specs.Answers.{IsUsable, Looks};
+ghost use Rattle.escrow_rows.specs.Answers.{IsUsable, OnlyReads};
 ghost use Rattle.escrow_verify.specs.Inside.{AreOfTables, is_number_of};
 ghost use Rattle.escrow_verify.specs.declared.unverified.PartFault.TheVariants.{Foreign};
 
@@ -22,7 +22,7 @@ pub(crate) fn check_cells<S: Alter>(
 ) -> Result<(), PartFault>
     ensures found { HasCleanDisk (state S.Store store.new) → OnOk result (IsTrue (state S.Store store.new).is_open × (HasTables (state S.Store store.old).now.schema → AreOfTables tables.now (state S.Store store.old).now)) }
     ensures foreign { IsUsable (state S.Store store.new) → result ≡ Err Foreign → HasTables (state S.Store store.old).now.schema → AreOfTables tables.now (state S.Store store.old).now → ⊥ }
-    ensures looks { Looks (state S.Store store.old) (state S.Store store.new) }
+    ensures only_reads { OnlyReads (state S.Store store.old) (state S.Store store.new) }
 {
     let mut owners = Owners {
         tables,

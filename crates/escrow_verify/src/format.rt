@@ -6,7 +6,7 @@ ghost use Rattle.sqlite.specs.Held.{state};
 ghost use Rattle.sqlite.specs.State.{HasCleanDisk};
 ghost use Rattle.escrow_cells.specs.Formats.{format_number};
 ghost use Rattle.escrow_cells.specs.Store.{HasTables, IsStoreSchema, metas, format};
-ghost use Rattle.escrow_rows.specs.Answers.{IsUsable, Looks};
+ghost use Rattle.escrow_rows.specs.Answers.{IsUsable, OnlyReads};
 ghost use Rattle.escrow_verify.specs.Inside.{IsKnown};
 ghost use Rattle.escrow_verify.specs.Stored.{HasFormatBut};
 ghost use Rattle.escrow_verify.specs.Format.{IsMetaOf};
@@ -29,7 +29,7 @@ pub(crate) fn check_format<S: Alter>(
     ensures foreign { IsUsable (state S.Store store.new) → result ≡ Err unverified.ForeignStore → IsKnown (format_number known) (state S.Store store.old).now → ⊥ }
     ensures other { IsUsable (state S.Store store.new) → result ≡ Err unverified.ForeignStore → HasFormatBut (format_number known) (state S.Store store.old).now → ⊥ }
     ensures version { IsUsable (state S.Store store.new) → result ≡ Err unverified.OtherFormat → HasFormatBut (format_number known) (state S.Store store.old).now }
-    ensures looks { Looks (state S.Store store.old) (state S.Store store.new) }
+    ensures only_reads { OnlyReads (state S.Store store.old) (state S.Store store.new) }
 {
     if !store.is_store() {
         return Err(Unverified::ForeignStore);
@@ -48,7 +48,7 @@ fn check_meta<S: Alter>(store: &mut RowStore<S>, known: Format) -> Result<(), Un
     ensures foreign { IsUsable (state S.Store store.new) → result ≡ Err unverified.ForeignStore → HasTables (state S.Store store.old).now.schema → metas (state S.Store store.old).now ≡ format (format_number known) → ⊥ }
     ensures other { IsUsable (state S.Store store.new) → result ≡ Err unverified.ForeignStore → HasFormatBut (format_number known) (state S.Store store.old).now → ⊥ }
     ensures version { IsUsable (state S.Store store.new) → result ≡ Err unverified.OtherFormat → IsStoreSchema (state S.Store store.old).now.schema → HasFormatBut (format_number known) (state S.Store store.old).now }
-    ensures looks { Looks (state S.Store store.old) (state S.Store store.new) }
+    ensures only_reads { OnlyReads (state S.Store store.old) (state S.Store store.new) }
 {
     let mut meta = Meta::Empty;
     store.metas(&mut meta)?;

@@ -5,7 +5,7 @@ ghost use Rattle.sqlite.specs.State.{HasCleanDisk};
 ghost use Rattle.escrow_num.specs.declared.row.Row.{Row};
 ghost use Rattle.escrow_schema.specs.Definition.{IsTable};
 ghost use Rattle.escrow_cells.specs.Store.{IsStore};
-ghost use Rattle.escrow_rows.specs.Answers.{IsUsable, Looks};
+ghost use Rattle.escrow_rows.specs.Answers.{IsUsable, OnlyReads};
 ghost use Rattle.escrow_verify.specs.Inside.{AreRowsIn};
 ghost use Rattle.escrow_verify.specs.declared.unverified.PartFault.TheVariants.{Foreign};
 
@@ -30,7 +30,7 @@ pub(crate) fn count_rows<S: Alter>(
     requires { IsTable table.now.table }
     ensures found { HasCleanDisk (state S.Store store.new) → IfOk result (λ n. IsTrue (state S.Store store.new).is_open × (IsStore (state S.Store store.old).now → (rows : List Row) × AreRowsIn table.now rows (state S.Store store.old).now × (n ≡ length rows))) }
     ensures foreign { IsUsable (state S.Store store.new) → result ≡ Err Foreign → IsStore (state S.Store store.old).now → (rows : List Row) → AreRowsIn table.now rows (state S.Store store.old).now → ⊥ }
-    ensures looks { Looks (state S.Store store.old) (state S.Store store.new) }
+    ensures only_reads { OnlyReads (state S.Store store.old) (state S.Store store.new) }
 {
     let counter = RowCounter {
         alloc,

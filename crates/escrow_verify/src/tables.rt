@@ -6,7 +6,7 @@ ghost use Rattle.sqlite.specs.State.{HasCleanDisk};
 ghost use Rattle.escrow_schema.specs.Catalog.{IsCatalog};
 ghost use Rattle.escrow_cells.specs.Store.{IsStore};
 ghost use Rattle.escrow_rows.specs.declared.stored.StoredTable.{StoredTable as Stored};
-ghost use Rattle.escrow_rows.specs.Answers.{IsUsable, Looks};
+ghost use Rattle.escrow_rows.specs.Answers.{IsUsable, OnlyReads};
 ghost use Rattle.escrow_rows.specs.Image.{AreTables, tab_row};
 ghost use Rattle.escrow_verify.specs.Inside.{AreTablesIn};
 ghost use Rattle.escrow_verify.specs.Tabs.{CanStand, IsTab, tables_apart, are_apart, by_name};
@@ -30,7 +30,7 @@ pub(crate) fn read_tables<S: Alter>(
     ensures tables { IfOk result (λ tables. AreTables tables.items × IsCatalog (map (λ s. s.table) tables.items)) }
     ensures found { HasCleanDisk (state S.Store store.new) → IfOk result (λ tables. IsTrue (state S.Store store.new).is_open × (IsStore (state S.Store store.old).now → AreTablesIn tables.items (state S.Store store.old).now)) }
     ensures foreign { IsUsable (state S.Store store.new) → result ≡ Err Foreign → IsStore (state S.Store store.old).now → (tables : List Stored) → AreTablesIn tables (state S.Store store.old).now → ⊥ }
-    ensures looks { Looks (state S.Store store.old) (state S.Store store.new) }
+    ensures only_reads { OnlyReads (state S.Store store.old) (state S.Store store.new) }
 {
     let rows = store.tabs()?;
     tables_of(alloc, &rows)

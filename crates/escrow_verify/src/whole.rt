@@ -8,7 +8,7 @@ ghost use Rattle.escrow_schema.specs.Catalog.{IsCatalog};
 ghost use Rattle.escrow_schema.specs.Definition.{IsTable};
 ghost use Rattle.escrow_cells.specs.Formats.{format_number};
 ghost use Rattle.escrow_cells.specs.Store.{IsStore};
-ghost use Rattle.escrow_rows.specs.Answers.{IsUsable, Looks};
+ghost use Rattle.escrow_rows.specs.Answers.{IsUsable, OnlyReads};
 ghost use Rattle.escrow_rows.specs.Image.{AreTables};
 ghost use Rattle.escrow_verify.specs.Inside.{HasRows, HaveRows};
 ghost use Rattle.escrow_verify.specs.Stored.{IsStoreOf, IsStoreIn, IsNoStore, IsNoStoreIn, HasOtherFormat, HasFormatBut, HasCount, stored_of, catalog_of};
@@ -43,7 +43,7 @@ pub fn verify<S: Alter>(
     ensures foreign { IsUsable (state S.Store store.new) → result ≡ Err unverified.ForeignStore → IsNoStore (state S.Store store.old).now }
     ensures version { IsUsable (state S.Store store.new) → result ≡ Err unverified.OtherFormat → HasOtherFormat (state S.Store store.old).now }
     ensures other { IsUsable (state S.Store store.new) → result ≡ Err unverified.ForeignStore → HasOtherFormat (state S.Store store.old).now → ⊥ }
-    ensures looks { Looks (state S.Store store.old) (state S.Store store.new) }
+    ensures only_reads { OnlyReads (state S.Store store.old) (state S.Store store.new) }
 {
     verify_format(alloc, store, Format::Known)
 }
@@ -59,7 +59,7 @@ pub(crate) fn verify_format<S: Alter>(
     ensures foreign { IsUsable (state S.Store store.new) → result ≡ Err unverified.ForeignStore → IsNoStoreIn (format_number known) (state S.Store store.old).now }
     ensures version { IsUsable (state S.Store store.new) → result ≡ Err unverified.OtherFormat → HasFormatBut (format_number known) (state S.Store store.old).now }
     ensures other { IsUsable (state S.Store store.new) → result ≡ Err unverified.ForeignStore → HasFormatBut (format_number known) (state S.Store store.old).now → ⊥ }
-    ensures looks { Looks (state S.Store store.old) (state S.Store store.new) }
+    ensures only_reads { OnlyReads (state S.Store store.old) (state S.Store store.new) }
 {
     check_format(store, known)?;
     let tables = read_tables(alloc, store)?;
@@ -77,7 +77,7 @@ fn count_all<S: Alter>(
     ensures tables { IfOk result (λ counted. stored_of counted.items ≡ tables.items) }
     ensures found { HasCleanDisk (state S.Store store.new) → IsTrue (state S.Store store.old).is_open → IfOk result (λ counted. IsTrue (state S.Store store.new).is_open × (IsStore (state S.Store store.old).now → AllByRecursion (HasRows (state S.Store store.old).now) counted.items)) }
     ensures foreign { IsUsable (state S.Store store.new) → result ≡ Err Foreign → IsStore (state S.Store store.old).now → HaveRows (state S.Store store.old).now tables.items → ⊥ }
-    ensures looks { Looks (state S.Store store.old) (state S.Store store.new) }
+    ensures only_reads { OnlyReads (state S.Store store.old) (state S.Store store.new) }
 {
     let mut counted = Vec::with_capacity(alloc, tables.len())?;
     for stored in tables {

@@ -6,7 +6,7 @@ ghost use Rattle.escrow_bounds.specs.Places.{place_at};
 
 use super::Bounds;
 use crate::place::Place;
-use escrow_num::{Breach, RowName};
+use escrow_num::{RowName, Violation};
 use std::marker::Model;
 
 /// Places of the reserved rows of a table over the checks that it is to have, beside those that
@@ -50,13 +50,13 @@ impl Addition {
     /// one behind another: of the first, in the table's order, that they can break. `None` where
     /// there is none. The checks are given by the index of the first among those of the table, and
     /// their number.
-    pub fn breach(&self, row: &RowName, first: usize, count: usize) -> Option<Breach>
+    pub fn violation(&self, row: &RowName, first: usize, count: usize) -> Option<Violation>
         requires placed { IsSome (place_at self.now row.now) }
         requires checks { (place : Kept) → place_at self.now row.now ≡ Some place → first + count ≤ length place.checks }
         ensures { (place : Kept) (reservations : List (List ℤ)) → place_at self.now row.now ≡ Some place → Counts place reservations
             → result ≡ broken (take count (drop first (checks_of place.checks))) place.amounts [] reservations }
     {
-        self.bounds.place(row).breach(first, count)
+        self.bounds.place(row).violation(first, count)
     }
 
     /// Takes the last place out.

@@ -4,10 +4,10 @@ ghost use Rattle.escrow_schema.specs.Column.{reservables};
 ghost use Rattle.escrow_schema.specs.Definition.{IsTable};
 ghost use Rattle.escrow_schema.specs.Print.{declared_checks};
 
-use crate::breach::first_breach;
 use crate::reserved::Reserved;
+use crate::violation::first_violation;
 use escrow_bounds::Addition;
-use escrow_num::{Breach, Row};
+use escrow_num::{Row, Violation};
 use escrow_schema::{Column, TableDef};
 use escrow_tables::RowJudge;
 use std::marker::Model;
@@ -90,19 +90,19 @@ impl<'a> AddedJudge<'a> {
 }
 
 impl RowJudge for AddedJudge<'_> {
-    ghost use Rattle.escrow_core.specs.Altering.{table_without, breach_by};
+    ghost use Rattle.escrow_core.specs.Altering.{table_without, violation_by};
 
     ghost table = { λ judge. table_without judge.added };
 
-    ghost breach = { breach_by };
+    ghost violation = { violation_by };
 
-    fn breach(&self, row: &Row) -> Option<Breach> {
+    fn violation(&self, row: &Row) -> Option<Violation> {
         let first = self.added.first;
         let count = self.added.count;
         if self.reserved.is_reserved(&row.name) {
-            return self.addition.breach(&row.name, first, count);
+            return self.addition.violation(&row.name, first, count);
         }
         let checks = self.added.table.checks.as_slice();
-        first_breach(&checks[first..first + count], row.amounts.as_slice(), &[])
+        first_violation(&checks[first..first + count], row.amounts.as_slice(), &[])
     }
 }

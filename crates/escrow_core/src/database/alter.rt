@@ -44,8 +44,8 @@ impl<S: Alter> Database<S> {
             .reserved
             .prepare(alloc, table, added.table.checks.as_slice())?;
         let judge = AddedJudge::new(&added, &self.reserved, &addition);
-        if let Some(breach) = self.tables.first_breach(alloc, place, table, &judge)? {
-            return Err(Refusal::Check(breach));
+        if let Some(violation) = self.tables.first_violation(alloc, place, table, &judge)? {
+            return Err(Refusal::Check(violation));
         }
         self.recent.forget();
         self.tables.redefine(alloc, place, added.table)?;
@@ -67,7 +67,7 @@ impl<S: Alter> Database<S> {
     }
 
     /// The place of the table of an ADD, and the table with its checks; or why there is none.
-    #[tactic(auto, unfolding(escrow_machine::specs::Turn::turn_of))]
+    #[tactic(auto, unfolding(escrow_machine::specs::Transition::transition_of))]
     fn plan_add(
         &self,
         alloc: Global,
@@ -90,7 +90,7 @@ impl<S: Alter> Database<S> {
 
     /// The place of the table of a DROP CONSTRAINT, and that of the check among the table's; or why
     /// it is refused.
-    #[tactic(auto, unfolding(escrow_machine::specs::Turn::turn_of))]
+    #[tactic(auto, unfolding(escrow_machine::specs::Transition::transition_of))]
     fn plan_drop(
         &self,
         session: Session,

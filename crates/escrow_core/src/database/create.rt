@@ -27,7 +27,7 @@ impl<S: Alter> Database<S> {
     }
 
     /// The table that a CREATE TABLE makes, or why it makes none.
-    #[tactic(auto, unfolding(escrow_machine::specs::Turn::turn_of))]
+    #[tactic(auto, unfolding(escrow_machine::specs::Transition::transition_of))]
     fn plan_create(
         &self,
         alloc: Global,

@@ -29,7 +29,7 @@ impl<S: Alter> Database<S> {
     }
 
     /// The place of the table of a DELETE, or why it is refused before its row is looked for.
-    #[tactic(auto, unfolding(escrow_machine::specs::Turn::turn_of))]
+    #[tactic(auto, unfolding(escrow_machine::specs::Transition::transition_of))]
     fn check_delete(&self, session: Session, text: &RowText) -> Result<usize, Refusal>
         ensures place { IfOk result (λ place. place_named self.now.state.catalog text.now.table ≡ Some place) }
         ensures row { IfOk result (λ _. key_refusal_of self.now.state text.now.table text.now.row ≡ None) }

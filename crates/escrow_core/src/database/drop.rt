@@ -20,7 +20,7 @@ impl<S: Alter> Database<S> {
     }
 
     /// The place of the table of a DROP TABLE, or why it is refused.
-    #[tactic(auto, unfolding(escrow_machine::specs::Turn::turn_of))]
+    #[tactic(auto, unfolding(escrow_machine::specs::Transition::transition_of))]
     fn check_drop(&self, session: Session, name: Name) -> Result<usize, Refusal>
         ensures place { IfOk result (λ place. place_named self.now.state.catalog name ≡ Some place) }
         ensures early { IsEarly self.now.state session (Statement.Drop name) result }

@@ -17,7 +17,7 @@ impl<S: Alter> Database<S> {
     ghost use Rattle.escrow_core.specs.Serves.{Serves};
     ghost use Rattle.escrow_core.specs.Serving.{Answers, AreAfterEnd};
     ghost use Rattle.escrow_machine.specs.Settle.{after_end};
-    ghost use Rattle.escrow_machine.specs.Turn.{after_rollback};
+    ghost use Rattle.escrow_machine.specs.Transition.{after_rollback};
 
     /// COMMIT.
     pub(crate) fn commit(&mut self, alloc: Global, session: Session) -> Answer

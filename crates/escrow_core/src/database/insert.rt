@@ -5,8 +5,8 @@ ghost use Rattle.escrow_schema.specs.Definition.{IsTable};
 ghost use Rattle.escrow_schema.specs.Fit.{IsRowOf};
 ghost use Rattle.escrow_schema.specs.declared.table.TheConstants.TableDef.{MAX_ROWS};
 
-use crate::breach::first_breach;
 use crate::database::{Answer, Database};
+use crate::violation::first_violation;
 use escrow_machine::Reply;
 use escrow_num::{Refusal, Row, Session};
 use escrow_schema::{TableDef, fit_row};
@@ -43,7 +43,7 @@ impl<S: Alter> Database<S> {
     }
 
     /// The place of the table of an INSERT, and the row that it makes; or why it makes none.
-    #[tactic(auto, unfolding(escrow_machine::specs::Turn::turn_of))]
+    #[tactic(auto, unfolding(escrow_machine::specs::Transition::transition_of))]
     fn plan_insert(
         &self,
         alloc: Global,
@@ -78,5 +78,5 @@ fn row_refusal(table: &TableDef, count: usize, row: &Row) -> Option<Refusal>
     if count >= TableDef::MAX_ROWS {
         return Some(Refusal::TableFull);
     }
-    first_breach(table.checks.as_slice(), row.amounts.as_slice(), &[]).map(Refusal::Check)
+    first_violation(table.checks.as_slice(), row.amounts.as_slice(), &[]).map(Refusal::Check)
 }

@@ -18,12 +18,12 @@ impl<S: Alter> Database<S> {
     ghost use Rattle.escrow_schema.specs.Column.{reservables};
     ghost use Rattle.escrow_schema.specs.Fit.{values_of};
     ghost use Rattle.escrow_machine.specs.Asked.{key_refusal_of, named_by};
-    ghost use Rattle.escrow_core.specs.Serving.{IsEarly, Looks, row_refusal};
+    ghost use Rattle.escrow_core.specs.Serving.{IsEarly, OnlyReads, row_refusal};
     ghost use Rattle.escrow_schema.specs.Rows.{row_named, rows_of, row_before};
 
     /// The place of the table of a row that a text names, or why that row isn't looked for: so a SHOW BOUNDS
     /// is refused early, and a DELETE where nothing is open.
-    #[tactic(auto, unfolding(escrow_machine::specs::Turn::turn_of))]
+    #[tactic(auto, unfolding(escrow_machine::specs::Transition::transition_of))]
     pub(crate) fn check_row(&self, text: &RowText) -> Result<usize, Refusal>
         ensures place { IfOk result (λ place. place_named self.now.state.catalog text.now.table ≡ Some place) }
         ensures row { IfOk result (λ _. key_refusal_of self.now.state text.now.table text.now.row ≡ None) }
@@ -67,7 +67,7 @@ impl<S: Alter> Database<S> {
         requires { place_named self.old.state.catalog name.now.table ≡ Some place }
         ensures told { HasCleanDisk (state S.Store self.new.store) → IfOk result (λ found. found ≡ option_map (λ row. row.amounts) (row_named self.old.state.rows name.now)) }
         ensures many { IfOk result (λ found. IfSome found (λ amounts. IsSomeAnd (table_named self.old.state.catalog name.now.table) (λ table. length amounts ≡ length (reservables table.columns)))) }
-        ensures looks { Looks S.Store self.old self.new }
+        ensures only_reads { OnlyReads S.Store self.old self.new }
         ensures stays { HasCleanDisk (state S.Store self.new.store) → OnOk result (IsTrue (state S.Store self.old.store).is_open → IsTrue (state S.Store self.new.store).is_open) }
     {
         if let Some(amounts) = self.recent.amounts(name) {
@@ -89,7 +89,7 @@ impl<S: Alter> Database<S> {
     pub(crate) fn stands(&mut self, place: usize, name: &RowName) -> Result<bool, Failure>
         requires { place_named self.old.state.catalog name.now.table ≡ Some place }
         ensures told { HasCleanDisk (state S.Store self.new.store) → IfOk result (λ stands. stands ≡ is_some (row_named self.old.state.rows name.now)) }
-        ensures looks { Looks S.Store self.old self.new }
+        ensures only_reads { OnlyReads S.Store self.old self.new }
         ensures stays { HasCleanDisk (state S.Store self.new.store) → OnOk result (IsTrue (state S.Store self.old.store).is_open → IsTrue (state S.Store self.new.store).is_open) }
     {
         if self.recent.amounts(name).is_some() {
@@ -109,7 +109,7 @@ impl<S: Alter> Database<S> {
         requires { place_named self.old.state.catalog name.now.table ≡ Some place }
         ensures told { HasCleanDisk (state S.Store self.new.store) → IfOk result (λ found. IsSomeAnd (table_named self.old.state.catalog name.now.table) (λ table. found ≡ option_map (values_of table) (row_named self.old.state.rows name.now))) }
         ensures order { HasCleanDisk (state S.Store self.new.store) → IsAscending row_before self.old.state.rows }
-        ensures looks { Looks S.Store self.old self.new }
+        ensures only_reads { OnlyReads S.Store self.old self.new }
         ensures open { HasCleanDisk (state S.Store self.new.store) → OnOk result (IsTrue (state S.Store self.new.store).is_open) }
     {
         self.tables.values(alloc, place, name)
@@ -125,7 +125,7 @@ impl<S: Alter> Database<S> {
     ) -> Result<Seq<Seq<Value>>, Failure>
         requires { place_named self.old.state.catalog table ≡ Some place }
         ensures told { HasCleanDisk (state S.Store self.new.store) → IfOk result (λ rows. IsSomeAnd (table_named self.old.state.catalog table) (λ definition. rows ≡ map (values_of definition) (rows_of self.old.state.rows table))) }
-        ensures looks { Looks S.Store self.old self.new }
+        ensures only_reads { OnlyReads S.Store self.old self.new }
         ensures open { HasCleanDisk (state S.Store self.new.store) → OnOk result (IsTrue (state S.Store self.new.store).is_open) }
     {
         self.tables.all_values(alloc, place, table)

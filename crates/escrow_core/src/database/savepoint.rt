@@ -9,7 +9,7 @@ impl<S: Alter> Database<S> {
     ghost use Rattle.escrow_core.specs.Serving.{Answers};
     ghost use Rattle.escrow_machine.specs.State.{open_in};
     ghost use Rattle.escrow_journal.specs.Open.{released};
-    ghost use Rattle.escrow_machine.specs.Turn.{after_rollback_to};
+    ghost use Rattle.escrow_machine.specs.Transition.{after_rollback_to};
 
     /// SAVEPOINT: makes a savepoint of the session. An earlier one of its name is taken out.
     pub(crate) fn savepoint(&mut self, session: Session, name: Name) -> Answer

@@ -16,7 +16,7 @@ impl<S: Alter> Database<S> {
     ghost use Rattle.escrow_schema.specs.Catalog.{place_named, table_named};
     ghost use Rattle.escrow_schema.specs.Fit.{values_of};
     ghost use Rattle.escrow_machine.specs.Asked.{heading_of, is_shown, key_refusal_of, select_refusal_of};
-    ghost use Rattle.escrow_core.specs.Serving.{Answers, IsEarly, Looks};
+    ghost use Rattle.escrow_core.specs.Serving.{Answers, IsEarly, OnlyReads};
 
     /// SELECT: the committed rows of a table, or the one of a key, in order of key. Nothing changes.
     pub(crate) fn select(&mut self, alloc: Global, text: &SelectText) -> Answer
@@ -29,7 +29,7 @@ impl<S: Alter> Database<S> {
     }
 
     /// The place of the table of a SELECT, or why it is refused.
-    #[tactic(auto, unfolding(escrow_machine::specs::Turn::turn_of))]
+    #[tactic(auto, unfolding(escrow_machine::specs::Transition::transition_of))]
     fn check_select(&self, text: &SelectText) -> Result<usize, Refusal>
         ensures place { IfOk result (λ place. place_named self.now.state.catalog text.now.table ≡ Some place) }
         ensures row { IfOk result (λ _. select_refusal_of self.now.state text.now ≡ None) }
@@ -64,7 +64,7 @@ impl<S: Alter> Database<S> {
         requires place { place_named self.old.state.catalog text.now.table ≡ Some place }
         requires row { select_refusal_of self.old.state text.now ≡ None }
         ensures told { HasCleanDisk (state S.Store self.new.store) → IfOk result (λ rows. IsSomeAnd (table_named self.old.state.catalog text.now.table) (λ table. rows ≡ map (values_of table) (filter (is_shown self.old.state.catalog text.now.table text.now.row) self.old.state.rows))) }
-        ensures looks { Looks S.Store self.old self.new }
+        ensures only_reads { OnlyReads S.Store self.old self.new }
         ensures open { HasCleanDisk (state S.Store self.new.store) → OnOk result (IsTrue (state S.Store self.new.store).is_open) }
     {
         match &text.row {
@@ -84,7 +84,7 @@ impl<S: Alter> Database<S> {
         requires place { place_named self.old.state.catalog text.now.table ≡ Some place }
         requires row { key_refusal_of self.old.state text.now.table row.now ≡ None }
         ensures told { HasCleanDisk (state S.Store self.new.store) → IfOk result (λ rows. IsSomeAnd (table_named self.old.state.catalog text.now.table) (λ table. rows ≡ map (values_of table) (filter (is_shown self.old.state.catalog text.now.table (Some row.now)) self.old.state.rows))) }
-        ensures looks { Looks S.Store self.old self.new }
+        ensures only_reads { OnlyReads S.Store self.old self.new }
         ensures open { HasCleanDisk (state S.Store self.new.store) → OnOk result (IsTrue (state S.Store self.new.store).is_open) }
     {
         let name = self.named_by(alloc, place, text.table, row)?;

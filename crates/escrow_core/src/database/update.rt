@@ -28,7 +28,7 @@ impl<S: Alter> Database<S> {
     }
 
     /// The place of the table of an UPDATE, and what it asks of a row; or why it can't be planned.
-    #[tactic(auto, unfolding(escrow_machine::specs::Turn::turn_of))]
+    #[tactic(auto, unfolding(escrow_machine::specs::Transition::transition_of))]
     fn plan(&self, alloc: Global, text: &UpdateText) -> Result<(usize, Plan), Refusal>
         ensures place { IfOk result (λ planned. place_named self.now.state.catalog text.now.table ≡ Some planned.0) }
         ensures plan { IfOk result (λ planned. plan_of self.now.state text.now ≡ Some planned.1) }

@@ -106,7 +106,7 @@ fn failing_readers(rt: HostRuntime) -> Result<(), Fail> {
     Ok(())
 }
 
-/// What was written before the fault is a front of the replies, wherever the writer fails.
+/// What was written before the fault is a prefix of the replies, wherever the writer fails.
 #[test]
 fn failing_writers(rt: HostRuntime) -> Result<(), Fail> {
     for room in 0..=ACCOUNT_REPLIES.len() {

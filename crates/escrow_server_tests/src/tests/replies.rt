@@ -1,7 +1,7 @@
 //! The lines of replies to which no script leads, and those of numbers with a scale.
 use escrow_core::{CheckBounds, ColumnBounds, ColumnChange, Heading, JournalEntry, Reply};
 use escrow_num::{
-    Amount, Breach, Name, Refusal, RowName, Scale, Seq, Session, Side, Span, Text, Value, Wide,
+    Amount, Name, Refusal, RowName, Scale, Seq, Session, Side, Span, Text, Value, Violation, Wide,
 };
 use escrow_reply::{render, render_lines, render_whole};
 use std::alloc::AllocError;
@@ -302,7 +302,7 @@ fn scaled_journal(rt: &(impl Abort + AllocGlobal)) -> Result<Reply, AllocError> 
 }
 
 /// Sides, scales, worst values and limits, with the line that each is answered.
-const BREACHES: [(Side, u8, i128, i128, &str); 4] = [
+const VIOLATIONS: [(Side, u8, i128, i128, &str); 4] = [
     (
         Side::Low,
         2,
@@ -329,16 +329,16 @@ const BREACHES: [(Side, u8, i128, i128, &str); 4] = [
 
 /// A limit that could be broken is told in the check's scale.
 #[test]
-fn breaches_with_scales(rt: HostRuntime) -> Result<(), Fail> {
-    for (side, digits, worst, limit, want) in BREACHES {
-        let breach = Breach {
+fn violations_with_scales(rt: HostRuntime) -> Result<(), Fail> {
+    for (side, digits, worst, limit, want) in VIOLATIONS {
+        let violation = Violation {
             check: name(&rt, "C"),
             side,
             worst: wide(&rt, worst),
             limit: wide(&rt, limit),
             scale: scale(&rt, digits),
         };
-        assert_lines(&rt, Reply::Refused(Refusal::Check(breach)), want)?;
+        assert_lines(&rt, Reply::Refused(Refusal::Check(violation)), want)?;
     }
     Ok(())
 }

@@ -9,7 +9,7 @@ ghost use Rattle.escrow_tests.specs.Placed.{AreTaken, HasChecks, IsPlaced};
 use crate::tests::checks::{amounts, check, columns, name, parts};
 use escrow_bounds::{Addition, Bounds, deltas};
 use escrow_checks::{Check, Coefficients};
-use escrow_num::{Amount, Breach, Changes, End, Reservation, RowName, Session, Side, Value};
+use escrow_num::{Amount, Changes, End, Reservation, RowName, Session, Side, Value, Violation};
 use std::alloc::Global;
 use std::process::Abort;
 
@@ -53,7 +53,7 @@ fn commit_first(bounds: &mut Bounds, row: &RowName, first: &[Amount], second: &[
 }
 
 /// What changes would break of the check, if they can break it.
-fn verdict(bounds: &Bounds, row: &RowName, changes: &[Amount]) -> Option<Breach>
+fn verdict(bounds: &Bounds, row: &RowName, changes: &[Amount]) -> Option<Violation>
     requires { IsSome (place_at bounds.now row.now) }
 {
     let at = bounds.find(row).unwrap();
@@ -84,8 +84,8 @@ fn sums_are_kept_between_calls(rt: HostRuntime) {
     reserve(&rt, &mut bounds, &row, values.as_slice(), &check);
     add(&mut bounds, &row, a.as_slice());
     assert_eq!(rt; worst(&bounds, &row), (80, 90));
-    let breach = verdict(&bounds, &row, more.as_slice());
-    assert_eq!(rt; parts(&check, breach), Some((Side::High, 102, 100)));
+    let violation = verdict(&bounds, &row, more.as_slice());
+    assert_eq!(rt; parts(&check, violation), Some((Side::High, 102, 100)));
     add(&mut bounds, &row, b.as_slice());
     assert_eq!(rt; worst(&bounds, &row), (80, 99));
     commit_first(&mut bounds, &row, a.as_slice(), b.as_slice());
@@ -99,9 +99,9 @@ fn are_placed(rt: &impl Abort, bounds: &Bounds, check: &Check, alloc: Global, pl
         assert_eq!(rt; bounds.has_place(&row), key < places, "{places}: {key}");
         if bounds.has_place(&row) {
             let change = amounts(rt, alloc, &[51i64.wrapping_sub(key), 0]);
-            let breach = verdict(bounds, &row, change.as_slice());
+            let violation = verdict(bounds, &row, change.as_slice());
             assert_eq!(rt;
-                parts(check, breach),
+                parts(check, violation),
                 Some((Side::High, 102, 100)),
                 "{places}: {key}"
             );
@@ -244,8 +244,8 @@ fn add_and_drop(rt: &impl Abort, alloc: Global, old: &Check, new: &Check, pair: 
         (&second, &first),
     );
     assert_eq!(rt; extremes(&bounds, &row, 0), (80, 85));
-    let breach = addition.breach(&row, 1, 1);
-    assert_eq!(rt; parts(new, breach), pair.broken);
+    let violation = addition.violation(&row, 1, 1);
+    assert_eq!(rt; parts(new, violation), pair.broken);
     bounds.adopt(addition);
     assert_eq!(rt; extremes(&bounds, &row, 0), (80, 85));
     assert_eq!(rt; extremes(&bounds, &row, 1), pair.moved);

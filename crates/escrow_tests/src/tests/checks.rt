@@ -1,7 +1,7 @@
 //! Checks: how far open reservations move their forms, what a new one breaks of them, columns of several
 //! scales, and their names.
 use escrow_checks::{Check, CheckFault, Coefficients, Spread, is_written_name, normalise};
-use escrow_num::{Amount, Breach, Name, Scale, Seq, Side, Wide};
+use escrow_num::{Amount, Name, Scale, Seq, Side, Violation, Wide};
 use escrow_sql::{Item, Request, Statement, parse};
 use std::alloc::Global;
 use std::process::Abort;
@@ -132,7 +132,7 @@ fn slow_extremes(coeffs: [i64; 3], row: [i64; 3], asked: &Asked) -> (i64, i64) {
 }
 
 /// What a new reservation breaks of the limits -10 and 20, by the definition.
-fn slow_breach(least: i64, greatest: i64) -> Option<(Side, i128, i128)> {
+fn slow_violation(least: i64, greatest: i64) -> Option<(Side, i128, i128)> {
     if least < -10 {
         return Some((Side::Low, i128::from(least), -10));
     }
@@ -142,7 +142,7 @@ fn slow_breach(least: i64, greatest: i64) -> Option<(Side, i128, i128)> {
     None
 }
 
-/// Compares extremes and breach of a check with their definitions.
+/// Compares extremes and violation of a check with their definitions.
 fn agrees(rt: &impl Abort, alloc: Global, check: &Check, coeffs: [i64; 3], asked: &Asked) {
     let first = amounts(rt, alloc, asked.first);
     let second = amounts(rt, alloc, asked.second);
@@ -154,21 +154,21 @@ fn agrees(rt: &impl Abort, alloc: Global, check: &Check, coeffs: [i64; 3], asked
     assert_eq!(rt; least.get(), i128::from(slow_least));
     assert_eq!(rt; greatest.get(), i128::from(slow_greatest));
     let new = amounts(rt, alloc, asked.new);
-    let breach = check.breach(row.as_slice(), new.as_slice(), &spread);
+    let violation = check.violation(row.as_slice(), new.as_slice(), &spread);
     let (slow_least, slow_greatest) = slow_extremes(coeffs, changed(ROW, asked.new), asked);
     assert_eq!(rt;
-        parts(check, breach),
-        slow_breach(slow_least, slow_greatest)
+        parts(check, violation),
+        slow_violation(slow_least, slow_greatest)
     );
 }
 
 /// What is broken of a check, part by part, if it is that check.
-pub(super) fn parts(check: &Check, breach: Option<Breach>) -> Option<(Side, i128, i128)> {
-    let breach = breach?;
-    if breach.check != check.name {
+pub(super) fn parts(check: &Check, violation: Option<Violation>) -> Option<(Side, i128, i128)> {
+    let violation = violation?;
+    if violation.check != check.name {
         return None;
     }
-    Some((breach.side, breach.worst.get(), breach.limit.get()))
+    Some((violation.side, violation.worst.get(), violation.limit.get()))
 }
 
 /// Compares them for each three of some reservations, and each new one of them.
@@ -196,7 +196,7 @@ const SUM: &str = "CREATE TABLE T (CHECK (A + C BETWEEN -10 AND 20))";
 /// Columns with other coefficients.
 const MIX: &str = "CREATE TABLE T (CHECK (2*A - 3*B BETWEEN -10 AND 20))";
 
-/// Extremes and breaches are those of every choice of the open reservations, of one column, of a sum and of
+/// Extremes and violations are those of every choice of the open reservations, of one column, of a sum and of
 /// columns with other coefficients.
 #[test]
 fn every_choice_is_covered(rt: HostRuntime) {
@@ -249,10 +249,10 @@ fn greatest_forms(rt: HostRuntime) {
     let (least, greatest) = check.extremes(high.as_slice(), &spread);
     assert_eq!(rt; least.get(), 0);
     assert_eq!(rt; greatest.get(), 2 * MOST);
-    let breach = check.breach(high.as_slice(), high.as_slice(), &spread);
-    assert_eq!(rt; parts(&check, breach), Some((Side::High, 3 * MOST, 20)));
-    let breach = check.breach(low.as_slice(), low.as_slice(), &spread);
-    assert_eq!(rt; parts(&check, breach), Some((Side::Low, -3 * MOST, -10)));
+    let violation = check.violation(high.as_slice(), high.as_slice(), &spread);
+    assert_eq!(rt; parts(&check, violation), Some((Side::High, 3 * MOST, 20)));
+    let violation = check.violation(low.as_slice(), low.as_slice(), &spread);
+    assert_eq!(rt; parts(&check, violation), Some((Side::Low, -3 * MOST, -10)));
 }
 
 /// The scales of the columns A, B and C.
@@ -364,7 +364,7 @@ fn checks_over_several_scales(rt: HostRuntime) {
 
 /// What is broken is told in units of the check's scale.
 #[test]
-fn breaches_have_the_scale(rt: HostRuntime) {
+fn violations_have_the_scale(rt: HostRuntime) {
     let alloc = rt.alloc();
     let columns = &columns(&rt)[..3];
     let check = scaled_check(&rt, alloc, columns, &scales(&rt), SHARED[0].text);
@@ -373,16 +373,16 @@ fn breaches_have_the_scale(rt: HostRuntime) {
     assert_eq!(rt; check.form(row.as_slice()).get(), 250);
     assert!(rt;
         check
-            .breach(row.as_slice(), less.as_slice(), &Spread::new())
+            .violation(row.as_slice(), less.as_slice(), &Spread::new())
             .is_none()
     );
     let far = amounts(&rt, alloc, &[-101, 0, 0]);
-    let breach = check.breach(row.as_slice(), far.as_slice(), &Spread::new());
-    let breach = breach.expect(&rt, "a breach");
-    assert_eq!(rt; breach.side, Side::Low);
-    assert_eq!(rt; breach.worst.get(), 149);
-    assert_eq!(rt; breach.limit.get(), 150);
-    assert_eq!(rt; breach.scale.get(), 2);
+    let violation = check.violation(row.as_slice(), far.as_slice(), &Spread::new());
+    let violation = violation.expect(&rt, "a violation");
+    assert_eq!(rt; violation.side, Side::Low);
+    assert_eq!(rt; violation.worst.get(), 149);
+    assert_eq!(rt; violation.limit.get(), 150);
+    assert_eq!(rt; violation.scale.get(), 2);
 }
 
 /// Names, and whether a statement can write each: one of 30 bytes and one of 31, and a reserved word.

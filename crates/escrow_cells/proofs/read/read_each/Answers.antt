@@ -1,26 +1,26 @@
 use Rattle.std.proofs.Common.{◌≡◌, ◌∙◌, IsTrue, refl, rules}
 use Rattle.sqlite.specs.Held.{state}
 use Rattle.sqlite.specs.State.{HasCleanDisk}
-use Rattle.escrow_cells.proofs.Resting.{moved_kept, refused_rests}
-use Rattle.escrow_cells.proofs.Streaming.{begins_taking, takes_more, ends_taking, taking_rests}
+use Rattle.escrow_cells.proofs.Resting.{moved_kept, refused_leaves_idle}
+use Rattle.escrow_cells.proofs.Streaming.{begins_taking, takes_more, ends_taking, taking_leaves_idle}
 use Rattle.escrow_cells.proofs.read.read_each.Goals as goal
 
 pub rows-init : goal.rows-init
 rows-init g c = (refl, begins_taking _ _ _ _ c.requires _ _ _ c.in-Ok.ensures.begun c.in-Ok.ensures.mode c.in-Ok.ensures.survives)
 
-pub returns-in-Err-clause-rests : goal.returns-in-Err-clause-rests
-returns-in-Err-clause-rests g c outside =
+pub returns-in-Err-clause-leaves_idle : goal.returns-in-Err-clause-leaves_idle
+returns-in-Err-clause-leaves_idle g c outside =
     let old = state g.S.Store c.args.conn.now in
     let settled : IsTrue old.is_open → old.now ≡ old.committed = search rules in
-    refused_rests _ _ _ c.requires c.args.conn.now c.query.follows.lender-at-none _ settled (rw c.in-Err.is at c.query.follows.holds-at-none) outside
+    refused_leaves_idle _ _ _ c.requires c.args.conn.now c.query.follows.lender-at-none _ settled (rw c.in-Err.is at c.query.follows.holds-at-none) outside
 
-pub returns-in-Err-next-clause-rests : goal.returns-in-Err-next-clause-rests
-returns-in-Err-next-clause-rests g c outside =
+pub returns-in-Err-next-clause-leaves_idle : goal.returns-in-Err-next-clause-leaves_idle
+returns-in-Err-next-clause-leaves_idle g c outside =
     let old = state g.S.Store c.args.conn.now in
     let settled : IsTrue old.is_open → old.now ≡ old.committed = search rules in
     let moved = c.next.follows.holds-at-none in
     let now = c.next.follows.lender-at-none.conn.now in
-    let all = taking_rests g.S.Store g.K.Sink.has_taken _ _ c.requires c.args.conn.now c.args.sink.now c.rows.rows.conn.now now c.rows.sink c.rows.invariant.1 moved.survives settled moved.mode
+    let all = taking_leaves_idle g.S.Store g.K.Sink.has_taken _ _ c.requires c.args.conn.now c.args.sink.now c.rows.rows.conn.now now c.rows.sink c.rows.invariant.1 moved.survives settled moved.mode
     (λ clean. moved_kept _ _ _ (rw c.in-Err-next.is at (moved.kept clean))) outside in
     search rules
 

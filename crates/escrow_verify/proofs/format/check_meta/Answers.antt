@@ -14,7 +14,7 @@ returns-in_default g c = record {
   other = λ usable same is.
       c.in_default.not-Format is.number (none_told (state g.S.Store c.args.store.now).now is.number c.metas.new.sink ((c.in_ok-metas.ensures.rows usable.0).1 is.has.schema.tables) is.has.format_is);
   version = λ usable same. absurd (cc);
-  looks = c.metas.ensures.looks;
+  only_reads = c.metas.ensures.only_reads;
 }
 
 pub returns-then-number-wanted-clause-known : goal.returns-then-number-wanted-clause-known

@@ -26,13 +26,13 @@ returns-then-not-branch g c =
     let text = c.args.text.now in
     let name = c.in_ok-name.name in
     let early = sym c.in_ok-place.ensures.early in
-    look_refused g.S.Store c.args.session (statement.Delete text) d c.stands.new.self refusal.NoSuchRow c.in_ok-stands.ensures.looks refl early
+    look_refused g.S.Store c.args.session (statement.Delete text) d c.stands.new.self refusal.NoSuchRow c.in_ok-stands.ensures.only_reads refl early
     (λ u. delete_lack d.state c.args.session text name c.in_ok-name.ensures early (sym (none_there (row_named d.state.rows name) (sym (c.in_ok-stands.ensures.told u) ∙ c.if-not-branch.true))))
 
 -- the row was looked for
 looked : (g : given.Over) (c : After-is_reserved g) → HasLooked g.S.Store c.args.session (statement.Delete c.args.text.now) c.args.self.now (seen_of c.self.inside.tables c.self.inside.reserved.txns)
 looked g c = record {
-  looks = rw (← c.self.view_is) at c.in_ok-stands.ensures.looks;
+  only_reads = rw (← c.self.view_is) at c.in_ok-stands.ensures.only_reads;
   stays = rw (← c.self.view_is) at c.in_ok-stands.ensures.stays;
   asks = refl;
   early = sym c.in_ok-place.ensures.early;
@@ -40,12 +40,12 @@ looked g c = record {
 
 -- its name is the one that the WHERE names
 named : (g : given.Over) (c : After-is_reserved g) → c.in_ok-name.name ≡ named_by c.self.inside.tables.catalog c.args.text.now.table c.args.text.now.row
-named g c = subst (λ (s : State). c.in_ok-name.name ≡ named_by s.catalog c.args.text.now.table c.args.text.now.row) (sym (looked g c).looks.same) c.in_ok-name.ensures
+named g c = subst (λ (s : State). c.in_ok-name.name ≡ named_by s.catalog c.args.text.now.table c.args.text.now.row) (sym (looked g c).only_reads.same) c.in_ok-name.ensures
 
 stands : (g : given.Over) (c : After-is_reserved g) → HasCleanDisk (state g.S.Store c.self.inside.tables.store) → IsSome (row_named c.self.inside.tables.rows c.in_ok-name.name)
 stands g c u =
     let name = c.in_ok-name.name in
-    subst (λ (s : State). IsSome (row_named s.rows name)) (sym (looked g c).looks.same) (sym ((rw (← c.self.view_is) at c.in_ok-stands.ensures.told) u) ∙ c.if-not-branch.false)
+    subst (λ (s : State). IsSome (row_named s.rows name)) (sym (looked g c).only_reads.same) (sym ((rw (← c.self.view_is) at c.in_ok-stands.ensures.told) u) ∙ c.if-not-branch.false)
 
 early : (g : given.Over) (c : After-is_reserved g) → PassesEarly (seen_of c.self.inside.tables c.self.inside.reserved.txns).state c.args.session (statement.Delete c.args.text.now)
 early g c = early_since g.S.Store c.args.session (statement.Delete c.args.text.now) c.args.self.now (seen_of c.self.inside.tables c.self.inside.reserved.txns) (looked g c)

@@ -1,7 +1,7 @@
 use Rattle.std.proofs.Common.{sym}
 use Rattle.escrow_sql.specs.declared.statement.Statement.TheVariants as statement
 use Rattle.escrow_machine.specs.declared.reply.Reply.TheVariants as reply
-use Rattle.escrow_machine.specs.Turn.{after_drop}
+use Rattle.escrow_machine.specs.Transition.{after_drop}
 use Rattle.escrow_core.specs.Inside.{seen_of}
 use Rattle.escrow_core.proofs.Dropping.{may_drop}
 use Rattle.escrow_core.proofs.Serving.{MayWrite, early_serves, failure_serves, unwritten_holds, write_holds, write_serves}

@@ -28,13 +28,13 @@ pub returns-then-branch : goal.returns-then-branch
 returns-then-branch g c =
     let d = c.args.self.now in
     let text = c.args.text.now in
-    look_refused g.S.Store c.args.session (statement.Insert text) d c.stands.new.self refusal.RowExists c.in_ok-stands.ensures.looks refl c.in_ok-place.ensures.early
+    look_refused g.S.Store c.args.session (statement.Insert text) d c.stands.new.self refusal.RowExists c.in_ok-stands.ensures.only_reads refl c.in_ok-place.ensures.early
     (λ u. row_exists d.state c.args.session text c.in_ok-place.row c.in_ok-place.ensures.row c.in_ok-place.ensures.early (sym (c.in_ok-stands.ensures.told u) ∙ c.if-branch.true))
 
 -- the row was looked for
 looked : (g : given.Over) (c : After-count g) → HasLooked g.S.Store c.args.session (statement.Insert c.args.text.now) c.args.self.now (seen_of c.self.inside.tables c.self.inside.reserved.txns)
 looked g c = record {
-  looks = rw (← c.self.view_is) at c.in_ok-stands.ensures.looks;
+  only_reads = rw (← c.self.view_is) at c.in_ok-stands.ensures.only_reads;
   stays = rw (← c.self.view_is) at c.in_ok-stands.ensures.stays;
   asks = refl;
   early = c.in_ok-place.ensures.early;
@@ -42,7 +42,7 @@ looked g c = record {
 
 -- its place, in the state since
 placed : (g : given.Over) (c : After-count g) → place_named c.self.inside.tables.catalog c.args.text.now.table ≡ Some c.in_ok-place.place
-placed g c = subst (λ (s : State). place_named s.catalog c.args.text.now.table ≡ Some c.in_ok-place.place) (sym (looked g c).looks.same) c.in_ok-place.ensures.place
+placed g c = subst (λ (s : State). place_named s.catalog c.args.text.now.table ≡ Some c.in_ok-place.place) (sym (looked g c).only_reads.same) c.in_ok-place.ensures.place
 
 -- no row has its name
 is_new : (g : given.Over) (c : After-count g) → IsNew g.S.Store (seen_of c.self.inside.tables c.self.inside.reserved.txns) c.args.session c.args.text.now c.in_ok-place.row c.table.result.now c.count.result
@@ -50,7 +50,7 @@ is_new g c =
     let d = seen_of c.self.inside.tables c.self.inside.reserved.txns in
     let text = c.args.text.now in
     let row = c.in_ok-place.row in
-    let same = sym (looked g c).looks.same in
+    let same = sym (looked g c).only_reads.same in
     record {
       made = subst (λ (s : State). new_row s text ≡ Some row) same c.in_ok-place.ensures.row;
       early = early_since g.S.Store c.args.session (statement.Insert text) c.args.self.now d (looked g c);

@@ -28,7 +28,7 @@ returns-in_err-stands g c =
     let text = c.args.text.now in
     let early = planned_early d.state c.args.session text (plan.Plain c.args.key c.args.values) c.requires.plan in
     handed_on g.S.Store c.args.session (statement.Update text) d c.stands.new.self c.from_residual.result _ c.from_residual.ensures.1
-    (look_failed g.S.Store c.args.session (statement.Update text) d c.stands.new.self c.in_err-stands.field-0.0 c.stands.ensures.looks (plain_asks d.state c.args.session text c.args.key c.args.values c.requires.plan) early
+    (look_failed g.S.Store c.args.session (statement.Update text) d c.stands.new.self c.in_err-stands.field-0.0 c.stands.ensures.only_reads (plain_asks d.state c.args.session text c.args.key c.args.values c.requires.plan) early
     (plain_takes d.state c.args.session text c.args.key c.args.values c.requires.plan c.in_err-stands.field-0.0))
 
 pub returns-then-not-branch : goal.returns-then-not-branch
@@ -36,14 +36,14 @@ returns-then-not-branch g c =
     let d = c.args.self.now in
     let text = c.args.text.now in
     let early = planned_early d.state c.args.session text (plan.Plain c.args.key c.args.values) c.requires.plan in
-    look_refused g.S.Store c.args.session (statement.Update text) d c.stands.new.self refusal.NoSuchRow c.stands.ensures.looks (plain_asks d.state c.args.session text c.args.key c.args.values c.requires.plan) early
+    look_refused g.S.Store c.args.session (statement.Update text) d c.stands.new.self refusal.NoSuchRow c.stands.ensures.only_reads (plain_asks d.state c.args.session text c.args.key c.args.values c.requires.plan) early
     (λ u. plain_lacks d.state c.args.session text c.args.key c.args.values c.requires.plan (sym c.is_open.ensures ∙ c.if-is_open.false)
     (none_there (row_named d.state.rows (row_name text.table c.args.key)) (sym (c.in_ok-stands.ensures.told u) ∙ c.if-not-branch.true)))
 
 -- the row was looked for
 looked : (g : given.Over) (c : After-as_slice g) → HasLooked g.S.Store c.args.session (statement.Update c.args.text.now) c.args.self.now (seen_of c.self.inside.tables c.self.inside.reserved.txns)
 looked g c = record {
-  looks = rw (← c.self.view_is) at c.in_ok-stands.ensures.looks;
+  only_reads = rw (← c.self.view_is) at c.in_ok-stands.ensures.only_reads;
   stays = rw (← c.self.view_is) at c.in_ok-stands.ensures.stays;
   asks = plain_asks c.args.self.now.state c.args.session c.args.text.now c.args.key c.args.values c.requires.plan;
   early = planned_early c.args.self.now.state c.args.session c.args.text.now (plan.Plain c.args.key c.args.values) c.requires.plan;
@@ -54,7 +54,7 @@ may : (g : given.Over) (c : After-as_slice g) → MayReplace g.S.Store (seen_of 
 may g c =
     let text = c.args.text.now in
     let name = row_name text.table c.args.key in
-    let same = sym (looked g c).looks.same in
+    let same = sym (looked g c).only_reads.same in
     record {
       planned = rw c.as_slice.ensures (subst (λ (s : State). plan_of s text ≡ Some (plan.Plain c.args.key c.args.values)) same c.requires.plan);
       closed = subst (λ (s : State). is_open c.args.session s ≡ false) same (sym c.is_open.ensures ∙ c.if-is_open.false);

@@ -11,7 +11,7 @@ use Rattle.escrow_machine.proofs.Safe.{some_at}
 use Rattle.escrow_machine.proofs.Shapes.{covered}
 use Rattle.escrow_core.specs.Inside.{amounts_named, seen_of}
 use Rattle.escrow_core.specs.Seen.{Seen}
-use Rattle.escrow_core.specs.Serving.{Looks}
+use Rattle.escrow_core.specs.Serving.{OnlyReads}
 use Rattle.escrow_core.proofs.Serving.{left_by}
 use Rattle.escrow_core.proofs.Updating.{IsPlanned, first_fails, first_granted, first_keeps, first_lacks, first_refused, room_for_one, same_keeps, short_plan, still_planned}
 use Rattle.escrow_core.proofs.database.Database.reserve_first.Given as given
@@ -22,16 +22,16 @@ pub returns-in_err-amounts : goal.returns-in_err-amounts
 returns-in_err-amounts g c =
     rw (left_by _ _ c.from_residual.ensures.1)
     (first_fails g.S.Store c.args.session c.args.text.now c.args.name c.args.changes c.args.self.now c.amounts.new.self (record { table = c.requires.table; plan = c.requires.plan }) c.requires.first
-    c.amounts.ensures.looks c.in_err-amounts.field-0.0)
+    c.amounts.ensures.only_reads c.in_err-amounts.field-0.0)
 
 pub returns-in_default : goal.returns-in_default
 returns-in_default g c =
     first_lacks g.S.Store c.args.session c.args.text.now c.args.name c.args.changes c.args.self.now c.amounts.new.self (record { table = c.requires.table; plan = c.requires.plan }) c.requires.first
-    c.amounts.ensures.looks (λ clean. rw c.in_default.is at (c.in_ok-amounts.ensures.told clean))
+    c.amounts.ensures.only_reads (λ clean. rw c.in_default.is at (c.in_ok-amounts.ensures.told clean))
 
 -- the state since the row was looked for is the one before
 same : (g : given.Over) (c : After-as_slice g) → (seen_of c.self.inside.tables c.self.inside.reserved.txns).state ≡ c.args.self.now.state
-same g c = ap (λ (d : Seen _). d.state) c.self.view_is ∙ c.amounts.ensures.looks.same
+same g c = ap (λ (d : Seen _). d.state) c.self.view_is ∙ c.amounts.ensures.only_reads.same
 
 -- the row's table, which has its amounts
 named : (g : given.Over) (c : After-as_slice g) → table_named c.self.inside.tables.catalog c.args.name.table ≡ Some c.table.result.now
@@ -47,8 +47,8 @@ grant_first-requires-clause-covered g c =
     rw (c.as_slice-checks.ensures, c.as_slice.ensures) (covered c.table.result.now c.in-Some.amounts c.table.ensures.table (many g c))
 
 -- it is looked at, planned, and not reserved
-looked : (g : given.Over) (c : After-as_slice g) → Looks g.S.Store c.args.self.now (seen_of c.self.inside.tables c.self.inside.reserved.txns)
-looked g c = rw (← c.self.view_is) at c.amounts.ensures.looks
+looked : (g : given.Over) (c : After-as_slice g) → OnlyReads g.S.Store c.args.self.now (seen_of c.self.inside.tables c.self.inside.reserved.txns)
+looked g c = rw (← c.self.view_is) at c.amounts.ensures.only_reads
 
 planned : (g : given.Over) (c : After-as_slice g) → IsPlanned (seen_of c.self.inside.tables c.self.inside.reserved.txns).state c.args.text.now c.args.name c.args.changes
 planned g c = still_planned c.args.self.now.state (seen_of c.self.inside.tables c.self.inside.reserved.txns).state c.args.text.now c.args.name c.args.changes (looked g c).same (record { table = c.requires.table; plan = c.requires.plan })

@@ -5,7 +5,7 @@ use Rattle.escrow_machine.specs.State.{open_in}
 use Rattle.escrow_journal.specs.Open.{savepoint_refusal}
 use Rattle.escrow_machine.specs.declared.reply.Reply.TheVariants as reply
 use Rattle.escrow_core.specs.Inside.{seen_of}
-use Rattle.escrow_machine.specs.Turn.{after_savepoint}
+use Rattle.escrow_machine.specs.Transition.{after_savepoint}
 use Rattle.escrow_machine.proofs.Accepted.{savepoint_room}
 use Rattle.escrow_machine.proofs.Refusals.{no_reason}
 use Rattle.escrow_core.proofs.Served.{same_reason, savepoint_accepted, savepoint_serves, savepoint_refuses}

@@ -18,6 +18,6 @@ returns g c = λ session.
     let columns = c.in_ok-columns.columns in
     let rows = c.in_ok-rows.rows in
     let early = sym (c.in_ok-place.ensures.early session) in
-    look_answered g.S.Store session (statement.Select text) d c.shown_values.new.self (reply.Rows columns rows) c.shown_values.ensures.looks refl early refl
+    look_answered g.S.Store session (statement.Select text) d c.shown_values.new.self (reply.Rows columns rows) c.shown_values.ensures.only_reads refl early refl
     (λ u. select_answers d.state session text (reply.Rows columns rows) early
     (shows d.state text columns rows (c.in_ok-columns.ensures text.table c.in_ok-place.ensures.place) (c.in_ok-rows.ensures.told u)))

@@ -73,7 +73,7 @@ returns-in_default g c = λ session.
     let d = c.args.self.now in
     let text = c.args.text.now in
     let early = sym (c.in_ok-place.ensures.early session) in
-    look_refused g.S.Store session (statement.ShowBounds text) d c.amounts.new.self refusal.NoSuchRow c.amounts.ensures.looks refl early
+    look_refused g.S.Store session (statement.ShowBounds text) d c.amounts.new.self refusal.NoSuchRow c.amounts.ensures.only_reads refl early
     (λ u. bounds_lack d.state session text early (rw (c.in_default.is, c.in_ok-name.ensures) at (c.in_ok-amounts.ensures.told u)))
 
 pub returns : goal.returns
@@ -87,7 +87,7 @@ returns g c = λ session.
     let amounts = c.in-Some.amounts in
     let early = sym (c.in_ok-place.ensures.early session) in
     let is_name : read ≡ name = c.in_ok-name.ensures in
-    let same : (seen_of c.self-2.inside.tables c.self-2.inside.reserved.txns).state ≡ d.state = ap (λ (v : Seen _). v.state) c.self-2.view_is ∙ c.amounts.ensures.looks.same in
+    let same : (seen_of c.self-2.inside.tables c.self-2.inside.reserved.txns).state ≡ d.state = ap (λ (v : Seen _). v.state) c.self-2.view_is ∙ c.amounts.ensures.only_reads.same in
     let placed = subst (λ (s : State). place_named s.catalog text.table ≡ Some c.in_ok-place.place) (sym same) c.in_ok-place.ensures.place in
     let named_now : table_named d.state.catalog text.table ≡ Some table = subst (λ (s : State). table_named s.catalog text.table ≡ Some table) same (c.table-table-2.ensures.named text.table placed) in
     let many : length amounts ≡ length (reservables table.columns) =
@@ -98,5 +98,5 @@ returns g c = λ session.
     let shown : c.in_ok-free_bounds.field-0 ≡ bounds_in d.state.reservations table name amounts =
     c.in_ok-free_bounds.ensures ∙ ap (bounds_over [] table) c.as_slice.ensures ∙ free_same table amounts name d.state.reservations c.table-table-2.ensures.table many free in
     rw shown
-    (look_answered g.S.Store session (statement.ShowBounds text) d mid _ c.amounts.ensures.looks refl early refl
+    (look_answered g.S.Store session (statement.ShowBounds text) d mid _ c.amounts.ensures.only_reads refl early refl
     (λ u. bounds_answers d.state session text table amounts early named_now (sym (rw (c.in-Some.is, c.in_ok-name.ensures) at (c.in_ok-amounts.ensures.told u)))))

@@ -5,7 +5,7 @@ use Rattle.escrow_transcript.specs.declared.entry.Entry.{Entry}
 use Rattle.escrow_stats.specs.declared.known.Known.{Known}
 use Rattle.escrow_stats.specs.Tally.{tally_of}
 use Rattle.escrow_stats.specs.Watching.{Boarded, replies_of}
-use Rattle.escrow_stats.specs.Fronts.{IsPostOf, Writes}
+use Rattle.escrow_stats.specs.Prefixes.{IsPostOf, Writes}
 use Rattle.escrow_stats.proofs.Posting.{may_show, tallied_more, waits}
 use Rattle.escrow_stats.proofs.board.Board.post_as.Goals as goal
 

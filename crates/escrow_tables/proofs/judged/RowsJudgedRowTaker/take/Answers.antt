@@ -6,10 +6,10 @@ use Rattle.escrow_tables.proofs.judged.RowsJudgedRowTaker.take.Goals.{then-is_no
 pub returns : goal.returns
 returns g c = λ first rows has.
     let table = g.J.RowJudge.table in
-    let breach = g.J.RowJudge.breach in
+    let violation = g.J.RowJudge.violation in
     let old = c.args.self.now in
     elim c.if-is_none.branch [
       | then-is_none+in_ok-self w ↦
-          rw w.self-is (judged_row table breach first old rows c.args.row has _ _ (c.is_none.ensures ∙ ap not w.if-is_none.true) refl w.as_slice.ensures w.in_ok-self.ensures)
-      | else-is_none w ↦ rw w.self-is (passed_row table breach first old rows c.args.row has (c.is_none.ensures ∙ ap not w.if-is_none.false))
+          rw w.self-is (judged_row table violation first old rows c.args.row has _ _ (c.is_none.ensures ∙ ap not w.if-is_none.true) refl w.as_slice.ensures w.in_ok-self.ensures)
+      | else-is_none w ↦ rw w.self-is (passed_row table violation first old rows c.args.row has (c.is_none.ensures ∙ ap not w.if-is_none.false))
     ]

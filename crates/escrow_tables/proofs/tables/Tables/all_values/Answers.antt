@@ -23,4 +23,4 @@ returns-clause-told g c =
     rw (← c.self.view_is) (λ clean.
     by_table tables c.args.name counted named (λ (table : TableDef) (found : List (List Value)). found ≡ map (values_of table) (rows_of rows c.args.name)) c.all_values.result
     (rows_told tables c.args.name counted named (λ (rows : List Row). map (values_of counted.stored.table) rows)
-    (state g.S.Store c.self.inside.store) (state g.S.Store c.all_values.new.self) last c.all_values.result c.self.invariant c.all_values.ensures.looks.usable clean (c.all_values.ensures.told clean)))
+    (state g.S.Store c.self.inside.store) (state g.S.Store c.all_values.new.self) last c.all_values.result c.self.invariant c.all_values.ensures.only_reads.usable clean (c.all_values.ensures.told clean)))

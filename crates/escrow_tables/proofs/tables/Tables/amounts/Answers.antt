@@ -14,7 +14,7 @@ returns-clause-told g c =
     let named = named_at c.self.inside.tables.items c.args.name.now.table c.args.place c.index.result.now (rw (← c.self.view_is) at c.requires) c.index.ensures in
     rw (← c.self.view_is) (λ clean.
     row_told c.self.inside.tables.items c.args.name.now.table c.index.result.now named (option_map (λ (row : Row). row.amounts)) c.args.name.now.key
-    (state g.S.Store c.self.inside.store) (state g.S.Store c.amounts.new.self) (state g.S.Store c.self.inside.last.value) c.amounts.result c.self.invariant c.amounts.ensures.looks.usable clean (c.amounts.ensures.told clean))
+    (state g.S.Store c.self.inside.store) (state g.S.Store c.amounts.new.self) (state g.S.Store c.self.inside.last.value) c.amounts.result c.self.invariant c.amounts.ensures.only_reads.usable clean (c.amounts.ensures.told clean))
 
 pub returns-clause-many : goal.returns-clause-many
 returns-clause-many g c =

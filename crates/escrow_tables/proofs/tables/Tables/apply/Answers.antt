@@ -3,7 +3,7 @@ use Rattle.std.proofs.lemmas.Bool.{false≢true}
 use Rattle.std.proofs.lemmas.Result.{err_from_is_err_and}
 use Rattle.sqlite.specs.Held.{Held, state}
 use Rattle.escrow_schema.specs.Rows.{applied}
-use Rattle.escrow_cells.specs.Calls.{Alters}
+use Rattle.escrow_cells.specs.Calls.{Transacts}
 use Rattle.escrow_rows.specs.Changes.{PutsAmounts}
 use Rattle.escrow_rows.specs.View.{rows_in}
 use Rattle.escrow_tables.specs.Calls.{Writes}
@@ -26,7 +26,7 @@ written g c is_done later ok if_done if_not =
     let new = c.put_amounts.new.self in
     let made = rw (c.deref.ensures.value, ← c.as_slice.ensures.value) at c.in_ok-news.ensures in
     let given = rw (← c.self.view_is) at c.requires.given in
-    let it = subst (λ b. Alters (state g.S.Store old.store) (state g.S.Store new) b (PutsAmounts news)) ok c.put_amounts.ensures in (
+    let it = subst (λ b. Transacts (state g.S.Store old.store) (state g.S.Store new) b (PutsAmounts news)) ok c.put_amounts.ensures in (
       commits g.S.Store old.store new old.last.value later old.tables.items c.args.reservations.now news is_done c.self.invariant
           made.puts (λ clean. made.told _ (given clean)) it if_done if_not,
       keeps_committed g.S.Store old.store new old.last.value later old.tables.items c.args.reservations.now news is_done c.self.invariant

@@ -5,7 +5,7 @@ use Rattle.std.proofs.lemmas.Result.{err_from_is_err_and}
 use Rattle.sqlite.specs.Held.{Held, state}
 use Rattle.escrow_schema.specs.declared.table.TableDef.{TableDef}
 use Rattle.escrow_schema.specs.Catalog.{with_table}
-use Rattle.escrow_cells.specs.Calls.{Alters}
+use Rattle.escrow_cells.specs.Calls.{Transacts}
 use Rattle.escrow_rows.specs.Changes.{Creates}
 use Rattle.escrow_rows.specs.View.{rows_in}
 use Rattle.escrow_verify.specs.declared.counted_table.CountedTable.{CountedTable}
@@ -40,7 +40,7 @@ written g c is_done fields later ok if_done if_not =
     let counted = empty c.in-Some.id c.args.table in
     let old = c.self.inside.store in
     let new = c.create_table.new.self in
-    let it = subst (λ b. Alters (state g.S.Store old) (state g.S.Store new) b (Creates counted.stored)) ok c.create_table.ensures in (
+    let it = subst (λ b. Transacts (state g.S.Store old) (state g.S.Store new) b (Creates counted.stored)) ok c.create_table.ensures in (
       create_writes tables counted refl c.self.invariant.are_tables (is_new g c) g.S.Store old new c.self.inside.last.value later is_done it fields c.self.invariant if_done if_not,
       create_keeps tables counted refl c.self.invariant.are_tables (is_new g c) g.S.Store old new c.self.inside.last.value later is_done it fields c.self.invariant if_done if_not,
     )

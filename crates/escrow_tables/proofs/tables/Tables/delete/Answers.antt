@@ -6,7 +6,7 @@ use Rattle.sqlite.specs.Held.{Held, state}
 use Rattle.sqlite.specs.State.{HasCleanDisk}
 use Rattle.escrow_num.specs.declared.value.RowName.{RowName}
 use Rattle.escrow_schema.specs.Rows.{row_named, without_row}
-use Rattle.escrow_cells.specs.Calls.{Alters}
+use Rattle.escrow_cells.specs.Calls.{Transacts}
 use Rattle.escrow_rows.specs.Changes.{TurnsRows}
 use Rattle.escrow_rows.specs.View.{rows_in}
 use Rattle.escrow_tables.specs.Calls.{Writes}
@@ -47,7 +47,7 @@ written g c is_done count later ok if_done if_not =
     let old = c.self.inside.store in
     let new = c.delete.new.self in
     let at = placed g c in
-    let it = subst₂ (λ b (n : RowName). Alters (state g.S.Store old) (state g.S.Store new) b (TurnsRows counted.stored (without_row n))) ok (name_of tables name.table counted at.named name.key) c.delete.ensures in
+    let it = subst₂ (λ b (n : RowName). Transacts (state g.S.Store old) (state g.S.Store new) b (TurnsRows counted.stored (without_row n))) ok (name_of tables name.table counted at.named name.key) c.delete.ensures in
     row_written g.S.Store old new c.self.inside.last.value later tables name.table c.args.place counted at (without_row name) (counted.rows - 1) c.self.invariant (turned g c) is_done it count if_done if_not
 
 pub invariant_of-self : goal.invariant_of-self

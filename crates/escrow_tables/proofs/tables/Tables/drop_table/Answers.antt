@@ -3,7 +3,7 @@ use Rattle.std.proofs.lemmas.Bool.{false≢true}
 use Rattle.std.proofs.lemmas.Result.{err_from_is_err_and}
 use Rattle.sqlite.specs.Held.{Held, state}
 use Rattle.escrow_schema.specs.Catalog.{place_named, without_table}
-use Rattle.escrow_cells.specs.Calls.{Alters}
+use Rattle.escrow_cells.specs.Calls.{Transacts}
 use Rattle.escrow_rows.specs.Changes.{Drops}
 use Rattle.escrow_schema.specs.Rows.{without_rows_of}
 use Rattle.escrow_rows.specs.View.{rows_in}
@@ -29,7 +29,7 @@ written g c name at is_done fields later ok if_done if_not =
     let old = c.self.inside.store in
     let new = c.drop_table.new.self in
     let named = (is_placed tables name c.args.place counted at c.index.ensures).named in
-    let it = subst (λ b. Alters (state g.S.Store old) (state g.S.Store new) b (Drops counted.stored)) ok c.drop_table.ensures in (
+    let it = subst (λ b. Transacts (state g.S.Store old) (state g.S.Store new) b (Drops counted.stored)) ok c.drop_table.ensures in (
       drop_writes tables name counted named c.self.invariant.are_tables g.S.Store old new c.self.inside.last.value later is_done it fields c.self.invariant if_done if_not,
       drop_keeps tables name counted named c.self.invariant.are_tables g.S.Store old new c.self.inside.last.value later is_done it fields c.self.invariant if_done if_not,
     )

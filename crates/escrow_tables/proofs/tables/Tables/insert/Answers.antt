@@ -5,7 +5,7 @@ use Rattle.sqlite.specs.Held.{Held, state}
 use Rattle.sqlite.specs.State.{HasCleanDisk}
 use Rattle.std.specs.Prelude.{is_ok}
 use Rattle.escrow_schema.specs.Rows.{row_named, with_row, rows_of, HasTable}
-use Rattle.escrow_cells.specs.Calls.{Alters}
+use Rattle.escrow_cells.specs.Calls.{Transacts}
 use Rattle.escrow_rows.specs.Changes.{Inserts}
 use Rattle.escrow_rows.specs.View.{rows_in}
 use Rattle.escrow_schema.specs.declared.table.TheConstants.TableDef.{MAX_ROWS}
@@ -52,7 +52,7 @@ written g c is_done count later ok if_done if_not =
     let counted = c.index_mut-counted.result.now in
     let old = c.self.inside.store in
     let new = c.insert.new.self in
-    let it = subst (λ b. Alters (state g.S.Store old) (state g.S.Store new) b (Inserts counted.stored row)) ok c.insert.ensures in
+    let it = subst (λ b. Transacts (state g.S.Store old) (state g.S.Store new) b (Inserts counted.stored row)) ok c.insert.ensures in
     row_written g.S.Store old new c.self.inside.last.value later tables row.name.table c.args.place counted (placed g c) (with_row row) (min (counted.rows + 1) most) c.self.invariant (turned g c) is_done it count if_done if_not
 
 pub insert-requires : goal.insert-requires

@@ -8,7 +8,7 @@ invariant_of-result g c =
       are_tables = c.in-Ok.ensures.tables.0;
       is_catalog = c.in-Ok.ensures.tables.1;
       store = c.in-Ok.ensures.store;
-      looks = c.in-Ok.ensures.looks;
+      only_reads = c.in-Ok.ensures.only_reads;
     }))
 
 pub returns-in-Ok-clause-store : goal.returns-in-Ok-clause-store
@@ -17,5 +17,5 @@ returns-in-Ok-clause-store g c =
       are_tables = c.in-Ok.ensures.tables.0;
       is_catalog = c.in-Ok.ensures.tables.1;
       store = c.in-Ok.ensures.store;
-      looks = c.in-Ok.ensures.looks;
+      only_reads = c.in-Ok.ensures.only_reads;
     }))

@@ -4,7 +4,7 @@ use Rattle.std.proofs.lemmas.Result.{err_from_is_err_and}
 use Rattle.sqlite.specs.Held.{Held, state}
 use Rattle.escrow_schema.specs.Altered.{with_altered}
 use Rattle.escrow_schema.specs.Catalog.{place_named}
-use Rattle.escrow_cells.specs.Calls.{Alters}
+use Rattle.escrow_cells.specs.Calls.{Transacts}
 use Rattle.escrow_rows.specs.Changes.{Redefines}
 use Rattle.escrow_rows.specs.View.{rows_in}
 use Rattle.escrow_verify.specs.declared.counted_table.CountedTable.{CountedTable}
@@ -34,7 +34,7 @@ written g c is_done fields later ok if_done if_not =
     let alike = is_over tables c.args.place counted table at c.index_mut-counted.ensures.value (rw (← c.self.view_is) at c.requires.alike) in
     let catalog = c.self.invariant.is_catalog in
     let are = c.self.invariant.are_tables in
-    let it = subst (λ b. Alters (state g.S.Store old) (state g.S.Store new) b (Redefines counted.stored table.checks)) ok c.redefine.ensures in (
+    let it = subst (λ b. Transacts (state g.S.Store old) (state g.S.Store new) b (Redefines counted.stored table.checks)) ok c.redefine.ensures in (
       redefine_writes tables c.args.place counted table catalog c.requires.table at c.index_mut-counted.ensures.value alike are
           g.S.Store old new c.self.inside.last.value later is_done it fields c.self.invariant if_done if_not,
       redefine_keeps tables c.args.place counted table catalog c.requires.table at c.index_mut-counted.ensures.value alike are

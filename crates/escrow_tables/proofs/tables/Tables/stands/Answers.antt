@@ -8,4 +8,4 @@ returns-clause-told g c =
     let named = named_at c.self.inside.tables.items c.args.name.now.table c.args.place c.index.result.now (rw (← c.self.view_is) at c.requires) c.index.ensures in
     rw (← c.self.view_is) (λ clean.
     row_told c.self.inside.tables.items c.args.name.now.table c.index.result.now named is_some c.args.name.now.key
-    (state g.S.Store c.self.inside.store) (state g.S.Store c.stands.new.self) (state g.S.Store c.self.inside.last.value) c.stands.result c.self.invariant c.stands.ensures.looks.usable clean (c.stands.ensures.told clean))
+    (state g.S.Store c.self.inside.store) (state g.S.Store c.stands.new.self) (state g.S.Store c.self.inside.last.value) c.stands.result c.self.invariant c.stands.ensures.only_reads.usable clean (c.stands.ensures.told clean))

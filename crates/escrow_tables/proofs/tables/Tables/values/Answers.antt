@@ -22,4 +22,4 @@ returns-clause-told g c =
     rw (← c.self.view_is) (λ clean.
     by_table tables c.args.name.now.table counted named (λ (table : TableDef) (found : Option (List Value)). found ≡ option_map (values_of table) (row_named rows c.args.name.now)) c.values.result
     (row_told tables c.args.name.now.table counted named (option_map (values_of counted.stored.table)) c.args.name.now.key
-    (state g.S.Store c.self.inside.store) (state g.S.Store c.values.new.self) last c.values.result c.self.invariant c.values.ensures.looks.usable clean (c.values.ensures.told clean)))
+    (state g.S.Store c.self.inside.store) (state g.S.Store c.values.new.self) last c.values.result c.self.invariant c.values.ensures.only_reads.usable clean (c.values.ensures.told clean)))

@@ -12,7 +12,7 @@ returns-clause-meet g c = λ clean.
             are_tables = told.tables.0;
             is_catalog = told.tables.1;
             store = told.store;
-            looks = told.looks;
+            only_reads = told.only_reads;
           }) clean)
       | in-Err-Failed w ↦ rw w.result-is tt
       | in-Err-ForeignStore w ↦ rw w.result-is tt

@@ -1,20 +1,20 @@
--- The turns of SAVEPOINT and ROLLBACK TO.
+-- The transitions of SAVEPOINT and ROLLBACK TO.
 use Rattle.std.specs.Prelude.{◌≤◌, ℕ, List}
 use Rattle.std.proofs.Common.{refl, le_refl}
 use Rattle.escrow_sql.specs.declared.statement.Statement.TheVariants as statement
 use Rattle.escrow_machine.specs.Laws.{ShowsJust}
 use Rattle.escrow_machine.specs.State.{State}
-use Rattle.escrow_machine.specs.Turn.{turn_of, after_savepoint}
+use Rattle.escrow_machine.specs.Transition.{transition_of, after_savepoint}
 use Rattle.escrow_machine.proofs.Accepted.{savepoint_room}
 use Rattle.escrow_machine.proofs.Queries.{shows_just}
 use Rattle.escrow_machine.proofs.Refusals.{if_among}
 use Rattle.escrow_machine.proofs.ValidEnds.{returned_to, back_has, back_valid}
 use Rattle.escrow_machine.proofs.ValidSavepoint.{savepoint_valid}
-use Rattle.escrow_machine.proofs.TurnWords.{IsJudged, IsTurn}
+use Rattle.escrow_machine.proofs.TransitionWords.{IsJudged, IsTransition}
 
-pub savepoint_turn : (s : State) (session : ℕ) (name : List ℕ) → IsTurn s session (statement.Savepoint name) (turn_of s session (statement.Savepoint name))
-unfolding turn_of
-savepoint_turn s session name = record {
+pub savepoint_transition : (s : State) (session : ℕ) (name : List ℕ) → IsTransition s session (statement.Savepoint name) (transition_of s session (statement.Savepoint name))
+unfolding transition_of
+savepoint_transition s session name = record {
   answers = λ r e. absurd (cc);
   succeeds = refl;
   judged = (if_among IsJudged _ _ refl, tt);
@@ -25,9 +25,9 @@ savepoint_turn s session name = record {
   valid = λ accepted valid of_session. savepoint_valid s session name valid of_session (savepoint_room s session name accepted);
 }
 
-pub back_turn : (s : State) (session : ℕ) (name : List ℕ) → IsTurn s session (statement.RollbackTo name) (turn_of s session (statement.RollbackTo name))
-unfolding turn_of
-back_turn s session name =
+pub back_transition : (s : State) (session : ℕ) (name : List ℕ) → IsTransition s session (statement.RollbackTo name) (transition_of s session (statement.RollbackTo name))
+unfolding transition_of
+back_transition s session name =
     let Seen : State → Type 0 = λ t. ShowsJust t s.catalog s.rows in
     record {
       answers = λ r e. absurd (cc);

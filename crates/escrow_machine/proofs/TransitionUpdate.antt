@@ -1,4 +1,4 @@
--- The turn of an UPDATE, by its plan.
+-- The transition of an UPDATE, by its plan.
 use Rattle.std.specs.Prelude.{◌≡◌, ℕ, ℤ, ◌+◌, ◌≤◌, is_none, unwrap_or, option_map, Option, Some, None, List, [], ◌∷◌}
 use Rattle.std.proofs.Common.{refl, sym, arith, le_refl, ◌∙◌}
 use Rattle.escrow_num.specs.declared.refusal.Refusal.{Refusal}
@@ -12,12 +12,12 @@ use Rattle.escrow_schema.specs.declared.plan.Plan.{Plan}
 use Rattle.escrow_schema.specs.declared.plan.Plan.TheVariants as plan
 use Rattle.escrow_schema.specs.Catalog.{table_named}
 use Rattle.escrow_machine.specs.declared.reply.Reply.TheVariants as reply
-use Rattle.escrow_machine.specs.Asked.{plan_of, plan_refusal_of, row_name, reservation_from, breach_of}
+use Rattle.escrow_machine.specs.Asked.{plan_of, plan_refusal_of, row_name, reservation_from, violation_of}
 use Rattle.escrow_machine.specs.Accepted.{IsAccepted}
 use Rattle.escrow_machine.specs.State.{State, open_in}
 use Rattle.escrow_schema.specs.Rows.{with_plain}
 use Rattle.escrow_machine.specs.Step.{refusals}
-use Rattle.escrow_machine.specs.Turn.{Turn, turn_of, update_refusals, update_reply, after_update}
+use Rattle.escrow_machine.specs.Transition.{Transition, transition_of, update_refusals, update_reply, after_update}
 use Rattle.escrow_machine.specs.Valid.{IsValid}
 use Rattle.escrow_journal.proofs.Free.{grant_among}
 use Rattle.escrow_machine.proofs.Accepted.{plan_there, reserve_stands, plain_stands}
@@ -27,10 +27,10 @@ use Rattle.escrow_machine.proofs.Refusals.{if_among, check_among}
 use Rattle.escrow_schema.proofs.PlanLemmas.{plans_of_whole_row, plain_plans_fit}
 use Rattle.escrow_machine.proofs.ValidPlain.{plain_valid}
 use Rattle.escrow_machine.proofs.ValidUpdate.{update_valid}
-use Rattle.escrow_machine.proofs.TurnWords.{IsJudged, NeedsMore, IsTurn}
+use Rattle.escrow_machine.proofs.TransitionWords.{IsJudged, NeedsMore, IsTransition}
 
--- the turn of an UPDATE, by its plan
-abbrev update_by : State → ℕ → UpdateText → Option Plan → Turn
+-- the transition of an UPDATE, by its plan
+abbrev update_by : State → ℕ → UpdateText → Option Plan → Transition
 update_by s session text o = record {
   early = refuse_if (is_none (table_named s.catalog text.table)) refusal.NoSuchTable ∷ plan_refusal_of s text ∷ [];
   late = unwrap_or (option_map (update_refusals s session text.table) o) [];
@@ -63,10 +63,10 @@ no_plan : (s : State) (text : UpdateText) (late : List (Option Refusal)) → pla
     → ¬ (first_refusal (refuse_if (is_none (table_named s.catalog text.table)) refusal.NoSuchTable ∷ plan_refusal_of s text ∷ late) ≡ None)
 no_plan s text late none = λ accepted. let p = plan_there s text late accepted in let is : Some p.plan ≡ None = sym p.is ∙ none in absurd (cc)
 
-update_turn_by : (s : State) (session : ℕ) (text : UpdateText) (o : Option Plan) → plan_of s text ≡ o
+update_transition_by : (s : State) (session : ℕ) (text : UpdateText) (o : Option Plan) → plan_of s text ≡ o
     → (first_refusal (refusals (update_by s session text o)) ≡ None → IsAccepted s session (statement.Update text))
-    → IsTurn s session (statement.Update text) (update_by s session text o)
-update_turn_by s session text None is accepts = record {
+    → IsTransition s session (statement.Update text) (update_by s session text o)
+update_transition_by s session text None is accepts = record {
   answers = λ r e. absurd (cc);
   succeeds = refl;
   judged = (if_among IsJudged _ _ refl, (plan_among IsJudged s text refl refl refl, tt));
@@ -76,7 +76,7 @@ update_turn_by s session text None is accepts = record {
   next = λ _ id e. absurd (cc);
   valid = λ _ valid _. valid;
 }
-update_turn_by s session text (Some (plan.Reserve key changes)) is accepts = record {
+update_transition_by s session text (Some (plan.Reserve key changes)) is accepts = record {
   answers = λ r e. absurd (cc);
   succeeds = refl;
   judged = (
@@ -87,7 +87,7 @@ update_turn_by s session text (Some (plan.Reserve key changes)) is accepts = rec
         if_among IsJudged _ _ refl,
         (
           grant_among IsJudged session (open_in s) refl refl,
-          (check_among IsJudged (breach_of s (reservation_from s session (row_name text.table key) changes)) (λ _. refl), tt),
+          (check_among IsJudged (violation_of s (reservation_from s session (row_name text.table key) changes)) (λ _. refl), tt),
         ),
       ),
     ),
@@ -96,7 +96,7 @@ update_turn_by s session text (Some (plan.Reserve key changes)) is accepts = rec
     if_among (NeedsMore (statement.Update text)) _ _ refl,
     (
       grant_among (NeedsMore (statement.Update text)) session (open_in s) refl refl,
-      (check_among (NeedsMore (statement.Update text)) (breach_of s (reservation_from s session (row_name text.table key) changes)) (λ _. refl), tt),
+      (check_among (NeedsMore (statement.Update text)) (violation_of s (reservation_from s session (row_name text.table key) changes)) (λ _. refl), tt),
     ),
   );
   seen = λ _. (plan.Reserve key changes, is, shows_just (after_update s session text.table (plan.Reserve key changes)) s.catalog s.rows refl refl);
@@ -104,7 +104,7 @@ update_turn_by s session text (Some (plan.Reserve key changes)) is accepts = rec
   next = λ _ id answered. let same : id ≡ s.next_id = cc in (same, refl);
   valid = λ accepted valid of_session. reserved_valid s session text key changes valid of_session is (accepts accepted);
 }
-update_turn_by s session text (Some (plan.Plain key values)) is accepts = record {
+update_transition_by s session text (Some (plan.Plain key values)) is accepts = record {
   answers = λ r e. absurd (cc);
   succeeds = refl;
   judged = (
@@ -120,6 +120,6 @@ update_turn_by s session text (Some (plan.Plain key values)) is accepts = record
   valid = λ accepted valid _. replaced_valid s session text key values valid is (accepts accepted);
 }
 
-pub update_turn : (s : State) (session : ℕ) (text : UpdateText) → IsTurn s session (statement.Update text) (turn_of s session (statement.Update text))
-unfolding turn_of
-update_turn s session text = update_turn_by s session text (plan_of s text) refl (λ accepted. accepted)
+pub update_transition : (s : State) (session : ℕ) (text : UpdateText) → IsTransition s session (statement.Update text) (transition_of s session (statement.Update text))
+unfolding transition_of
+update_transition s session text = update_transition_by s session text (plan_of s text) refl (λ accepted. accepted)

@@ -10,7 +10,7 @@ use Rattle.escrow_stats.specs.declared.shown.Post.{Post}
 use Rattle.escrow_stats.specs.declared.shown.Shown.{Shown}
 use Rattle.escrow_stats.specs.declared.tally.Tally.{Tally}
 use Rattle.escrow_stats.specs.Tally.{tally_of}
-use Rattle.escrow_stats.specs.Watching.{IsAlwaysClean, IsFront, IsLegalFrom, replies_of}
+use Rattle.escrow_stats.specs.Watching.{IsAlwaysClean, IsPrefix, IsLegalFrom, replies_of}
 
 -- what is known at an end that is new
 abbrev pub newcomer : Known
@@ -23,11 +23,11 @@ pub record IsPostOf (start : Base) (all : List Entry) (p : Post) : Type 0 where
   pub count : p.count ≡ length all
 
 -- What is known at an end is true, where a board shows these entries, from a base, with so many doubts of the disk: the
--- base, and a front of the entries, for which there were no more doubts. An end that knows all entries knows all
+-- base, and a prefix of the entries, for which there were no more doubts. An end that knows all entries knows all
 -- doubts.
 pub record Holds (start : Base) (all : List Entry) (doubts : ℕ) (v : Known) : Type 0 where
   pub named : IfSome v.base (λ b. b ≡ start)
-  pub seen : IsFront v.shown all
+  pub seen : IsPrefix v.shown all
   pub fewer : v.doubts ≤ doubts
   pub last : length v.shown ≡ length all → doubts ≤ v.doubts
 
@@ -50,12 +50,12 @@ pub record Keeps {S : Type 0} (g : Ghosts S) (x : Shown) (views : List Known) : 
 abbrev pub IsNamed : Known → Shown → Shown → Known → Type 0
 IsNamed v x y w = w ≡ record { base = Some y.post.value.base.value.value; shown = v.shown; doubts = v.doubts; entries = v.entries }
 
--- one entry more is known at the end that writes, and a front of all is shown
+-- one entry more is known at the end that writes, and a prefix of all is shown
 pub record IsPublished (more : Entry) (doubts : ℕ) (v : Known) (x y : Shown) (w : Known) : Type 0 where
   pub named : w.base ≡ v.base
   pub entries : w.entries ≡ v.entries ++ more ∷ []
   pub count : length w.shown ≡ y.post.value.count
-  pub begins : IsFront w.shown w.entries
+  pub begins : IsPrefix w.shown w.entries
   pub fewer : w.doubts ≤ doubts
 
 -- what is shown was read: the totals of a list that begins with what had been seen, and is legal unless there are
@@ -65,7 +65,7 @@ pub record IsRead {S : Type 0} (g : Ghosts S) (v : Known) (x y : Shown) (w : Kno
   pub totals : y.totals ≡ tally_of (replies_of w.shown)
   pub legal : (start : Base) → v.base ≡ Some start → w.doubts ≡ 0 → IsLegalFrom start w.shown
   pub always : IsAlwaysClean g → w.doubts ≡ 0
-  pub longer : IsFront v.shown w.shown
+  pub longer : IsPrefix v.shown w.shown
   pub more : v.doubts ≤ w.doubts
 
 -- what the end that writes tells a new one, and what that then knows
@@ -77,12 +77,12 @@ acquainted v w = record { base = w.base; shown = v.shown; doubts = v.doubts; ent
 
 -- WHAT IS KEPT AT THE ENDS
 
--- at the end that writes: the base; all entries, and a front of them, as long as the list whose totals are shown
+-- at the end that writes: the base; all entries, and a prefix of them, as long as the list whose totals are shown
 pub record Writes (start : Base) (x : Shown) (v : Known) : Type 0 where
   pub named : v.base ≡ Some start
   pub shows : x.post.value.base.value.value ≡ start
   pub counted : length v.shown ≡ x.post.value.count
-  pub begins : IsFront v.shown v.entries
+  pub begins : IsPrefix v.shown v.entries
 
 -- what was posted and isn't shown: nothing, or the totals of these entries
 abbrev pub IsPosted : Base → List Entry → List Post → Type 0

@@ -11,12 +11,12 @@ use Rattle.escrow_sql.proofs.ClassLemmas.{same_class}
 use Rattle.escrow_sql.proofs.Heads.{SameHead, starts-same, same_behind}
 use Rattle.escrow_sql.proofs.Reading.{Read, items, items-none, items-unrolled, onto, and_then-Ok, Ok-same, run-shorter}
 
--- a front was taken and is of S, with this value; the same is taken whatever follows
+-- a prefix was taken and is of S, with this value; the same is taken whatever follows
 abbrev pub Took : {V : Type 0} → (List Token → Read V) → (List Token → V → Type 0) → List Token → V → List Token → Type 0
 Took read S ts v rest =
     (front : List Token) × (ts ≡ front ++ rest) × S front v × ((other : List Token) → SameHead rest other → read (front ++ other) ≡ Ok (v, other))
 
--- what is of S begins with a front, behind which reading stopped; it stops there whatever follows
+-- what is of S begins with a prefix, behind which reading stopped; it stops there whatever follows
 abbrev pub Stuck : {V : Type 0} → (List Token → Read V) → (List Token → V → Type 0) → List Token → List Token → Type 0
 Stuck {V} read S ts rest =
     (front : List Token) × (ts ≡ front ++ rest) × ((end : List Token) × (v : V) × S (front ++ end) v) × ((other : List Token) → SameHead rest other → read (front ++ other) ≡ Err other)

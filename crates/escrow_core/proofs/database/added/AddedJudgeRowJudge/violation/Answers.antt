@@ -1,10 +1,10 @@
 use Rattle.std.specs.Prelude.{◌≡◌, ◌+◌, ◌-◌}
 use Rattle.std.proofs.Common.{arith, sym, ◌∙◌}
 use Rattle.escrow_core.proofs.Altering.{free_judged, new_covered}
-use Rattle.escrow_core.proofs.database.added.AddedJudgeRowJudge.breach.Goals as goal
+use Rattle.escrow_core.proofs.database.added.AddedJudgeRowJudge.violation.Goals as goal
 
-pub first_breach-requires : goal.first_breach-requires
-first_breach-requires c =
+pub first_violation-requires : goal.first_violation-requires
+first_violation-requires c =
     let added = c.self.inside.added.now in
     let many = rw (← c.self.view_is) at c.requires.amounts in
     let count : added.first + added.count - added.first ≡ added.count = omega arith in
@@ -14,6 +14,6 @@ pub returns : goal.returns
 returns c =
     let added = c.self.inside.added.now in
     let count : added.first + added.count - added.first ≡ added.count = omega arith in
-    let is = rw (c.as_slice.ensures, c.as_slice-checks.ensures, count) at c.first_breach.ensures in
+    let is = rw (c.as_slice.ensures, c.as_slice-checks.ensures, count) at c.first_violation.ensures in
     rw (← c.self.view_is)
     (is ∙ sym (free_judged added c.self.inside.reserved.now c.self.inside.addition.now c.args.row.now c.self.invariant (sym c.is_reserved.ensures ∙ c.if-is_reserved.false)))

@@ -1,8 +1,8 @@
--- What each statement's turn is like, one lemma a statement: what the laws of steps rest on.
+-- What each statement's transition is like, one lemma a statement: what the laws of steps rest on.
 use Rattle.std.specs.Prelude.{◌≡◌, ℕ, ◌<◌, is_none, unwrap_or, option_map, option_and_then, IfSome, Option, Some, None, List, [], length}
 use Rattle.std.specs.List.{AllByRecursion}
 use Rattle.std.proofs.Common.{refl, sym, ap, subst, le_refl, ◌∙◌}
-use Rattle.escrow_num.specs.declared.refusal.Breach.{Breach}
+use Rattle.escrow_num.specs.declared.refusal.Violation.{Violation}
 use Rattle.escrow_num.specs.declared.refusal.Refusal.{Refusal}
 use Rattle.escrow_num.specs.declared.refusal.Refusal.TheVariants as refusal
 use Rattle.escrow_num.specs.declared.row.Row.{Row}
@@ -22,15 +22,15 @@ use Rattle.escrow_schema.specs.Catalog.{table_named, with_table, without_table}
 use Rattle.escrow_schema.specs.declared.table.TheConstants.TableDef.{MAX_ROWS}
 use Rattle.escrow_machine.specs.declared.reply.Reply.{Reply}
 use Rattle.escrow_machine.specs.declared.reply.Reply.TheVariants as reply
-use Rattle.escrow_machine.specs.Altered.{added_breach, drop_refusal_of, table_altered, after_alter}
-use Rattle.escrow_machine.specs.Asked.{new_row, insert_breach, named_by, select_reply, show_reply}
+use Rattle.escrow_machine.specs.Altered.{added_violation, drop_refusal_of, table_altered, after_alter}
+use Rattle.escrow_machine.specs.Asked.{new_row, insert_violation, named_by, select_reply, show_reply}
 use Rattle.escrow_machine.specs.Bounds.{bounds_in, bounds_reply}
 use Rattle.escrow_machine.specs.Reply.{failure_of}
 use Rattle.escrow_machine.specs.Accepted.{IsAccepted}
 use Rattle.escrow_journal.specs.Reservations.{own}
 use Rattle.escrow_machine.specs.State.{State}
 use Rattle.escrow_schema.specs.Rows.{row_named, rows_of, applied, with_row, without_row, without_rows_of}
-use Rattle.escrow_machine.specs.Turn.{turn_of, alter_refusals, after_create, after_drop, after_insert, after_delete, after_commit, after_rollback}
+use Rattle.escrow_machine.specs.Transition.{transition_of, alter_refusals, after_create, after_drop, after_insert, after_delete, after_commit, after_rollback}
 use Rattle.escrow_machine.specs.Valid.{IsValid}
 use Rattle.escrow_machine.proofs.Accepted.{create_stands, insert_stands, drop_stands, alter_stands, add_unbroken, delete_stands}
 use Rattle.escrow_machine.proofs.Plans.{key_among, select_among}
@@ -42,13 +42,13 @@ use Rattle.escrow_machine.proofs.ValidDelete.{delete_valid}
 use Rattle.escrow_machine.proofs.ValidDrop.{drop_valid}
 use Rattle.escrow_machine.proofs.ValidEnds.{commit_valid, rollback_valid}
 use Rattle.escrow_machine.proofs.ValidInsert.{insert_valid}
-use Rattle.escrow_machine.proofs.TurnSavepoints.{savepoint_turn, back_turn}
-use Rattle.escrow_machine.proofs.TurnWords.{IsJudged, NeedsMore, IsTurn}
-use Rattle.escrow_machine.proofs.TurnUpdate.{update_turn}
+use Rattle.escrow_machine.proofs.TransitionSavepoints.{savepoint_transition, back_transition}
+use Rattle.escrow_machine.proofs.TransitionWords.{IsJudged, NeedsMore, IsTransition}
+use Rattle.escrow_machine.proofs.TransitionUpdate.{update_transition}
 
-create_turn : (s : State) (session : ℕ) (text : CreateText) → IsTurn s session (statement.Create text) (turn_of s session (statement.Create text))
-unfolding turn_of
-create_turn s session text = record {
+create_transition : (s : State) (session : ℕ) (text : CreateText) → IsTransition s session (statement.Create text) (transition_of s session (statement.Create text))
+unfolding transition_of
+create_transition s session text = record {
   answers = λ r e. absurd (cc);
   succeeds = refl;
   judged = (if_among IsJudged _ _ refl, (if_among IsJudged _ _ refl, (if_among IsJudged _ _ refl, (if_among IsJudged _ _ refl, tt))));
@@ -63,9 +63,9 @@ create_turn s session text = record {
       rw stands.defines (create_valid s text stands.table valid stands.defines stands.new stands.room);
 }
 
-drop_turn : (s : State) (session : ℕ) (name : List ℕ) → IsTurn s session (statement.Drop name) (turn_of s session (statement.Drop name))
-unfolding turn_of
-drop_turn s session name = record {
+drop_transition : (s : State) (session : ℕ) (name : List ℕ) → IsTransition s session (statement.Drop name) (transition_of s session (statement.Drop name))
+unfolding transition_of
+drop_transition s session name = record {
   answers = λ r e. absurd (cc);
   succeeds = refl;
   judged = (if_among IsJudged _ _ refl, (if_among IsJudged _ _ refl, (if_among IsJudged _ _ refl, tt)));
@@ -81,9 +81,9 @@ lacking_among : (P : Refusal → Type 0) (s : State) (name : List ℕ) (asked : 
 lacking_among P s name (change.Add text) lacking = tt
 lacking_among P s name (change.Drop check) lacking = if_among P _ _ lacking
 
-alter_among : (P : Refusal → Type 0) (s : State) (name : List ℕ) (asked : TableChange) → P refusal.BadDefinition → ((breach : Breach) → P (refusal.Check breach))
+alter_among : (P : Refusal → Type 0) (s : State) (name : List ℕ) (asked : TableChange) → P refusal.BadDefinition → ((violation : Violation) → P (refusal.Check violation))
     → AllByRecursion (λ o. IfSome o P) (alter_refusals s name asked)
-alter_among P s name (change.Add text) bad breaks = (if_among P _ _ bad, (check_among P (added_breach s name text) breaks, tt))
+alter_among P s name (change.Add text) bad breaks = (if_among P _ _ bad, (check_among P (added_violation s name text) breaks, tt))
 alter_among P s name (change.Drop check) bad breaks = tt
 
 -- a table that is altered leaves the state valid
@@ -94,9 +94,9 @@ altered_valid s name (change.Add text) table made valid named makes safe =
 altered_valid s name (change.Drop check) table made valid named makes safe =
     drop_check_valid s name check table made valid named (ap (option_and_then (λ (t : TableDef). without_check t check)) (sym named) ∙ makes)
 
-alter_turn : (s : State) (session : ℕ) (text : AlterText) → IsTurn s session (statement.Alter text) (turn_of s session (statement.Alter text))
-unfolding turn_of
-alter_turn s session text = record {
+alter_transition : (s : State) (session : ℕ) (text : AlterText) → IsTransition s session (statement.Alter text) (transition_of s session (statement.Alter text))
+unfolding transition_of
+alter_transition s session text = record {
   answers = λ r e. absurd (cc);
   succeeds = refl;
   judged = (
@@ -137,9 +137,9 @@ inserted_valid s session text row valid accepted made =
     subst (λ (r : Row). IsValid (record s { rows = with_row r s.rows })) same
     (insert_valid s stands.table text stands.row valid named stands.fits stands.new room stands.safe)
 
-insert_turn : (s : State) (session : ℕ) (text : InsertText) → IsTurn s session (statement.Insert text) (turn_of s session (statement.Insert text))
-unfolding turn_of
-insert_turn s session text = record {
+insert_transition : (s : State) (session : ℕ) (text : InsertText) → IsTransition s session (statement.Insert text) (transition_of s session (statement.Insert text))
+unfolding transition_of
+insert_transition s session text = record {
   answers = λ r e. absurd (cc);
   succeeds = refl;
   judged = (
@@ -148,7 +148,7 @@ insert_turn s session text = record {
       if_among IsJudged _ _ refl,
       (
         if_among IsJudged _ _ refl,
-        (if_among IsJudged _ _ refl, (if_among IsJudged _ _ refl, (check_among IsJudged (insert_breach s text) (λ _. refl), tt))),
+        (if_among IsJudged _ _ refl, (if_among IsJudged _ _ refl, (check_among IsJudged (insert_violation s text) (λ _. refl), tt))),
       ),
     ),
   );
@@ -156,7 +156,7 @@ insert_turn s session text = record {
     if_among (NeedsMore (statement.Insert text)) _ _ refl,
     (
       if_among (NeedsMore (statement.Insert text)) _ _ refl,
-      (check_among (NeedsMore (statement.Insert text)) (insert_breach s text) (λ _. refl), tt),
+      (check_among (NeedsMore (statement.Insert text)) (insert_violation s text) (λ _. refl), tt),
     ),
   );
   seen = λ accepted.
@@ -169,9 +169,9 @@ insert_turn s session text = record {
       rw stands.made (inserted_valid s session text stands.row valid accepted stands.made);
 }
 
-delete_turn : (s : State) (session : ℕ) (text : RowText) → IsTurn s session (statement.Delete text) (turn_of s session (statement.Delete text))
-unfolding turn_of
-delete_turn s session text = record {
+delete_transition : (s : State) (session : ℕ) (text : RowText) → IsTransition s session (statement.Delete text) (transition_of s session (statement.Delete text))
+unfolding transition_of
+delete_transition s session text = record {
   answers = λ r e. absurd (cc);
   succeeds = refl;
   judged = (
@@ -220,9 +220,9 @@ bounds_show s text =
     shown_of_row IsShow (λ table row. bounds_in s.reservations table row.name row.amounts) (table_named s.catalog text.table) (row_named s.rows (named_by s.catalog text.table text.row)) (reply.Bounds [] [])
     (λ r e. absurd (cc), refl, λ id e. absurd (cc)) (λ table row. (λ r e. absurd (cc), refl, λ id e. absurd (cc)))
 
-select_turn : (s : State) (session : ℕ) (text : SelectText) → IsTurn s session (statement.Select text) (turn_of s session (statement.Select text))
-unfolding turn_of
-select_turn s session text =
+select_transition : (s : State) (session : ℕ) (text : SelectText) → IsTransition s session (statement.Select text) (transition_of s session (statement.Select text))
+unfolding transition_of
+select_transition s session text =
     let shows = select_shows s text in
     record {
       answers = shows.0;
@@ -235,9 +235,9 @@ select_turn s session text =
       valid = λ _ valid _. valid;
     }
 
-show_turn : (s : State) (session : ℕ) (name : List ℕ) → IsTurn s session (statement.ShowTable name) (turn_of s session (statement.ShowTable name))
-unfolding turn_of
-show_turn s session name =
+show_transition : (s : State) (session : ℕ) (name : List ℕ) → IsTransition s session (statement.ShowTable name) (transition_of s session (statement.ShowTable name))
+unfolding transition_of
+show_transition s session name =
     let shows = table_shows s name in
     record {
       answers = shows.0;
@@ -250,9 +250,9 @@ show_turn s session name =
       valid = λ _ valid _. valid;
     }
 
-bounds_turn : (s : State) (session : ℕ) (text : RowText) → IsTurn s session (statement.ShowBounds text) (turn_of s session (statement.ShowBounds text))
-unfolding turn_of
-bounds_turn s session text =
+bounds_transition : (s : State) (session : ℕ) (text : RowText) → IsTransition s session (statement.ShowBounds text) (transition_of s session (statement.ShowBounds text))
+unfolding transition_of
+bounds_transition s session text =
     let shows = bounds_show s text in
     record {
       answers = shows.0;
@@ -270,9 +270,9 @@ journal_among : (s : State) (table : Option (List ℕ)) → IfSome (option_and_t
 journal_among s None = tt
 journal_among s (Some name) = if_among IsJudged _ _ refl
 
-journal_turn : (s : State) (session : ℕ) (table : Option (List ℕ)) → IsTurn s session (statement.ShowJournal table) (turn_of s session (statement.ShowJournal table))
-unfolding turn_of
-journal_turn s session table = record {
+journal_transition : (s : State) (session : ℕ) (table : Option (List ℕ)) → IsTransition s session (statement.ShowJournal table) (transition_of s session (statement.ShowJournal table))
+unfolding transition_of
+journal_transition s session table = record {
   answers = λ r e. absurd (cc);
   succeeds = refl;
   judged = (journal_among s table, tt);
@@ -283,9 +283,9 @@ journal_turn s session table = record {
   valid = λ _ valid _. valid;
 }
 
-commit_turn : (s : State) (session : ℕ) → IsTurn s session statement.Commit (turn_of s session statement.Commit)
-unfolding turn_of
-commit_turn s session = record {
+commit_transition : (s : State) (session : ℕ) → IsTransition s session statement.Commit (transition_of s session statement.Commit)
+unfolding transition_of
+commit_transition s session = record {
   answers = λ r e. absurd (cc);
   succeeds = refl;
   judged = tt;
@@ -296,9 +296,9 @@ commit_turn s session = record {
   valid = λ _ valid _. commit_valid s session valid;
 }
 
-rollback_turn : (s : State) (session : ℕ) → IsTurn s session statement.Rollback (turn_of s session statement.Rollback)
-unfolding turn_of
-rollback_turn s session = record {
+rollback_transition : (s : State) (session : ℕ) → IsTransition s session statement.Rollback (transition_of s session statement.Rollback)
+unfolding transition_of
+rollback_transition s session = record {
   answers = λ r e. absurd (cc);
   succeeds = refl;
   judged = tt;
@@ -310,18 +310,18 @@ rollback_turn s session = record {
 }
 
 -- THE TURNS
-pub is_turn : (s : State) (session : ℕ) (asked : Statement) → IsTurn s session asked (turn_of s session asked)
-is_turn s session (statement.Create text) = create_turn s session text
-is_turn s session (statement.Drop name) = drop_turn s session name
-is_turn s session (statement.Alter text) = alter_turn s session text
-is_turn s session (statement.Insert text) = insert_turn s session text
-is_turn s session (statement.Update text) = update_turn s session text
-is_turn s session (statement.Delete text) = delete_turn s session text
-is_turn s session (statement.Select text) = select_turn s session text
-is_turn s session (statement.ShowTable name) = show_turn s session name
-is_turn s session (statement.ShowJournal table) = journal_turn s session table
-is_turn s session (statement.ShowBounds text) = bounds_turn s session text
-is_turn s session (statement.Savepoint name) = savepoint_turn s session name
-is_turn s session statement.Commit = commit_turn s session
-is_turn s session statement.Rollback = rollback_turn s session
-is_turn s session (statement.RollbackTo name) = back_turn s session name
+pub is_transition : (s : State) (session : ℕ) (asked : Statement) → IsTransition s session asked (transition_of s session asked)
+is_transition s session (statement.Create text) = create_transition s session text
+is_transition s session (statement.Drop name) = drop_transition s session name
+is_transition s session (statement.Alter text) = alter_transition s session text
+is_transition s session (statement.Insert text) = insert_transition s session text
+is_transition s session (statement.Update text) = update_transition s session text
+is_transition s session (statement.Delete text) = delete_transition s session text
+is_transition s session (statement.Select text) = select_transition s session text
+is_transition s session (statement.ShowTable name) = show_transition s session name
+is_transition s session (statement.ShowJournal table) = journal_transition s session table
+is_transition s session (statement.ShowBounds text) = bounds_transition s session text
+is_transition s session (statement.Savepoint name) = savepoint_transition s session name
+is_transition s session statement.Commit = commit_transition s session
+is_transition s session statement.Rollback = rollback_transition s session
+is_transition s session (statement.RollbackTo name) = back_transition s session name

@@ -21,8 +21,8 @@ use Rattle.escrow_schema.specs.Definition.{definition_of}
 use Rattle.escrow_schema.specs.declared.table.TheConstants.TableDef.{MAX_ROWS}
 use Rattle.escrow_machine.specs.declared.reply.Reply.{Reply}
 use Rattle.escrow_machine.specs.declared.reply.Reply.TheVariants as reply
-use Rattle.escrow_machine.specs.Altered.{table_with_check, added_breach, drop_refusal_of, table_altered, after_alter}
-use Rattle.escrow_machine.specs.Asked.{new_row, insert_breach, plan_of, plan_refusal_of, row_name, reservation_from, breach_of, named_by, key_refusal_of, select_refusal_of, select_reply, show_reply}
+use Rattle.escrow_machine.specs.Altered.{table_with_check, added_violation, drop_refusal_of, table_altered, after_alter}
+use Rattle.escrow_machine.specs.Asked.{new_row, insert_violation, plan_of, plan_refusal_of, row_name, reservation_from, violation_of, named_by, key_refusal_of, select_refusal_of, select_reply, show_reply}
 use Rattle.escrow_machine.specs.Bounds.{bounds_reply}
 use Rattle.escrow_machine.specs.Journal.{journal_reply}
 use Rattle.escrow_machine.specs.State.{State, open_in, with_open, is_open, is_reserved, is_table_reserved}
@@ -30,7 +30,7 @@ use Rattle.escrow_schema.specs.Rows.{row_named, rows_of, applied, with_row, with
 
 -- How the machine takes a statement of a session: its refusals in their order, first those that are
 -- answered whatever memory there is; the reply and the next state where none of them applies.
-pub record Turn : Type 0 where
+pub record Transition : Type 0 where
   pub early : List (Option Refusal)
   pub late : List (Option Refusal)
   pub reply : Reply
@@ -56,7 +56,7 @@ after_delete s text = record s { rows = without_row (named_by s.catalog text.tab
 abbrev pub alter_refusals : State → List ℕ → TableChange → List (Option Refusal)
 alter_refusals s table (change.Add text) =
     refuse_if (is_none (table_with_check s table text)) refusal.BadDefinition
-    ∷ option_map refusal.Check (added_breach s table text)
+    ∷ option_map refusal.Check (added_violation s table text)
     ∷ []
 alter_refusals s table (change.Drop check) = []
 
@@ -65,7 +65,7 @@ abbrev pub update_refusals : State → ℕ → List ℕ → Plan → List (Optio
 update_refusals s session table (plan.Reserve key changes) =
     refuse_if (is_none (row_named s.rows (row_name table key))) refusal.NoSuchRow
     ∷ grant_refusal session (open_in s)
-    ∷ option_map refusal.Check (breach_of s (reservation_from s session (row_name table key) changes))
+    ∷ option_map refusal.Check (violation_of s (reservation_from s session (row_name table key) changes))
     ∷ []
 update_refusals s session table (plan.Plain key values) =
     refuse_if (is_open session s) refusal.TransactionOpen
@@ -98,9 +98,9 @@ after_savepoint s session name = with_open s (saved session name (open_in s))
 abbrev pub after_rollback_to : State → ℕ → List ℕ → State
 after_rollback_to s session name = with_open s (cut_back session name (open_in s))
 
--- THE TABLE OF STATEMENTS: the turn of each
-unfoldable pub turn_of : State → ℕ → Statement → Turn
-turn_of s session (statement.Create text) = record {
+-- THE TABLE OF STATEMENTS: the transition of each
+unfoldable pub transition_of : State → ℕ → Statement → Transition
+transition_of s session (statement.Create text) = record {
   early = refuse_if (is_open session s) refusal.TransactionOpen
       ∷ refuse_if (is_some (table_named s.catalog text.table)) refusal.TableExists
       ∷ [];
@@ -110,7 +110,7 @@ turn_of s session (statement.Create text) = record {
   reply = reply.Created text.table;
   next = after_create s text;
 }
-turn_of s session (statement.Drop name) = record {
+transition_of s session (statement.Drop name) = record {
   early = refuse_if (is_open session s) refusal.TransactionOpen
       ∷ refuse_if (is_none (table_named s.catalog name)) refusal.NoSuchTable
       ∷ refuse_if (is_table_reserved s name) refusal.TableReserved
@@ -119,7 +119,7 @@ turn_of s session (statement.Drop name) = record {
   reply = reply.Dropped name;
   next = after_drop s name;
 }
-turn_of s session (statement.Alter text) = record {
+transition_of s session (statement.Alter text) = record {
   early = refuse_if (is_open session s) refusal.TransactionOpen
       ∷ refuse_if (is_none (table_named s.catalog text.table)) refusal.NoSuchTable
       ∷ drop_refusal_of s text.table text.change
@@ -128,20 +128,20 @@ turn_of s session (statement.Alter text) = record {
   reply = reply.Altered text.table;
   next = after_alter s (table_altered s text.table text.change);
 }
-turn_of s session (statement.Insert text) = record {
+transition_of s session (statement.Insert text) = record {
   early = refuse_if (is_open session s) refusal.TransactionOpen
       ∷ refuse_if (is_none (table_named s.catalog text.table)) refusal.NoSuchTable
       ∷ refuse_if (is_none (new_row s text)) refusal.BadValue
       ∷ [];
   late = refuse_if (is_some (option_and_then (λ row. row_named s.rows row.name) (new_row s text))) refusal.RowExists
       ∷ refuse_if (nat_le MAX_ROWS (length (rows_of s.rows text.table))) refusal.TableFull
-      ∷ option_map refusal.Check (insert_breach s text)
+      ∷ option_map refusal.Check (insert_violation s text)
       ∷ [];
   reply = reply.Inserted;
   next = after_insert s text;
 }
 -- an UPDATE without a plan is refused early
-turn_of s session (statement.Update text) = record {
+transition_of s session (statement.Update text) = record {
   early = refuse_if (is_none (table_named s.catalog text.table)) refusal.NoSuchTable
       ∷ plan_refusal_of s text
       ∷ [];
@@ -149,7 +149,7 @@ turn_of s session (statement.Update text) = record {
   reply = unwrap_or (option_map (update_reply s) (plan_of s text)) reply.Updated;
   next = unwrap_or (option_map (after_update s session text.table) (plan_of s text)) s;
 }
-turn_of s session (statement.Delete text) = record {
+transition_of s session (statement.Delete text) = record {
   early = refuse_if (is_open session s) refusal.TransactionOpen
       ∷ refuse_if (is_none (table_named s.catalog text.table)) refusal.NoSuchTable
       ∷ key_refusal_of s text.table text.row
@@ -160,7 +160,7 @@ turn_of s session (statement.Delete text) = record {
   reply = reply.Deleted;
   next = after_delete s text;
 }
-turn_of s session (statement.Select text) = record {
+transition_of s session (statement.Select text) = record {
   early = refuse_if (is_none (table_named s.catalog text.table)) refusal.NoSuchTable
       ∷ select_refusal_of s text
       ∷ [];
@@ -168,14 +168,14 @@ turn_of s session (statement.Select text) = record {
   reply = select_reply s text;
   next = s;
 }
-turn_of s session (statement.ShowTable name) = record {
+transition_of s session (statement.ShowTable name) = record {
   early = refuse_if (is_none (table_named s.catalog name)) refusal.NoSuchTable
       ∷ [];
   late = [];
   reply = show_reply s name;
   next = s;
 }
-turn_of s session (statement.ShowBounds text) = record {
+transition_of s session (statement.ShowBounds text) = record {
   early = refuse_if (is_none (table_named s.catalog text.table)) refusal.NoSuchTable
       ∷ key_refusal_of s text.table text.row
       ∷ [];
@@ -184,33 +184,33 @@ turn_of s session (statement.ShowBounds text) = record {
   reply = bounds_reply s text;
   next = s;
 }
-turn_of s session (statement.ShowJournal table) = record {
+transition_of s session (statement.ShowJournal table) = record {
   early = option_and_then (λ name. refuse_if (is_none (table_named s.catalog name)) refusal.NoSuchTable) table
       ∷ [];
   late = [];
   reply = journal_reply s table;
   next = s;
 }
-turn_of s session (statement.Savepoint name) = record {
+transition_of s session (statement.Savepoint name) = record {
   early = savepoint_refusal session name (open_in s)
       ∷ [];
   late = [];
   reply = reply.Savepoint name;
   next = after_savepoint s session name;
 }
-turn_of s session statement.Commit = record {
+transition_of s session statement.Commit = record {
   early = [];
   late = [];
   reply = reply.Committed (length (own session s.reservations));
   next = after_commit s session;
 }
-turn_of s session statement.Rollback = record {
+transition_of s session statement.Rollback = record {
   early = [];
   late = [];
   reply = reply.RolledBack (length (own session s.reservations));
   next = after_rollback s session;
 }
-turn_of s session (statement.RollbackTo name) = record {
+transition_of s session (statement.RollbackTo name) = record {
   early = refuse_if (is_none (savepoint_of session name s.savepoints)) refusal.NoSuchSavepoint
       ∷ [];
   late = [];

@@ -5,24 +5,24 @@ ghost use Rattle.escrow_checks.specs.Form.{IsCovered};
 ghost use Rattle.escrow_checks.specs.Grant.{broken};
 
 use escrow_checks::{Check, Sparse, Spread};
-use escrow_num::{Amount, Breach};
+use escrow_num::{Amount, Violation};
 
 /// What changes of such a row's amounts break of the first check, in the table's order, that they can
 /// break, or `None`. With no changes it is what the amounts break.
-pub(crate) fn first_breach(
+pub(crate) fn first_violation(
     checks: &[Check],
     amounts: &[Amount],
     changes: &[Amount],
-) -> Option<Breach>
+) -> Option<Violation>
     requires { AllByRecursion (λ check. IsCovered check.coeffs amounts.now) checks.now }
     ensures { result ≡ broken checks.now amounts.now changes.now [] }
 {
     let row = Sparse::of(amounts);
     let listed = Sparse::of(changes);
     for check in checks {
-        let breach = check.breach_from(check.form_of(&row), &listed, &Spread::new());
-        if breach.is_some() {
-            return breach;
+        let violation = check.violation_from(check.form_of(&row), &listed, &Spread::new());
+        if violation.is_some() {
+            return violation;
         }
     }
     None

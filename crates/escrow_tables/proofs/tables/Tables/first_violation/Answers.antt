@@ -2,15 +2,15 @@ use Rattle.std.proofs.Common.{◌≡◌, Option, None, Result, Ok, ap, sym, ◌�
 use Rattle.std.proofs.lemmas.Option.{same_Some}
 use Rattle.sqlite.specs.Held.{state}
 use Rattle.escrow_num.specs.declared.failure.Failure.{Failure}
-use Rattle.escrow_num.specs.declared.refusal.Breach.{Breach}
-use Rattle.escrow_tables.specs.Judged.{first_breach}
+use Rattle.escrow_num.specs.declared.refusal.Violation.{Violation}
+use Rattle.escrow_tables.specs.Judged.{first_violation}
 use Rattle.escrow_tables.specs.declared.judged.RowsJudged.{RowsJudged}
 use Rattle.escrow_tables.proofs.AtPlace.{named_at, rows_told}
 use Rattle.escrow_tables.proofs.JudgedRows.{judged_told}
 use Rattle.escrow_tables.proofs.Named.{IsNamed, named_is_table}
-use Rattle.escrow_tables.proofs.tables.Tables.first_breach.Given as given
-use Rattle.escrow_tables.proofs.tables.Tables.first_breach.Goals as goal
-use Rattle.escrow_tables.proofs.tables.Tables.first_breach.Goals.{After-index}
+use Rattle.escrow_tables.proofs.tables.Tables.first_violation.Given as given
+use Rattle.escrow_tables.proofs.tables.Tables.first_violation.Goals as goal
+use Rattle.escrow_tables.proofs.tables.Tables.first_violation.Goals.{After-index}
 
 -- what stands at the place is the table of the name
 named : (g : given.Over) (c : After-index g) → IsNamed c.self.inside.tables.items c.args.name c.index.result.now
@@ -36,13 +36,13 @@ returns-clause-told g c =
     let tables = c.self.inside.tables.items in
     let counted = c.index.result.now in
     let table = g.J.RowJudge.table in
-    let breach = g.J.RowJudge.breach in
+    let violation = g.J.RowJudge.violation in
     let old = state g.S.Store c.self.inside.store in
     let is_table = named_is_table tables c.args.name counted c.self.invariant.is_catalog (named g after) in
     let taker : RowsJudged g.row.J.Denot = record { alloc = c.args.alloc; judged = c.new.result; found = None } in
-    let found : Result (Option Breach) Failure = Ok c.in-Some.taker.found in
+    let found : Result (Option Violation) Failure = Ok c.in-Some.taker.found in
     rw (← c.self.view_is, ← c.new.ensures) (λ clean.
     let read = rw c.in-Some.is at c.in_ok-taker.ensures.read clean in
-    rows_told tables c.args.name counted (named g after) (first_breach (breach c.new.result)) old (state g.S.Store c.read_rows.new.self) (state g.S.Store c.self.inside.last.value) found
-    c.self.invariant c.read_rows.ensures.looks.usable clean
-    (read.0, judged_told table breach counted.stored old.now taker c.in-Some.taker is_table (own g after ∙ ap table (sym c.new.ensures)) refl read.1))
+    rows_told tables c.args.name counted (named g after) (first_violation (violation c.new.result)) old (state g.S.Store c.read_rows.new.self) (state g.S.Store c.self.inside.last.value) found
+    c.self.invariant c.read_rows.ensures.only_reads.usable clean
+    (read.0, judged_told table violation counted.stored old.now taker c.in-Some.taker is_table (own g after ∙ ap table (sym c.new.ensures)) refl read.1))

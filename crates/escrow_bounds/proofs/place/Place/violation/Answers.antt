@@ -2,7 +2,7 @@ use Rattle.std.proofs.Common.{◌≡◌, ◌+◌, ◌-◌, List, [], ap, ◌∙�
 use Rattle.escrow_checks.specs.declared.check.Check.{Check}
 use Rattle.escrow_checks.specs.Grant.{broken}
 use Rattle.escrow_bounds.proofs.Altering.{some_values, some_covered, some_sums, some_checks}
-use Rattle.escrow_bounds.proofs.place.Place.breach.Goals as goal
+use Rattle.escrow_bounds.proofs.place.Place.violation.Goals as goal
 
 pub returns : goal.returns
 returns c =
@@ -11,7 +11,7 @@ returns c =
     let amounts = c.self.inside.amounts.items in
     let forms = c.self.inside.checks.items in
     let n : first + count - first ≡ count = omega arith in
-    let found = rw (n, c.deref.ensures.value, c.deref-2.ensures.value) at c.first_breach.ensures in
+    let found = rw (n, c.deref.ensures.value, c.deref-2.ensures.value) at c.first_violation.ensures in
     rw (← c.self.view_is) (λ reservations counts.
     found amounts reservations (some_values forms amounts c.self.inside.values.items first count c.self.invariant.1) (some_covered forms amounts first count c.self.invariant.0.covered) (some_sums forms reservations first count counts.1)
     ∙ ap (λ (checks : List Check). broken checks amounts [] reservations) (some_checks forms first count))

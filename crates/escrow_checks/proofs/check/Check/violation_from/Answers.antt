@@ -1,7 +1,7 @@
 use Rattle.std.proofs.Common.{◌≡◌, ◌+ℤ◌, Some, None, ap₂, ◌∙◌, sym}
 use Rattle.escrow_checks.specs.Form.{form}
 use Rattle.escrow_checks.proofs.ExtremesLemmas.{broken_by_spread}
-use Rattle.escrow_checks.proofs.check.Check.breach_from.Goals as goal
+use Rattle.escrow_checks.proofs.check.Check.violation_from.Goals as goal
 
 pub returns-in_err-side : goal.returns-in_err-side
 returns-in_err-side c = λ amounts reservations at covered known.
