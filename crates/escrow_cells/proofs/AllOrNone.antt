@@ -57,6 +57,11 @@ module _ (A B C : Database → Database → Type 0) (joined : (x y z : Database)
         made = λ clean. joined _ _ _ (before.made (was clean)) (one.done refl clean (before.inside (was clean))).1;
       }
 
+-- a call is the first in a transaction that had just begun
+pub goes_first : {S : Type 0} (g : Ghosts S) (old start : Held S) (last : State) (Makes : Database → Database → Type 0) → start ≡ record old { in_transaction = true } → Acts (state g start) last true Makes → GoesOn Makes (state g old) last
+goes_first g old start last Makes is acts =
+    goes_then ◌≡◌ Makes Makes (λ x y z same makes. subst (λ (db : Database). Makes db z) (sym same) makes) (state g old) _ last (begun g old ◌≡◌ (λ _. refl)) (rw is at acts)
+
 -- more steps are done after those before them
 pub goes_on : (done more : List Step) (old mid new : State) → GoesOn (Does done) old mid → Acts mid new true (Does more) → GoesOn (Does (done ++ more)) old new
 goes_on done more old mid new before one = goes_then (Does done) (Does more) _ (λ x y z. does_more done more x y z) old mid new before one

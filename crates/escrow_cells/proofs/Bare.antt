@@ -8,7 +8,7 @@ use Rattle.sqlite_resolve.specs.declared.error.CompileError.{CompileError}
 use Rattle.sqlite_resolve.specs.Compile.{compiled, planned, meaning, first, returning, with_command}
 use Rattle.sqlite_resolve.specs.Lowering.{Checked, and_then}
 use Rattle.sqlite.specs.Listing.{understood, reads_listing, if_select, is_select, listing_schema}
-use Rattle.escrow_cells.specs.Query.{OnlyReads}
+use Rattle.escrow_cells.specs.Query.{IsReading}
 
 -- the grammar reads a statement that has no RETURNING
 abbrev pub IsBareRead : Checked Parsed → Type 0
@@ -46,5 +46,5 @@ understood_bare schema text h =
       | false ↦ compiled_bare schema text h
     ]
 
-pub only_reads : (text : List ℕ) → IsBareRead (first text) → OnlyReads text
-only_reads text h schema c is = subst HasNoReturning is (understood_bare schema text h)
+pub is_reading : (text : List ℕ) → IsBareRead (first text) → IsReading text
+is_reading text h schema c is = subst HasNoReturning is (understood_bare schema text h)

@@ -1,7 +1,6 @@
 -- What the three CREATEs make, and the row of META.
 use Rattle.std.proofs.Common.{◌≡◌, ℕ, Bool, true, false, List, [], None, Ok, refl, sym, ap, subst, ◌∙◌}
 use Rattle.std.specs.List.{AllByRecursion}
-use Rattle.sqlite_trees.specs.declared.store.Store.{Ghosts}
 use Rattle.sqlite_trees.proofs.ListLemmas.{all-append, all_both}
 use Rattle.sqlite_schema.specs.declared.schema.Table.{Table}
 use Rattle.sqlite_schema.specs.declared.schema.Schema.{Schema}
@@ -12,14 +11,13 @@ use Rattle.sqlite_tied.specs.Compute.{everything}
 use Rattle.sqlite.specs.Listing.{understood}
 use Rattle.sqlite.specs.Effect.{Database}
 use Rattle.sqlite.specs.Does.{Tally, lacks_sequence}
-use Rattle.sqlite.specs.Held.{Held, state}
 use Rattle.sqlite.specs.State.{State, Writes, Executes}
 use Rattle.sqlite.proofs.Callers.{IsPlain, command_of, statement_of, runs_as}
 use Rattle.escrow_cells.specs.Tables.{no_schema, meta, tab, cell, meta_text, tab_text, cell_text}
 use Rattle.escrow_cells.specs.Store.{MakesStore}
-use Rattle.escrow_cells.specs.Inside.{Acts, GoesOn, Wrote}
+use Rattle.escrow_cells.specs.Inside.{Acts, Wrote}
 use Rattle.escrow_cells.specs.Making.{with_meta, with_tab, with_cell, IsBare, Extends, Fills}
-use Rattle.escrow_cells.proofs.AllOrNone.{begun, goes_then, acts_then}
+use Rattle.escrow_cells.proofs.AllOrNone.{acts_then}
 use Rattle.escrow_cells.proofs.FormatRow.{format_insert, inserts_format}
 use Rattle.escrow_cells.proofs.Inside.{acts, went, same_value}
 use Rattle.escrow_cells.proofs.Texts.{meta_is, tab_is, cell_is}
@@ -62,16 +60,10 @@ module _ (schema : Schema) (text : List ℕ) (table : Table) (is : IsCreate sche
       rw now (record { schema_is = after; bare = all-append (λ (t : Table). first.0.trees t.tree ≡ []) schema.tables _ kept (empty, tt) })
 
 -- one after another they make the tables, and their row is put
-pub made_tables : (a b c d e : State) (is_done : Bool) → Wrote meta_text [] a b true → Wrote tab_text [] b c true → Wrote cell_text [] c d true → Wrote format_insert [] d e is_done → Acts a e is_done (Fills no_schema)
+pub made_tables : (a b c d e : State) (is_done : Bool) → Wrote meta_text [] a b true → Wrote tab_text [] b c true → Wrote cell_text [] c d true → Wrote format_insert [] d e is_done → Acts a e is_done MakesStore
 made_tables a b c d e is_done metas tabs cells row =
     let one = acts_then (Extends no_schema with_meta) (Extends with_meta with_tab) (Extends no_schema with_tab) (λ _ _ _ first next bare. next (first bare)) a b c true
     (acts (creates no_schema meta_text meta meta_create a b) metas refl) (acts (creates with_meta tab_text (record tab { tree = 0 }) tab_create b c) tabs refl) in
     let all = acts_then (Extends no_schema with_tab) (Extends with_tab with_cell) (Extends no_schema with_cell) (λ _ _ _ first next bare. next (first bare)) a c d true
     one (acts (creates with_tab cell_text (record cell { tree = 0 }) cell_create c d) cells refl) in
-    acts_then (Extends no_schema with_cell) (Fills with_cell) (Fills no_schema) (λ _ _ _ first next bare. next (first bare)) a d e is_done all (acts (inserts_format d e) row refl)
-
--- in a transaction that had just begun the tables and their row were made
-pub made_in : {S : Type 0} (g : Ghosts S) (old start : Held S) (last : State) → start ≡ record old { in_transaction = true } → Acts (state g start) last true (Fills no_schema) → GoesOn MakesStore (state g old) last
-made_in g old start last is acts =
-    goes_then ◌≡◌ (Fills no_schema) MakesStore (λ x y z same fills none. fills (record { schema_is = ap (λ (db : Database). db.schema) (sym same) ∙ none; bare = tt })) (state g old) _ last
-    (begun g old ◌≡◌ (λ _. refl)) (rw is at acts)
+    acts_then (Extends no_schema with_cell) (Fills with_cell) MakesStore (λ _ _ _ first next none. next (first (record { schema_is = none; bare = tt }))) a d e is_done all (acts (inserts_format d e) row refl)

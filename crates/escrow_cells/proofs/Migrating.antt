@@ -1,11 +1,10 @@
 -- What UPDATE makes of META.
-use Rattle.std.proofs.Common.{◌≡◌, ℕ, true, not, ◌&&◌, List, [], ◌∷◌, ◌++◌, map, filter, drop, codes, slice_get, Some, Ok, IsPermutation, refl, sym, ap, ap₂, ◌∙◌, subst}
+use Rattle.std.proofs.Common.{◌≡◌, ℕ, true, not, ◌&&◌, List, [], ◌∷◌, ◌++◌, map, filter, drop, codes, slice_get, Some, Ok, IsPermutation, refl, ap, ap₂, ◌∙◌, subst}
 use Rattle.std.specs.Ordering.{is_eq}
 use Rattle.sqlite_value.specs.declared.value.Value.{Value}
 use Rattle.sqlite_value.specs.declared.value.Value.TheVariants.{Int, Text}
 use Rattle.sqlite_value.specs.declared.keys.Collation.TheVariants.{Binary}
 use Rattle.sqlite_value.specs.Order.{Row, column}
-use Rattle.sqlite_trees.specs.declared.store.Store.{Ghosts}
 use Rattle.sqlite_sql.specs.declared.ops.CompareOp.TheVariants.{Eq}
 use Rattle.sqlite_sql.specs.declared.ops.BinaryOp.TheVariants.{Compare}
 use Rattle.sqlite_value.proofs.OrderLemmas.{value_cmp-Text}
@@ -20,16 +19,12 @@ use Rattle.sqlite_rules.proofs.PlaceLemmas.{given}
 use Rattle.sqlite_tied.specs.Compute.{everything}
 use Rattle.sqlite.specs.Listing.{understood}
 use Rattle.sqlite.specs.Ops.{binary, is_true, from_truth}
-use Rattle.sqlite.specs.Effect.{Database}
-use Rattle.sqlite.specs.Held.{Held, state}
 use Rattle.sqlite.specs.State.{State, Executes}
 use Rattle.sqlite.proofs.Callers.{one_permutation}
 use Rattle.escrow_cells.specs.declared.formats.TheConstants.{FORMAT}
 use Rattle.escrow_cells.specs.Tables.{meta}
 use Rattle.escrow_cells.specs.Store.{NumbersDiffer, Migrates}
 use Rattle.escrow_cells.specs.Step.{same}
-use Rattle.escrow_cells.specs.Inside.{Acts, GoesOn}
-use Rattle.escrow_cells.proofs.AllOrNone.{begun, goes_then}
 use Rattle.escrow_cells.proofs.Columns.{cast_held}
 use Rattle.escrow_cells.proofs.FormatRow.{meta_of}
 use Rattle.escrow_cells.proofs.Inside.{IsStatement, updates, wrote_by}
@@ -110,8 +105,3 @@ updates_format old new n ran number store is =
     let found = matched old.now [] 0 format_tests format_terms u.0 u.1 in
     let now = u.2.applies.rows ∙ set_rows (old.now.trees 0) u.0 row.0 row.1 name store.metas_numbered found u.2.applies.fresh in
     has_migrated old.now new.now _ store u.2 refl (ap (map meta_of) now ∙ ap (λ told. told ∷ []) (says_known row.0 name))
-
--- so it does in a transaction that had just begun
-pub migrated_in : {S : Type 0} (g : Ghosts S) (old start : Held S) (last : State) → start ≡ record old { in_transaction = true } → Acts (state g start) last true Migrates → GoesOn Migrates (state g old) last
-migrated_in g old start last is acts =
-    goes_then ◌≡◌ Migrates Migrates (λ x y z same migrates. subst (λ (db : Database). Migrates db z) (sym same) migrates) (state g old) _ last (begun g old ◌≡◌ (λ _. refl)) (rw is at acts)

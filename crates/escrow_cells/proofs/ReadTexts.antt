@@ -17,9 +17,9 @@ use Rattle.sqlite_resolve.specs.Compile.{first}
 use Rattle.sqlite_tied.specs.Compute.{everything}
 use Rattle.sqlite.specs.Listing.{understood, reads_listing}
 use Rattle.sqlite.proofs.Callers.{IsPlain, command_of}
-use Rattle.escrow_cells.specs.Query.{OnlyReads}
+use Rattle.escrow_cells.specs.Query.{IsReading}
 use Rattle.escrow_cells.specs.Tables.{beside, meta_tree, tab_tree, cell_tree}
-use Rattle.escrow_cells.proofs.Bare.{IsBareRead, only_reads}
+use Rattle.escrow_cells.proofs.Bare.{IsBareRead, is_reading}
 
 abbrev pub tabs_text : List ℕ
 tabs_text = codes "SELECT ID, NAME, DDL FROM TAB ORDER BY ID"
@@ -114,8 +114,8 @@ pub record IsSelect (text : List ℕ) (query : Query) (names : List (List ℕ)) 
   pub bare : IsBareRead (first text)
 
 -- so it writes nothing
-pub reads : {text : List ℕ} {query : Query} {names : List (List ℕ)} → IsSelect text query names → OnlyReads text
-reads it = only_reads _ it.bare
+pub reads : {text : List ℕ} {query : Query} {names : List (List ℕ)} → IsSelect text query names → IsReading text
+reads it = is_reading _ it.bare
 
 pub tabs_select : IsSelect tabs_text tabs_query (codes "ID" ∷ codes "NAME" ∷ codes "DDL" ∷ [])
 unfolding understood everything

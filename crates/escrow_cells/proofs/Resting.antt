@@ -13,14 +13,14 @@ use Rattle.sqlite.specs.Listing.{understood, reads_listing, IsSourceOf}
 use Rattle.sqlite.specs.State.{State, HasCleanDisk, Survives, Fails, IsUnchanged, IsRolledBack, IsNotRun, FailsToShow, FailsToQuery, ShowsRows, Shown, CommitsShowing}
 use Rattle.sqlite.proofs.StateLemmas.{survives_weaker}
 use Rattle.sqlite.proofs.Callers.{unchanged_then}
-use Rattle.escrow_cells.specs.Query.{OnlyReads}
+use Rattle.escrow_cells.specs.Query.{IsReading}
 use Rattle.escrow_cells.specs.Read.{LeavesIdle}
 
 -- as it was, or rolled back to what was committed
 abbrev pub IsKept : State → State → Type 0
 IsKept old new = IsUnchanged old new ⊎ IsRolledBack old new
 
-module _ (sql : List ℕ) (params : Row) (old new : State) (only : OnlyReads sql) where
+module _ (sql : List ℕ) (params : Row) (old new : State) (only : IsReading sql) where
   pub survives_reading : Survives old new (CommitsShowing sql params old) → Survives old new (λ _. ⊥)
   unfolding CommitsShowing
   survives_reading = survives_weaker old new _ _ (λ clean db h. let none = only _ h.0 h.1.is in let e = rw none at h.2 in absurd cc)
@@ -49,7 +49,7 @@ moved_kept old new e (inl failed) = inr failed.3
 moved_kept old new e (inr same) = inl same
 
 -- an answer after a call that changed nothing is an answer from before it
-pub shown_from : (sql : List ℕ) (params : Row) (first old new : State) (rows : List Row) → OnlyReads sql → IsUnchanged first old → Shown sql params old new rows → Shown sql params first new rows
+pub shown_from : (sql : List ℕ) (params : Row) (first old new : State) (rows : List Row) → IsReading sql → IsUnchanged first old → Shown sql params old new rows → Shown sql params first new rows
 unfolding Shown
 shown_from sql params first old new rows only same h =
     let none = only _ h.0 h.1.is in
@@ -61,7 +61,7 @@ shown_from sql params first old new rows only same h =
       subst (ShowsRows first new sql h.0 full rows) (sym none) (it.0, subst (λ (d : Database). IsSourceOf (reads_listing d.schema sql) d it.0) now it.1, it.2, unchanged_then first old new same it.3),
     )
 
-pub begun_reading : {S : Type 0} (g : Ghosts S) (sql : List ℕ) (params : Row) (old new : Held S) → OnlyReads sql → HasBegun g sql params old new
+pub begun_reading : {S : Type 0} (g : Ghosts S) (sql : List ℕ) (params : Row) (old new : Held S) → IsReading sql → HasBegun g sql params old new
     → HasGiven g sql params new [] × IsUnchanged (state g old) (state g new)
 begun_reading g sql params old new only (inl h) = h
 begun_reading g sql params old new only (inr h) = absurd (never (understood old.schema sql) refl h.0)
@@ -91,7 +91,7 @@ idle_from g old new settled outside survives kept = record {
     same (inr h) opened = (h.undone opened).0 ∙ sym (settled (h.was_open opened))
 
 -- a query that does not begin
-pub refused_leaves_idle : {S X : Type 0} (g : Ghosts S) (sql : List ℕ) (params : Row) (only : OnlyReads sql) (old new : Held S) (e : Error) → (IsTrue (state g old).is_open → (state g old).now ≡ (state g old).committed)
+pub refused_leaves_idle : {S X : Type 0} (g : Ghosts S) (sql : List ℕ) (params : Row) (only : IsReading sql) (old new : Held S) (e : Error) → (IsTrue (state g old).is_open → (state g old).now ≡ (state g old).committed)
     → IsRefused {S = S} g {X = X} sql params old (Err e) new → old.in_transaction ≡ false → LeavesIdle g old new
 refused_leaves_idle g sql params only old new e settled h outside = idle_from g old new settled (h.mode outside) (survives_reading sql params (state g old) (state g new) only h.survives)
     (λ clean. failed_kept sql params (state g old) (state g new) only e (h.err clean))

@@ -7,7 +7,7 @@ use Rattle.sqlite.specs.Held.{Held, state}
 use Rattle.sqlite.specs.State.{State, HasCleanDisk, Survives, IsUnchanged, IsRolledBack, Shown, CommitsShowing}
 use Rattle.sqlite.proofs.StateLemmas.{survives_then}
 use Rattle.sqlite.proofs.Callers.{unchanged_then}
-use Rattle.escrow_cells.specs.Query.{OnlyReads}
+use Rattle.escrow_cells.specs.Query.{IsReading}
 use Rattle.escrow_cells.specs.Read.{LeavesIdle, Takes}
 use Rattle.escrow_cells.proofs.Resting.{IsKept, begun_reading, survives_reading, shown_from, idle_from}
 
@@ -32,7 +32,7 @@ module _ {S K : Type 0} (g : Ghosts S) (HasTaken : K → K → List Row → Type
     pub unchanged : HasCleanDisk (state g now) → IsUnchanged (state g first) (state g now)
     pub given : HasCleanDisk (state g now) → (rows : List Row) × HasGiven g sql params now rows × ((begun : K) (before : List Row) → HasTaken begun fresh before → HasTaken begun sink (before ++ rows))
 
-module _ {S K : Type 0} (g : Ghosts S) (HasTaken : K → K → List Row → Type 0) (sql : List ℕ) (params : Row) (only : OnlyReads sql) (first : Held S) (fresh : K) where
+module _ {S K : Type 0} (g : Ghosts S) (HasTaken : K → K → List Row → Type 0) (sql : List ℕ) (params : Row) (only : IsReading sql) (first : Held S) (fresh : K) where
   abbrev Taking : Held S → K → Type 0
   Taking = IsTaking g HasTaken sql params first fresh
 

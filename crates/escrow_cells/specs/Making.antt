@@ -5,7 +5,9 @@ use Rattle.sqlite_schema.specs.declared.schema.Table.{Table}
 use Rattle.sqlite_schema.specs.declared.schema.Schema.{Schema}
 use Rattle.sqlite_catalog.specs.Change.{created}
 use Rattle.sqlite.specs.Effect.{Database}
-use Rattle.escrow_cells.specs.Store.{IsEmpty}
+use Rattle.escrow_cells.specs.declared.creation.Origin.{Origin}
+use Rattle.escrow_cells.specs.declared.creation.Origin.TheVariants.{Nothing, Store}
+use Rattle.escrow_cells.specs.Store.{IsEmpty, MakesStore, Migrates}
 use Rattle.escrow_cells.specs.Tables.{no_schema, meta, tab, cell}
 
 -- the schema after each CREATE
@@ -30,3 +32,8 @@ Extends before after old new = IsBare before old → IsBare after new
 -- of a database without rows that has a schema comes an empty store
 abbrev pub Fills : Schema → Database → Database → Type 0
 Fills before old new = IsBare before old → IsEmpty new
+
+-- what is made of a database without objects, or of a store
+abbrev pub made_of : Origin → Database → Database → Type 0
+made_of Nothing = MakesStore
+made_of Store = Migrates

@@ -5,5 +5,5 @@ use Rattle.sqlite_resolve.specs.declared.compiled.Compiled.{Compiled}
 use Rattle.sqlite.specs.Listing.{understood}
 
 -- a text that has no RETURNING, whatever the schema is, so a query of it writes nothing
-abbrev pub OnlyReads : List ℕ → Type 0
-OnlyReads sql = (schema : Schema) (c : Compiled) → understood schema sql ≡ Ok c → c.returning ≡ None
+abbrev pub IsReading : List ℕ → Type 0
+IsReading sql = (schema : Schema) (c : Compiled) → understood schema sql ≡ Ok c → c.returning ≡ None

@@ -10,7 +10,6 @@ mod datum;
 // Open, since the prover looks for a function that is handed on as a value where it stands.
 pub mod failure;
 mod formats;
-mod migration;
 mod new_cell;
 mod numbered;
 mod read;
@@ -20,11 +19,10 @@ mod statement;
 mod step;
 mod transaction;
 
-pub use creation::create;
+pub use creation::{create, migrate};
 pub use datum::Datum;
 pub use failure::failure_of;
 pub use formats::{FORMAT, FORMAT_BEFORE, Format};
-pub use migration::migrate;
 pub use numbered::are_numbered;
 pub use read::{
     cell_tables, count_cells, count_keys, key_cells, metas, row_cells, span_cells, table_cells,

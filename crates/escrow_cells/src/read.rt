@@ -9,7 +9,7 @@ ghost use Rattle.escrow_cells.specs.Step.{kept, same, is_in, is_at};
 ghost use Rattle.escrow_cells.specs.Store.{HasTables, IsStore, cells, metas, tabs};
 ghost use Rattle.escrow_cells.specs.Read.{AreOfRow, AreOfTable, AreKeys, AreTablesOfCells, AreTabs, LeavesIdle, Takes};
 ghost use Rattle.escrow_cells.specs.Span.{AreOfSpan};
-ghost use Rattle.escrow_cells.specs.Query.{OnlyReads};
+ghost use Rattle.escrow_cells.specs.Query.{IsReading};
 
 use crate::datum::Datum;
 use crate::failure::failure_of;
@@ -24,7 +24,7 @@ fn read_all<S: Alter>(
     sql: &str,
     params: &[ValueRef<'_>],
 ) -> Result<Vec<Row>, Failure>
-    requires { OnlyReads sql.now }
+    requires { IsReading sql.now }
     ensures shown { HasCleanDisk (state S.Store conn.new) → IfOk result (λ rows. Shown sql.now (bound params.now) (state S.Store conn.old) (state S.Store conn.new) rows.items) }
     ensures leaves_idle { conn.old.in_transaction ≡ false → LeavesIdle S.Store conn.old conn.new }
     ensures is_open { HasCleanDisk (state S.Store conn.new) → OnOk result (IsTrue (state S.Store conn.new).is_open) }
@@ -45,7 +45,7 @@ pub(crate) fn read_each<S: Alter, K: Sink>(
     params: &[ValueRef<'_>],
     sink: &mut K,
 ) -> Result<(), Failure>
-    requires { OnlyReads sql.now }
+    requires { IsReading sql.now }
     ensures taken { HasCleanDisk (state S.Store conn.new) → OnOk result (Takes K.has_taken (Shown sql.now (bound params.now) (state S.Store conn.old) (state S.Store conn.new)) sink.old sink.new) }
     ensures leaves_idle { conn.old.in_transaction ≡ false → LeavesIdle S.Store conn.old conn.new }
     ensures is_open { HasCleanDisk (state S.Store conn.new) → OnOk result (IsTrue (state S.Store conn.new).is_open) }

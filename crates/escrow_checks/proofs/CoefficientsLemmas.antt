@@ -21,6 +21,10 @@ pub record Keeps (coeffs values : List ℤ) (len : ℕ) : Type 0 where
   pub few : len ≤ MAX_LEN
   pub whole : values ≡ padded (take len values)
 
+-- so the invariant of their type holds
+pub invariant_kept : (coeffs values : List ℤ) (len : ℕ) → Keeps coeffs values len → AreCoefficients (take len values) × (len ≤ MAX_LEN) × (values ≡ padded (take len values))
+invariant_kept coeffs values len known = (known.are, known.few, known.whole)
+
 pub kept : (coeffs values : List ℤ) (len : ℕ) → len ≡ length coeffs → AreCoefficients coeffs → values ≡ padded coeffs → Keeps coeffs values len
 kept coeffs values len is are whole =
     let shown : take len values ≡ coeffs = ap₂ (λ (n : ℕ) (vs : List ℤ). take n vs) is whole ∙ take-append_seam coeffs (replicate (MAX_LEN - length coeffs) (pos 0)) in
@@ -93,6 +97,13 @@ pub taken_kept : (xs values : List ℤ) (i len : ℕ) → length xs ≤ i → le
 taken_kept xs values i len past is few all whole =
     let every : take i xs ≡ xs = take_all i xs past in
     kept xs values len is (few, subst (λ ys. All IsCoefficient ys) every all) (whole ∙ ap padded every)
+
+-- where all are written, of a list that is as long as the coefficients that they are made of
+pub all_kept : (coeffs slice xs values : List ℤ) (i : ℕ) → slice ≡ coeffs → length xs ≡ length coeffs → length slice ≤ MAX_LEN → length slice ≤ i
+    → All IsCoefficient (take i xs) → values ≡ padded (take i xs) → Keeps xs values (length slice)
+all_kept coeffs slice xs values i is long few past all whole =
+    let as_long : length slice ≡ length xs = ap length is ∙ sym long in
+    taken_kept xs values i (length slice) (omega (arith, as_long)) as_long (omega (arith, as_long)) all whole
 
 -- ---- coefficients that are given by their columns
 

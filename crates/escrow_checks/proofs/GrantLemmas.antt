@@ -1,6 +1,6 @@
 -- What the grant rule grants, and what it refuses.
-use Rattle.std.proofs.Common.{◌≡◌, ℤ, pos, ◌+ℤ◌, ◌≤ℤ◌, ◌<ℤ◌, ◌↔◌, ◌⊎◌, inl, inr, List, [], ◌∷◌, ◌++◌, Option, Some, None, refl, ◌∙◌, sym, subst, arith}
-use Rattle.std.specs.Prelude.{All, IfSome, int_lt, option_map}
+use Rattle.std.proofs.Common.{◌≡◌, ℤ, pos, ◌+ℤ◌, ◌≤ℤ◌, ◌↔◌, ◌⊎◌, inl, inr, List, [], ◌∷◌, ◌++◌, Option, Some, None, refl, ◌∙◌, sym, subst, arith}
+use Rattle.std.specs.Prelude.{All, IfSome, int_lt, option_map, Bool, true, cond}
 use Rattle.std.specs.Int.{int_min, int_max}
 use Rattle.std.proofs.lemmas.Int.{ints, clamps}
 use Rattle.std.proofs.lemmas.List.Elements.{All-nil, All-cons, All-head, All-tail, All-contains}
@@ -150,19 +150,20 @@ one_of_two : {A : Type 0} (a b : Option A) (x : A) → first_of_two a b ≡ Some
 one_of_two None b x e = inr e
 one_of_two (Some a) b x e = inl e
 
+-- what is found where a limit is broken: that limit, and a value beyond it
+limit_found : (span : Span) (broken : Bool) (limit found : Side × ℤ × ℤ) → cond broken (Some limit) None ≡ Some found → (broken ≡ true → IsBeyond span limit.0 limit.1 limit.2)
+    → (found.1 ≡ limit.1) × IsBeyond span found.0 found.1 found.2
+limit_found span broken limit found e beyond =
+    let known = cond_some broken limit found e in
+    rw (← known.1) (refl, beyond known.0)
+
 low_beyond : (span : Span) (o : Option ℤ) (low : ℤ) (found : Side × ℤ × ℤ) → span.lo ≡ o → low_broken o low ≡ Some found → (found.1 ≡ low) × IsBeyond span found.0 found.1 found.2
 low_beyond span None low found is e = absurd cc
-low_beyond span (Some lo) low found is e =
-    let known = cond_some (int_lt low lo) (Low, low, lo) found e in
-    let below : low <ℤ lo = grind (arith, ints, known.0) in
-    rw (← known.1) (refl, (is, below))
+low_beyond span (Some lo) low found is e = limit_found span (int_lt low lo) (Low, low, lo) found e (λ less. (is, grind (arith, ints, less)))
 
 high_beyond : (span : Span) (o : Option ℤ) (high : ℤ) (found : Side × ℤ × ℤ) → span.hi ≡ o → high_broken o high ≡ Some found → (found.1 ≡ high) × IsBeyond span found.0 found.1 found.2
 high_beyond span None high found is e = absurd cc
-high_beyond span (Some hi) high found is e =
-    let known = cond_some (int_lt hi high) (High, high, hi) found e in
-    let above : hi <ℤ high = grind (arith, ints, known.0) in
-    rw (← known.1) (refl, (is, above))
+high_beyond span (Some hi) high found is e = limit_found span (int_lt hi high) (High, high, hi) found e (λ less. (is, grind (arith, ints, less)))
 
 reached_at : (coeffs amounts : List ℤ) (reservations : List (List ℤ)) (y z : ℤ) → z ≡ y → IsReached coeffs amounts reservations y → IsReached coeffs amounts reservations z
 reached_at coeffs amounts reservations y z e h = (h.0, h.1, h.2 ∙ sym e)

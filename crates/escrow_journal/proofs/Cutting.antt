@@ -1,11 +1,12 @@
 -- What comes after a savepoint, and what is left where a journal goes back to it.
-use Rattle.std.specs.Prelude.{◌≡◌, ℕ, ◌+◌, ◌-◌, List, length, take, drop, position, Option, Some, None, option_map, unwrap_or}
-use Rattle.std.proofs.Common.{sym, ap, ap₂, ◌∙◌, get_or, arith, length-drop, take_all}
+use Rattle.std.specs.Prelude.{◌≡◌, ℕ, ◌+◌, ◌≤◌, List, length, take, drop, position, Option, Some, None, option_map, unwrap_or}
+use Rattle.std.proofs.Common.{sym, ap, ap₂, ◌∙◌, get_or}
 use Rattle.std.proofs.lemmas.List.Quantifiers.{position-Some}
 use Rattle.escrow_num.specs.declared.reservation.Reservation.{Reservation}
 use Rattle.escrow_num.specs.declared.reservation.Savepoint.{Savepoint}
 use Rattle.escrow_num.proofs.Items.{all_at}
 use Rattle.escrow_num.proofs.Orders.{name_same}
+use Rattle.escrow_journal.specs.Inside.{first_of, IsLeft}
 use Rattle.escrow_journal.specs.Log.{Log, IsLog, later, cut_log, cut_at}
 use Rattle.escrow_journal.specs.Savepoints.{savepoint_of, through, after}
 use Rattle.escrow_journal.proofs.Filters.{place_inside}
@@ -13,11 +14,14 @@ use Rattle.escrow_journal.proofs.Named.{has_name, found_is, none_is, through_is}
 use Rattle.escrow_journal.proofs.Ordered.{first_from, after_is, not_after_is}
 
 -- where the name has no place
-pub no_later : (name : List ℕ) (log : Log) → IsLog log → position (has_name name) log.savepoints ≡ None → later name log ≡ None
-no_later name log valid at = ap (λ (o : Option Savepoint). option_map (λ p. after p log.reservations) o) (none_is log.session name log.savepoints valid.savepoints_own at)
-
-pub no_cut : (name : List ℕ) (log : Log) → IsLog log → position (has_name name) log.savepoints ≡ None → cut_log name log ≡ log
-no_cut name log valid at = ap (λ (o : Option Savepoint). unwrap_or (option_map (cut_at log) o) log) (none_is log.session name log.savepoints valid.savepoints_own at)
+pub none_left : (name : List ℕ) (log : Log) → IsLog log → position (has_name name) log.savepoints ≡ None → IsLeft name log None
+none_left name log valid at =
+    let none = none_is log.session name log.savepoints valid.savepoints_own at in
+    record {
+      later = ap (λ (o : Option Savepoint). option_map (λ p. after p log.reservations) o) none;
+      cut = ap (λ (o : Option Savepoint). unwrap_or (option_map (cut_at log) o) log) none;
+      within = tt;
+    }
 
 -- where it has one
 module _ (name : List ℕ) (log : Log) (place : ℕ) (p : Savepoint) (valid : IsLog log) (at : position (has_name name) log.savepoints ≡ Some place)
@@ -31,29 +35,20 @@ module _ (name : List ℕ) (log : Log) (place : ℕ) (p : Savepoint) (valid : Is
   named : p.name ≡ name
   named = name_same p.name name (ap (has_name name) is ∙ (position-Some (has_name name) log.savepoints place p at).1)
 
-  pub later_is : (n : ℕ) → n ≡ first_from p.id log.reservations → later name log ≡ Some (drop n log.reservations)
+  later_is : (n : ℕ) → n ≡ first_from p.id log.reservations → later name log ≡ Some (drop n log.reservations)
   later_is n first =
       ap (λ (o : Option Savepoint). option_map (λ q. after q log.reservations) o) found
       ∙ ap (λ (rs : List Reservation). Some rs) (after_is p log.session log.reservations own valid.reservations_own valid.reservation_order)
       ∙ ap (λ k. Some (drop k log.reservations)) (sym first)
 
-  -- what a journal shows of those after the savepoint
-  pub shown_is : (n : ℕ) → n ≡ first_from p.id log.reservations → Some (take (length log.reservations - n) (drop n log.reservations)) ≡ later name log
-  shown_is n first =
-      let count = length-drop n log.reservations in
-      ap (λ (rs : List Reservation). Some rs) (take_all (length log.reservations - n) (drop n log.reservations) (omega arith)) ∙ sym (later_is n first)
-
-  -- and how many they are
-  pub count_is : (n : ℕ) → n ≡ first_from p.id log.reservations → Some (length log.reservations - n) ≡ option_map length (later name log)
-  count_is n first =
-      ap (λ k. Some k) (sym (length-drop n log.reservations)) ∙ ap (λ (o : Option (List Reservation)). option_map length o) (sym (later_is n first))
-
-  pub left_is : (n : ℕ) → n ≡ first_from p.id log.reservations
-      → record log { reservations = take n log.reservations; savepoints = take (place + 1) log.savepoints } ≡ cut_log name log
-  left_is n first =
+  cut_is : (n : ℕ) → n ≡ first_from p.id log.reservations → first_of (place + 1) n log ≡ cut_log name log
+  cut_is n first =
       let front = ap (λ k. take k log.reservations) first ∙ sym (not_after_is p log.session log.reservations own valid.reservations_own valid.reservation_order) in
       let inside = (place_inside (has_name name) log.savepoints place at).0 in
       let marks = ap (λ k. take (k + 1) log.savepoints) (sym inside) ∙ sym (through_is log.session name log.savepoints valid.savepoints_own)
       ∙ ap (λ text. through log.session text log.savepoints) (sym named) in
       ap₂ (λ rs ps. record log { reservations = rs; savepoints = ps }) front marks
       ∙ ap (λ (o : Option Savepoint). unwrap_or (option_map (cut_at log) o) log) (sym found)
+
+  pub some_left : (n : ℕ) → n ≡ first_from p.id log.reservations → n ≤ length log.reservations → IsLeft name log (Some (place + 1, n))
+  some_left n first within = record { later = later_is n first; cut = sym (cut_is n first); within = within }

@@ -39,6 +39,7 @@ impl Model for Journal {
 impl Journal {
     ghost use Rattle.std.specs.Prelude.{◌≡◌, ◌⊎◌, ◌<◌, IsTrue, IfErr, IsOk, IsSome, IsErrOf, OnOk, OnErr, Err, length, option_copied, option_map};
     ghost use Rattle.std.specs.List.{AllByRecursion};
+    ghost use Rattle.escrow_journal.specs.Inside.{IsLeft};
     ghost use Rattle.escrow_journal.specs.Log.{IsLog, empty_log, is_full_beside, pushed, marked, later, cut_log};
     ghost use Rattle.escrow_journal.specs.Reservations.{reservation_before};
     ghost use Rattle.escrow_journal.specs.Savepoints.{savepoint_of};
@@ -131,9 +132,7 @@ impl Journal {
     pub fn after(&self, name: Name) -> Option<&[Reservation]>
         ensures { option_copied result ≡ later name self.now }
     {
-        let place = place_of_name(&self.savepoints, name)?;
-        let savepoint = self.savepoints[place];
-        let first = first_from(&self.reservations, savepoint.id);
+        let (_, first) = self.left(name)?;
         Some(&self.reservations[first..])
     }
 
@@ -146,13 +145,21 @@ impl Journal {
         ensures cut { self.new ≡ cut_log name self.old }
         ensures valid { IsLog self.new }
     {
-        let place = place_of_name(&self.savepoints, name)?;
-        let savepoint = self.savepoints[place];
-        let first = first_from(&self.reservations, savepoint.id);
+        let (marks, first) = self.left(name)?;
         let count = self.reservations.len() - first;
         self.reservations.truncate(first);
-        self.savepoints.truncate(place + 1);
+        self.savepoints.truncate(marks);
         Some(count as u32)
+    }
+
+    /// How many savepoints, and how many reservations, are left where the journal goes back to the
+    /// savepoint of a name: the first ones. `None` exactly where there is no such savepoint.
+    fn left(&self, name: Name) -> Option<(usize, usize)>
+        ensures { IsLeft name self.now result }
+    {
+        let place = place_of_name(&self.savepoints, name)?;
+        let savepoint = self.savepoints[place];
+        Some((place + 1, first_from(&self.reservations, savepoint.id)))
     }
 
     /// Hands out all reservations, in order of grant, and leaves neither reservation nor savepoint.

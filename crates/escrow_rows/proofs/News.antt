@@ -1,5 +1,5 @@
 -- New values, column by column.
-use Rattle.std.proofs.Common.{◌≡◌, ℕ, ℤ, suc, ◌+◌, ◌==◌, Option, Some, None, List, [], ◌∷◌, ◌++◌, map, take, drop, length, refl, ap, inl, inr, arith}
+use Rattle.std.proofs.Common.{◌≡◌, ℕ, ℤ, true, false, suc, ◌+◌, ◌==◌, Option, Some, None, List, [], ◌∷◌, ◌++◌, map, take, drop, length, refl, ap, inl, inr, arith}
 use Rattle.std.proofs.lemmas.Bool.{cases_Bool}
 use Rattle.std.specs.Prelude.{option_map}
 use Rattle.escrow_num.specs.declared.value.Value.{Value}
@@ -15,33 +15,40 @@ by_head : {A : Type 0} (P : List A → Type 0) (xs : List A) (n : ℕ) → lengt
 by_head P [] n e h = absurd (omega arith)
 by_head P (x ∷ rest) n e h = h x rest (omega arith)
 
+-- a fact of the columns of a row with its amounts and plain values, by the first column: RESERVABLE, the key, or another
+by_columns : (at : ℕ) (P : List Column → ℕ → List ℤ → List Value → Type 0) → ((place : ℕ) (amounts : List ℤ) (plain : List Value) → P [] place amounts plain)
+    → ((column : Column) (columns : List Column) (place : ℕ) (a : ℤ) (amounts : List ℤ) (plain : List Value) → column.reservable ≡ true → P columns (place + 1) amounts plain → P (column ∷ columns) place (a ∷ amounts) plain)
+    → ((column : Column) (columns : List Column) (place : ℕ) (amounts : List ℤ) (plain : List Value) → column.reservable ≡ false → (place == at) ≡ true → P columns (place + 1) amounts plain → P (column ∷ columns) place amounts plain)
+    → ((column : Column) (columns : List Column) (place : ℕ) (amounts : List ℤ) (p : Value) (plain : List Value) → column.reservable ≡ false → (place == at) ≡ false → P columns (place + 1) amounts plain → P (column ∷ columns) place amounts (p ∷ plain))
+    → (columns : List Column) (place : ℕ) (amounts : List ℤ) (plain : List Value) → length amounts ≡ length (reservables columns) → length plain ≡ length (plains columns place at) → P columns place amounts plain
+by_columns at P none amount key other [] place amounts plain many enough = none place amounts plain
+by_columns at P none amount key other (column ∷ columns) place amounts plain many enough =
+    elim (cases_Bool column.reservable) [
+      | inl r ↦ (let more : length amounts ≡ suc (length (reservables columns)) = rw r at many in
+          let same : length plain ≡ length (plains columns (place + 1) at) = rw r at enough in
+          by_head (λ (rest : List ℤ). P (column ∷ columns) place rest plain) amounts (length (reservables columns)) more
+          (λ a rest left. amount column columns place a rest plain r (by_columns at P none amount key other columns (place + 1) rest plain left same)))
+      | inr r ↦ (let left : length amounts ≡ length (reservables columns) = rw r at many in
+          elim (cases_Bool (place == at)) [
+            | inl here ↦ (let same : length plain ≡ length (plains columns (place + 1) at) = rw (r, here) at enough in
+                key column columns place amounts plain r here (by_columns at P none amount key other columns (place + 1) amounts plain left same))
+            | inr there ↦ (let more : length plain ≡ suc (length (plains columns (place + 1) at)) = rw (r, there) at enough in
+                by_head (λ (ps : List Value). P (column ∷ columns) place amounts ps) plain (length (plains columns (place + 1) at)) more
+                (λ p ps same. other column columns place amounts p ps r there (by_columns at P none amount key other columns (place + 1) amounts ps left same)))
+          ])
+    ]
+
 -- a row's values with its plain values replaced are its values, each replaced by its column's
 pub plain_replaced : (columns : List Column) (place at : ℕ) (key : Value) (amounts : List ℤ) (plain : List Value) (news : List (Option Value))
     → length amounts ≡ length (reservables columns) → length plain ≡ length (plains columns place at)
     → values_from columns place at key amounts (replaced news plain) ≡ replaced (new_plain columns place at news) (values_from columns place at key amounts plain)
-plain_replaced [] place at key amounts plain news many enough = refl
-plain_replaced (column ∷ columns) place at key amounts plain news many enough =
-    elim (cases_Bool column.reservable) [
-      | inl r ↦ (let more : length amounts ≡ suc (length (reservables columns)) = rw r at many in
-          let same : length plain ≡ length (plains columns (place + 1) at) = rw r at enough in
-          rw r (by_head
-          (λ (rest : List ℤ). map value.Number (take 1 rest) ++ values_from columns (place + 1) at key (drop 1 rest) (replaced news plain)
-          ≡ replaced (None ∷ new_plain columns (place + 1) at news) (map value.Number (take 1 rest) ++ values_from columns (place + 1) at key (drop 1 rest) plain))
-          amounts (length (reservables columns)) more
-          (λ a rest left. ap (λ (vs : List Value). value.Number a ∷ vs) (plain_replaced columns (place + 1) at key rest plain news left same))))
-      | inr r ↦ (let left : length amounts ≡ length (reservables columns) = rw r at many in
-          elim (cases_Bool (place == at)) [
-            | inl here ↦ (let same : length plain ≡ length (plains columns (place + 1) at) = rw (r, here) at enough in
-                rw (r, here) (ap (λ (vs : List Value). key ∷ vs) (plain_replaced columns (place + 1) at key amounts plain news left same)))
-            | inr there ↦ (let more : length plain ≡ suc (length (plains columns (place + 1) at)) = rw (r, there) at enough in
-                rw (r, there) (by_head
-                (λ (ps : List Value). take 1 (replaced news ps) ++ values_from columns (place + 1) at key amounts (drop 1 (replaced news ps))
-                ≡ replaced (first_new news ∷ new_plain columns (place + 1) at (drop 1 news)) (take 1 ps ++ values_from columns (place + 1) at key amounts (drop 1 ps)))
-                plain (length (plains columns (place + 1) at)) more
-                (λ p ps same. first_plain column columns place at key amounts p ps news
-                (λ others. plain_replaced columns (place + 1) at key amounts ps others left same))))
-          ])
-    ]
+plain_replaced columns place at key amounts plain news many enough =
+    by_columns at (λ (cs : List Column) (n : ℕ) (given : List ℤ) (ps : List Value). (news : List (Option Value)) → values_from cs n at key given (replaced news ps) ≡ replaced (new_plain cs n at news) (values_from cs n at key given ps))
+    (λ _ _ _ _. refl)
+    (λ column columns place a amounts plain r h news. rw r (ap (λ (vs : List Value). value.Number a ∷ vs) (h news)))
+    (λ column columns place amounts plain r here h news. rw (r, here) (ap (λ (vs : List Value). key ∷ vs) (h news)))
+    (λ column columns place amounts p plain r there h news. rw (r, there) (first_plain column columns place at key amounts p plain news h))
+    columns place amounts plain many enough news
   where
     first_plain : (column : Column) (columns : List Column) (place at : ℕ) (key : Value) (amounts : List ℤ) (p : Value) (ps : List Value) (news : List (Option Value))
         → ((others : List (Option Value)) → values_from columns (place + 1) at key amounts (replaced others ps) ≡ replaced (new_plain columns (place + 1) at others) (values_from columns (place + 1) at key amounts ps))
@@ -55,29 +62,13 @@ plain_replaced (column ∷ columns) place at key amounts plain news many enough 
 pub amounts_replaced : (columns : List Column) (place at : ℕ) (key : Value) (amounts : List ℤ) (plain : List Value) (news : List (Option ℤ))
     → length amounts ≡ length (reservables columns) → length plain ≡ length (plains columns place at)
     → values_from columns place at key (replaced news amounts) plain ≡ replaced (new_amounts columns news) (values_from columns place at key amounts plain)
-amounts_replaced [] place at key amounts plain news many enough = refl
-amounts_replaced (column ∷ columns) place at key amounts plain news many enough =
-    elim (cases_Bool column.reservable) [
-      | inl r ↦ (let more : length amounts ≡ suc (length (reservables columns)) = rw r at many in
-          let same : length plain ≡ length (plains columns (place + 1) at) = rw r at enough in
-          rw r (by_head
-          (λ (rest : List ℤ). map value.Number (take 1 (replaced news rest)) ++ values_from columns (place + 1) at key (drop 1 (replaced news rest)) plain
-          ≡ replaced (option_map value.Number (first_new news) ∷ new_amounts columns (drop 1 news)) (map value.Number (take 1 rest) ++ values_from columns (place + 1) at key (drop 1 rest) plain))
-          amounts (length (reservables columns)) more
-          (λ a rest left. first_amount columns place at key a rest plain news
-          (λ others. amounts_replaced columns (place + 1) at key rest plain others left same))))
-      | inr r ↦ (let left : length amounts ≡ length (reservables columns) = rw r at many in
-          elim (cases_Bool (place == at)) [
-            | inl here ↦ (let same : length plain ≡ length (plains columns (place + 1) at) = rw (r, here) at enough in
-                rw (r, here) (ap (λ (vs : List Value). key ∷ vs) (amounts_replaced columns (place + 1) at key amounts plain news left same)))
-            | inr there ↦ (let more : length plain ≡ suc (length (plains columns (place + 1) at)) = rw (r, there) at enough in
-                rw (r, there) (by_head
-                (λ (ps : List Value). take 1 ps ++ values_from columns (place + 1) at key (replaced news amounts) (drop 1 ps)
-                ≡ replaced (None ∷ new_amounts columns news) (take 1 ps ++ values_from columns (place + 1) at key amounts (drop 1 ps)))
-                plain (length (plains columns (place + 1) at)) more
-                (λ p ps same. ap (λ (vs : List Value). p ∷ vs) (amounts_replaced columns (place + 1) at key amounts ps news left same))))
-          ])
-    ]
+amounts_replaced columns place at key amounts plain news many enough =
+    by_columns at (λ (cs : List Column) (n : ℕ) (given : List ℤ) (ps : List Value). (news : List (Option ℤ)) → values_from cs n at key (replaced news given) ps ≡ replaced (new_amounts cs news) (values_from cs n at key given ps))
+    (λ _ _ _ _. refl)
+    (λ column columns place a amounts plain r h news. rw r (first_amount columns place at key a amounts plain news h))
+    (λ column columns place amounts plain r here h news. rw (r, here) (ap (λ (vs : List Value). key ∷ vs) (h news)))
+    (λ column columns place amounts p plain r there h news. rw (r, there) (ap (λ (vs : List Value). p ∷ vs) (h news)))
+    columns place amounts plain many enough news
   where
     first_amount : (columns : List Column) (place at : ℕ) (key : Value) (a : ℤ) (rest : List ℤ) (plain : List Value) (news : List (Option ℤ))
         → ((others : List (Option ℤ)) → values_from columns (place + 1) at key (replaced others rest) plain ≡ replaced (new_amounts columns others) (values_from columns (place + 1) at key rest plain))

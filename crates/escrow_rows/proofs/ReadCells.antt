@@ -1,5 +1,5 @@
 -- What is made of the cells of the row of a key.
-use Rattle.std.proofs.Common.{◌≡◌, ◌<◌, ◌≤◌, ◌+◌, ℕ, ℤ, pos, true, false, IsTrue, Ordering, Less, Result, Option, Some, None, option_map, List, [], ◌∷◌, ◌++◌, append-nil, map, filter, drop, get_or, flat_map, length, ap, ap₂, sym, ◌∙◌, subst, refl, arith, IsPermutation}
+use Rattle.std.proofs.Common.{◌≡◌, ◌<◌, ◌≤◌, ◌+◌, ℕ, ℤ, pos, true, false, IsTrue, Less, Result, Option, Some, None, option_map, List, [], ◌∷◌, ◌++◌, append-nil, map, filter, drop, get_or, flat_map, length, ap, ap₂, sym, ◌∙◌, subst, refl, arith, IsPermutation}
 use Rattle.std.proofs.Math.Numerals.{add-one}
 use Rattle.std.proofs.Math.Seq.{drop-cons}
 use Rattle.std.specs.Prelude.{IfOk, option_to_list, slice_get}

@@ -18,7 +18,6 @@ mod migration;
 mod plain;
 mod read;
 mod reader;
-mod redefine;
 mod span;
 mod store;
 mod stored;

@@ -173,23 +173,10 @@ fn read_values(alloc: Global, cells: &[Row]) -> Result<Vec<Value>, Failure>
 {
     let mut values = Vec::new(alloc);
     for (i, cell) in cells.iter().enumerate() {
-        push_value(alloc, &mut values, cell, i + 1)?;
+        let value = held(alloc, value_at(cell, i + 1)?)?;
+        values.push(value)?;
     }
     Ok(values)
-}
-
-/// Adds the value of a cell at a place.
-fn push_value(
-    alloc: Global,
-    values: &mut Vec<Value>,
-    cell: &Row,
-    place: usize,
-) -> Result<(), Failure>
-    requires { place < 2 ^ 63 }
-    ensures { OnOk result ((v : HeldValue) × (cell.now ≡ Int (pos place) ∷ stored v ∷ []) × (values.new.items ≡ values.old.items ++ v ∷ [])) }
-{
-    let value = held(alloc, value_at(cell, place)?)?;
-    Ok(values.push(value)?)
 }
 
 /// The value of a cell at a place.

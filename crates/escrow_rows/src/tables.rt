@@ -7,7 +7,7 @@ use crate::store::RowStore;
 use crate::stored::StoredTable;
 use escrow_cells::{Step, count_keys, failure_of, run, tabs};
 use escrow_num::{Failure, Text};
-use escrow_schema::print_table;
+use escrow_schema::{TableDef, print_table};
 use sqlite::{Alter, Row};
 use std::alloc::Global;
 
@@ -18,7 +18,7 @@ impl<S: Alter> RowStore<S> {
     ghost use Rattle.escrow_schema.specs.Definition.{IsTable};
     ghost use Rattle.escrow_cells.specs.Calls.{OnlyReads, Transacts};
     ghost use Rattle.escrow_rows.specs.Answers.{TellsCount, TellsTables};
-    ghost use Rattle.escrow_rows.specs.Changes.{Creates, Drops};
+    ghost use Rattle.escrow_rows.specs.Changes.{Creates, Drops, Redefines};
 
     /// Puts a new table, without rows.
     pub fn create_table(&mut self, alloc: Global, table: &StoredTable) -> Result<(), Failure>
@@ -33,6 +33,33 @@ impl<S: Alter> RowStore<S> {
                 name: table.table.name.as_str(),
                 text: text.as_str(),
             }],
+        )
+    }
+
+    /// Puts another definition in the place of a table's: one that differs in its checks alone. The
+    /// rows stay as they are, whether they meet the checks or not.
+    pub fn redefine(
+        &mut self,
+        alloc: Global,
+        table: &StoredTable,
+        altered: &TableDef,
+    ) -> Result<(), Failure>
+        requires defined { IsTable altered.now }
+        requires alike { altered.now ≡ record table.now.table { checks = altered.now.checks } }
+        ensures { Transacts (state S.Store self.old) (state S.Store self.new) (is_ok result) (Redefines table.now altered.now.checks) }
+    {
+        let id = table.id;
+        let text = print_table(alloc, altered)?;
+        run(
+            &mut self.conn,
+            &[
+                Step::DeleteTab { id },
+                Step::InsertTab {
+                    id,
+                    name: altered.name.as_str(),
+                    text: text.as_str(),
+                },
+            ],
         )
     }
 

@@ -10,9 +10,7 @@ use Rattle.escrow_num.specs.declared.value.Value.{Value}
 use Rattle.escrow_sql.specs.declared.statement.Assign.{Assign}
 use Rattle.escrow_sql.specs.declared.statement.Assigned.{Assigned}
 use Rattle.escrow_sql.specs.declared.statement.Assigned.TheVariants as assigned
-use Rattle.escrow_sql.specs.declared.statement.Literal.{Literal}
 use Rattle.escrow_schema.specs.declared.column.Column.{Column}
-use Rattle.escrow_schema.specs.declared.column.ColumnType.{ColumnType}
 use Rattle.escrow_schema.specs.declared.plan.Plan.TheVariants.{Reserve, Plain}
 use Rattle.escrow_schema.specs.Column.{reservables, scale_of, value_in}
 use Rattle.escrow_schema.specs.Definition.{are_distinct}
@@ -114,12 +112,13 @@ value_of_name : (assigns : List Assign) (name : List ℕ) (k : ℕ) (assign : As
 value_of_name assigns name k assign assigned apart found named is =
     subst (λ (n : List ℕ). assigned_to assigns n ≡ Some assign.value) named (assigned_at assigns k assign apart found) ∙ ap Some is
 
--- the units of a change that is there
-units_there : (scale : ℕ) (changes : List (Option ℤ)) (i : ℕ) (o c : Option ℤ) (change : ℤ) → o ≡ Some change → slice_get changes i ≡ Some c → change_at scale o ≡ Some c
-    → (units : ℤ) × (slice_get changes i ≡ Some (Some units)) × (units_at scale change ≡ Some units)
-units_there scale changes i o c change known at is =
-    mapped_some (λ u. Some u) (units_at scale change) c (subst (λ (p : Option ℤ). change_at scale p ≡ Some c) known is)
-    (λ u made same. (u, at ∙ ap Some (sym same), made))
+-- what is made of a thing that is there
+made_there : {A B : Type 0} (make : A → Option B) (make_any : Option A → Option (Option B)) → ((x : A) → make_any (Some x) ≡ option_map (λ y. Some y) (make x))
+    → (all : List (Option B)) (i : ℕ) (o : Option A) (made : Option B) (x : A) → o ≡ Some x → slice_get all i ≡ Some made → make_any o ≡ Some made
+    → (y : B) × (slice_get all i ≡ Some (Some y)) × (make x ≡ Some y)
+made_there make make_any there all i o made x known at is =
+    mapped_some (λ y. Some y) (make x) made (sym (there x) ∙ ap make_any (sym known) ∙ is)
+    (λ y makes same. (y, at ∙ ap Some (sym same), makes))
 
 pub changes_as_assigned : ChangesAsAssigned
 changes_as_assigned table text key changes e i column here =
@@ -131,18 +130,11 @@ changes_as_assigned table text key changes e i column here =
     let scale = scale_of column.kind in (
       λ k assign source change at named value.
           let known = value_of_name assigns column.name k assign (assigned.Change source change) apart at named value in
-          units_there scale changes i (option_and_then change_in (assigned_to assigns column.name)) found.0 change (ap (option_and_then change_in) known) found.1 found.2,
+          made_there (units_at scale) (change_at scale) (λ _. refl) changes i (option_and_then change_in (assigned_to assigns column.name)) found.0 change (ap (option_and_then change_in) known) found.1 found.2,
       λ none.
           let nothing : None ≡ found.0 = same_Some None found.0 (subst (λ (o : Option Assigned). change_at scale (option_and_then change_in o) ≡ Some found.0) (assigned_none assigns column.name none) found.2) in
           found.1 ∙ ap Some (sym nothing),
     )
-
--- the value of a literal that is there
-literal_there : (kind : ColumnType) (values : List (Option Value)) (i : ℕ) (o : Option Literal) (v : Option Value) (literal : Literal) → o ≡ Some literal
-    → slice_get values i ≡ Some v → new_value kind o ≡ Some v → (x : Value) × (slice_get values i ≡ Some (Some x)) × (value_in kind literal ≡ Some x)
-literal_there kind values i o v literal known at is =
-    mapped_some (λ x. Some x) (value_in kind literal) v (subst (λ (p : Option Literal). new_value kind p ≡ Some v) known is)
-    (λ x made same. (x, at ∙ ap Some (sym same), made))
 
 pub new_values_as_assigned : NewValuesAsAssigned
 new_values_as_assigned table text key values e i column here =
@@ -153,7 +145,7 @@ new_values_as_assigned table text key values e i column here =
     let found = value_there (plains table.columns 0 table.key) assigns values i column (planned_values_of table text key values e) here in (
       λ k assign literal at named value.
           let known = value_of_name assigns column.name k assign (assigned.Literal literal) apart at named value in
-          literal_there column.kind values i (option_and_then literal_in (assigned_to assigns column.name)) found.0 literal (ap (option_and_then literal_in) known) found.1 found.2,
+          made_there (value_in column.kind) (new_value column.kind) (λ _. refl) values i (option_and_then literal_in (assigned_to assigns column.name)) found.0 literal (ap (option_and_then literal_in) known) found.1 found.2,
       λ none.
           let nothing : None ≡ found.0 = same_Some None found.0 (subst (λ (o : Option Assigned). new_value column.kind (option_and_then literal_in o) ≡ Some found.0) (assigned_none assigns column.name none) found.2) in
           found.1 ∙ ap Some (sym nothing),

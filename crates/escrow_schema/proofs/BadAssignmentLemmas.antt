@@ -235,45 +235,47 @@ second_fails : (x y : Bool) → x ≡ true → (x && y) ≡ false → y ≡ fals
 second_fails true y t e = e
 second_fails false y t e = absurd (false≢true t)
 
--- what is no replacement, beside what is assigned to a plain column
-bad_beside_plain : (table : TableDef) (text : UpdateText) (plain other : Assign) → Assigns text plain → IsPlainName table plain.column
-    → Assigns text other → is_replacement table other ≡ false → IsBadlyAssigned table text
-bad_beside_plain table text plain other at is_plain there fails =
+-- an assignment to no column, or to the key, is a bad one; of another column it is asked what kind of column it is
+bad_by_kind : (table : TableDef) (text : UpdateText) (other : Assign) → Assigns text other
+    → (IsReservableName table other.column → IsBadlyAssigned table text) → (IsPlainName table other.column → IsBadlyAssigned table text) → IsBadlyAssigned table text
+bad_by_kind table text other there of_reservable of_plain =
     elim (kind_of table other.column) [
       | inl none ↦ inl (other, there, none)
       | inr known ↦ elim known [
         | inl key ↦ inr (inl (other, there, key))
-        | inr rest ↦ elim rest [
-          | inl reservable ↦ inr (inr (inr (inr (inr (other, plain, there, at, reservable, is_plain)))))
-          | inr as_well ↦ inr (inr (inr (inr (inl (
-            other,
-            there,
-            as_well,
-            not_literal other.value (second_fails (has_column (plains table.columns 0 table.key) other.column) (is_literal other.value) (plain_name_passes table other.column as_well) fails),
-          )))))
-        ]
+        | inr rest ↦ elim rest [ inl reservable ↦ of_reservable reservable | inr plain ↦ of_plain plain ]
       ]
     ]
+
+-- what is no replacement, beside what is assigned to a plain column
+bad_beside_plain : (table : TableDef) (text : UpdateText) (plain other : Assign) → Assigns text plain → IsPlainName table plain.column
+    → Assigns text other → is_replacement table other ≡ false → IsBadlyAssigned table text
+bad_beside_plain table text plain other at is_plain there fails =
+    bad_by_kind table text other there
+    (λ reservable. inr (inr (inr (inr (inr (other, plain, there, at, reservable, is_plain))))))
+    (λ as_well.
+    let passes = plain_name_passes table other.column as_well in
+    inr (inr (inr (inr (inl (
+      other,
+      there,
+      as_well,
+      not_literal other.value (second_fails (has_column (plains table.columns 0 table.key) other.column) (is_literal other.value) passes fails),
+    ))))))
 
 -- what is no change, beside what is no replacement
 bad_of_both : (table : TableDef) (text : UpdateText) (one other : Assign) → Assigns text one → is_change table.columns one ≡ false
     → Assigns text other → is_replacement table other ≡ false → IsBadlyAssigned table text
 bad_of_both table text one other at fails there fails_too =
-    elim (kind_of table one.column) [
-      | inl none ↦ inl (one, at, none)
-      | inr known ↦ elim known [
-        | inl key ↦ inr (inl (one, at, key))
-        | inr rest ↦ elim rest [
-          | inl reservable ↦ inr (inr (inr (inl (
-            one,
-            at,
-            reservable,
-            not_itself one.column one.value (second_fails (list_any (is_reservable one.column) table.columns) (is_itself one.column one.value) (reservable_passes table one.column reservable) fails),
-          ))))
-          | inr plain ↦ bad_beside_plain table text one other at plain there fails_too
-        ]
-      ]
-    ]
+    bad_by_kind table text one at
+    (λ reservable.
+    let passes = reservable_passes table one.column reservable in
+    inr (inr (inr (inl (
+      one,
+      at,
+      reservable,
+      not_itself one.column one.value (second_fails (list_any (is_reservable one.column) table.columns) (is_itself one.column one.value) passes fails),
+    )))))
+    (λ plain. bad_beside_plain table text one other at plain there fails_too)
 
 assigned_twice : (text : UpdateText) → are_distinct (assigned_names text.assigns) ≡ false → AssignsTwice text
 assigned_twice text again =

@@ -1,14 +1,11 @@
 -- What an UPDATE's plan is, and why it has none.
-use Rattle.std.proofs.Common.{◌≡◌, ◌⊎◌, ℕ, suc, Bool, true, false, cond, not, Option, Some, None, option_map, option_and_then, Result, Ok, Err, List, [], ◌∷◌, length, sym, subst, ap, ap₂, ◌∙◌, refl, inl, inr}
+use Rattle.std.proofs.Common.{◌≡◌, ◌⊎◌, suc, Bool, true, false, cond, not, Option, Some, None, option_map, option_and_then, Result, Ok, Err, List, [], ◌∷◌, length, sym, subst, ap, ap₂, ◌∙◌, refl, inl, inr}
 use Rattle.std.specs.Prelude.{ℤ, IfOk, IfSome, IsSome, IsTrue, is_some}
 use Rattle.std.proofs.lemmas.Bool.{false≢true}
 use Rattle.std.specs.List.{AllZip}
 use Rattle.std.specs.Option.{ok_or}
 use Rattle.std.specs.Result.{IfErr, IsErrAnd, IsErrOf, IsOk, result_err}
-use Rattle.std.proofs.lemmas.List.{length-map}
 use Rattle.std.proofs.lemmas.Option.{none-some, same_Some, option_and_then_some}
-use Rattle.escrow_num.specs.Decimal.{units_at}
-use Rattle.escrow_num.specs.Refusal.{first_refusal, refuse_if}
 use Rattle.escrow_num.specs.declared.refusal.Refusal.{Refusal}
 use Rattle.escrow_num.specs.declared.refusal.Refusal.TheVariants as refusal
 use Rattle.escrow_num.specs.declared.value.Value.{Value}
@@ -27,7 +24,7 @@ use Rattle.escrow_schema.specs.Definition.{key_scale}
 use Rattle.escrow_schema.specs.Fit.{plains}
 use Rattle.escrow_schema.specs.Laws.{KeysOfPlans, KeysOfWheres, PlainPlansFit, PlansOfWholeRow, RefusalsOfKeys, RefusalsOfPlans}
 use Rattle.escrow_schema.specs.Plan.{are_changes, are_replacements, assigned_to, change_at, change_in, changes_for, changes_of, for_key, is_key, key_in, key_of, key_named, literal_in, new_value, new_values, new_values_of, planned}
-use Rattle.escrow_schema.proofs.KeyValues.{key_exact, named_there, value_in_at, value_in_fits, where_key}
+use Rattle.escrow_schema.proofs.KeyValues.{key_exact, value_in_at, value_in_fits, where_key}
 use Rattle.escrow_schema.proofs.ListLemmas.{mapped_some}
 
 -- what is planned, by whether the assignments are changes, whether they replace values, what the

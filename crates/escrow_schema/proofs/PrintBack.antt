@@ -49,15 +49,19 @@ declared_first table declared e =
 abbrev at_most : List Check → Option (List Check)
 at_most checks = cond (nat_le (length checks) MAX_CHECKS) (Some checks) None
 
--- what the definition of a table gives for its text: names that can be written, types, declared checks
+-- what the definition of a table gives for the text of its columns: names that can be written, types
+pub record SoundColumns (columns : List Column) : Type 0 where
+  pub names : list_all is_written_name (names_of columns) ≡ true
+  pub distinct : are_distinct (names_of columns) ≡ true
+  pub types : AllByRecursion HasType columns
+  pub some : 1 ≤ length columns
+  pub most : length columns ≤ 30
+  pub reserved : length (reservables columns) ≤ 10
+
+-- and for all of its text: declared checks besides
 pub record Sound (table : TableDef) : Type 0 where
   pub name : is_written_name table.name ≡ true
-  pub names : list_all is_written_name (names_of table.columns) ≡ true
-  pub distinct : are_distinct (names_of table.columns) ≡ true
-  pub types : AllByRecursion HasType table.columns
-  pub some : 1 ≤ length table.columns
-  pub columns : length table.columns ≤ 30
-  pub reserved : length (reservables table.columns) ≤ 10
+  pub columns : SoundColumns table.columns
   pub few : length (declared_checks table) ≤ MAX_CHECKS
   pub declared : AllByRecursion (IsDeclared (names_of (reservables table.columns)) (scales_of (reservables table.columns))) (declared_checks table)
   pub checks : table.checks ≡ declared_checks table ++ range_checks table.columns
@@ -71,12 +75,14 @@ sound text table e h =
     let least = rules.least in
     record {
       name = h.written_names.0;
-      names = rules.written_names;
-      distinct = rules.distinct;
-      types = column_types table (text, e);
-      some = omega arith;
-      columns = rules.most;
-      reserved = rules.few_reservable;
+      columns = record {
+        names = rules.written_names;
+        distinct = rules.distinct;
+        types = column_types table (text, e);
+        some = omega arith;
+        most = rules.most;
+        reserved = rules.few_reservable;
+      };
       few = subst (λ (checks : List Check). length checks ≤ MAX_CHECKS) (sym same) h.few_declared;
       checks = h.checks ∙ ap (λ (checks : List Check). checks ++ range_checks table.columns) (sym same);
       declared = subst (AllByRecursion (IsDeclared names scales)) (sym same) h.good_declared;
@@ -100,7 +106,7 @@ follows_tree text table checks s apart h =
     let declared : List Check = declared_checks (record table { checks = checks }) in
     record {
       name = refl;
-      columns = columns_back table.columns 0 table.key names scales declared s.types (plain_found table.columns 0 table.key table.key h.key (omega arith) h.key_there h.plain_key);
+      columns = columns_back table.columns 0 table.key names scales declared s.columns.types (plain_found table.columns 0 table.key table.key h.key (omega arith) h.key_there h.plain_key);
       enough_columns = h.enough_columns;
       few_columns = h.few_columns;
       written_names = h.written_names;
@@ -113,7 +119,7 @@ follows_tree text table checks s apart h =
       few_reservable = h.few_reservable;
       number_reservable = h.number_reservable;
       declared = declared;
-      of_text = ap (checks_of names scales) (checks_back table.columns 0 table.key names scales declared) ∙ checks_again names scales declared (reservables_distinct table.columns s.distinct) s.few s.declared;
+      of_text = ap (checks_of names scales) (checks_back table.columns 0 table.key names scales declared) ∙ checks_again names scales declared (reservables_distinct table.columns s.columns.distinct) s.few s.declared;
       few_declared = s.few;
       good_declared = s.declared;
       checks = s.checks;
@@ -130,12 +136,7 @@ sound_over table declared s few good =
     let same = declared_first (over table declared) declared refl in
     record {
       name = s.name;
-      names = s.names;
-      distinct = s.distinct;
-      types = s.types;
-      some = s.some;
       columns = s.columns;
-      reserved = s.reserved;
       few = subst (λ (checks : List Check). length checks ≤ MAX_CHECKS) (sym same) few;
       declared = subst (AllByRecursion (IsDeclared (names_of (reservables table.columns)) (scales_of (reservables table.columns)))) (sym same) good;
       checks = ap (λ (checks : List Check). checks ++ range_checks table.columns) (sym same);
@@ -161,18 +162,18 @@ asks_tree : (table : TableDef) → Sound table → Asks (canonical table) (reque
 asks_tree table s =
     let names = names_of (reservables table.columns) in
     let scales = scales_of (reservables table.columns) in
-    let scaled : All IsScale scales = (scales_typed (reservables table.columns) (reservable_types table.columns s.types)).1 in
-    let written = reservables_written table.columns s.names in
+    let scaled : All IsScale scales = (scales_typed (reservables table.columns) (reservable_types table.columns s.columns.types)).1 in
+    let written = reservables_written table.columns s.columns.names in
     let columns = columns_words table.columns 0 table.key in
     let checks = map (check_words names scales) (declared_checks table) in
     let few : length (columns ++ checks) ≤ 62 =
-    omega (arith, s.columns, s.few, length-append columns checks, length-columns_words table.columns 0 table.key, length-map (declared_checks table) (check_words names scales)) in
+    omega (arith, s.columns.most, s.few, length-append columns checks, length-columns_words table.columns 0 table.key, length-map (declared_checks table) (check_words names scales)) in
     let short : AllByRecursion IsShort (columns ++ checks) =
-    both_parts IsShort columns checks (columns_short table.columns 0 table.key s.names s.types)
-    (checks_short names scales (declared_checks table) written (omega (arith, s.reserved, length-map (reservables table.columns) (λ (c : Column). c.name))) scaled s.declared) in
+    both_parts IsShort columns checks (columns_short table.columns 0 table.key s.columns.names s.columns.types)
+    (checks_short names scales (declared_checks table) written (omega (arith, s.columns.reserved, length-map (reservables table.columns) (λ (c : Column). c.name))) scaled s.declared) in
     let each = each_append item columns checks (columns_tree table.columns 0 table.key) (map (check_item names scales) (declared_checks table))
-    (writes_columns table.columns 0 table.key s.names s.types) (writes_checks names scales (declared_checks table) written scaled s.declared) in
-    asks_written (writes_table table.name (columns ++ checks) (items_tree table) s.name (some_item table.columns table.key (map (check_item names scales) (declared_checks table)) s.some) each)
+    (writes_columns table.columns 0 table.key s.columns.names s.columns.types) (writes_checks names scales (declared_checks table) written scaled s.declared) in
+    asks_written (writes_table table.name (columns ++ checks) (items_tree table) s.name (some_item table.columns table.key (map (check_item names scales) (declared_checks table)) s.columns.some) each)
     (table_length table.name (columns ++ checks) s.name short few)
 
 pub read_back : (table : TableDef) → IsTable table → ReadsBack table (canonical table)

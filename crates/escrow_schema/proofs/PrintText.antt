@@ -181,5 +181,5 @@ canonical_text table is =
     let columns = columns_words table.columns 0 table.key in
     let checks = map (check_words names scales) (declared_checks table) in
     table_text table.name (columns ++ checks) s.name
-    (both_parts IsUtf8 columns checks (columns_text table.columns 0 table.key s.names s.types)
-    (checks_text names scales (declared_checks table) (reservables_written table.columns s.names) s.declared))
+    (both_parts IsUtf8 columns checks (columns_text table.columns 0 table.key s.columns.names s.columns.types)
+    (checks_text names scales (declared_checks table) (reservables_written table.columns s.columns.names) s.declared))

@@ -5,18 +5,25 @@ use Rattle.escrow_sql.specs.Grammar.{Grammar, sequence, either, Sentence, Begins
 use Rattle.escrow_sql.specs.Statement.{show, body, request}
 use Rattle.escrow_sql.specs.Factored.{factored_show, factored_body, factored_request}
 
--- each sentence of the one is one of the other, with the same meaning
+-- each sentence of the one is one of the other, with the same meaning, and the other way round
 pub record Keeps {V : Type 0} (g h : Grammar V) : Type 0 where
   pub kept : (ts : List Token) (v : V) → Sentence g ts v → Sentence h ts v
+  pub back : (ts : List Token) (v : V) → Sentence h ts v → Sentence g ts v
 
 keeps_sequence : {A B V : Type 0} {a c : Grammar A} {b : Grammar B} {f : A → B → V} → Keeps a c → Keeps (sequence a b f) (sequence c b f)
-keeps_sequence k = record { kept = λ ts v s. (s.0, s.1, s.2, s.3, s.4, k.kept s.0 s.2 s.5, s.6, s.7) }
+keeps_sequence k = record {
+  kept = λ ts v s. (s.0, s.1, s.2, s.3, s.4, k.kept s.0 s.2 s.5, s.6, s.7);
+  back = λ ts v s. (s.0, s.1, s.2, s.3, s.4, k.back s.0 s.2 s.5, s.6, s.7);
+}
 
 keeps_second : {V : Type 0} {a b c : Grammar V} → Keeps b c → Keeps (either a b) (either a c)
-keeps_second k = record { kept = λ ts v. elim [ inl s ↦ inl s | inr s ↦ inr (k.kept ts v s) ] }
+keeps_second k = record {
+  kept = λ ts v. elim [ inl s ↦ inl s | inr s ↦ inr (k.kept ts v s) ];
+  back = λ ts v. elim [ inl s ↦ inl s | inr s ↦ inr (k.back ts v s) ];
+}
 
 keeps_same : {V : Type 0} {g : Grammar V} → Keeps g g
-keeps_same = record { kept = λ ts v s. s }
+keeps_same = record { kept = λ ts v s. s; back = λ ts v s. s }
 
 -- what alternatives begin with may be taken out before them all, where it may before those behind the first
 taken_out : {A B V : Type 0} {a : Grammar A} {b c : Grammar B} {others : Grammar V} {f : A → B → V}
@@ -26,15 +33,9 @@ taken_out k = record {
     | inl s ↦ (s.0, s.1, s.2, s.3, s.4, s.5, inl s.6, s.7)
     | inr o ↦ let s = k.kept ts v o in (s.0, s.1, s.2, s.3, s.4, s.5, inr s.6, s.7)
   ];
-}
-
--- and put back before each
-put_back : {A B V : Type 0} {a : Grammar A} {b c : Grammar B} {others : Grammar V} {f : A → B → V}
-    → Keeps (sequence a c f) others → Keeps (sequence a (either b c) f) (either (sequence a b f) others)
-put_back k = record {
-  kept = λ ts v s. elim s.6 [
+  back = λ ts v s. elim s.6 [
     | inl r ↦ inl (s.0, s.1, s.2, s.3, s.4, s.5, r, s.7)
-    | inr r ↦ inr (k.kept ts v (s.0, s.1, s.2, s.3, s.4, s.5, r, s.7))
+    | inr r ↦ inr (k.back ts v (s.0, s.1, s.2, s.3, s.4, s.5, r, s.7))
   ];
 }
 
@@ -42,34 +43,26 @@ show_factored : Keeps show factored_show
 unfolding show factored_show
 show_factored = taken_out (taken_out (taken_out keeps_same))
 
-show_back : Keeps factored_show show
-unfolding show factored_show
-show_back = put_back (put_back (put_back keeps_same))
-
 body_factored : Keeps body factored_body
 unfolding body factored_body
 body_factored = keeps_second (keeps_second (keeps_second show_factored))
-
-body_back : Keeps factored_body body
-unfolding body factored_body
-body_back = keeps_second (keeps_second (keeps_second show_back))
 
 pub factored : Keeps request factored_request
 unfolding request factored_request
 factored = keeps_sequence body_factored
 
-pub factored_back : Keeps factored_request request
-unfolding request factored_request
-factored_back = keeps_sequence body_back
+-- the other way round
+pub flipped : {V : Type 0} {g h : Grammar V} → Keeps g h → Keeps h g
+flipped k = record { kept = k.back; back = k.kept }
 
 begins_kept : {V : Type 0} {g h : Grammar V} → Keeps g h → (ts : List Token) → Begins g ts → Begins h ts
 begins_kept k ts b = (b.0, b.1, k.kept _ b.1 b.2)
 
 -- so the first fault is the same
-pub fault_kept : {V : Type 0} {g h : Grammar V} → Keeps g h → Keeps h g → (ts : List Token) (n : ℕ) → IsFirstFault g ts n → IsFirstFault h ts n
-fault_kept k l ts n f = record {
+pub fault_kept : {V : Type 0} {g h : Grammar V} → Keeps g h → (ts : List Token) (n : ℕ) → IsFirstFault g ts n → IsFirstFault h ts n
+fault_kept k ts n f = record {
   within = f.within;
   begins = begins_kept k _ f.begins;
-  unexpected = λ before b. f.unexpected before (begins_kept l _ b);
-  too_short = λ end v s. f.too_short end v (l.kept ts v s);
+  unexpected = λ before b. f.unexpected before (begins_kept (flipped k) _ b);
+  too_short = λ end v s. f.too_short end v (k.back ts v s);
 }

@@ -10,7 +10,7 @@ use Rattle.escrow_sql.specs.Predictive.{run_whole}
 use Rattle.escrow_sql.specs.Statement.{request}
 use Rattle.escrow_sql.specs.Factored.{factored_request}
 use Rattle.escrow_sql.specs.Parser.{Asks, IsFaultColumn}
-use Rattle.escrow_sql.proofs.Factoring.{factored, factored_back, fault_kept}
+use Rattle.escrow_sql.proofs.Factoring.{factored, flipped, fault_kept}
 use Rattle.escrow_sql.proofs.Faults.{read_sentence, sentence_read, first_fault}
 use Rattle.escrow_sql.proofs.Pieces.{only_lexed, lexed_once, lexed_short}
 use Rattle.escrow_sql.proofs.Predictive.{factored-is_predictive}
@@ -29,7 +29,7 @@ column_fits g text tokens read rest h e fault =
 
 -- what was read is what the text asks
 pub asked : (text : List ℕ) (tokens read : List Token) (r : Request) → IsLexed text (Ok tokens) → read ≡ tokens → run_whole factored_request read ≡ Ok r → Asks text r
-asked text tokens read r h e ok = (tokens, h, factored_back.kept tokens r (read_sentence factored_request factored-is_predictive tokens r (ap (run_whole factored_request) (sym e) ∙ ok)))
+asked text tokens read r h e ok = (tokens, h, factored.back tokens r (read_sentence factored_request factored-is_predictive tokens r (ap (run_whole factored_request) (sym e) ∙ ok)))
 
 -- what the text asks is what reading gives
 pub answered : (text : List ℕ) (tokens : List Token) (r : Request) → IsLexed text (Ok tokens) → Asks text r → run_whole factored_request tokens ≡ Ok r
@@ -43,7 +43,7 @@ pub fault_column : (text : List ℕ) (tokens read rest : List Token) → IsLexed
     → IsFaultColumn text (column_at rest (length text))
 fault_column text tokens read rest h e fault =
     let f = first_fault factored_request factored-is_predictive tokens rest (ap (run_whole factored_request) (sym e) ∙ fault) in
-    inr (tokens, f.0, h, fault_kept factored_back factored tokens f.0 f.1, ap (λ (ts : List Token). column_at ts (length text)) f.2)
+    inr (tokens, f.0, h, fault_kept (flipped factored) tokens f.0 f.1, ap (λ (ts : List Token). column_at ts (length text)) f.2)
 
 -- a text that asks something has no fault where reading stops, and no lexing fault
 pub not_asked : (text : List ℕ) (tokens read rest : List Token) (r : Request) → IsLexed text (Ok tokens) → read ≡ tokens → run_whole factored_request read ≡ Err rest → Asks text r → ⊥

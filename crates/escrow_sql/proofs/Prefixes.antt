@@ -46,6 +46,14 @@ seam ts fa fb r rest h k = h ∙ (ap (λ (x : List Token). fa ++ x) k ∙ sym (a
 head_behind : (r fb rest other : List Token) → r ≡ fb ++ rest → SameHead rest other → SameHead r (fb ++ other)
 head_behind r fb rest other h s = subst (λ (x : List Token). SameHead x (fb ++ other)) (sym h) (same_behind fb rest other s)
 
+-- reading two parts again, whatever follows, where the first was taken
+both_again : {A B V : Type 0} (ra : List Token → Read A) (rb : List Token → Read B) (f : A → B → V) (fa fb r rest other : List Token) (x : A) (z : Read B)
+    → ((us : List Token) → SameHead r us → ra (fa ++ us) ≡ Ok (x, us)) → r ≡ fb ++ rest → SameHead rest other → rb (fb ++ other) ≡ z
+    → and_then (ra ((fa ++ fb) ++ other)) (λ x q. and_then (rb q) (λ y end. Ok (f x y, end))) ≡ and_then z (λ y end. Ok (f x y, end))
+both_again {A} {B} {V} ra rb f fa fb r rest other x z first e s second =
+    let ea = ap ra (append_assoc fa fb other) ∙ first (fb ++ other) (head_behind r fb rest other e s) in
+    ap (λ (w : Read A). and_then w (λ x q. and_then (rb q) (λ y end. Ok (f x y, end)))) ea ∙ ap (λ (w : Read B). and_then w (λ y end. Ok (f x y, end))) second
+
 -- two parts that were taken
 took_both : {A B V : Type 0} (ra : List Token → Read A) (rb : List Token → Read B) (Sa : List Token → A → Type 0) (Sb : List Token → B → Type 0)
     (f : A → B → V) (S : List Token → V → Type 0) → ((s t : List Token) (x : A) (y : B) → Sa s x → Sb t y → S (s ++ t) (f x y))
@@ -55,10 +63,7 @@ took_both {A} {B} {V} ra rb Sa Sb f S join ts r rest x y a b = (
   a.0 ++ b.0,
   seam ts a.0 b.0 r rest a.1 b.1,
   join a.0 b.0 x y a.2 b.2,
-  λ other s.
-      let ea = ap ra (append_assoc a.0 b.0 other) ∙ a.3 (b.0 ++ other) (head_behind r b.0 rest other b.1 s) in
-      let eb = b.3 other s in
-      ap (λ (z : Read A). and_then z (λ x q. and_then (rb q) (λ y end. Ok (f x y, end)))) ea ∙ ap (λ (z : Read B). and_then z (λ y end. Ok (f x y, end))) eb,
+  λ other s. both_again ra rb f a.0 b.0 r rest other x (Ok (y, other)) a.3 b.1 s (b.3 other s),
 )
 
 -- a second part that stopped
@@ -71,10 +76,7 @@ stuck_second {A} {B} {V} ra rb Sa Sb f S join ts r rest x a b =
       a.0 ++ b.0,
       seam ts a.0 b.0 r rest a.1 b.1,
       (m.0, f x m.1, subst (λ (w : List Token). S w (f x m.1)) (sym (append_assoc a.0 b.0 m.0)) (join a.0 (b.0 ++ m.0) x m.1 a.2 m.2)),
-      λ other s.
-          let ea = ap ra (append_assoc a.0 b.0 other) ∙ a.3 (b.0 ++ other) (head_behind r b.0 rest other b.1 s) in
-          let eb = b.3 other s in
-          ap (λ (z : Read A). and_then z (λ x q. and_then (rb q) (λ y end. Ok (f x y, end)))) ea ∙ ap (λ (z : Read B). and_then z (λ y end. Ok (f x y, end))) eb,
+      λ other s. both_again ra rb f a.0 b.0 r rest other x (Err other) a.3 b.1 s (b.3 other s),
     )
 
 -- a first part that stopped
@@ -117,16 +119,18 @@ took_none {A} a ts rest xs s h =
     subst (λ (ys : List A). Took (items a) (Repeats (Sentence a)) ts ys rest) p.0
     ([], p.1, refl, λ other q. items-none a other (sym (starts-same (first a) rest other q) ∙ (ap (starts (first a)) (sym p.1) ∙ s)))
 
+begins_same : (classes : List ℕ) (ts front rest other : List Token) (b : Bool) → ts ≡ front ++ rest → SameHead rest other → starts classes ts ≡ b → starts classes (front ++ other) ≡ b
+begins_same classes ts front rest other b e s h = sym (starts-same classes ts (front ++ other) (head_behind ts front rest other e s)) ∙ h
+
+-- reading items again, whatever follows, where one comes next
+unrolled_again : {A : Type 0} (a : Grammar A) → may_be_empty a ≡ false → (ts front rest other : List Token) → starts (first a) ts ≡ true → ts ≡ front ++ rest → SameHead rest other
+    → items a (front ++ other) ≡ and_then (run a (front ++ other)) (λ x q. onto x (items a q))
+unrolled_again a e ts front rest other s same q = items-unrolled a e (front ++ other) (begins_same (first a) ts front rest other true same q s)
+
 -- reading items where one comes next, seen as reading that one and the others
 took_unrolled : {A : Type 0} (a : Grammar A) → may_be_empty a ≡ false → (ts rest : List Token) (ys : List A) → starts (first a) ts ≡ true
     → Took (λ us. and_then (run a us) (λ x q. onto x (items a q))) (Repeats (Sentence a)) ts ys rest → Took (items a) (Repeats (Sentence a)) ts ys rest
-took_unrolled a e ts rest ys s both = (
-  both.0,
-  both.1,
-  both.2,
-  λ other q.
-      items-unrolled a e (both.0 ++ other) (sym (starts-same (first a) ts (both.0 ++ other) (head_behind ts both.0 rest other both.1 q)) ∙ s) ∙ both.3 other q,
-)
+took_unrolled a e ts rest ys s both = (both.0, both.1, both.2, λ other q. unrolled_again a e ts both.0 rest other s both.1 q ∙ both.3 other q)
 
 -- the items of a repetition that were taken
 took_items : {A : Type 0} (a : Grammar A) → may_be_empty a ≡ false → ((ts rest : List Token) (v : A) → run a ts ≡ Ok (v, rest) → Took (run a) (Sentence a) ts v rest)
@@ -154,13 +158,7 @@ took_items {A} a e ta (suc n) ts rest xs l h =
 -- the same where one of them stopped
 stuck_unrolled : {A : Type 0} (a : Grammar A) → may_be_empty a ≡ false → (ts rest : List Token) → starts (first a) ts ≡ true
     → Stuck (λ us. and_then (run a us) (λ x q. onto x (items a q))) (Repeats (Sentence a)) ts rest → Stuck (items a) (Repeats (Sentence a)) ts rest
-stuck_unrolled a e ts rest s both = (
-  both.0,
-  both.1,
-  both.2,
-  λ other q.
-      items-unrolled a e (both.0 ++ other) (sym (starts-same (first a) ts (both.0 ++ other) (head_behind ts both.0 rest other both.1 q)) ∙ s) ∙ both.3 other q,
-)
+stuck_unrolled a e ts rest s both = (both.0, both.1, both.2, λ other q. unrolled_again a e ts both.0 rest other s both.1 q ∙ both.3 other q)
 
 -- the items of a repetition of which one stopped
 stuck_items : {A : Type 0} (a : Grammar A) → may_be_empty a ≡ false → ((ts rest : List Token) (v : A) → run a ts ≡ Ok (v, rest) → Took (run a) (Sentence a) ts v rest)
@@ -190,9 +188,6 @@ either_left a b ts e = cond-true (starts (first a) ts) (run a ts) (run b ts) e
 
 either_right : {V : Type 0} (a b : Grammar V) (ts : List Token) → starts (first a) ts ≡ false → run (either a b) ts ≡ run b ts
 either_right a b ts e = cond-false (starts (first a) ts) (run a ts) (run b ts) e
-
-begins_same : (classes : List ℕ) (ts front rest other : List Token) (b : Bool) → ts ≡ front ++ rest → SameHead rest other → starts classes ts ≡ b → starts classes (front ++ other) ≡ b
-begins_same classes ts front rest other b e s h = sym (starts-same classes ts (front ++ other) (head_behind ts front rest other e s)) ∙ h
 
 took_left : {V : Type 0} (a b : Grammar V) (ts rest : List Token) (v : V) → starts (first a) ts ≡ true → Took (run a) (Sentence a) ts v rest → Took (run (either a b)) (Sentence (either a b)) ts v rest
 took_left a b ts rest v e t =

@@ -139,24 +139,24 @@ bytes_upper (c ∷ cs) e =
     let others = bytes_upper cs all.1 in
     (ap₂ (λ (d : ℕ) (ds : List ℕ). d ∷ ds) same others.0, rw (same, all.0) others.1)
 
+-- what letters and digits are not, with which a piece begins that is read otherwise
+plain_byte : (c : ℕ) → 48 ≤ c → ((c == 39) ≡ false) × (is_blank c ≡ false) × ((c == 45) ≡ false)
+plain_byte c h = (grind (arith, nat_tests), grind (arith, nat_tests), grind (arith, nat_tests))
+
 -- a capital letter begins a name, and a digit a number
 begins_name : (c : ℕ) (next : List ℕ) → is_ascii_uppercase c ≡ true → piece_of c next ≡ name_piece (c ∷ next)
 unfolding plain_piece
 begins_name c next h =
-    let quote : (c == 39) ≡ false = grind (arith, nat_tests) in
-    let blank : is_blank c ≡ false = grind (arith, nat_tests) in
-    let minus : (c == 45) ≡ false = grind (arith, nat_tests) in
+    let plain = plain_byte c (grind (arith, nat_tests)) in
     let letter : is_ascii_alphabetic c ≡ true = grind (arith, nat_tests) in
-    rw (quote, blank, minus, letter) refl
+    rw (plain.0, plain.1, plain.2, letter) refl
 
 pub begins_number : (c : ℕ) (next : List ℕ) → is_ascii_digit c ≡ true → piece_of c next ≡ number_piece (c ∷ next)
 unfolding plain_piece
 begins_number c next h =
-    let quote : (c == 39) ≡ false = grind (arith, nat_tests) in
-    let blank : is_blank c ≡ false = grind (arith, nat_tests) in
-    let minus : (c == 45) ≡ false = grind (arith, nat_tests) in
+    let plain = plain_byte c (grind (arith, nat_tests)) in
     let letter : is_ascii_alphabetic c ≡ false = grind (arith, nat_tests) in
-    rw (quote, blank, minus, letter, h) refl
+    rw (plain.0, plain.1, plain.2, letter, h) refl
 
 -- a name, by its length and its bytes
 abbrev name_with : ℕ → List ℕ → Piece

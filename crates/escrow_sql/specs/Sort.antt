@@ -1,5 +1,5 @@
 -- Helps: what a lexeme's fields are as the kind of a token. Contracts of public calls rest on Lex.
-use Rattle.std.specs.Prelude.{◌≡◌, ℕ, ℤ, pos, ◌+◌, ◌-◌, ◌==◌, nat_lt, if◌then◌else◌, false, List, length, map, get_or}
+use Rattle.std.specs.Prelude.{◌≡◌, ℕ, ℤ, pos, ◌-◌, ◌==◌, nat_lt, if◌then◌else◌, false, List, map, get_or}
 use Rattle.std.specs.Char.{to_ascii_uppercase}
 use Rattle.std.specs.Option.{IsSome, unwrap_or}
 use Rattle.std.specs.Str.{IsUtf8}

@@ -22,64 +22,56 @@ pub(crate) struct Cursor<'a> {
 }
 
 impl<'a> Cursor<'a> {
+    /// Whether a token of the class of this number comes next.
+    fn is_at(&self, class: usize) -> bool
+        ensures { result ≡ starts (class ∷ []) self.now.tokens.now }
+    {
+        match self.tokens {
+            [] => false,
+            [token, ..] => token.class() == class,
+        }
+    }
+
     /// Whether a reserved word comes next.
     pub(crate) fn is_at_word(&self, expected: Word) -> bool
         ensures { result ≡ starts (class_number (kind.Word expected) ∷ []) self.now.tokens.now }
     {
-        match self.tokens {
-            [] => false,
-            [token, ..] => token.class() == Kind::Word(expected).class(),
-        }
+        self.is_at(Kind::Word(expected).class())
     }
 
     /// Whether a symbol comes next.
     pub(crate) fn is_at_symbol(&self, expected: Symbol) -> bool
         ensures { result ≡ starts (class_number (kind.Symbol expected) ∷ []) self.now.tokens.now }
     {
-        match self.tokens {
-            [] => false,
-            [token, ..] => token.class() == Kind::Symbol(expected).class(),
-        }
+        self.is_at(Kind::Symbol(expected).class())
     }
 
     /// Whether a name comes next.
     pub(crate) fn is_at_name(&self) -> bool
         ensures { result ≡ starts (class_number (kind.Name []) ∷ []) self.now.tokens.now }
     {
-        match self.tokens {
-            [] => false,
-            [token, ..] => token.class() == Kind::NAME,
-        }
+        self.is_at(Kind::NAME)
     }
 
     /// Whether a number without a point comes next.
     pub(crate) fn is_at_whole(&self) -> bool
         ensures { result ≡ starts (class_number (kind.Number (pos 0)) ∷ []) self.now.tokens.now }
     {
-        match self.tokens {
-            [] => false,
-            [token, ..] => token.class() == Kind::NUMBER,
-        }
+        self.is_at(Kind::NUMBER)
     }
 
     /// Whether a number with a point comes next.
     pub(crate) fn is_at_point(&self) -> bool
         ensures { result ≡ starts (class_number (kind.Decimal (pos 0)) ∷ []) self.now.tokens.now }
     {
-        match self.tokens {
-            [] => false,
-            [token, ..] => token.class() == Kind::DECIMAL,
-        }
+        self.is_at(Kind::DECIMAL)
     }
 
     /// Whether a text comes next.
     pub(crate) fn is_at_text(&self) -> bool
         ensures { result ≡ starts (class_number (kind.Text []) ∷ []) self.now.tokens.now }
     {
-        match self.tokens {
-            [] => false,
-            [token, ..] => token.class() == Kind::TEXT,
-        }
+        self.is_at(Kind::TEXT)
     }
 
     /// Passes over a token of the class of `expected` if one comes next, and says whether it did.
@@ -96,12 +88,28 @@ impl<'a> Cursor<'a> {
         }
     }
 
-    /// Reads a reserved word.
-    pub(crate) fn word(&mut self, expected: Word) -> Result<(), Halt>
-        ensures { Advances self.new.tokens.now result (run (word expected) self.old.tokens.now) }
+    /// [`Cursor::takes`] of a reserved word.
+    pub(crate) fn takes_word(&mut self, expected: Word) -> bool
+        ensures { MatchBool result (run (word expected) self.old.tokens.now ≡ Ok (tt, self.new.tokens.now))
+            ((starts (class_number (kind.Word expected) ∷ []) self.old.tokens.now ≡ false) × (self.new.tokens.now ≡ self.old.tokens.now)) }
+    {
+        self.takes(&Kind::Word(expected))
+    }
+
+    /// [`Cursor::takes`] of a symbol.
+    pub(crate) fn takes_symbol(&mut self, expected: Symbol) -> bool
+        ensures { MatchBool result (run (symbol expected) self.old.tokens.now ≡ Ok (tt, self.new.tokens.now))
+            ((starts (class_number (kind.Symbol expected) ∷ []) self.old.tokens.now ≡ false) × (self.new.tokens.now ≡ self.old.tokens.now)) }
+    {
+        self.takes(&Kind::Symbol(expected))
+    }
+
+    /// Reads a token of the class of `expected`.
+    fn expect(&mut self, expected: &Kind) -> Result<(), Halt>
+        ensures { Advances self.new.tokens.now result (run (bare expected.now) self.old.tokens.now) }
     {
         match self.tokens {
-            [token, rest @ ..] if token.class() == Kind::Word(expected).class() => {
+            [token, rest @ ..] if token.class() == expected.class() => {
                 self.tokens = rest;
                 Ok(())
             }
@@ -109,17 +117,18 @@ impl<'a> Cursor<'a> {
         }
     }
 
+    /// Reads a reserved word.
+    pub(crate) fn word(&mut self, expected: Word) -> Result<(), Halt>
+        ensures { Advances self.new.tokens.now result (run (word expected) self.old.tokens.now) }
+    {
+        self.expect(&Kind::Word(expected))
+    }
+
     /// Reads a symbol.
     pub(crate) fn symbol(&mut self, expected: Symbol) -> Result<(), Halt>
         ensures { Advances self.new.tokens.now result (run (symbol expected) self.old.tokens.now) }
     {
-        match self.tokens {
-            [token, rest @ ..] if token.class() == Kind::Symbol(expected).class() => {
-                self.tokens = rest;
-                Ok(())
-            }
-            _ => Err(Halt::Syntax),
-        }
+        self.expect(&Kind::Symbol(expected))
     }
 
     /// Reads a name, and answers it as it is written.

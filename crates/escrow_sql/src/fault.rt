@@ -1,3 +1,6 @@
+ghost use Rattle.std.specs.Prelude.{◌≡◌};
+ghost use Rattle.escrow_sql.specs.declared.fault.ParseFault.TheVariants.{Memory};
+
 use std::alloc::{AllocError, AllocFailed};
 
 /// Why a text has no tokens, or no request.
@@ -11,9 +14,6 @@ pub enum ParseFault {
 }
 
 impl From<AllocError> for ParseFault {
-    ghost use Rattle.std.specs.Prelude.{◌≡◌};
-    ghost use Rattle.escrow_sql.specs.declared.fault.ParseFault.TheVariants.{Memory};
-
     ghost from_gives = { λ _ e. e ≡ Memory };
 
     fn from(_error: AllocError) -> ParseFault {
@@ -22,9 +22,6 @@ impl From<AllocError> for ParseFault {
 }
 
 impl<T: Drop> From<AllocFailed<T>> for ParseFault {
-    ghost use Rattle.std.specs.Prelude.{◌≡◌};
-    ghost use Rattle.escrow_sql.specs.declared.fault.ParseFault.TheVariants.{Memory};
-
     ghost from_gives = { λ _ e. e ≡ Memory };
 
     fn from(_error: AllocFailed<T>) -> ParseFault {

@@ -1,3 +1,6 @@
+ghost use Rattle.std.specs.Prelude.{◌≡◌};
+ghost use Rattle.escrow_sql.specs.declared.halt.Halt.TheVariants.{Memory};
+
 use std::alloc::{AllocError, AllocFailed};
 
 /// Why a cursor stopped.
@@ -10,9 +13,6 @@ pub(crate) enum Halt {
 }
 
 impl From<AllocError> for Halt {
-    ghost use Rattle.std.specs.Prelude.{◌≡◌};
-    ghost use Rattle.escrow_sql.specs.declared.halt.Halt.TheVariants.{Memory};
-
     ghost from_gives = { λ _ e. e ≡ Memory };
 
     fn from(_error: AllocError) -> Halt {
@@ -21,9 +21,6 @@ impl From<AllocError> for Halt {
 }
 
 impl<T: Drop> From<AllocFailed<T>> for Halt {
-    ghost use Rattle.std.specs.Prelude.{◌≡◌};
-    ghost use Rattle.escrow_sql.specs.declared.halt.Halt.TheVariants.{Memory};
-
     ghost from_gives = { λ _ e. e ≡ Memory };
 
     fn from(_error: AllocFailed<T>) -> Halt {

@@ -3,8 +3,8 @@ ghost use Rattle.escrow_sql.specs.Classes.{class_number};
 ghost use Rattle.escrow_sql.specs.declared.token.Kind.TheVariants as kind;
 
 use crate::lexer::number;
-use crate::token::{Kind, SYMBOLS, Symbol, Token};
-use crate::word::{WORDS, Word};
+use crate::token::{Kind, SYMBOLS, Token};
+use crate::word::WORDS;
 use crate::written;
 use crate::written::WrittenName;
 use escrow_num::{Amount, Decimal, Text};
@@ -41,23 +41,13 @@ impl<'a> Sort<'a> {
     ghost use Rattle.escrow_num.specs.Name.{IsName};
     ghost use Rattle.escrow_sql.specs.Scan.{point_millionths, undoubled};
 
-    /// A reserved word.
-    pub(crate) fn word(word: Word) -> Self
-        ensures { result ≡ kind.Word word }
+    /// A symbol or a reserved word.
+    pub(crate) fn bare(kind: &Kind) -> Self
+        requires { 4 ≤ class_number kind.now }
+        ensures { result ≡ kind.now }
     {
         Sort {
-            class: Kind::Word(word).class(),
-            bytes: &[],
-            number: Amount::ZERO,
-        }
-    }
-
-    /// A symbol.
-    pub(crate) fn symbol(symbol: Symbol) -> Self
-        ensures { result ≡ kind.Symbol symbol }
-    {
-        Sort {
-            class: Kind::Symbol(symbol).class(),
+            class: kind.class(),
             bytes: &[],
             number: Amount::ZERO,
         }

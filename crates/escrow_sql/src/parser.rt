@@ -33,9 +33,7 @@ impl Cursor<'_> {
     fn optional_word(&mut self, expected: Word) -> Result<(), Halt>
         ensures { Advances self.new.tokens.now result (run (optional tt (word expected)) self.old.tokens.now) }
     {
-        if self.is_at_word(expected) {
-            return self.word(expected);
-        }
+        let _taken = self.takes_word(expected);
         Ok(())
     }
 
@@ -46,8 +44,7 @@ impl Cursor<'_> {
         if !self.is_at_name() {
             return Ok(None);
         }
-        let name = self.name()?;
-        Ok(Some(name))
+        Ok(Some(self.name()?))
     }
 
     /// `create | drop | alter`
@@ -113,10 +110,9 @@ impl Cursor<'_> {
     fn back(&mut self) -> Result<Statement, Halt>
         ensures { Advances self.new.tokens.now result (run back self.old.tokens.now) }
     {
-        if !self.is_at_word(Word::To) {
+        if !self.takes_word(Word::To) {
             return Ok(Statement::Rollback);
         }
-        self.word(Word::To)?;
         self.optional_word(Word::Savepoint)?;
         Ok(Statement::RollbackTo(self.name()?))
     }
@@ -134,13 +130,11 @@ impl Cursor<'_> {
     fn ending(&mut self) -> Result<Statement, Halt>
         ensures { Advances self.new.tokens.now result (run ending self.old.tokens.now) }
     {
-        if self.is_at_word(Word::Commit) {
-            self.word(Word::Commit)?;
+        if self.takes_word(Word::Commit) {
             self.work()?;
             return Ok(Statement::Commit);
         }
-        if self.is_at_word(Word::Rollback) {
-            self.word(Word::Rollback)?;
+        if self.takes_word(Word::Rollback) {
             self.work()?;
             return self.back();
         }
@@ -163,18 +157,15 @@ impl Cursor<'_> {
         ensures { Advances self.new.tokens.now result (run factored_show self.old.tokens.now) }
     {
         self.word(Word::Show)?;
-        if self.is_at_word(Word::Table) {
-            self.word(Word::Table)?;
+        if self.takes_word(Word::Table) {
             let table = self.name()?;
             return Ok(Request::Statement(Statement::ShowTable(table)));
         }
-        if self.is_at_word(Word::Journal) {
-            self.word(Word::Journal)?;
+        if self.takes_word(Word::Journal) {
             let table = self.optional_name()?;
             return Ok(Request::Statement(Statement::ShowJournal(table)));
         }
-        if self.is_at_word(Word::Bounds) {
-            self.word(Word::Bounds)?;
+        if self.takes_word(Word::Bounds) {
             let row = self.row(alloc)?;
             return Ok(Request::Statement(Statement::ShowBounds(row)));
         }

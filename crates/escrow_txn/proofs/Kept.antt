@@ -1,7 +1,7 @@
 -- What the calls keep of a journal, and so of the table's journals.
 use Rattle.std.specs.Prelude.{◌≡◌, ℕ, ◌+◌, ◌≤◌, not, nat_lt, List, [], ◌∷◌, Option, Some, None, option_map, unwrap_or, Result, Ok, Err, OnOk, OnErr, IsTrue}
 use Rattle.std.specs.List.{AllByRecursion}
-use Rattle.std.proofs.Common.{refl, sym, ◌∙◌, subst, set, arith}
+use Rattle.std.proofs.Common.{refl, sym, ◌∙◌, subst, set, le_refl, arith}
 use Rattle.std.proofs.lemmas.Bool.{lt-ltb}
 use Rattle.escrow_num.specs.declared.refusal.Refusal.{Refusal}
 use Rattle.escrow_num.specs.declared.reservation.Reservation.{Reservation}
@@ -66,3 +66,9 @@ pub journals_kept : (logs : List Log) (next new_next session i : ℕ) (new log :
     → IsLog new → IsKept new_next new log → next ≤ new_next → new_next ≤ MAX_ID + 1 → AreJournals (set logs i new) new_next
 journals_kept logs next new_next session i new log journals at is_log kept more last =
     journals_set logs next new_next session i new journals at.is_session at.index is_log (kept.session ∙ at.number) kept.below more last
+
+-- and where the next id stays
+pub journals_stay : (logs : List Log) (next session i : ℕ) (new log : Log) → AreJournals logs next → IsAt session logs i log
+    → IsLog new → (IsBelow next log → IsKept next new log) → AreJournals (set logs i new) next
+journals_stay logs next session i new log journals at is_log kept =
+    journals_kept logs next next session i new log journals at is_log (kept (below_at logs next session i log journals at)) (le_refl next) journals.last_id

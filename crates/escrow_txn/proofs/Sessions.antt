@@ -38,21 +38,22 @@ savepoints_split session logs i log at y =
     ap savepoints_of (at.split y) ∙ flat_map-append (λ (l : Log). l.savepoints) (take i logs) (y ∷ drop (suc i) logs)
 
 -- what holds of the number of each journal's session holds of the session of each that they hold
+held_sessions : {X : Type 0} (held : Log → List X) (session_of : X → ℕ) (own : (log : Log) → IsLog log → AllByRecursion (λ x. session_of x ≡ log.session) (held log))
+    (P : ℕ → Type 0) (logs : List Log) → AllByRecursion IsLog logs → AllByRecursion (λ l. P l.session) logs
+    → AllByRecursion (λ x. P (session_of x)) (flat_map held logs)
+held_sessions held session_of own P [] are_logs all = tt
+held_sessions held session_of own P (log ∷ logs) are_logs all =
+    all_append (λ x. P (session_of x)) (held log) (flat_map held logs)
+    (all_as (λ x. session_of x ≡ log.session) (λ x. P (session_of x)) (held log) (λ x e. subst P (sym e) all.0) (own log are_logs.0))
+    (held_sessions held session_of own P logs are_logs.1 all.1)
+
 sessions_of : (P : ℕ → Type 0) (logs : List Log) → AllByRecursion IsLog logs → AllByRecursion (λ l. P l.session) logs
     → AllByRecursion (λ r. P r.session) (reservations_of logs)
-sessions_of P [] are_logs all = tt
-sessions_of P (log ∷ logs) are_logs all =
-    all_append (λ (r : Reservation). P r.session) log.reservations (reservations_of logs)
-    (all_as (λ (r : Reservation). r.session ≡ log.session) (λ r. P r.session) log.reservations (λ r e. subst P (sym e) all.0) are_logs.0.reservations_own)
-    (sessions_of P logs are_logs.1 all.1)
+sessions_of P logs = held_sessions (λ (l : Log). l.reservations) (λ (r : Reservation). r.session) (λ log is. is.reservations_own) P logs
 
 savepoint_sessions_of : (P : ℕ → Type 0) (logs : List Log) → AllByRecursion IsLog logs → AllByRecursion (λ l. P l.session) logs
     → AllByRecursion (λ p. P p.session) (savepoints_of logs)
-savepoint_sessions_of P [] are_logs all = tt
-savepoint_sessions_of P (log ∷ logs) are_logs all =
-    all_append (λ (p : Savepoint). P p.session) log.savepoints (savepoints_of logs)
-    (all_as (λ (p : Savepoint). p.session ≡ log.session) (λ p. P p.session) log.savepoints (λ p e. subst P (sym e) all.0) are_logs.0.savepoints_own)
-    (savepoint_sessions_of P logs are_logs.1 all.1)
+savepoint_sessions_of P logs = held_sessions (λ (l : Log). l.savepoints) (λ (p : Savepoint). p.session) (λ log is. is.savepoints_own) P logs
 
 below_is_other : (n session : ℕ) → IsTrue (nat_lt n session) → (n == session) ≡ false
 below_is_other n session less = ne_eqb n session (λ e. omega (arith, ltb-true n session less))

@@ -6,6 +6,7 @@ ghost use Rattle.escrow_sql.specs.Lexeme.{piece_of_scan};
 
 use crate::lexeme::Sort;
 use crate::lexer::scan::Scan;
+use crate::token::Kind;
 use crate::word::Word;
 use escrow_num::Name;
 
@@ -58,7 +59,7 @@ pub(super) fn read_name(bytes: &[u8]) -> Scan<'_>
     }
     let written = &bytes[..len];
     let sort = match Word::written(written) {
-        Some(word) => Sort::word(word),
+        Some(word) => Sort::bare(&Kind::Word(word)),
         None => Sort::name(written),
     };
     Scan::Lexeme(sort, len)

@@ -4,7 +4,7 @@ ghost use Rattle.escrow_sql.specs.Lexeme.{piece_of_scan};
 
 use crate::lexeme::Sort;
 use crate::lexer::scan::Scan;
-use crate::token::Symbol;
+use crate::token::{Kind, Symbol};
 
 /// The longest symbol that begins with a byte and goes on with others.
 #[tactic(auto, unfolding(crate::specs::Lex::symbol_piece))]
@@ -27,7 +27,7 @@ pub(super) fn read_symbol<'a>(first: u8, next: &'a [u8]) -> Scan<'a>
         b'>' => (Symbol::Above, 1),
         _ => return Scan::Fault(0),
     };
-    Scan::Lexeme(Sort::symbol(symbol), len)
+    Scan::Lexeme(Sort::bare(&Kind::Symbol(symbol)), len)
 }
 
 /// Whether the bytes begin with this one.

@@ -14,8 +14,7 @@ impl Cursor<'_> {
     fn table_change(&mut self, alloc: Global) -> Result<TableChange, Halt>
         ensures { Advances self.new.tokens.now result (run table_change self.old.tokens.now) }
     {
-        if self.is_at_word(Word::Add) {
-            self.word(Word::Add)?;
+        if self.takes_word(Word::Add) {
             let check = self.check(alloc)?;
             return Ok(TableChange::Add(check));
         }

@@ -34,8 +34,7 @@ impl Cursor<'_> {
     pub(super) fn sign(&mut self) -> Result<bool, Halt>
         ensures { Advances self.new.tokens.now result (run sign self.old.tokens.now) }
     {
-        if self.is_at_symbol(Symbol::Plus) {
-            self.symbol(Symbol::Plus)?;
+        if self.takes_symbol(Symbol::Plus) {
             return Ok(false);
         }
         self.symbol(Symbol::Minus)?;
@@ -153,20 +152,6 @@ impl Cursor<'_> {
         })
     }
 
-    /// `name "=" assigned`
-    #[tactic(auto, unfolding(crate::specs::Statement::assign))]
-    fn assign(&mut self, alloc: Global) -> Result<Assign, Halt>
-        ensures { Advances self.new.tokens.now result (run assign self.old.tokens.now) }
-    {
-        let column = self.written_name()?;
-        self.symbol(Symbol::Equal)?;
-        let value = self.assigned(alloc)?;
-        Ok(Assign {
-            column: column.name(),
-            value,
-        })
-    }
-
     /// `UPDATE name SET assign { "," assign } where_part`
     #[tactic(auto, unfolding(crate::specs::Statement::update))]
     pub(super) fn update(&mut self, alloc: Global) -> Result<UpdateText, Halt>
@@ -186,12 +171,7 @@ impl Cursor<'_> {
 }
 
 impl Part for Literal {
-    ghost use Rattle.escrow_sql.specs.Statement.{literal};
-    ghost use Rattle.escrow_sql.specs.Parts.{literal-not_empty};
-
     ghost grammar = { literal };
-
-    ghost not_empty = { literal-not_empty };
 
     fn read(alloc: Global, cursor: &mut Cursor) -> Result<Literal, Halt> {
         cursor.literal(alloc)
@@ -199,14 +179,17 @@ impl Part for Literal {
 }
 
 impl Part for Assign {
-    ghost use Rattle.escrow_sql.specs.Statement.{assign};
-    ghost use Rattle.escrow_sql.specs.Parts.{assign-not_empty};
-
     ghost grammar = { assign };
 
-    ghost not_empty = { assign-not_empty };
-
+    /// `name "=" assigned`
+    #[tactic(auto, unfolding(crate::specs::Statement::assign))]
     fn read(alloc: Global, cursor: &mut Cursor) -> Result<Assign, Halt> {
-        cursor.assign(alloc)
+        let column = cursor.written_name()?;
+        cursor.symbol(Symbol::Equal)?;
+        let value = cursor.assigned(alloc)?;
+        Ok(Assign {
+            column: column.name(),
+            value,
+        })
     }
 }

@@ -1,7 +1,8 @@
-ghost use Rattle.std.specs.Prelude.{◌≡◌, pos, false, Some, None};
+ghost use Rattle.std.specs.Prelude.{◌≡◌, pos, true, false, Some, None, Ok, MatchOption};
 ghost use Rattle.escrow_sql.specs.Grammar.{sequence};
 ghost use Rattle.escrow_sql.specs.Predictive.{run, starts, first};
 ghost use Rattle.escrow_sql.specs.Cursor.{Advances};
+ghost use Rattle.escrow_sql.specs.Parts.{signed_term-not_empty};
 ghost use Rattle.escrow_sql.specs.Statement.{optional, meaning, ◌then◌, word, symbol, name, whole, sign, signed, signed_number, times, with_sign, term, signed_term, sum, test_part, comparison, condition, constraint, check};
 ghost use Rattle.escrow_sql.specs.declared.statement.Term.TheVariants as terms;
 ghost use Rattle.escrow_sql.specs.declared.statement.Test.TheVariants as tests;
@@ -51,10 +52,9 @@ impl Cursor<'_> {
         ensures { Advances self.new.tokens.now result (run (sequence whole (optional None (meaning (λ c. Some c) (symbol symbols.Star then name))) times) self.old.tokens.now) }
     {
         let number = self.whole_number()?;
-        if !self.is_at_symbol(Symbol::Star) {
+        if !self.takes_symbol(Symbol::Star) {
             return Ok(Term::Number(Decimal::from(number)));
         }
-        self.symbol(Symbol::Star)?;
         let column = self.name()?;
         Ok(Term::Column {
             coefficient: number,
@@ -67,13 +67,12 @@ impl Cursor<'_> {
         ensures { Advances self.new.tokens.now result (run (sequence name (optional (pos 1) (symbol symbols.Star then whole)) (λ c n. terms.Column n c)) self.old.tokens.now) }
     {
         let column = self.name()?;
-        if !self.is_at_symbol(Symbol::Star) {
+        if !self.takes_symbol(Symbol::Star) {
             return Ok(Term::Column {
                 coefficient: Amount::new(1).unwrap(),
                 column,
             });
         }
-        self.symbol(Symbol::Star)?;
         let coefficient = self.whole_number()?;
         Ok(Term::Column {
             coefficient,
@@ -93,16 +92,6 @@ impl Cursor<'_> {
             return Ok(Term::Number(self.point_number()?));
         }
         self.column_term()
-    }
-
-    /// `sign term`
-    #[tactic(auto, unfolding(crate::specs::Statement::signed_term))]
-    fn signed_term(&mut self) -> Result<Term, Halt>
-        ensures { Advances self.new.tokens.now result (run signed_term self.old.tokens.now) }
-    {
-        let minus = self.sign()?;
-        let term = self.term()?;
-        Ok(apply_sign(minus, term))
     }
 
     /// `[ sign ] term`
@@ -125,41 +114,25 @@ impl Cursor<'_> {
         part::read_more(alloc, self, terms)
     }
 
-    /// Whether a comparison comes next.
+    /// `"<" | "<=" | ">" | ">=" | "="`, if one comes next.
     #[tactic(auto, unfolding(crate::specs::Statement::comparison))]
-    fn is_at_comparison(&self) -> bool
-        ensures { result ≡ starts (first comparison) self.now.tokens.now }
+    fn takes_comparison(&mut self) -> Option<Comparison>
+        ensures { MatchOption result ((starts (first comparison) self.old.tokens.now ≡ false) × (self.new.tokens.now ≡ self.old.tokens.now))
+            (λ c. (starts (first comparison) self.old.tokens.now ≡ true) × (run comparison self.old.tokens.now ≡ Ok (c, self.new.tokens.now))) }
     {
-        self.is_at_symbol(Symbol::Below)
-            || self.is_at_symbol(Symbol::AtMost)
-            || self.is_at_symbol(Symbol::Above)
-            || self.is_at_symbol(Symbol::AtLeast)
-            || self.is_at_symbol(Symbol::Equal)
-    }
-
-    /// `"<" | "<=" | ">" | ">=" | "="`
-    #[tactic(auto, unfolding(crate::specs::Statement::comparison))]
-    fn comparison(&mut self) -> Result<Comparison, Halt>
-        ensures { Advances self.new.tokens.now result (run comparison self.old.tokens.now) }
-    {
-        if self.is_at_symbol(Symbol::Below) {
-            self.symbol(Symbol::Below)?;
-            return Ok(Comparison::Below);
+        if self.takes_symbol(Symbol::Below) {
+            Some(Comparison::Below)
+        } else if self.takes_symbol(Symbol::AtMost) {
+            Some(Comparison::AtMost)
+        } else if self.takes_symbol(Symbol::Above) {
+            Some(Comparison::Above)
+        } else if self.takes_symbol(Symbol::AtLeast) {
+            Some(Comparison::AtLeast)
+        } else if self.takes_symbol(Symbol::Equal) {
+            Some(Comparison::Equal)
+        } else {
+            None
         }
-        if self.is_at_symbol(Symbol::AtMost) {
-            self.symbol(Symbol::AtMost)?;
-            return Ok(Comparison::AtMost);
-        }
-        if self.is_at_symbol(Symbol::Above) {
-            self.symbol(Symbol::Above)?;
-            return Ok(Comparison::Above);
-        }
-        if self.is_at_symbol(Symbol::AtLeast) {
-            self.symbol(Symbol::AtLeast)?;
-            return Ok(Comparison::AtLeast);
-        }
-        self.symbol(Symbol::Equal)?;
-        Ok(Comparison::Equal)
     }
 
     /// `BETWEEN signed_number AND signed_number`
@@ -178,22 +151,11 @@ impl Cursor<'_> {
     fn test_part(&mut self, alloc: Global) -> Result<Test, Halt>
         ensures { Advances self.new.tokens.now result (run test_part self.old.tokens.now) }
     {
-        if !self.is_at_comparison() {
+        let Some(comparison) = self.takes_comparison() else {
             return self.between();
-        }
-        let comparison = self.comparison()?;
+        };
         let sum = self.sum(alloc)?;
         Ok(Test::Compare { comparison, sum })
-    }
-
-    /// `sum test_part`
-    #[tactic(auto, unfolding(crate::specs::Statement::condition))]
-    fn condition(&mut self, alloc: Global) -> Result<Condition, Halt>
-        ensures { Advances self.new.tokens.now result (run condition self.old.tokens.now) }
-    {
-        let sum = self.sum(alloc)?;
-        let test = self.test_part(alloc)?;
-        Ok(Condition { sum, test })
     }
 
     /// `[ CONSTRAINT name ]`
@@ -201,12 +163,10 @@ impl Cursor<'_> {
     fn constraint(&mut self) -> Result<Option<Name>, Halt>
         ensures { Advances self.new.tokens.now result (run constraint self.old.tokens.now) }
     {
-        if !self.is_at_word(Word::Constraint) {
+        if !self.takes_word(Word::Constraint) {
             return Ok(None);
         }
-        self.word(Word::Constraint)?;
-        let name = self.name()?;
-        Ok(Some(name))
+        Ok(Some(self.name()?))
     }
 
     /// `constraint CHECK "(" condition { AND condition } ")"`
@@ -232,19 +192,20 @@ impl Cursor<'_> {
 }
 
 impl Part for Term {
-    ghost use Rattle.escrow_sql.specs.Statement.{signed_term};
-    ghost use Rattle.escrow_sql.specs.Parts.{signed_term-not_empty};
-
     ghost grammar = { signed_term };
 
-    ghost not_empty = { signed_term-not_empty };
-
+    /// `sign term`
+    #[tactic(auto, unfolding(crate::specs::Statement::signed_term))]
     fn read(_alloc: Global, cursor: &mut Cursor) -> Result<Term, Halt> {
-        cursor.signed_term()
+        let minus = cursor.sign()?;
+        let term = cursor.term()?;
+        Ok(apply_sign(minus, term))
     }
 }
 
 impl Repeated for Term {
+    ghost not_empty = { signed_term-not_empty };
+
     #[tactic(auto, unfolding(crate::specs::Statement::signed_term, crate::specs::Statement::sign))]
     fn is_next(cursor: &Cursor) -> bool {
         cursor.is_at_sign()
@@ -252,14 +213,13 @@ impl Repeated for Term {
 }
 
 impl Part for Condition {
-    ghost use Rattle.escrow_sql.specs.Statement.{condition};
-    ghost use Rattle.escrow_sql.specs.Parts.{condition-not_empty};
-
     ghost grammar = { condition };
 
-    ghost not_empty = { condition-not_empty };
-
+    /// `sum test_part`
+    #[tactic(auto, unfolding(crate::specs::Statement::condition))]
     fn read(alloc: Global, cursor: &mut Cursor) -> Result<Condition, Halt> {
-        cursor.condition(alloc)
+        let sum = cursor.sum(alloc)?;
+        let test = cursor.test_part(alloc)?;
+        Ok(Condition { sum, test })
     }
 }

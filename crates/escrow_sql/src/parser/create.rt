@@ -1,6 +1,7 @@
 ghost use Rattle.std.specs.Prelude.{◌≡◌};
-ghost use Rattle.escrow_sql.specs.Predictive.{run, starts, first};
+ghost use Rattle.escrow_sql.specs.Predictive.{run};
 ghost use Rattle.escrow_sql.specs.Cursor.{Advances};
+ghost use Rattle.escrow_sql.specs.Parts.{mark-not_empty};
 ghost use Rattle.escrow_sql.specs.Statement.{mark, size, digits, type_text, column, item, create, drop, name, whole, in_parentheses, word, ◌then◌};
 ghost use Rattle.escrow_sql.specs.declared.word.Word.TheVariants as words;
 
@@ -15,40 +16,6 @@ use escrow_num::{Amount, Name};
 use std::alloc::Global;
 
 impl Cursor<'_> {
-    /// Whether a mark comes next.
-    #[tactic(auto, unfolding(crate::specs::Statement::mark, crate::specs::Statement::check, crate::specs::Statement::constraint))]
-    fn is_at_mark(&self) -> bool
-        ensures { result ≡ starts (first mark) self.now.tokens.now }
-    {
-        self.is_at_word(Word::Primary)
-            || self.is_at_word(Word::Reservable)
-            || self.is_at_word(Word::Not)
-            || self.is_at_check()
-    }
-
-    /// `PRIMARY KEY | RESERVABLE | NOT NULL | check`
-    #[tactic(auto, unfolding(crate::specs::Statement::mark))]
-    fn mark(&mut self, alloc: Global) -> Result<ColumnMark, Halt>
-        ensures { Advances self.new.tokens.now result (run mark self.old.tokens.now) }
-    {
-        if self.is_at_word(Word::Primary) {
-            self.word(Word::Primary)?;
-            self.word(Word::Key)?;
-            return Ok(ColumnMark::PrimaryKey);
-        }
-        if self.is_at_word(Word::Reservable) {
-            self.word(Word::Reservable)?;
-            return Ok(ColumnMark::Reservable);
-        }
-        if self.is_at_word(Word::Not) {
-            self.word(Word::Not)?;
-            self.word(Word::Null)?;
-            return Ok(ColumnMark::NotNull);
-        }
-        let check = self.check(alloc)?;
-        Ok(ColumnMark::Check(check))
-    }
-
     /// `"(" whole ")"`
     fn whole_in_parentheses(&mut self) -> Result<Amount, Halt>
         ensures { Advances self.new.tokens.now result (run (in_parentheses whole) self.old.tokens.now) }
@@ -65,13 +32,12 @@ impl Cursor<'_> {
         ensures { Advances self.new.tokens.now result (run size self.old.tokens.now) }
     {
         let digits = self.whole_number()?;
-        if !self.is_at_symbol(Symbol::Comma) {
+        if !self.takes_symbol(Symbol::Comma) {
             return Ok(NumberSize {
                 digits,
                 scale: None,
             });
         }
-        self.symbol(Symbol::Comma)?;
         let scale = self.whole_number()?;
         Ok(NumberSize {
             digits,
@@ -84,10 +50,9 @@ impl Cursor<'_> {
     fn digits(&mut self) -> Result<Option<NumberSize>, Halt>
         ensures { Advances self.new.tokens.now result (run digits self.old.tokens.now) }
     {
-        if !self.is_at_symbol(Symbol::Open) {
+        if !self.takes_symbol(Symbol::Open) {
             return Ok(None);
         }
-        self.symbol(Symbol::Open)?;
         let size = self.size()?;
         self.symbol(Symbol::Close)?;
         Ok(Some(size))
@@ -98,12 +63,10 @@ impl Cursor<'_> {
     fn type_text(&mut self) -> Result<TypeText, Halt>
         ensures { Advances self.new.tokens.now result (run type_text self.old.tokens.now) }
     {
-        if self.is_at_word(Word::Integer) {
-            self.word(Word::Integer)?;
+        if self.takes_word(Word::Integer) {
             return Ok(TypeText::Integer);
         }
-        if self.is_at_word(Word::Number) {
-            self.word(Word::Number)?;
+        if self.takes_word(Word::Number) {
             let digits = self.digits()?;
             return Ok(TypeText::Number(digits));
         }
@@ -135,23 +98,6 @@ impl Cursor<'_> {
         Ok(column)
     }
 
-    /// `column | check | PRIMARY KEY "(" name ")"`
-    #[tactic(auto, unfolding(crate::specs::Statement::item, crate::specs::Statement::column))]
-    fn item(&mut self, alloc: Global) -> Result<Item, Halt>
-        ensures { Advances self.new.tokens.now result (run item self.old.tokens.now) }
-    {
-        if self.is_at_name() {
-            let column = self.column(alloc)?;
-            return Ok(Item::Column(column));
-        }
-        if self.is_at_check() {
-            let check = self.check(alloc)?;
-            return Ok(Item::Check(check));
-        }
-        let key = self.key()?;
-        Ok(Item::PrimaryKey(key))
-    }
-
     /// `CREATE TABLE name "(" item { "," item } ")"`
     #[tactic(auto, unfolding(crate::specs::Statement::create))]
     pub(super) fn create(&mut self, alloc: Global) -> Result<CreateText, Halt>
@@ -176,33 +122,54 @@ impl Cursor<'_> {
 }
 
 impl Part for ColumnMark {
-    ghost use Rattle.escrow_sql.specs.Statement.{mark};
-    ghost use Rattle.escrow_sql.specs.Parts.{mark-not_empty};
-
     ghost grammar = { mark };
 
-    ghost not_empty = { mark-not_empty };
-
+    /// `PRIMARY KEY | RESERVABLE | NOT NULL | check`
+    #[tactic(auto, unfolding(crate::specs::Statement::mark))]
     fn read(alloc: Global, cursor: &mut Cursor) -> Result<ColumnMark, Halt> {
-        cursor.mark(alloc)
+        if cursor.takes_word(Word::Primary) {
+            cursor.word(Word::Key)?;
+            return Ok(ColumnMark::PrimaryKey);
+        }
+        if cursor.takes_word(Word::Reservable) {
+            return Ok(ColumnMark::Reservable);
+        }
+        if cursor.takes_word(Word::Not) {
+            cursor.word(Word::Null)?;
+            return Ok(ColumnMark::NotNull);
+        }
+        let check = cursor.check(alloc)?;
+        Ok(ColumnMark::Check(check))
     }
 }
 
 impl Repeated for ColumnMark {
+    ghost not_empty = { mark-not_empty };
+
+    #[tactic(auto, unfolding(crate::specs::Statement::mark, crate::specs::Statement::check, crate::specs::Statement::constraint))]
     fn is_next(cursor: &Cursor) -> bool {
-        cursor.is_at_mark()
+        cursor.is_at_word(Word::Primary)
+            || cursor.is_at_word(Word::Reservable)
+            || cursor.is_at_word(Word::Not)
+            || cursor.is_at_check()
     }
 }
 
 impl Part for Item {
-    ghost use Rattle.escrow_sql.specs.Statement.{item};
-    ghost use Rattle.escrow_sql.specs.Parts.{item-not_empty};
-
     ghost grammar = { item };
 
-    ghost not_empty = { item-not_empty };
-
+    /// `column | check | PRIMARY KEY "(" name ")"`
+    #[tactic(auto, unfolding(crate::specs::Statement::item, crate::specs::Statement::column))]
     fn read(alloc: Global, cursor: &mut Cursor) -> Result<Item, Halt> {
-        cursor.item(alloc)
+        if cursor.is_at_name() {
+            let column = cursor.column(alloc)?;
+            return Ok(Item::Column(column));
+        }
+        if cursor.is_at_check() {
+            let check = cursor.check(alloc)?;
+            return Ok(Item::Check(check));
+        }
+        let key = cursor.key()?;
+        Ok(Item::PrimaryKey(key))
     }
 }

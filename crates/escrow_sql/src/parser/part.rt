@@ -17,15 +17,15 @@ pub(crate) trait Part: Drop {
     /// Reads one.
     fn read(alloc: Global, cursor: &mut Cursor) -> Result<Self, Halt>
         ensures { Advances cursor.new.tokens.now result (run grammar cursor.old.tokens.now) };
-
-    ghost not_empty: { may_be_empty grammar ≡ false };
 }
 
-/// A part that a statement may have any number of, with nothing between them.
+/// A part that a statement may have any number of, with nothing between them. So it is never nothing.
 pub(crate) trait Repeated: Part {
     /// Whether one comes next.
     fn is_next(cursor: &Cursor) -> bool
         ensures { result ≡ starts (first Self.grammar) cursor.now.tokens.now };
+
+    ghost not_empty: { may_be_empty Self.Part.grammar ≡ false };
 }
 
 /// Reads one or more parts, with a separator between two: a token of its class.

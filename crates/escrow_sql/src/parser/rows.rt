@@ -1,7 +1,7 @@
 ghost use Rattle.escrow_sql.specs.Predictive.{run};
 ghost use Rattle.escrow_sql.specs.Cursor.{Advances};
 ghost use Rattle.std.specs.Prelude.{Some, None};
-ghost use Rattle.escrow_sql.specs.Statement.{optional, meaning, where_part, columns, insert, row, delete, select};
+ghost use Rattle.escrow_sql.specs.Statement.{optional, meaning, name, where_part, columns, insert, row, delete, select};
 
 use crate::cursor::Cursor;
 use crate::halt::Halt;
@@ -22,8 +22,7 @@ impl Cursor<'_> {
         if !self.is_at_symbol(Symbol::Open) {
             return Ok(None);
         }
-        let names = part::read_listed(alloc, self)?;
-        Ok(Some(names))
+        Ok(Some(part::read_listed(alloc, self)?))
     }
 
     /// `INSERT INTO name columns VALUES "(" literal { "," literal } ")"`
@@ -72,8 +71,7 @@ impl Cursor<'_> {
         if !self.is_at_word(Word::Where) {
             return Ok(None);
         }
-        let row = self.where_part(alloc)?;
-        Ok(Some(row))
+        Ok(Some(self.where_part(alloc)?))
     }
 
     /// `SELECT "*" FROM name [ where_part ]`
@@ -91,12 +89,7 @@ impl Cursor<'_> {
 }
 
 impl Part for Name {
-    ghost use Rattle.escrow_sql.specs.Statement.{name};
-    ghost use Rattle.escrow_sql.specs.Parts.{name-not_empty};
-
     ghost grammar = { name };
-
-    ghost not_empty = { name-not_empty };
 
     fn read(_alloc: Global, cursor: &mut Cursor) -> Result<Name, Halt> {
         cursor.name()

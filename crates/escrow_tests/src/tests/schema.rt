@@ -434,13 +434,11 @@ fn step(
     if adds {
         return Ok(number_of(catalog.add(table_named(rt, alloc, name)?)));
     }
-    match catalog.remove(name) {
-        Ok(taken) => {
-            assert_eq!(rt; taken.name, name);
-            Ok(0)
-        }
-        Err(refusal) => Ok(refusal.number()),
+    let taken = catalog.remove(name);
+    if let Ok(table) = &taken {
+        assert_eq!(rt; table.name, name);
     }
+    Ok(number_of(taken))
 }
 
 /// A catalog has its tables in order of name, each once, and 32 at most.

@@ -175,30 +175,34 @@ fn take(rt: &impl Abort, table: &mut TxnTable, step: Step<'_>, alloc: Global) {
     }
 }
 
-/// Takes each list of steps, from a table in which nothing is open.
-fn take_each(rt: &impl Abort, lists: &[&[Step<'_>]], alloc: Global) {
+/// Takes each list of steps behind those with which all begin, from a table in which nothing is open.
+fn take_each(rt: &impl Abort, begin: &[Step<'_>], lists: &[&[Step<'_>]], alloc: Global) {
     for steps in lists {
         let mut table = TxnTable::new(alloc).expect(rt, "memory");
-        for step in *steps {
+        for step in begin.iter().chain(*steps) {
             take(rt, &mut table, *step, alloc);
         }
     }
 }
 
-/// Steps of one session.
-const JOURNALS: [&[Step<'static>]; 4] = [
+/// Six reservations of a session, and three savepoints: between them and behind.
+const SAVED: [Step<'static>; 10] = [
+    Step::Holds(1, &[], &[]),
+    Step::Grant(7, 1),
+    Step::Grant(7, 2),
+    Step::Mark(7, "A"),
+    Step::Grant(7, 3),
+    Step::Grant(7, 4),
+    Step::Mark(7, "B"),
+    Step::Grant(7, 5),
+    Step::Grant(7, 6),
+    Step::Mark(7, "C"),
+];
+
+/// Steps of that session.
+const BEHIND: [&[Step<'static>]; 2] = [
     // what came after each of three savepoints, and going back to them
     &[
-        Step::Holds(1, &[], &[]),
-        Step::Grant(7, 1),
-        Step::Grant(7, 2),
-        Step::Mark(7, "A"),
-        Step::Grant(7, 3),
-        Step::Grant(7, 4),
-        Step::Mark(7, "B"),
-        Step::Grant(7, 5),
-        Step::Grant(7, 6),
-        Step::Mark(7, "C"),
         Step::Holds(7, &[1, 2, 3, 4, 5, 6], &["A", "B", "C"]),
         Step::After(7, "A", &[3, 4, 5, 6]),
         Step::After(7, "B", &[5, 6]),
@@ -217,21 +221,16 @@ const JOURNALS: [&[Step<'static>]; 4] = [
     ],
     // what is handed out is out of the journal, and its savepoints are gone
     &[
-        Step::Grant(7, 1),
-        Step::Grant(7, 2),
-        Step::Mark(7, "A"),
-        Step::Grant(7, 3),
-        Step::Grant(7, 4),
-        Step::Mark(7, "B"),
-        Step::Grant(7, 5),
-        Step::Grant(7, 6),
-        Step::Mark(7, "C"),
         Step::End(7, &[1, 2, 3, 4, 5, 6]),
         Step::Holds(7, &[], &[]),
         Step::Lacks(7, "A"),
         Step::Grant(7, 7),
         Step::Holds(7, &[7], &[]),
     ],
+];
+
+/// Steps of another session.
+const JOURNALS: [&[Step<'static>]; 2] = [
     // a savepoint that is made again stands last, with the id that comes next
     &[
         Step::Mark(1, "A"),
@@ -336,6 +335,7 @@ const SESSIONS: [&[Step<'static>]; 3] = [
 /// Sessions have a journal each, and the journals together are one list in order of grant.
 #[test]
 fn journals_of_sessions(rt: HostRuntime) {
-    take_each(&rt, &JOURNALS, rt.alloc());
-    take_each(&rt, &SESSIONS, rt.alloc());
+    take_each(&rt, &SAVED, &BEHIND, rt.alloc());
+    take_each(&rt, &[], &JOURNALS, rt.alloc());
+    take_each(&rt, &[], &SESSIONS, rt.alloc());
 }

@@ -1,7 +1,7 @@
 use Rattle.std.proofs.Common.{◌≡◌, ◌<◌, ◌≤◌, ◌∙◌, ℕ, ℤ, List, length, get_or, arith}
 use Rattle.escrow_checks.specs.Scales.{scaled_coeffs}
 use Rattle.escrow_checks.specs.declared.coefficients.TheConstants.Coefficients.{MAX_LEN}
-use Rattle.escrow_checks.proofs.CoefficientsLemmas.{All-taken, Keeps, taken-more, taken_kept}
+use Rattle.escrow_checks.proofs.CoefficientsLemmas.{All-taken, all_kept, invariant_kept, taken-more}
 use Rattle.escrow_checks.proofs.ScaledLemmas.{length-scaled_coeffs, scaled-at}
 use Rattle.escrow_checks.proofs.coefficients.Coefficients.scaled.Goals as goal
 
@@ -21,19 +21,8 @@ loop-i-preserved c =
       are = All-taken all c.loop-i.i c.scaled.result (omega (arith, long)) is c.scaled.ensures.within c.loop-i.invariant.are;
     }
 
--- what is kept in the end
-end_kept : (c : goal.After-loop-i) → Keeps (scaled_coeffs c.args.scale c.args.self.now c.args.scales.now) c.loop-i.values (length c.as_slice-coeffs.result.now)
-end_kept c =
-    let coeffs : List ℤ = c.args.self.now in
-    let scales : List ℕ = c.args.scales.now in
-    let all : List ℤ = scaled_coeffs c.args.scale coeffs scales in
-    let long : length all ≡ length coeffs = length-scaled_coeffs c.args.scale coeffs scales in
-    let few : length coeffs ≤ MAX_LEN = rw c.as_slice-coeffs.ensures.value at c.as_slice-coeffs.ensures.within.0 in
-    let past : length coeffs ≤ c.loop-i.i = rw c.as_slice-coeffs.ensures.value at c.loop-i-test.false in
-    rw c.as_slice-coeffs.ensures.value (taken_kept all c.loop-i.values c.loop-i.i (length coeffs) (omega (arith, long)) (omega (arith, long)) (omega (arith, long)) c.loop-i.invariant.are c.loop-i.invariant.written)
-
 pub invariant_of-result : goal.invariant_of-result
-invariant_of-result c = let known = end_kept c in (known.are, known.few, known.whole)
+invariant_of-result c = invariant_kept _ _ _ (all_kept _ _ _ _ _ c.as_slice-coeffs.ensures.value (length-scaled_coeffs c.args.scale c.args.self.now c.args.scales.now) c.as_slice-coeffs.ensures.within.0 c.loop-i-test.false c.loop-i.invariant.are c.loop-i.invariant.written)
 
 pub returns : goal.returns
-returns c = (end_kept c).shown
+returns c = (all_kept _ _ _ _ _ c.as_slice-coeffs.ensures.value (length-scaled_coeffs c.args.scale c.args.self.now c.args.scales.now) c.as_slice-coeffs.ensures.within.0 c.loop-i-test.false c.loop-i.invariant.are c.loop-i.invariant.written).shown

@@ -1,11 +1,11 @@
 use Rattle.std.proofs.Common.{refl, arith}
 use Rattle.escrow_sql.specs.Cursor.{bare}
-use Rattle.escrow_sql.proofs.Reading.{run-shorter, parted-kept}
+use Rattle.escrow_sql.proofs.Reading.{run-takes, run-shorter, parted-kept}
 use Rattle.escrow_sql.proofs.parser.part.read_separated.Goals as goal
 
 pub parts-smaller : goal.parts-smaller
 parts-smaller g c =
-    let l = run-shorter g.P.Part.grammar g.met.P.Part.not_empty c.parts.cursor.tokens.now _ c.in_ok-part.ensures in
+    let l = run-takes g.P.Part.grammar c.parts.cursor.tokens.now _ c.in_ok-part.ensures in
     let h = run-shorter (bare _) refl c.read.new.cursor.tokens.now _ c.if-not-takes.ensures in
     omega (arith, l, h)
 

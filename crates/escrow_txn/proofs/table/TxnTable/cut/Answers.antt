@@ -1,8 +1,8 @@
-use Rattle.std.proofs.Common.{ap, ◌∙◌, set, le_refl}
+use Rattle.std.proofs.Common.{ap, ◌∙◌, set}
 use Rattle.escrow_journal.specs.Log.{Log}
 use Rattle.escrow_txn.specs.Joined.{opened}
 use Rattle.escrow_journal.specs.Open.{Open, released, cut_back}
-use Rattle.escrow_txn.proofs.Kept.{below_at, cut_kept, journals_kept}
+use Rattle.escrow_txn.proofs.Kept.{cut_kept, journals_stay}
 use Rattle.escrow_txn.proofs.Marks.{cut_is, released_is}
 use Rattle.escrow_txn.proofs.Places.{IsAt, place_is}
 use Rattle.escrow_txn.proofs.table.TxnTable.cut.Goals as goal
@@ -12,13 +12,10 @@ at c = place_is c.self.inside.journals.items c.self.inside.next_id c.args.sessio
 
 pub invariant_of-self : goal.invariant_of-self
 invariant_of-self c =
-    let logs = c.self.inside.journals.items in
     let next = c.self.inside.next_id in
     let log = c.index_mut.result.now in
-    let new = c.cut.new.self in
-    let below = below_at logs next c.args.session c.place_of_session.result log c.self.invariant (at c) in
-    journals_kept logs next next c.args.session c.place_of_session.result new log c.self.invariant (at c) c.cut.ensures.valid
-    (cut_kept next c.args.name new log below c.cut.ensures.cut) (le_refl next) c.self.invariant.last_id
+    journals_stay c.self.inside.journals.items next c.args.session c.place_of_session.result c.cut.new.self log c.self.invariant (at c) c.cut.ensures.valid
+    (λ below. cut_kept next c.args.name c.cut.new.self log below c.cut.ensures.cut)
 
 pub returns-clause-count : goal.returns-clause-count
 returns-clause-count c =

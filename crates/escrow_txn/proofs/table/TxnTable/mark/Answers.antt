@@ -1,12 +1,12 @@
 use Rattle.std.specs.Prelude.{◌≡◌, ◌⊎◌, Some, Err, IfErr, IfSome}
-use Rattle.std.proofs.Common.{ap, subst, ◌∙◌, set, le_refl}
+use Rattle.std.proofs.Common.{ap, subst, ◌∙◌, set}
 use Rattle.std.proofs.lemmas.Result.{on_ok_weaker}
 use Rattle.escrow_num.specs.declared.refusal.Refusal.TheVariants as refusal
 use Rattle.escrow_num.specs.Refusal.{refuse_if}
 use Rattle.escrow_journal.specs.Log.{Log, is_full_beside, marked}
 use Rattle.escrow_txn.specs.Joined.{opened}
 use Rattle.escrow_journal.specs.Open.{Open, saved, savepoint_refusal}
-use Rattle.escrow_txn.proofs.Kept.{below_at, mark_kept, journals_kept}
+use Rattle.escrow_txn.proofs.Kept.{mark_kept, journals_stay}
 use Rattle.escrow_txn.proofs.Marks.{saved_is}
 use Rattle.escrow_txn.proofs.Places.{IsAt, place_is}
 use Rattle.escrow_txn.proofs.Refusals.{refused_if, only_if, savepoint_refusal_is}
@@ -22,13 +22,10 @@ refusal_is c =
 
 pub invariant_of-self : goal.invariant_of-self
 invariant_of-self c =
-    let logs = c.self.inside.journals.items in
     let next = c.self.inside.next_id in
     let log = c.index_mut.result.now in
-    let new = c.mark.new.self in
-    let below = below_at logs next c.args.session c.place_of_session.result log c.self.invariant (at c) in
-    journals_kept logs next next c.args.session c.place_of_session.result new log c.self.invariant (at c) c.mark.ensures.valid
-    (mark_kept next c.args.name c.mark.result new log below c.mark.ensures.marked c.mark.ensures.unchanged) (le_refl next) c.self.invariant.last_id
+    journals_stay c.self.inside.journals.items next c.args.session c.place_of_session.result c.mark.new.self log c.self.invariant (at c) c.mark.ensures.valid
+    (λ below. mark_kept next c.args.name c.mark.result c.mark.new.self log below c.mark.ensures.marked c.mark.ensures.unchanged)
 
 pub returns-clause-saved : goal.returns-clause-saved
 returns-clause-saved c =

@@ -1,9 +1,9 @@
-use Rattle.std.proofs.Common.{ap, sym, ◌∙◌, set, le_refl}
+use Rattle.std.proofs.Common.{ap, sym, ◌∙◌, set}
 use Rattle.escrow_journal.specs.Log.{Log}
 use Rattle.escrow_journal.specs.Reservations.{own}
 use Rattle.escrow_txn.specs.Joined.{opened}
 use Rattle.escrow_journal.specs.Open.{Open, ended}
-use Rattle.escrow_txn.proofs.Kept.{empty_kept, journals_kept}
+use Rattle.escrow_txn.proofs.Kept.{empty_kept, journals_stay}
 use Rattle.escrow_txn.proofs.Places.{IsAt, place_is}
 use Rattle.escrow_txn.proofs.Sessions.{own_is, ended_is}
 use Rattle.escrow_txn.proofs.table.TxnTable.take_all.Goals as goal
@@ -15,8 +15,8 @@ pub invariant_of-self : goal.invariant_of-self
 invariant_of-self c =
     let next = c.self.inside.next_id in
     let log = c.index_mut.result.now in
-    journals_kept c.self.inside.journals.items next next c.args.session c.place_of_session.result c.take_all.new.self log c.self.invariant (at c) c.take_all.ensures.valid
-    (empty_kept next c.take_all.new.self log c.take_all.ensures.none) (le_refl next) c.self.invariant.last_id
+    journals_stay c.self.inside.journals.items next c.args.session c.place_of_session.result c.take_all.new.self log c.self.invariant (at c) c.take_all.ensures.valid
+    (λ below. empty_kept next c.take_all.new.self log c.take_all.ensures.none)
 
 pub returns-clause-all : goal.returns-clause-all
 returns-clause-all c =
