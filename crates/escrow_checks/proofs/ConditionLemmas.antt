@@ -14,12 +14,12 @@ use Rattle.escrow_num.specs.Span.{Holds}
 use Rattle.escrow_num.specs.declared.span.Span.{Span}
 use Rattle.escrow_num.specs.Scale.{unit_at}
 use Rattle.escrow_num.proofs.ScaleLemmas.{unit-least}
-use Rattle.escrow_sql.specs.declared.statement.Comparison.{Comparison}
-use Rattle.escrow_sql.specs.declared.statement.Comparison.TheVariants.{Below, AtMost, Above, AtLeast, Equal}
-use Rattle.escrow_sql.specs.declared.statement.CheckText.{CheckText}
-use Rattle.escrow_sql.specs.declared.statement.Condition.{Condition}
-use Rattle.escrow_sql.specs.declared.statement.Test.{Test}
-use Rattle.escrow_sql.specs.declared.statement.Test.TheVariants.{Compare, Between}
+use Rattle.escrow_statement.specs.declared.statement.Comparison.{Comparison}
+use Rattle.escrow_statement.specs.declared.statement.Comparison.TheVariants.{Below, AtMost, Above, AtLeast, Equal}
+use Rattle.escrow_statement.specs.declared.statement.CheckText.{CheckText}
+use Rattle.escrow_statement.specs.declared.statement.Condition.{Condition}
+use Rattle.escrow_statement.specs.declared.statement.Test.{Test}
+use Rattle.escrow_statement.specs.declared.statement.Test.TheVariants.{Compare, Between}
 use Rattle.escrow_checks.specs.declared.check.Check.{Check}
 use Rattle.escrow_checks.specs.declared.condition.TheConstants.{MAX_CHECKS}
 use Rattle.escrow_checks.specs.Form.{form}

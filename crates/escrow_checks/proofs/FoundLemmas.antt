@@ -3,8 +3,8 @@ use Rattle.std.proofs.Common.{◌≡◌, ℕ, ◌+◌, ◌≤◌, ◌<◌, true,
 use Rattle.std.specs.Prelude.{nat_le, option_map, option_and_then}
 use Rattle.std.proofs.lemmas.Bool.Decides.{nat_tests}
 use Rattle.std.proofs.lemmas.List.{append-nil, at_drop_more, at_drop_all}
-use Rattle.escrow_sql.specs.declared.statement.CheckText.{CheckText}
-use Rattle.escrow_sql.specs.declared.statement.Condition.{Condition}
+use Rattle.escrow_statement.specs.declared.statement.CheckText.{CheckText}
+use Rattle.escrow_statement.specs.declared.statement.Condition.{Condition}
 use Rattle.escrow_checks.specs.declared.check.Check.{Check}
 use Rattle.escrow_checks.specs.declared.condition.TheConstants.{MAX_CHECKS}
 use Rattle.escrow_checks.specs.Checks.{check_name, check_of, checks_of_conditions, checks_from, checks_behind}

@@ -8,11 +8,11 @@ use Rattle.std.specs.Int.{cast_signed, cast_unsigned, w128}
 use Rattle.escrow_num.specs.Amount.{is_amount}
 use Rattle.escrow_num.specs.declared.amount.TheConstants.Amount.{MAX}
 use Rattle.escrow_num.specs.declared.span.Span.{Span}
-use Rattle.escrow_sql.specs.declared.statement.Comparison.{Comparison}
-use Rattle.escrow_sql.specs.declared.statement.Comparison.TheVariants.{Below, AtMost, Above, AtLeast, Equal}
-use Rattle.escrow_sql.specs.declared.statement.Term.{Term}
-use Rattle.escrow_sql.specs.declared.statement.Test.{Test}
-use Rattle.escrow_sql.specs.declared.statement.Test.TheVariants.{Between, Compare}
+use Rattle.escrow_statement.specs.declared.statement.Comparison.{Comparison}
+use Rattle.escrow_statement.specs.declared.statement.Comparison.TheVariants.{Below, AtMost, Above, AtLeast, Equal}
+use Rattle.escrow_statement.specs.declared.statement.Term.{Term}
+use Rattle.escrow_statement.specs.declared.statement.Test.{Test}
+use Rattle.escrow_statement.specs.declared.statement.Test.TheVariants.{Between, Compare}
 use Rattle.escrow_checks.specs.Checks.{has_whole_limits, in_order, is_good_span, is_limit, is_whole, limits_of, number_in, span_of, units_in}
 use Rattle.escrow_checks.specs.Condition.{total}
 use Rattle.escrow_checks.specs.Parts.{is_near}

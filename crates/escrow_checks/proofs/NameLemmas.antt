@@ -5,7 +5,7 @@ use Rattle.std.proofs.lemmas.Bool.{and_parts}
 use Rattle.std.proofs.lemmas.Bool.Decides.{nat_tests}
 use Rattle.escrow_num.specs.Name.{IsName, spells_name}
 use Rattle.escrow_num.specs.declared.name.TheConstants.Name.{MAX_WRITTEN}
-use Rattle.escrow_sql.specs.Word.{reserved}
+use Rattle.escrow_statement.specs.Word.{reserved}
 use Rattle.escrow_checks.specs.WrittenName.{is_written_name}
 
 -- a name that a statement can write is short, and a name

@@ -6,8 +6,8 @@ use Rattle.std.proofs.lemmas.Bool.{and_parts}
 use Rattle.std.proofs.lemmas.Int.{ints, quot-rem, quot_fits, rem_below, to_z-of_z}
 use Rattle.escrow_num.specs.Scale.{unit_at}
 use Rattle.escrow_num.proofs.ScaleLemmas.{unit-least, unit-most}
-use Rattle.escrow_sql.specs.declared.statement.Term.{Term}
-use Rattle.escrow_sql.specs.declared.statement.Term.TheVariants as term
+use Rattle.escrow_statement.specs.declared.statement.Term.{Term}
+use Rattle.escrow_statement.specs.declared.statement.Term.TheVariants as term
 use Rattle.escrow_checks.specs.Checks.{number_in, units_in}
 use Rattle.escrow_checks.specs.Condition.{total}
 use Rattle.escrow_checks.specs.Contribution.{IsDifference}

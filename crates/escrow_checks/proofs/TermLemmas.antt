@@ -8,7 +8,7 @@ use Rattle.std.specs.Int.{w128}
 use Rattle.std.specs.Int.RustNames.{unsigned_abs}
 use Rattle.std.proofs.lemmas.Int.{ints, to_z-of_z, fits_signed_from_abs}
 use Rattle.escrow_num.specs.Amount.{IsAmount}
-use Rattle.escrow_sql.specs.declared.statement.Term.{Term}
+use Rattle.escrow_statement.specs.declared.statement.Term.{Term}
 use Rattle.escrow_checks.specs.Contribution.{IsTermSum}
 use Rattle.escrow_checks.specs.Condition.{total}
 use Rattle.escrow_checks.specs.Checks.{columns_in}

@@ -7,14 +7,14 @@ use Rattle.std.specs.Fmt.{decimal}
 use Rattle.escrow_num.specs.Amount.{is_amount}
 use Rattle.escrow_num.specs.Scale.{unit_at}
 use Rattle.escrow_num.specs.declared.span.Span.{Span}
-use Rattle.escrow_sql.specs.declared.statement.Comparison.{Comparison}
-use Rattle.escrow_sql.specs.declared.statement.Comparison.TheVariants.{Below, AtMost, Above, AtLeast, Equal}
-use Rattle.escrow_sql.specs.declared.statement.CheckText.{CheckText}
-use Rattle.escrow_sql.specs.declared.statement.Condition.{Condition}
-use Rattle.escrow_sql.specs.declared.statement.Term.{Term}
-use Rattle.escrow_sql.specs.declared.statement.Term.TheVariants as term
-use Rattle.escrow_sql.specs.declared.statement.Test.{Test}
-use Rattle.escrow_sql.specs.declared.statement.Test.TheVariants.{Compare, Between}
+use Rattle.escrow_statement.specs.declared.statement.Comparison.{Comparison}
+use Rattle.escrow_statement.specs.declared.statement.Comparison.TheVariants.{Below, AtMost, Above, AtLeast, Equal}
+use Rattle.escrow_statement.specs.declared.statement.CheckText.{CheckText}
+use Rattle.escrow_statement.specs.declared.statement.Condition.{Condition}
+use Rattle.escrow_statement.specs.declared.statement.Term.{Term}
+use Rattle.escrow_statement.specs.declared.statement.Term.TheVariants as term
+use Rattle.escrow_statement.specs.declared.statement.Test.{Test}
+use Rattle.escrow_statement.specs.declared.statement.Test.TheVariants.{Compare, Between}
 use Rattle.escrow_checks.specs.declared.check.Check.{Check}
 use Rattle.escrow_checks.specs.declared.condition.TheConstants.{MAX_CHECKS, MAX_COEFFICIENT}
 use Rattle.escrow_checks.specs.Condition.{total}

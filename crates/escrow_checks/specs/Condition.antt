@@ -1,14 +1,14 @@
 -- Believed: what a CHECK says of a row, as its text is written: both sides are summed and compared.
 -- Amounts and numbers are in millionths.
 use Rattle.std.specs.Prelude.{◌≡◌, ℕ, ℤ, pos, ◌+ℤ◌, ◌*ℤ◌, ◌≤ℤ◌, ◌<ℤ◌, if◌then◌else◌, List, [], ◌∷◌, All, bytes_eq}
-use Rattle.escrow_sql.specs.declared.statement.Comparison.{Comparison}
-use Rattle.escrow_sql.specs.declared.statement.Comparison.TheVariants.{Below, AtMost, Above, AtLeast, Equal}
-use Rattle.escrow_sql.specs.declared.statement.Condition.{Condition}
-use Rattle.escrow_sql.specs.declared.statement.CheckText.{CheckText}
-use Rattle.escrow_sql.specs.declared.statement.Term.{Term}
-use Rattle.escrow_sql.specs.declared.statement.Term.TheVariants as term
-use Rattle.escrow_sql.specs.declared.statement.Test.{Test}
-use Rattle.escrow_sql.specs.declared.statement.Test.TheVariants.{Compare, Between}
+use Rattle.escrow_statement.specs.declared.statement.Comparison.{Comparison}
+use Rattle.escrow_statement.specs.declared.statement.Comparison.TheVariants.{Below, AtMost, Above, AtLeast, Equal}
+use Rattle.escrow_statement.specs.declared.statement.Condition.{Condition}
+use Rattle.escrow_statement.specs.declared.statement.CheckText.{CheckText}
+use Rattle.escrow_statement.specs.declared.statement.Term.{Term}
+use Rattle.escrow_statement.specs.declared.statement.Term.TheVariants as term
+use Rattle.escrow_statement.specs.declared.statement.Test.{Test}
+use Rattle.escrow_statement.specs.declared.statement.Test.TheVariants.{Compare, Between}
 
 -- the amount of a column, among those of the RESERVABLE columns; no check names another column
 abbrev pub amount_of : List (List ℕ) → List ℤ → List ℕ → ℤ

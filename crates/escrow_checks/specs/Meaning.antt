@@ -1,7 +1,7 @@
 -- Believed: that checks mean what the CHECKs say.
 use Rattle.std.specs.Prelude.{◌≡◌, ℕ, ℤ, ◌↔◌, List, length, All, bytes_eq}
 use Rattle.std.specs.List.{IsDistinct}
-use Rattle.escrow_sql.specs.declared.statement.CheckText.{CheckText}
+use Rattle.escrow_statement.specs.declared.statement.CheckText.{CheckText}
 use Rattle.escrow_checks.specs.declared.check.Check.{Check}
 use Rattle.escrow_checks.specs.Condition.{MeetsText}
 use Rattle.escrow_checks.specs.Grant.{Meets}

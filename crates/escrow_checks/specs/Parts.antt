@@ -1,8 +1,8 @@
 -- Helps: sums of numbers in millionths, their wholes and the millionths beside them summed apart, so that each
 -- fits 128 bits. Nothing that callers see rests on it.
 use Rattle.std.specs.Prelude.{ℤ, pos, neg_ℤ, ◌+ℤ◌, ◌*ℤ◌, ◌^◌, ◌≤ℤ◌, ◌<ℤ◌, ◌⊎◌, Bool, ◌&&◌, int_le, int_div, int_rem}
-use Rattle.escrow_sql.specs.declared.statement.Term.{Term}
-use Rattle.escrow_sql.specs.declared.statement.Term.TheVariants as term
+use Rattle.escrow_statement.specs.declared.statement.Term.{Term}
+use Rattle.escrow_statement.specs.declared.statement.Term.TheVariants as term
 use Rattle.escrow_checks.specs.Contribution.{IsTermSum, IsDifference}
 use Rattle.escrow_checks.specs.declared.condition.parts.Parts.{Parts}
 

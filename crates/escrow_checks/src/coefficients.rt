@@ -7,7 +7,7 @@ ghost use Rattle.escrow_checks.specs.Scales.{factor, written_coefficient};
 
 use crate::condition::sums::coefficient_of;
 use escrow_num::{Amount, Name, Scale};
-use escrow_sql::Condition;
+use escrow_statement::Condition;
 use std::fmt::{Debug, Error, Formatter, Write};
 use std::marker::Model;
 

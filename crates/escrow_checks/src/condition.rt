@@ -14,7 +14,7 @@ use crate::check::Check;
 use crate::coefficients::Coefficients;
 use crate::fault::CheckFault;
 use escrow_num::{Name, Scale, Seq, copy_all};
-use escrow_sql::{CheckText, Condition, Term};
+use escrow_statement::{CheckText, Condition, Term};
 use limits::limits_of;
 pub use names::is_written_name;
 use names::name_of;

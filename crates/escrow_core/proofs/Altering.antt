@@ -21,11 +21,11 @@ use Rattle.escrow_num.specs.Refusal.{refuse_if, first_refusal, refusal_for}
 use Rattle.escrow_num.specs.Span.{first_of_two}
 use Rattle.escrow_num.proofs.Items.{Has, all_has, has_filter}
 use Rattle.escrow_num.proofs.Orders.{name_same, same_row_itself}
-use Rattle.escrow_sql.specs.declared.statement.CheckText.{CheckText}
-use Rattle.escrow_sql.specs.declared.statement.TableChange.{TableChange}
-use Rattle.escrow_sql.specs.declared.statement.TableChange.TheVariants as change
-use Rattle.escrow_sql.specs.declared.statement.Statement.{Statement}
-use Rattle.escrow_sql.specs.declared.statement.Statement.TheVariants as statement
+use Rattle.escrow_statement.specs.declared.statement.CheckText.{CheckText}
+use Rattle.escrow_statement.specs.declared.statement.TableChange.{TableChange}
+use Rattle.escrow_statement.specs.declared.statement.TableChange.TheVariants as change
+use Rattle.escrow_statement.specs.declared.statement.Statement.{Statement}
+use Rattle.escrow_statement.specs.declared.statement.Statement.TheVariants as statement
 use Rattle.escrow_checks.specs.declared.check.Check.{Check}
 use Rattle.escrow_checks.specs.declared.coefficients.TheConstants.Coefficients.{MAX_LEN}
 use Rattle.escrow_checks.specs.Form.{IsCovered}
@@ -64,16 +64,17 @@ use Rattle.escrow_machine.proofs.Shapes.{covered}
 use Rattle.escrow_machine.proofs.ValidAlter.{add_check_valid, drop_check_valid, alter_orderly, is_added, name_found}
 use Rattle.escrow_core.specs.Altering.{Adds, Judge, CanJudge, adds, alter_refusal, amounts_by, violation_by, drops, new_ones, table_without}
 use Rattle.escrow_core.specs.declared.database.added.AddedChecks.{AddedChecks}
-use Rattle.escrow_core.specs.declared.recent.ReadRow.{ReadRow}
-use Rattle.escrow_core.specs.Inside.{amounts_named, seen_of, AreOfTables, HaveAmounts, Holds, IsOfTable, Keeps}
-use Rattle.escrow_core.specs.Reserved.{Reserved, ArePlaced}
+use Rattle.escrow_reserved.specs.declared.recent.ReadRow.{ReadRow}
+use Rattle.escrow_reserved.specs.Placed.{amounts_named, AreOfTables, HaveAmounts, IsOfTable}
+use Rattle.escrow_core.specs.Inside.{seen_of, Holds, Keeps}
+use Rattle.escrow_reserved.specs.Reserved.{Reserved, ArePlaced}
 use Rattle.escrow_core.specs.Seen.{Seen}
 use Rattle.escrow_core.specs.Serves.{Serves}
 use Rattle.escrow_core.specs.Serving.{OnlyReads, answer_of}
-use Rattle.escrow_core.proofs.Places.{gone_amounts, gone_placed, gone_tables, none_placed}
+use Rattle.escrow_reserved.proofs.Places.{gone_amounts, gone_placed, gone_tables, none_placed}
 use Rattle.escrow_core.proofs.Serving.{accepted_step, forgotten, handed_on, late_applies, none_applies, read_keeps, still_clean, write_failed, wrote, wrote_keeps}
-use Rattle.escrow_core.proofs.Shown.{all_take, free_list}
-use Rattle.escrow_core.proofs.Standing.{standing}
+use Rattle.escrow_reserved.proofs.ShownBounds.{all_take, free_list}
+use Rattle.escrow_reserved.proofs.Standing.{standing}
 
 -- EARLY REFUSALS
 

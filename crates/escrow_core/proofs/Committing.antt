@@ -7,7 +7,7 @@ use Rattle.std.proofs.lemmas.List.{length-map, nil_from_length}
 use Rattle.sqlite_trees.specs.declared.store.Store.{Ghosts}
 use Rattle.escrow_num.specs.declared.reservation.Reservation.{Reservation}
 use Rattle.escrow_num.specs.declared.row.Row.{Row}
-use Rattle.escrow_sql.specs.declared.statement.Statement.TheVariants as statement
+use Rattle.escrow_statement.specs.declared.statement.Statement.TheVariants as statement
 use Rattle.escrow_num.specs.declared.failure.Failure.{Failure}
 use Rattle.escrow_num.specs.declared.failure.Failure.TheVariants as failure
 use Rattle.escrow_num.specs.declared.refusal.Refusal.TheVariants as refusal
@@ -31,9 +31,11 @@ use Rattle.escrow_schema.specs.declared.table.TableDef.{TableDef}
 use Rattle.escrow_bounds.specs.Held.{of_row}
 use Rattle.escrow_bounds.proofs.Ending.{length-after_all}
 use Rattle.escrow_machine.proofs.Safe.{some_weaker}
-use Rattle.escrow_core.specs.declared.recent.ReadRow.{ReadRow}
-use Rattle.escrow_core.specs.Inside.{seen_of, amounts_named, committed_by, AreOfTables, HaveAmounts, Holds, IsKnown, IsRead, Keeps}
-use Rattle.escrow_core.specs.Reserved.{AreAmounts, ArePlaced, Reserved}
+use Rattle.escrow_reserved.specs.declared.recent.ReadRow.{ReadRow}
+use Rattle.escrow_reserved.specs.Placed.{amounts_named, AreOfTables, HaveAmounts}
+use Rattle.escrow_reserved.specs.Read.{committed_by, IsKnown, IsRead}
+use Rattle.escrow_core.specs.Inside.{seen_of, Holds, Keeps}
+use Rattle.escrow_reserved.specs.Reserved.{AreAmounts, ArePlaced, Reserved}
 use Rattle.escrow_core.specs.Serves.{Serves}
 use Rattle.escrow_machine.specs.Accepted.{PassesEarly}
 use Rattle.escrow_machine.specs.State.{State}
@@ -43,7 +45,7 @@ use Rattle.escrow_machine.specs.Transition.{transition_of, after_commit, after_r
 use Rattle.escrow_machine.specs.Valid.{IsOrderly, IsValid}
 use Rattle.escrow_machine.proofs.Applying.{applied_none}
 use Rattle.escrow_core.proofs.Served.{commit_serves}
-use Rattle.escrow_core.proofs.Places.{committed_amounts, commits_amounts, ended_tables, rollbacks_amounts}
+use Rattle.escrow_reserved.proofs.Places.{committed_amounts, commits_amounts, ended_tables, rollbacks_amounts}
 use Rattle.escrow_core.proofs.Serving.{apart_keeps, fails, refused, served_apart, still_clean, wrote, write_failed, wrote_keeps}
 use Rattle.escrow_machine.proofs.ValidEnds.{commit_orderly, commit_valid, rollback_orderly, rollback_valid}
 

@@ -5,8 +5,8 @@ use Rattle.std.proofs.lemmas.Bool.{cases_Bool, le-leb, lt-leb}
 use Rattle.sqlite_trees.specs.declared.store.Store.{Ghosts}
 use Rattle.escrow_num.specs.declared.refusal.Refusal.TheVariants as refusal
 use Rattle.escrow_num.specs.Refusal.{refuse_if}
-use Rattle.escrow_sql.specs.declared.statement.CreateText.{CreateText}
-use Rattle.escrow_sql.specs.declared.statement.Statement.TheVariants as statement
+use Rattle.escrow_statement.specs.declared.statement.CreateText.{CreateText}
+use Rattle.escrow_statement.specs.declared.statement.Statement.TheVariants as statement
 use Rattle.escrow_schema.specs.declared.catalog.TheConstants.Catalog.{MAX_TABLES}
 use Rattle.escrow_schema.specs.declared.table.TableDef.{TableDef}
 use Rattle.escrow_num.proofs.Orders.{name_same}

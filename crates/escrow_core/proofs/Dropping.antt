@@ -10,7 +10,7 @@ use Rattle.escrow_num.specs.declared.value.RowName.{RowName}
 use Rattle.escrow_num.specs.Order.{same_row}
 use Rattle.escrow_num.proofs.Orders.{row_same}
 use Rattle.escrow_num.specs.Refusal.{refuse_if, first_refusal}
-use Rattle.escrow_sql.specs.declared.statement.Statement.TheVariants as statement
+use Rattle.escrow_statement.specs.declared.statement.Statement.TheVariants as statement
 use Rattle.escrow_schema.specs.declared.table.TableDef.{TableDef}
 use Rattle.escrow_schema.specs.Catalog.{table_named}
 use Rattle.escrow_machine.specs.declared.reply.Reply.TheVariants as reply
@@ -24,7 +24,7 @@ use Rattle.escrow_machine.proofs.Accepted.{DropStands, drop_stands}
 use Rattle.escrow_core.proofs.Serving.{MayWrite, accepted_step, none_applies}
 use Rattle.escrow_machine.proofs.Kept.{find_filter}
 use Rattle.escrow_machine.proofs.ValidDrop.{drop_orderly, drop_valid, other_table}
-use Rattle.escrow_core.proofs.Places.{any_weaker}
+use Rattle.escrow_reserved.proofs.Places.{any_weaker}
 
 is_there : (named : Option TableDef) → is_some named ≡ true → is_none named ≡ false
 is_there None e = absurd (cc)

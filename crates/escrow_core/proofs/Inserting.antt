@@ -16,8 +16,8 @@ use Rattle.escrow_num.specs.Refusal.{refuse_if, first_refusal}
 use Rattle.escrow_num.proofs.Items.{find_has}
 use Rattle.escrow_num.proofs.Orders.{name_same, row_same}
 use Rattle.escrow_num.proofs.Put.{find_put}
-use Rattle.escrow_sql.specs.declared.statement.InsertText.{InsertText}
-use Rattle.escrow_sql.specs.declared.statement.Statement.TheVariants as statement
+use Rattle.escrow_statement.specs.declared.statement.InsertText.{InsertText}
+use Rattle.escrow_statement.specs.declared.statement.Statement.TheVariants as statement
 use Rattle.escrow_schema.specs.declared.table.TableDef.{TableDef}
 use Rattle.escrow_checks.specs.Grant.{broken}
 use Rattle.escrow_schema.specs.Catalog.{table_named}
@@ -26,7 +26,7 @@ use Rattle.escrow_schema.proofs.LawLemmas.{rows_of_table}
 use Rattle.escrow_schema.specs.declared.table.TheConstants.TableDef.{MAX_ROWS}
 use Rattle.escrow_machine.specs.declared.reply.Reply.TheVariants as reply
 use Rattle.escrow_machine.specs.Asked.{new_row, insert_violation}
-use Rattle.escrow_core.specs.Inside.{amounts_named}
+use Rattle.escrow_reserved.specs.Placed.{amounts_named}
 use Rattle.escrow_core.specs.Seen.{Seen}
 use Rattle.escrow_machine.specs.Accepted.{IsAccepted, IsRefusal, PassesEarly}
 use Rattle.escrow_machine.specs.State.{State}

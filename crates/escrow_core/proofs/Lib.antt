@@ -1,16 +1,12 @@
 pub mod Altering
-pub mod Violations
 pub mod Committing
-pub mod Counting
 pub mod Creating
 pub mod Crossing
 pub mod Deleting
 pub mod Dropping
 pub mod Ending
 pub mod Inserting
-pub mod Journals
 pub mod Keyed
-pub mod Places
 pub mod Planned
 pub mod Promised
 pub mod Queries
@@ -19,5 +15,4 @@ pub mod Running
 pub mod Served
 pub mod Serving
 pub mod Shown
-pub mod Standing
 pub mod Updating

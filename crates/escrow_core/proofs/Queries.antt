@@ -6,9 +6,9 @@ use Rattle.escrow_num.specs.declared.row.Row.{Row}
 use Rattle.escrow_num.specs.declared.value.RowName.{RowName}
 use Rattle.escrow_num.specs.Ascending.{IsAscending}
 use Rattle.escrow_num.specs.Order.{same_row}
-use Rattle.escrow_sql.specs.declared.statement.RowText.{RowText}
-use Rattle.escrow_sql.specs.declared.statement.SelectText.{SelectText}
-use Rattle.escrow_sql.specs.declared.statement.Statement.TheVariants as statement
+use Rattle.escrow_statement.specs.declared.statement.RowText.{RowText}
+use Rattle.escrow_statement.specs.declared.statement.SelectText.{SelectText}
+use Rattle.escrow_statement.specs.declared.statement.Statement.TheVariants as statement
 use Rattle.escrow_schema.specs.declared.table.TableDef.{TableDef}
 use Rattle.escrow_schema.specs.Catalog.{table_named}
 use Rattle.escrow_schema.specs.Print.{canonical}
@@ -26,8 +26,8 @@ use Rattle.escrow_machine.specs.Step.{StepOrRefusal}
 use Rattle.escrow_machine.specs.Transition.{transition_of}
 use Rattle.escrow_rows.proofs.OneRow.{rows_named}
 use Rattle.escrow_machine.proofs.Refusals.{lacking, none_there, some_found}
-use Rattle.escrow_core.specs.Inside.{amounts_named}
-use Rattle.escrow_core.proofs.Standing.{no_row, standing}
+use Rattle.escrow_reserved.specs.Placed.{amounts_named}
+use Rattle.escrow_reserved.proofs.Standing.{no_row, standing}
 use Rattle.escrow_core.proofs.Serving.{late_applies, none_applies}
 use Rattle.escrow_core.proofs.Served.{rule_serves, accepted_serves, memory_serves}
 

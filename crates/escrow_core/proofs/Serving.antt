@@ -10,8 +10,8 @@ use Rattle.sqlite_trees.specs.declared.store.Store.{Ghosts}
 use Rattle.sqlite_trees.specs.Tree.{Trees}
 use Rattle.escrow_num.specs.declared.refusal.Refusal.{Refusal}
 use Rattle.escrow_num.specs.Refusal.{first_refusal, refusal_for}
-use Rattle.escrow_sql.specs.declared.statement.Statement.{Statement}
-use Rattle.escrow_sql.specs.declared.statement.Statement.TheVariants as statement
+use Rattle.escrow_statement.specs.declared.statement.Statement.{Statement}
+use Rattle.escrow_statement.specs.declared.statement.Statement.TheVariants as statement
 use Rattle.escrow_num.specs.declared.failure.Failure.{Failure}
 use Rattle.escrow_num.specs.declared.failure.Failure.TheVariants as failure
 use Rattle.escrow_bounds.specs.Places.{Places}
@@ -24,8 +24,9 @@ use Rattle.escrow_tables.specs.Committed.{Committed, AreHeld}
 use Rattle.escrow_journal.specs.Open.{Open}
 use Rattle.escrow_machine.specs.declared.reply.Reply.{Reply}
 use Rattle.escrow_machine.specs.declared.reply.Reply.TheVariants as reply
-use Rattle.escrow_core.specs.declared.recent.ReadRow.{ReadRow}
-use Rattle.escrow_core.specs.Inside.{seen_of, amounts_named, AreOfTables, HaveAmounts, Holds, Keeps}
+use Rattle.escrow_reserved.specs.declared.recent.ReadRow.{ReadRow}
+use Rattle.escrow_reserved.specs.Placed.{amounts_named, AreOfTables, HaveAmounts}
+use Rattle.escrow_core.specs.Inside.{seen_of, Holds, Keeps}
 use Rattle.escrow_machine.specs.Promised.{asks_store, reads_rows}
 use Rattle.escrow_machine.specs.Reply.{failure_of, is_refused, tells_write}
 use Rattle.escrow_core.specs.Seen.{Seen, IsKept}
@@ -39,7 +40,7 @@ use Rattle.escrow_machine.specs.Valid.{IsOrderly, AreSafeRows, IsValid}
 use Rattle.escrow_machine.proofs.LawsSteps.{early_refusals_stand, refused_stays}
 use Rattle.escrow_machine.proofs.Refusals.{first_behind, first_in_front}
 use Rattle.escrow_machine.proofs.Shapes.{HasOrder}
-use Rattle.escrow_core.proofs.Places.{amounts_stay, tables_stay}
+use Rattle.escrow_reserved.proofs.Places.{amounts_stay, tables_stay}
 use Rattle.escrow_core.proofs.Served.{refused_serves, stepped}
 
 -- where no refusal applies the step is the transition's

@@ -19,8 +19,8 @@ use Rattle.escrow_num.specs.Order.{same_row}
 use Rattle.escrow_num.specs.Reservation.{deltas, changes_at}
 use Rattle.escrow_num.specs.Refusal.{refuse_if, first_refusal, refusal_for}
 use Rattle.escrow_num.specs.Session.{IsSession}
-use Rattle.escrow_sql.specs.declared.statement.UpdateText.{UpdateText}
-use Rattle.escrow_sql.specs.declared.statement.Statement.TheVariants as statement
+use Rattle.escrow_statement.specs.declared.statement.UpdateText.{UpdateText}
+use Rattle.escrow_statement.specs.declared.statement.Statement.TheVariants as statement
 use Rattle.escrow_checks.specs.declared.check.Check.{Check}
 use Rattle.escrow_checks.specs.declared.coefficients.TheConstants.Coefficients.{MAX_LEN}
 use Rattle.escrow_checks.specs.declared.spread.TheConstants.Spread.{MAX_OPEN}
@@ -59,16 +59,17 @@ use Rattle.escrow_machine.proofs.Shapes.{HasOrder, covered, few_reservations, is
 use Rattle.escrow_machine.proofs.TransitionUpdate.{reserved_valid, replaced_valid}
 use Rattle.escrow_machine.proofs.ValidPlain.{same_test, values_both}
 use Rattle.escrow_machine.proofs.ValidUpdate.{granted_orderly}
-use Rattle.escrow_core.specs.Inside.{amounts_named, AreOfTables, HaveAmounts, IsOfTable, Keeps}
-use Rattle.escrow_core.specs.Reserved.{reason_against, reason_by}
+use Rattle.escrow_reserved.specs.Placed.{amounts_named, AreOfTables, HaveAmounts, IsOfTable}
+use Rattle.escrow_core.specs.Inside.{Keeps}
+use Rattle.escrow_reserved.specs.Reserved.{reason_against, reason_by}
 use Rattle.escrow_core.specs.Seen.{Seen, IsKept}
 use Rattle.escrow_core.specs.Serves.{Serves}
 use Rattle.escrow_core.specs.Serving.{OnlyReads}
-use Rattle.escrow_core.proofs.Places.{becomes_some, granted_placed, made_amounts, made_tables, put_at, put_others, same_amounts, same_placed, same_tables, some_of, some_same, taken_amounts, taken_tables}
+use Rattle.escrow_reserved.proofs.Places.{becomes_some, granted_placed, made_amounts, made_tables, put_at, put_others, same_amounts, same_placed, same_tables, some_of, some_same, taken_amounts, taken_tables}
 use Rattle.escrow_core.proofs.Planned.{planned_in, plan_refused, plan_accepted, planned_early}
 use Rattle.escrow_core.proofs.Served.{refused_serves, update_serves}
 use Rattle.escrow_core.proofs.Serving.{MayWrite, accepted_step, after_look, fails, look_failed, look_refused, served, served_beside, survives_itself}
-use Rattle.escrow_core.proofs.Standing.{no_row, standing}
+use Rattle.escrow_reserved.proofs.Standing.{no_row, standing}
 
 -- REFUSALS
 

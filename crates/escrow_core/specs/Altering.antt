@@ -6,10 +6,10 @@ use Rattle.escrow_num.specs.declared.refusal.Refusal.TheVariants as refusal
 use Rattle.escrow_num.specs.declared.reservation.Reservation.{Reservation}
 use Rattle.escrow_num.specs.declared.row.Row.{Row}
 use Rattle.escrow_num.specs.Refusal.{refuse_if, first_refusal}
-use Rattle.escrow_sql.specs.declared.statement.CheckText.{CheckText}
-use Rattle.escrow_sql.specs.declared.statement.Statement.{Statement}
-use Rattle.escrow_sql.specs.declared.statement.Statement.TheVariants as statement
-use Rattle.escrow_sql.specs.declared.statement.TableChange.TheVariants as change
+use Rattle.escrow_statement.specs.declared.statement.CheckText.{CheckText}
+use Rattle.escrow_statement.specs.declared.statement.Statement.{Statement}
+use Rattle.escrow_statement.specs.declared.statement.Statement.TheVariants as statement
+use Rattle.escrow_statement.specs.declared.statement.TableChange.TheVariants as change
 use Rattle.escrow_checks.specs.declared.check.Check.{Check}
 use Rattle.escrow_checks.specs.Grant.{broken}
 use Rattle.escrow_bounds.specs.Altered.{ArePrepared}
@@ -23,7 +23,7 @@ use Rattle.escrow_schema.specs.Definition.{IsTable}
 use Rattle.escrow_schema.specs.Print.{declared_checks}
 use Rattle.escrow_machine.specs.State.{State, is_open}
 use Rattle.escrow_core.specs.declared.database.added.AddedChecks.{AddedChecks}
-use Rattle.escrow_core.specs.Reserved.{Reserved, ArePlaced}
+use Rattle.escrow_reserved.specs.Reserved.{Reserved, ArePlaced}
 
 -- why an ALTER TABLE of a session is refused whatever it asks of the table of a name
 abbrev pub alter_refusal : ℕ → List ℕ → State → Option Refusal

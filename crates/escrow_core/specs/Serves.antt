@@ -8,7 +8,7 @@ use Rattle.escrow_num.specs.declared.refusal.Refusal.{Refusal}
 use Rattle.escrow_num.specs.declared.failure.Failure.TheVariants as failure
 use Rattle.escrow_num.specs.declared.session.End.{End}
 use Rattle.escrow_num.specs.Refusal.{first_refusal}
-use Rattle.escrow_sql.specs.declared.statement.Statement.{Statement}
+use Rattle.escrow_statement.specs.declared.statement.Statement.{Statement}
 use Rattle.escrow_tables.specs.Committed.{AreHeld}
 use Rattle.escrow_machine.specs.declared.reply.Reply.{Reply}
 use Rattle.escrow_machine.specs.declared.reply.Reply.TheVariants as reply

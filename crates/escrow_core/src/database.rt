@@ -17,11 +17,10 @@ mod settle;
 mod show;
 mod update;
 
-use crate::recent::Recent;
-use crate::reserved::Reserved;
 use escrow_machine::Reply;
 use escrow_num::{Refusal, Session};
-use escrow_sql::Statement;
+use escrow_reserved::{Recent, Reserved};
+use escrow_statement::Statement;
 use escrow_tables::Tables;
 use sqlite::{Alter, Connection};
 use std::alloc::{AllocFailed, Global};

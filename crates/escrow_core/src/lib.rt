@@ -7,11 +7,6 @@
 #![tactic(auto)]
 
 mod database;
-mod recent;
-mod reserved;
-mod shown_bounds;
-mod shown_journal;
-mod violation;
 
 pub use database::Database;
 pub use escrow_machine::{

@@ -4,8 +4,8 @@ use Rattle.std.specs.List.{AllByRecursion}
 use Rattle.std.proofs.lemmas.List.{append-nil}
 use Rattle.escrow_num.specs.Session.{IsSession}
 use Rattle.escrow_num.specs.declared.session.TheConstants.Session.{MAX}
-use Rattle.escrow_sql.specs.declared.statement.Request.{Request}
-use Rattle.escrow_sql.specs.declared.statement.Request.TheVariants as request
+use Rattle.escrow_statement.specs.declared.statement.Request.{Request}
+use Rattle.escrow_statement.specs.declared.statement.Request.TheVariants as request
 use Rattle.escrow_stats.specs.Tally.{tally_of}
 use Rattle.escrow_stats.specs.Text.{rendered_totals}
 use Rattle.escrow_script.specs.declared.limits.TheConstants.{MAX_DATABASES}

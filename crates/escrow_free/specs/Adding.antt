@@ -1,6 +1,6 @@
 -- Helps: lines that are added to a plan.
 use Rattle.std.specs.Prelude.{◌≡◌, ℕ, List, ◌++◌}
-use Rattle.escrow_sql.specs.declared.statement.Request.{Request}
+use Rattle.escrow_statement.specs.declared.statement.Request.{Request}
 use Rattle.escrow_free.specs.Planning.{PlansText, PlansBytes}
 use Rattle.escrow_free.specs.declared.plan.Plan.{Plan}
 use Rattle.escrow_free.specs.declared.plan.Planned.{Planned}

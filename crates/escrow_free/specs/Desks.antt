@@ -3,7 +3,7 @@ use Rattle.std.specs.Prelude.{◌≡◌, ℕ, ◌+◌, ◌-◌, ◌*◌, ◌<◌
 use Rattle.std.specs.Vec.Iter.{into_iter_items}
 use Rattle.escrow_num.specs.Session.{IsSession}
 use Rattle.escrow_num.specs.declared.session.TheConstants.Session.{MAX}
-use Rattle.escrow_sql.specs.declared.statement.Request.{Request}
+use Rattle.escrow_statement.specs.declared.statement.Request.{Request}
 use Rattle.escrow_machine.specs.declared.reply.Reply.{Reply}
 use Rattle.escrow_stats.specs.Tally.{tally_of}
 use Rattle.escrow_stats.specs.declared.tally.Tally.{Tally}

@@ -1,9 +1,9 @@
 -- Helps: what is planned for lines.
 use Rattle.std.specs.Prelude.{◌≡◌, ◌⊎◌, ℕ, List, [], ◌∷◌, ◌++◌}
 use Rattle.escrow_sql.specs.declared.fault.ParseFault.{ParseFault}
-use Rattle.escrow_sql.specs.declared.statement.Statement.{Statement}
-use Rattle.escrow_sql.specs.declared.statement.Request.{Request}
-use Rattle.escrow_sql.specs.declared.statement.Request.TheVariants as request
+use Rattle.escrow_statement.specs.declared.statement.Statement.{Statement}
+use Rattle.escrow_statement.specs.declared.statement.Request.{Request}
+use Rattle.escrow_statement.specs.declared.statement.Request.TheVariants as request
 use Rattle.escrow_sql.specs.Parser.{Asks, IsFaultIn}
 use Rattle.escrow_script.specs.Line.{Reading, nothing, join, restart, statement, no_line, Reads}
 use Rattle.escrow_free.specs.Desks.{desk_of}

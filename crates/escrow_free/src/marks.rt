@@ -2,7 +2,7 @@
 ghost use Rattle.std.specs.Prelude.{◌≡◌, ◌<◌, false, length, map, replicate, All, IfOk};
 ghost use Rattle.escrow_free.specs.Ranks.{marked_by, ranks_from, renamed};
 
-use escrow_sql::Request;
+use escrow_statement::Request;
 use std::alloc::{AllocError, Global};
 
 /// Marks the desks that items name, of so many, and has each item name its desk by its rank among these. Want of

@@ -11,7 +11,7 @@ use crate::marks::rank_desks;
 use crate::parting::{merge, part};
 use escrow_sessions::{Cause, NotFed, run_fed};
 use escrow_shards::{Gate, Pass, Shared, UnderLock};
-use escrow_sql::Request;
+use escrow_statement::Request;
 use escrow_stats::Watcher;
 use sqlite::Alter;
 use std::alloc::Global;

@@ -6,7 +6,7 @@ use crate::served::{Served, Unserved};
 use escrow_core::Database;
 use escrow_machine::Reply;
 use escrow_num::{Failure, Refusal, Seq, Session};
-use escrow_sql::Statement;
+use escrow_statement::Statement;
 use escrow_transcript::{Base, Entry, Transcript};
 use sqlite::Alter;
 use std::alloc::{AllocError, Global};

@@ -12,9 +12,9 @@ use Rattle.escrow_num.specs.Refusal.{refuse_if}
 use Rattle.escrow_num.specs.Span.{Holds}
 use Rattle.escrow_num.proofs.Items.{Has, all_has, find_has}
 use Rattle.escrow_num.proofs.Orders.{row_same}
-use Rattle.escrow_sql.specs.declared.statement.RowText.{RowText}
-use Rattle.escrow_sql.specs.declared.statement.Statement.{Statement}
-use Rattle.escrow_sql.specs.declared.statement.Statement.TheVariants as statement
+use Rattle.escrow_statement.specs.declared.statement.RowText.{RowText}
+use Rattle.escrow_statement.specs.declared.statement.Statement.{Statement}
+use Rattle.escrow_statement.specs.declared.statement.Statement.TheVariants as statement
 use Rattle.escrow_checks.specs.declared.check.Check.{Check}
 use Rattle.escrow_checks.specs.Checks.{unit_of}
 use Rattle.escrow_checks.specs.Condition.{amount_of}

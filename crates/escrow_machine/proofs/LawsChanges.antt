@@ -9,11 +9,11 @@ use Rattle.escrow_num.specs.declared.value.Value.{Value}
 use Rattle.escrow_num.specs.Order.{same_row}
 use Rattle.escrow_num.proofs.Items.{Has, all_has, has_all, has_filter, find_has}
 use Rattle.escrow_num.proofs.Orders.{name_same, row_same, same_name}
-use Rattle.escrow_sql.specs.declared.statement.AlterText.{AlterText}
-use Rattle.escrow_sql.specs.declared.statement.Statement.TheVariants as statement
-use Rattle.escrow_sql.specs.declared.statement.TableChange.{TableChange}
-use Rattle.escrow_sql.specs.declared.statement.TableChange.TheVariants as change
-use Rattle.escrow_sql.specs.declared.statement.UpdateText.{UpdateText}
+use Rattle.escrow_statement.specs.declared.statement.AlterText.{AlterText}
+use Rattle.escrow_statement.specs.declared.statement.Statement.TheVariants as statement
+use Rattle.escrow_statement.specs.declared.statement.TableChange.{TableChange}
+use Rattle.escrow_statement.specs.declared.statement.TableChange.TheVariants as change
+use Rattle.escrow_statement.specs.declared.statement.UpdateText.{UpdateText}
 use Rattle.escrow_schema.specs.declared.plan.Plan.{Plan}
 use Rattle.escrow_schema.specs.declared.plan.Plan.TheVariants as plan
 use Rattle.escrow_schema.specs.declared.table.TableDef.{TableDef}

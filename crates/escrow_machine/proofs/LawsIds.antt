@@ -13,8 +13,8 @@ use Rattle.escrow_num.specs.Ascending.{IsAscending}
 use Rattle.escrow_num.proofs.Ascending.{ascending_filter}
 use Rattle.escrow_num.proofs.Items.{Has, all_at, all_has, filter_has, find_has, has_all, has_filter}
 use Rattle.escrow_num.proofs.Orders.{same_name}
-use Rattle.escrow_sql.specs.declared.statement.Statement.{Statement}
-use Rattle.escrow_sql.specs.declared.statement.Statement.TheVariants as statement
+use Rattle.escrow_statement.specs.declared.statement.Statement.{Statement}
+use Rattle.escrow_statement.specs.declared.statement.Statement.TheVariants as statement
 use Rattle.escrow_journal.specs.Reservations.{own_savepoints, other_savepoints, reservation_before, savepoint_before}
 use Rattle.escrow_journal.specs.Savepoints.{is_named, savepoint_of, without_savepoint, put_savepoint, through, is_after, after, not_after}
 use Rattle.escrow_machine.specs.declared.event.Event.{Event}

@@ -16,9 +16,9 @@ use Rattle.escrow_num.specs.Refusal.{refuse_if, first_refusal}
 use Rattle.escrow_num.proofs.Ascending.{ascending_filter}
 use Rattle.escrow_num.proofs.Items.{Has, has_all, has_filter, filter_has}
 use Rattle.escrow_num.proofs.Orders.{name_same, same_name, row_same, same_row_itself}
-use Rattle.escrow_sql.specs.declared.statement.Statement.TheVariants as statement
-use Rattle.escrow_sql.specs.declared.statement.SelectText.{SelectText}
-use Rattle.escrow_sql.specs.declared.statement.WhereText.{WhereText}
+use Rattle.escrow_statement.specs.declared.statement.Statement.TheVariants as statement
+use Rattle.escrow_statement.specs.declared.statement.SelectText.{SelectText}
+use Rattle.escrow_statement.specs.declared.statement.WhereText.{WhereText}
 use Rattle.escrow_schema.specs.declared.table.TableDef.{TableDef}
 use Rattle.escrow_schema.specs.Catalog.{table_named}
 use Rattle.escrow_schema.specs.Fit.{values_of}

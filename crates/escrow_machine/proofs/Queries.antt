@@ -7,9 +7,9 @@ use Rattle.escrow_num.specs.declared.reservation.Reservation.{Reservation}
 use Rattle.escrow_num.specs.declared.reservation.Savepoint.{Savepoint}
 use Rattle.escrow_num.specs.declared.row.Row.{Row}
 use Rattle.escrow_num.specs.Refusal.{refuse_if, first_refusal}
-use Rattle.escrow_sql.specs.declared.statement.Statement.{Statement}
-use Rattle.escrow_sql.specs.declared.statement.Statement.TheVariants as statement
-use Rattle.escrow_sql.specs.declared.statement.SelectText.{SelectText}
+use Rattle.escrow_statement.specs.declared.statement.Statement.{Statement}
+use Rattle.escrow_statement.specs.declared.statement.Statement.TheVariants as statement
+use Rattle.escrow_statement.specs.declared.statement.SelectText.{SelectText}
 use Rattle.escrow_schema.specs.declared.table.TableDef.{TableDef}
 use Rattle.escrow_schema.specs.Catalog.{table_named}
 use Rattle.escrow_machine.specs.declared.reply.Reply.{Reply}

@@ -1,7 +1,7 @@
 -- The transitions of SAVEPOINT and ROLLBACK TO.
 use Rattle.std.specs.Prelude.{◌≤◌, ℕ, List}
 use Rattle.std.proofs.Common.{refl, le_refl}
-use Rattle.escrow_sql.specs.declared.statement.Statement.TheVariants as statement
+use Rattle.escrow_statement.specs.declared.statement.Statement.TheVariants as statement
 use Rattle.escrow_machine.specs.Laws.{ShowsJust}
 use Rattle.escrow_machine.specs.State.{State}
 use Rattle.escrow_machine.specs.Transition.{transition_of, after_savepoint}

@@ -10,7 +10,7 @@ use Rattle.escrow_num.specs.declared.row.Row.{Row}
 use Rattle.escrow_num.specs.Span.{first_of_two}
 use Rattle.escrow_num.proofs.Items.{Has, all_has, has_all, filter_has, find_has}
 use Rattle.escrow_num.proofs.Orders.{name_same, same_name}
-use Rattle.escrow_sql.specs.declared.statement.CheckText.{CheckText}
+use Rattle.escrow_statement.specs.declared.statement.CheckText.{CheckText}
 use Rattle.escrow_checks.specs.declared.check.Check.{Check}
 use Rattle.escrow_checks.specs.Checks.{checks_behind}
 use Rattle.escrow_checks.specs.Form.{all_changed}

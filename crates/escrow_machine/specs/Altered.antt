@@ -7,9 +7,9 @@ use Rattle.escrow_num.specs.declared.reservation.Reservation.{Reservation}
 use Rattle.escrow_num.specs.declared.row.Row.{Row}
 use Rattle.escrow_num.specs.Refusal.{refuse_if}
 use Rattle.escrow_num.specs.Span.{first_of_two}
-use Rattle.escrow_sql.specs.declared.statement.CheckText.{CheckText}
-use Rattle.escrow_sql.specs.declared.statement.TableChange.{TableChange}
-use Rattle.escrow_sql.specs.declared.statement.TableChange.TheVariants as change
+use Rattle.escrow_statement.specs.declared.statement.CheckText.{CheckText}
+use Rattle.escrow_statement.specs.declared.statement.TableChange.{TableChange}
+use Rattle.escrow_statement.specs.declared.statement.TableChange.TheVariants as change
 use Rattle.escrow_checks.specs.declared.check.Check.{Check}
 use Rattle.escrow_checks.specs.Checks.{checks_of_conditions}
 use Rattle.escrow_checks.specs.Grant.{broken}

@@ -9,10 +9,10 @@ use Rattle.escrow_num.specs.declared.value.RowName.{RowName}
 use Rattle.escrow_num.specs.declared.value.Value.{Value}
 use Rattle.escrow_num.specs.Order.{same_row}
 use Rattle.escrow_num.specs.Reservation.{deltas}
-use Rattle.escrow_sql.specs.declared.statement.InsertText.{InsertText}
-use Rattle.escrow_sql.specs.declared.statement.UpdateText.{UpdateText}
-use Rattle.escrow_sql.specs.declared.statement.SelectText.{SelectText}
-use Rattle.escrow_sql.specs.declared.statement.WhereText.{WhereText}
+use Rattle.escrow_statement.specs.declared.statement.InsertText.{InsertText}
+use Rattle.escrow_statement.specs.declared.statement.UpdateText.{UpdateText}
+use Rattle.escrow_statement.specs.declared.statement.SelectText.{SelectText}
+use Rattle.escrow_statement.specs.declared.statement.WhereText.{WhereText}
 use Rattle.escrow_checks.specs.Grant.{broken}
 use Rattle.escrow_schema.specs.declared.plan.Plan.{Plan}
 use Rattle.escrow_schema.specs.declared.plan.Plan.TheVariants as plan

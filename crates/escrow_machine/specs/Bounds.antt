@@ -2,7 +2,7 @@
 use Rattle.std.specs.Prelude.{ℕ, ℤ, option_map, option_and_then, unwrap_or, List, [], map}
 use Rattle.escrow_num.specs.declared.reservation.Reservation.{Reservation}
 use Rattle.escrow_num.specs.declared.value.RowName.{RowName}
-use Rattle.escrow_sql.specs.declared.statement.RowText.{RowText}
+use Rattle.escrow_statement.specs.declared.statement.RowText.{RowText}
 use Rattle.escrow_checks.specs.declared.check.Check.{Check}
 use Rattle.escrow_checks.specs.Checks.{unit_of}
 use Rattle.escrow_checks.specs.Condition.{amount_of}

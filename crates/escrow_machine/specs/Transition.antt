@@ -3,13 +3,13 @@ use Rattle.std.specs.Prelude.{ℕ, nat_le, Option, is_some, is_none, option_map,
 use Rattle.escrow_num.specs.declared.refusal.Refusal.{Refusal}
 use Rattle.escrow_num.specs.declared.refusal.Refusal.TheVariants as refusal
 use Rattle.escrow_num.specs.Refusal.{refuse_if}
-use Rattle.escrow_sql.specs.declared.statement.Statement.{Statement}
-use Rattle.escrow_sql.specs.declared.statement.Statement.TheVariants as statement
-use Rattle.escrow_sql.specs.declared.statement.CreateText.{CreateText}
-use Rattle.escrow_sql.specs.declared.statement.InsertText.{InsertText}
-use Rattle.escrow_sql.specs.declared.statement.RowText.{RowText}
-use Rattle.escrow_sql.specs.declared.statement.TableChange.{TableChange}
-use Rattle.escrow_sql.specs.declared.statement.TableChange.TheVariants as change
+use Rattle.escrow_statement.specs.declared.statement.Statement.{Statement}
+use Rattle.escrow_statement.specs.declared.statement.Statement.TheVariants as statement
+use Rattle.escrow_statement.specs.declared.statement.CreateText.{CreateText}
+use Rattle.escrow_statement.specs.declared.statement.InsertText.{InsertText}
+use Rattle.escrow_statement.specs.declared.statement.RowText.{RowText}
+use Rattle.escrow_statement.specs.declared.statement.TableChange.{TableChange}
+use Rattle.escrow_statement.specs.declared.statement.TableChange.TheVariants as change
 use Rattle.escrow_journal.specs.Open.{grant_refusal, granted, savepoint_refusal, saved, released, cut_back, ended}
 use Rattle.escrow_journal.specs.Reservations.{own}
 use Rattle.escrow_journal.specs.Savepoints.{savepoint_of}

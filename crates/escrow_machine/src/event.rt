@@ -1,5 +1,5 @@
 use escrow_num::Session;
-use escrow_sql::Statement;
+use escrow_statement::Statement;
 
 /// What may happen to a database.
 #[derive(Debug, Drop)]

@@ -126,6 +126,57 @@ fn splice_child<N: Node>(
     Ok(())
 }
 
+/// Joins the child at a place with the next, and then with the one before it, where both are small.
+fn join_around<N: Node>(
+    alloc: Global,
+    children: &mut Vec<Child<N>>,
+    place: usize,
+) -> Result<(), AllocError>
+    requires { AreCounted N.rows children.old.items }
+    ensures rows { OnOk result (children_rows N.rows children.new.items ≡ children_rows N.rows children.old.items) }
+    ensures counted { OnOk result (AreCounted N.rows children.new.items) }
+{
+    join_small(alloc, children, place)?;
+    join_small(alloc, children, place.saturating_sub(1))
+}
+
+/// Takes out and puts in as [`Node::splice`], and returns which child it was.
+fn edit_children<N: Node>(
+    alloc: Global,
+    children: &mut Vec<Child<N>>,
+    at: usize,
+    cut: usize,
+    new: Option<&[u8]>,
+) -> Result<usize, AllocError>
+    requires counted { AreCounted N.rows children.old.items }
+    requires within { at + cut ≤ length (children_rows N.rows children.old.items) }
+    requires one { cut ≤ 1 }
+    ensures rows { OnOk result (children_rows N.rows children.new.items ≡ spliced at cut (entry_rows new.entry) (children_rows N.rows children.old.items)) }
+    ensures counted { OnOk result (AreCounted N.rows children.new.items) }
+{
+    let (place, within) = find(children.as_slice(), at, cut);
+    if place < children.len() {
+        splice_child(alloc, children, place, within, cut, new)?;
+        if new.is_none() {
+            join_around(alloc, children, place)?;
+        }
+    } else if let Some(entry) = new {
+        children.push(Child::of_one(alloc, entry)?)?;
+    }
+    Ok(place)
+}
+
+/// Appends children that share the nodes of others.
+fn share_all<N: Node>(children: &mut Vec<Child<N>>, others: &[Child<N>]) -> Result<(), AllocError>
+    ensures rows { OnOk result (children_rows N.rows children.new.items ≡ children_rows N.rows children.old.items ++ children_rows N.rows others.now) }
+    ensures counted { OnOk result (AreCounted N.rows children.old.items → AreCounted N.rows others.now → AreCounted N.rows children.new.items) }
+{
+    for child in others {
+        children.push(child.share()?)?;
+    }
+    Ok(())
+}
+
 impl<N: Node> Branch<N> {
     /// No entries. Takes no memory.
     pub(crate) fn new(alloc: Global) -> Branch<N>
@@ -156,16 +207,7 @@ impl<N: Node> Branch<N> {
         } = self;
         let added = usize::from(new.is_some());
         let total = (total - cut).checked_add(added).ok_or(AllocError)?;
-        let (place, within) = find(children.as_slice(), at, cut);
-        if place < children.len() {
-            splice_child(alloc, &mut children, place, within, cut, new)?;
-            if added == 0 {
-                join_small(alloc, &mut children, place)?;
-                join_small(alloc, &mut children, place.saturating_sub(1))?;
-            }
-        } else if let Some(entry) = new {
-            children.push(Child::of(alloc, N::of_one(alloc, entry)?)?)?;
-        }
+        let place = edit_children(alloc, &mut children, at, cut, new)?;
         Ok((Branch { children, total }, place))
     }
 
@@ -194,6 +236,20 @@ impl<N: Node> Branch<N> {
             total: total - before,
         };
         Ok((first, Some(second)))
+    }
+
+    /// The branch after a change, in two where it became too large.
+    fn changed(
+        self,
+        alloc: Global,
+        change: Change<'_>,
+    ) -> Result<(Branch<N>, Option<Branch<N>>), AllocError>
+        requires { change.at + change.cut ≤ length (children_rows N.rows self.children.items) }
+        ensures { IfOk result (λ parts. children_rows N.rows parts.0.children.items ++ next_rows (λ branch. children_rows N.rows branch.children.items) parts.1 ≡ spliced change.entry.at change.entry.cut (entry_rows change.entry.new) (children_rows N.rows self.children.items)) }
+    {
+        let Change { at, cut, new } = change;
+        let (branch, place) = self.edited(alloc, at, cut, new)?;
+        branch.divided(place)
     }
 }
 
@@ -243,9 +299,7 @@ impl<N: Node> Node for Branch<N> {
 
     fn copy(&self, alloc: Global) -> Result<Branch<N>, AllocError> {
         let mut children = Vec::with_capacity(alloc, self.children.len())?;
-        for child in &self.children {
-            children.push(child.share()?)?;
-        }
+        share_all(&mut children, self.children.as_slice())?;
         Ok(Branch {
             children,
             total: self.total,
@@ -257,10 +311,8 @@ impl<N: Node> Node for Branch<N> {
         alloc: Global,
         change: Change<'_>,
     ) -> Result<Option<Branch<N>>, AllocError> {
-        let Change { at, cut, new } = change;
         let branch = mem::replace(self, Branch::new(alloc));
-        let (branch, place) = branch.edited(alloc, at, cut, new)?;
-        let (first, second) = branch.divided(place)?;
+        let (first, second) = branch.changed(alloc, change)?;
         *self = first;
         Ok(second)
     }
@@ -271,9 +323,7 @@ impl<N: Node> Node for Branch<N> {
             total,
         } = mem::replace(self, Branch::new(alloc));
         let total = total.checked_add(next.total).ok_or(AllocError)?;
-        for child in &next.children {
-            children.push(child.share()?)?;
-        }
+        share_all(&mut children, next.children.as_slice())?;
         *self = Branch { children, total };
         Ok(())
     }

@@ -1,5 +1,6 @@
 //! Children of branches.
-ghost use Rattle.std.specs.Prelude.{◌≡◌, ◌+◌, ◌≤◌, ◌++◌, length, IfOk, OnOk};
+ghost use Rattle.std.specs.Prelude.{◌≡◌, ◌+◌, ◌≤◌, ◌++◌, ◌∷◌, [], length, IfOk, OnOk};
+ghost use Rattle.sqlite_record.specs.Record.{decode};
 ghost use Rattle.escrow_memory.specs.Rows.{spliced, entry_rows, next_rows};
 
 use crate::node::{Change, Node};
@@ -24,6 +25,14 @@ impl<N: Node> Child<N> {
             len,
             node: Arc::new(alloc, node)?,
         })
+    }
+
+    /// A child of one entry.
+    pub(crate) fn of_one(alloc: Global, entry: &[u8]) -> Result<Child<N>, AllocError>
+        ensures rows { IfOk result (λ child. N.rows child.node.value ≡ decode entry.now ∷ []) }
+        ensures len { IfOk result (λ child. child.len ≡ 1) }
+    {
+        Child::of(alloc, N::of_one(alloc, entry)?)
     }
 
     /// One more owner of the node.

@@ -182,6 +182,15 @@ impl<'a> NarrowFields<'a> {
         Some((order.compare_first(first, value), behind))
     }
 
+    /// As [`NarrowFields::compare_first`], where the field and the value are integers.
+    #[inline(always)]
+    fn compare_int(self, order: Order, value: i64) -> Option<(Ordering, NarrowFields<'a>)>
+        ensures { IfSome result (λ found. (first : Value) × (values_of self.entry.types.now self.entry.body.now ≡ first ∷ values_of found.1.types.now found.1.body.now) × (found.0 ≡ by_key (first_key order) first (Int value))) }
+    {
+        let (first, behind) = self.split_int()?;
+        Some((compare_ints(order, first, value), behind))
+    }
+
     /// How the fields compare with the columns of a row from one on, if each is read, and the fields behind those that were read.
     #[inline(never)]
     fn compare_from(
@@ -216,12 +225,10 @@ impl<'a> NarrowFields<'a> {
             let ValueRef::Int(n) = row.get(at) else {
                 return fields.compare_from(order, row, at);
             };
-            let (first, behind) = fields.split_int()?;
-            match compare_ints(order, first, n) {
-                Ordering::Equal => {}
-                found => return Some((found, behind)),
+            match fields.compare_int(order, n)? {
+                (Ordering::Equal, behind) => fields = behind,
+                found => return Some(found),
             }
-            fields = behind;
             order = order.later();
         }
         Some((Ordering::Equal, fields))

@@ -5,8 +5,8 @@ use Rattle.std.specs.List.{list_any}
 use Rattle.std.proofs.lemmas.Bool.{cases_Bool, or_parts, eqb-true, eqb-false, false≢true}
 use Rattle.std.proofs.lemmas.Option.{none-some, option_and_then_some, same_Some}
 use Rattle.escrow_num.specs.declared.value.Value.{Value}
-use Rattle.escrow_sql.specs.declared.statement.InsertText.{InsertText}
-use Rattle.escrow_sql.specs.declared.statement.Literal.{Literal}
+use Rattle.escrow_statement.specs.declared.statement.InsertText.{InsertText}
+use Rattle.escrow_statement.specs.declared.statement.Literal.{Literal}
 use Rattle.escrow_schema.specs.declared.column.Column.{Column}
 use Rattle.escrow_schema.specs.declared.column.ColumnType.{ColumnType}
 use Rattle.escrow_schema.specs.declared.table.TableDef.{TableDef}

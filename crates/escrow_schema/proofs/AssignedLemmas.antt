@@ -7,9 +7,9 @@ use Rattle.std.proofs.lemmas.Option.{none-some, same_Some, option_and_then_some}
 use Rattle.escrow_num.specs.Decimal.{units_at}
 use Rattle.escrow_num.specs.declared.refusal.Refusal.{Refusal}
 use Rattle.escrow_num.specs.declared.value.Value.{Value}
-use Rattle.escrow_sql.specs.declared.statement.Assign.{Assign}
-use Rattle.escrow_sql.specs.declared.statement.Assigned.{Assigned}
-use Rattle.escrow_sql.specs.declared.statement.Assigned.TheVariants as assigned
+use Rattle.escrow_statement.specs.declared.statement.Assign.{Assign}
+use Rattle.escrow_statement.specs.declared.statement.Assigned.{Assigned}
+use Rattle.escrow_statement.specs.declared.statement.Assigned.TheVariants as assigned
 use Rattle.escrow_schema.specs.declared.column.Column.{Column}
 use Rattle.escrow_schema.specs.declared.plan.Plan.TheVariants.{Reserve, Plain}
 use Rattle.escrow_schema.specs.Column.{reservables, scale_of, value_in}

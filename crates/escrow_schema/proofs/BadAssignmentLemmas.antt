@@ -8,12 +8,12 @@ use Rattle.std.proofs.lemmas.Slice.Eq.{bytes_eq-Decides}
 use Rattle.escrow_num.specs.declared.refusal.Refusal.{Refusal}
 use Rattle.escrow_num.specs.declared.refusal.Refusal.TheVariants as refusal
 use Rattle.escrow_num.specs.declared.value.Value.{Value}
-use Rattle.escrow_sql.specs.declared.statement.Assign.{Assign}
-use Rattle.escrow_sql.specs.declared.statement.Assigned.{Assigned}
-use Rattle.escrow_sql.specs.declared.statement.Assigned.TheVariants as assigned
-use Rattle.escrow_sql.specs.declared.statement.Literal.{Literal}
-use Rattle.escrow_sql.specs.declared.statement.UpdateText.{UpdateText}
-use Rattle.escrow_sql.specs.declared.statement.WhereText.{WhereText}
+use Rattle.escrow_statement.specs.declared.statement.Assign.{Assign}
+use Rattle.escrow_statement.specs.declared.statement.Assigned.{Assigned}
+use Rattle.escrow_statement.specs.declared.statement.Assigned.TheVariants as assigned
+use Rattle.escrow_statement.specs.declared.statement.Literal.{Literal}
+use Rattle.escrow_statement.specs.declared.statement.UpdateText.{UpdateText}
+use Rattle.escrow_statement.specs.declared.statement.WhereText.{WhereText}
 use Rattle.escrow_schema.specs.declared.column.Column.{Column}
 use Rattle.escrow_schema.specs.declared.table.TableDef.{TableDef}
 use Rattle.escrow_schema.specs.BadAssignment.{AssignsTwice, Assigns, HasColumn, IsBadlyAssigned, IsKeyName, IsNamedAt, IsPlainName, IsReservableName}

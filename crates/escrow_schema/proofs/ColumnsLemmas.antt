@@ -7,9 +7,9 @@ use Rattle.std.proofs.lemmas.List.Elements.{All-from_recursion}
 use Rattle.std.proofs.lemmas.Option.{option_and_then_some, cond_some, same_Some}
 use Rattle.std.proofs.lemmas.Bool.{or_parts, and_parts, or_from, not-true, not_from_false, and_from, cases_Bool, leb-true}
 use Rattle.escrow_num.specs.Scale.{IsScale}
-use Rattle.escrow_sql.specs.declared.statement.TypeText.{TypeText}
-use Rattle.escrow_sql.specs.declared.statement.TypeText.TheVariants as text
-use Rattle.escrow_sql.specs.declared.statement.ColumnText.{ColumnText}
+use Rattle.escrow_statement.specs.declared.statement.TypeText.{TypeText}
+use Rattle.escrow_statement.specs.declared.statement.TypeText.TheVariants as text
+use Rattle.escrow_statement.specs.declared.statement.ColumnText.{ColumnText}
 use Rattle.escrow_checks.specs.Scales.{AreScales}
 use Rattle.escrow_checks.specs.WrittenName.{is_written_name}
 use Rattle.escrow_schema.specs.declared.column.Column.{Column}

@@ -5,8 +5,8 @@ use Rattle.std.proofs.lemmas.Bool.{false≢true}
 use Rattle.std.proofs.lemmas.List.{length-map}
 use Rattle.std.proofs.lemmas.List.Concat.{flat_map-cons}
 use Rattle.std.proofs.lemmas.List.Sums.{length-filter}
-use Rattle.escrow_sql.specs.declared.statement.ColumnMark.{ColumnMark}
-use Rattle.escrow_sql.specs.declared.statement.Item.{Item}
+use Rattle.escrow_statement.specs.declared.statement.ColumnMark.{ColumnMark}
+use Rattle.escrow_statement.specs.declared.statement.Item.{Item}
 use Rattle.escrow_schema.specs.Definition.{is_key_mark, key_names, keys_of, only_one}
 use Rattle.escrow_schema.proofs.ListLemmas.{drop_item}
 

@@ -18,10 +18,7 @@ pub mod PlanLemmas
 pub mod PrintBack
 pub mod PrintChecks
 pub mod PrintLemmas
-pub mod PrintLength
-pub mod PrintText
 pub mod PrintTree
-pub mod PrintWrites
 pub mod RangeLemmas
 pub mod RowLemmas
 pub mod RuleLemmas

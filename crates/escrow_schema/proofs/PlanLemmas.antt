@@ -9,10 +9,10 @@ use Rattle.std.proofs.lemmas.Option.{none-some, same_Some, option_and_then_some}
 use Rattle.escrow_num.specs.declared.refusal.Refusal.{Refusal}
 use Rattle.escrow_num.specs.declared.refusal.Refusal.TheVariants as refusal
 use Rattle.escrow_num.specs.declared.value.Value.{Value}
-use Rattle.escrow_sql.specs.declared.statement.Assign.{Assign}
-use Rattle.escrow_sql.specs.declared.statement.Literal.{Literal}
-use Rattle.escrow_sql.specs.declared.statement.UpdateText.{UpdateText}
-use Rattle.escrow_sql.specs.declared.statement.WhereText.{WhereText}
+use Rattle.escrow_statement.specs.declared.statement.Assign.{Assign}
+use Rattle.escrow_statement.specs.declared.statement.Literal.{Literal}
+use Rattle.escrow_statement.specs.declared.statement.UpdateText.{UpdateText}
+use Rattle.escrow_statement.specs.declared.statement.WhereText.{WhereText}
 use Rattle.escrow_schema.specs.declared.column.Column.{Column}
 use Rattle.escrow_schema.specs.declared.column.ColumnType.{ColumnType}
 use Rattle.escrow_schema.specs.declared.plan.Plan.{Plan}

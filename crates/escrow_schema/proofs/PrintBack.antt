@@ -1,19 +1,11 @@
--- The canonical text of a table is read back as that table.
-use Rattle.std.proofs.Common.{◌≡◌, ℕ, ◌-◌, ◌≤◌, true, List, [], ◌∷◌, ◌++◌, Option, Some, None, option_and_then, length, map, take, refl, sym, ap, ◌∙◌, subst, arith, length-append}
-use Rattle.std.specs.Prelude.{All, bytes_eq, cond, nat_le}
+-- The tree of a table's canonical text defines that table.
+use Rattle.std.proofs.Common.{◌≡◌, ℕ, ◌-◌, ◌≤◌, true, List, ◌++◌, Option, Some, None, option_and_then, length, map, take, refl, sym, ap, ◌∙◌, subst, arith, length-append}
+use Rattle.std.specs.Prelude.{bytes_eq, cond, nat_le}
 use Rattle.std.specs.List.{AllByRecursion, IsDistinct, list_all}
 use Rattle.std.proofs.Math.Seq.{take-append_seam}
 use Rattle.std.proofs.lemmas.Bool.{cond-true, le-leb}
 use Rattle.std.proofs.lemmas.List.{length-map}
-use Rattle.escrow_num.specs.Scale.{IsScale}
-use Rattle.escrow_sql.specs.declared.statement.CreateText.{CreateText}
-use Rattle.escrow_sql.specs.declared.statement.Item.{Item}
-use Rattle.escrow_sql.proofs.Writing.{asks_written}
-use Rattle.escrow_sql.proofs.WritingLists.{each_append}
-use Rattle.escrow_sql.specs.Parser.{Asks}
-use Rattle.escrow_sql.specs.Statement.{item}
-use Rattle.escrow_sql.specs.declared.statement.Request.TheVariants as requests
-use Rattle.escrow_sql.specs.declared.statement.Statement.TheVariants as statements
+use Rattle.escrow_statement.specs.declared.statement.CreateText.{CreateText}
 use Rattle.escrow_checks.specs.declared.check.Check.{Check}
 use Rattle.escrow_checks.specs.declared.condition.TheConstants.{MAX_CHECKS}
 use Rattle.escrow_checks.specs.Checks.{checks_of}
@@ -23,17 +15,13 @@ use Rattle.escrow_schema.specs.declared.column.Column.{Column}
 use Rattle.escrow_schema.specs.declared.table.TableDef.{TableDef}
 use Rattle.escrow_schema.specs.Column.{names_of, reservables, scales_of}
 use Rattle.escrow_schema.specs.Definition.{IsTable, are_distinct, check_names, definition_of, range_check, range_checks}
-use Rattle.escrow_schema.specs.ReadBack.{ReadsBack}
-use Rattle.escrow_schema.specs.Print.{canonical, check_words, columns_words, declared_checks}
+use Rattle.escrow_schema.specs.Print.{declared_checks}
 use Rattle.escrow_schema.specs.Rules.{FollowsRules}
-use Rattle.escrow_schema.proofs.ColumnsLemmas.{HasType, reservable_types, reservables_distinct, reservables_written, scales_typed}
+use Rattle.escrow_schema.proofs.ColumnsLemmas.{HasType, reservables_distinct}
 use Rattle.escrow_schema.proofs.DefinedLemmas.{defined}
-use Rattle.escrow_schema.proofs.ListLemmas.{both_parts}
 use Rattle.escrow_schema.proofs.RuleLemmas.{column_types, follows_rules, rules_of}
 use Rattle.escrow_schema.proofs.PrintChecks.{all_again}
-use Rattle.escrow_schema.proofs.PrintLength.{IsShort, checks_short, columns_short, length-columns_words, table_length}
-use Rattle.escrow_schema.proofs.PrintTree.{check_item, check_tree, checks_back, columns_back, columns_tree, items_tree, keys_back, plain_found, tree_of}
-use Rattle.escrow_schema.proofs.PrintWrites.{writes_checks, writes_columns, writes_table}
+use Rattle.escrow_schema.proofs.PrintTree.{check_tree, checks_back, columns_back, keys_back, plain_found, tree_of}
 
 -- the declared checks stand before those of ranges
 declared_first : (table : TableDef) (declared : List Check) → table.checks ≡ declared ++ range_checks table.columns → declared_checks table ≡ declared
@@ -66,7 +54,7 @@ pub record Sound (table : TableDef) : Type 0 where
   pub declared : AllByRecursion (IsDeclared (names_of (reservables table.columns)) (scales_of (reservables table.columns))) (declared_checks table)
   pub checks : table.checks ≡ declared_checks table ++ range_checks table.columns
 
-sound : (text : CreateText) (table : TableDef) → definition_of text ≡ Some table → FollowsRules text table → Sound table
+pub sound : (text : CreateText) (table : TableDef) → definition_of text ≡ Some table → FollowsRules text table → Sound table
 sound text table e h =
     let rules = rules_of table (text, e) in
     let names = names_of (reservables table.columns) in
@@ -98,7 +86,7 @@ checks_again names scales checks apart few all =
     ap (option_and_then at_most) (all_again names scales checks 1 apart all) ∙ cond-true (nat_le (length checks) MAX_CHECKS) (Some checks) None (le-leb (length checks) MAX_CHECKS few)
 
 -- the tree of a table with other checks, and that table, follow the rules of definitions
-follows_tree : (text : CreateText) (table : TableDef) (checks : List Check) → Sound (record table { checks = checks }) → IsDistinct bytes_eq (check_names checks) → FollowsRules text table
+pub follows_tree : (text : CreateText) (table : TableDef) (checks : List Check) → Sound (record table { checks = checks }) → IsDistinct bytes_eq (check_names checks) → FollowsRules text table
     → FollowsRules (tree_of (record table { checks = checks })) (record table { checks = checks })
 follows_tree text table checks s apart h =
     let names = names_of (reservables table.columns) in
@@ -151,33 +139,3 @@ over_is_table table declared (text, e) few good apart =
     let s = sound_over table declared (sound text table e h) few good in
     let other : TableDef = over table declared in
     (tree_of other, defined (tree_of other) other (follows_tree text table (declared ++ range_checks table.columns) s apart h))
-
--- there is an item where there is a column
-some_item : (columns : List Column) (key : ℕ) (rest : List Item) → 1 ≤ length columns → 1 ≤ length (columns_tree columns 0 key ++ rest)
-some_item [] key rest some = absurd (omega arith)
-some_item (column ∷ columns) key rest some = omega arith
-
--- the text asks a CREATE TABLE with the tree
-asks_tree : (table : TableDef) → Sound table → Asks (canonical table) (requests.Statement (statements.Create (tree_of table)))
-asks_tree table s =
-    let names = names_of (reservables table.columns) in
-    let scales = scales_of (reservables table.columns) in
-    let scaled : All IsScale scales = (scales_typed (reservables table.columns) (reservable_types table.columns s.columns.types)).1 in
-    let written = reservables_written table.columns s.columns.names in
-    let columns = columns_words table.columns 0 table.key in
-    let checks = map (check_words names scales) (declared_checks table) in
-    let few : length (columns ++ checks) ≤ 62 =
-    omega (arith, s.columns.most, s.few, length-append columns checks, length-columns_words table.columns 0 table.key, length-map (declared_checks table) (check_words names scales)) in
-    let short : AllByRecursion IsShort (columns ++ checks) =
-    both_parts IsShort columns checks (columns_short table.columns 0 table.key s.columns.names s.columns.types)
-    (checks_short names scales (declared_checks table) written (omega (arith, s.columns.reserved, length-map (reservables table.columns) (λ (c : Column). c.name))) scaled s.declared) in
-    let each = each_append item columns checks (columns_tree table.columns 0 table.key) (map (check_item names scales) (declared_checks table))
-    (writes_columns table.columns 0 table.key s.columns.names s.columns.types) (writes_checks names scales (declared_checks table) written scaled s.declared) in
-    asks_written (writes_table table.name (columns ++ checks) (items_tree table) s.name (some_item table.columns table.key (map (check_item names scales) (declared_checks table)) s.columns.some) each)
-    (table_length table.name (columns ++ checks) s.name short few)
-
-pub read_back : (table : TableDef) → IsTable table → ReadsBack table (canonical table)
-read_back table (text, e) =
-    let h = follows_rules text table e in
-    let s = sound text table e h in
-    (tree_of table, asks_tree table s, defined (tree_of table) table (follows_tree text table table.checks s h.distinct_checks h))

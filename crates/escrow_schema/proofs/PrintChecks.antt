@@ -12,9 +12,9 @@ use Rattle.escrow_num.specs.Amount.{IsAmount, is_amount}
 use Rattle.escrow_num.specs.Scale.{IsScale}
 use Rattle.escrow_num.specs.declared.amount.TheConstants.Amount.{MAX}
 use Rattle.escrow_num.specs.declared.span.Span.{Span}
-use Rattle.escrow_sql.specs.declared.statement.Condition.{Condition}
-use Rattle.escrow_sql.specs.declared.statement.Term.{Term}
-use Rattle.escrow_sql.specs.declared.statement.Term.TheVariants as terms
+use Rattle.escrow_statement.specs.declared.statement.Condition.{Condition}
+use Rattle.escrow_statement.specs.declared.statement.Term.{Term}
+use Rattle.escrow_statement.specs.declared.statement.Term.TheVariants as terms
 use Rattle.escrow_checks.specs.declared.check.Check.{Check}
 use Rattle.escrow_checks.specs.declared.condition.TheConstants.{MAX_COEFFICIENT}
 use Rattle.escrow_checks.specs.Checks.{are_good_coefficients, check_of, checks_from, coefficient_in, coefficient_of, columns_in, condition_limits, has_good_limits, has_whole_limits, in_order, is_coefficient, is_good_span, is_limit, is_whole, limits_of, names_columns, number_in, right_of, units_in}

@@ -7,21 +7,21 @@ use Rattle.std.proofs.lemmas.Bool.Decides.{nat_tests}
 use Rattle.std.proofs.lemmas.Bool.{cases_Bool, eqb-true, eq-eqb, le-leb}
 use Rattle.std.proofs.lemmas.Option.{same_Some}
 use Rattle.escrow_num.specs.Scale.{unit_at}
-use Rattle.escrow_sql.specs.declared.statement.CheckText.{CheckText}
-use Rattle.escrow_sql.specs.declared.statement.ColumnMark.{ColumnMark}
-use Rattle.escrow_sql.specs.declared.statement.ColumnMark.TheVariants as marks
-use Rattle.escrow_sql.specs.declared.statement.ColumnText.{ColumnText}
-use Rattle.escrow_sql.specs.declared.statement.Comparison.TheVariants as comparisons
-use Rattle.escrow_sql.specs.declared.statement.Condition.{Condition}
-use Rattle.escrow_sql.specs.declared.statement.CreateText.{CreateText}
-use Rattle.escrow_sql.specs.declared.statement.Item.{Item}
-use Rattle.escrow_sql.specs.declared.statement.Item.TheVariants as items
-use Rattle.escrow_sql.specs.declared.statement.Term.{Term}
-use Rattle.escrow_sql.specs.declared.statement.Term.TheVariants as terms
-use Rattle.escrow_sql.specs.declared.statement.Test.{Test}
-use Rattle.escrow_sql.specs.declared.statement.Test.TheVariants as tests
-use Rattle.escrow_sql.specs.declared.statement.TypeText.{TypeText}
-use Rattle.escrow_sql.specs.declared.statement.TypeText.TheVariants as types
+use Rattle.escrow_statement.specs.declared.statement.CheckText.{CheckText}
+use Rattle.escrow_statement.specs.declared.statement.ColumnMark.{ColumnMark}
+use Rattle.escrow_statement.specs.declared.statement.ColumnMark.TheVariants as marks
+use Rattle.escrow_statement.specs.declared.statement.ColumnText.{ColumnText}
+use Rattle.escrow_statement.specs.declared.statement.Comparison.TheVariants as comparisons
+use Rattle.escrow_statement.specs.declared.statement.Condition.{Condition}
+use Rattle.escrow_statement.specs.declared.statement.CreateText.{CreateText}
+use Rattle.escrow_statement.specs.declared.statement.Item.{Item}
+use Rattle.escrow_statement.specs.declared.statement.Item.TheVariants as items
+use Rattle.escrow_statement.specs.declared.statement.Term.{Term}
+use Rattle.escrow_statement.specs.declared.statement.Term.TheVariants as terms
+use Rattle.escrow_statement.specs.declared.statement.Test.{Test}
+use Rattle.escrow_statement.specs.declared.statement.Test.TheVariants as tests
+use Rattle.escrow_statement.specs.declared.statement.TypeText.{TypeText}
+use Rattle.escrow_statement.specs.declared.statement.TypeText.TheVariants as types
 use Rattle.escrow_checks.specs.declared.check.Check.{Check}
 use Rattle.escrow_checks.specs.DeclaredCheck.{written_of}
 use Rattle.escrow_schema.specs.declared.column.Column.{Column}

@@ -7,7 +7,7 @@ use Rattle.std.proofs.lemmas.Option.{none-some, same_Some}
 use Rattle.escrow_num.specs.declared.row.Row.{Row}
 use Rattle.escrow_num.specs.declared.value.Value.{Value}
 use Rattle.escrow_num.specs.declared.value.Value.TheVariants as value
-use Rattle.escrow_sql.specs.declared.statement.Literal.{Literal}
+use Rattle.escrow_statement.specs.declared.statement.Literal.{Literal}
 use Rattle.escrow_schema.specs.declared.column.Column.{Column}
 use Rattle.escrow_schema.specs.declared.column.ColumnType.{ColumnType}
 use Rattle.escrow_schema.specs.declared.table.TableDef.{TableDef}

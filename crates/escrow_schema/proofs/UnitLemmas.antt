@@ -3,7 +3,7 @@ use Rattle.std.proofs.Common.{◌≡◌, ℕ, zero, suc, ℤ, pos, ◌<◌, ◌�
 use Rattle.std.specs.Prelude.{codes, neg_ℤ, ◌++◌, Some, is_none}
 use Rattle.escrow_num.specs.Name.{spells_name}
 use Rattle.escrow_num.specs.declared.name.TheConstants.Name.{MAX_WRITTEN}
-use Rattle.escrow_sql.specs.Word.{reserved}
+use Rattle.escrow_statement.specs.Word.{reserved}
 use Rattle.std.proofs.lemmas.List.{get_or_read}
 use Rattle.escrow_num.specs.declared.span.Span.{Span}
 use Rattle.escrow_checks.specs.declared.check.Check.{Check}

@@ -1,8 +1,8 @@
 -- Helps: what private contracts say of an INSERT's literals. Nothing that callers see rests on it.
 use Rattle.std.specs.Prelude.{ℕ, ◌+◌, ◌==◌, Bool, ◌&&◌, Option, Some, None, option_map, option_and_then, List, [], ◌∷◌, length, slice_get}
 use Rattle.escrow_num.specs.declared.value.Value.{Value}
-use Rattle.escrow_sql.specs.declared.statement.InsertText.{InsertText}
-use Rattle.escrow_sql.specs.declared.statement.Literal.{Literal}
+use Rattle.escrow_statement.specs.declared.statement.InsertText.{InsertText}
+use Rattle.escrow_statement.specs.declared.statement.Literal.{Literal}
 use Rattle.escrow_schema.specs.declared.column.Column.{Column}
 use Rattle.escrow_schema.specs.Column.{value_in}
 use Rattle.escrow_schema.specs.Definition.{are_distinct}

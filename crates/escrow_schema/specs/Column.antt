@@ -5,10 +5,10 @@ use Rattle.escrow_num.specs.Scale.{unit_at}
 use Rattle.escrow_num.specs.declared.scale.TheConstants.Scale.{MAX}
 use Rattle.escrow_num.specs.declared.value.Value.{Value}
 use Rattle.escrow_num.specs.declared.value.Value.TheVariants as value
-use Rattle.escrow_sql.specs.declared.statement.TypeText.{TypeText}
-use Rattle.escrow_sql.specs.declared.statement.TypeText.TheVariants as text
-use Rattle.escrow_sql.specs.declared.statement.Literal.{Literal}
-use Rattle.escrow_sql.specs.declared.statement.Literal.TheVariants as literal
+use Rattle.escrow_statement.specs.declared.statement.TypeText.{TypeText}
+use Rattle.escrow_statement.specs.declared.statement.TypeText.TheVariants as text
+use Rattle.escrow_statement.specs.declared.statement.Literal.{Literal}
+use Rattle.escrow_statement.specs.declared.statement.Literal.TheVariants as literal
 use Rattle.escrow_schema.specs.declared.column.Column.{Column}
 use Rattle.escrow_schema.specs.declared.column.ColumnType.{ColumnType}
 use Rattle.escrow_schema.specs.declared.column.ColumnType.TheVariants.{Number, Varchar2}

@@ -1,13 +1,13 @@
 -- Believed: which table a CREATE TABLE defines.
 use Rattle.std.specs.Prelude.{◌≡◌, ℕ, neg_ℤ, Bool, true, false, ◌&&◌, not, nat_le, if◌then◌else◌, Option, Some, None, option_map, option_and_then, unwrap_or, List, [], ◌∷◌, ◌++◌, length, map, filter, filter_map, position, slice_get, codes, bytes_eq}
 use Rattle.std.specs.List.{list_any, list_all, flat_map}
-use Rattle.escrow_sql.specs.declared.statement.CreateText.{CreateText}
-use Rattle.escrow_sql.specs.declared.statement.Item.{Item}
-use Rattle.escrow_sql.specs.declared.statement.Item.TheVariants as item
-use Rattle.escrow_sql.specs.declared.statement.CheckText.{CheckText}
-use Rattle.escrow_sql.specs.declared.statement.ColumnText.{ColumnText}
-use Rattle.escrow_sql.specs.declared.statement.ColumnMark.{ColumnMark}
-use Rattle.escrow_sql.specs.declared.statement.ColumnMark.TheVariants as mark
+use Rattle.escrow_statement.specs.declared.statement.CreateText.{CreateText}
+use Rattle.escrow_statement.specs.declared.statement.Item.{Item}
+use Rattle.escrow_statement.specs.declared.statement.Item.TheVariants as item
+use Rattle.escrow_statement.specs.declared.statement.CheckText.{CheckText}
+use Rattle.escrow_statement.specs.declared.statement.ColumnText.{ColumnText}
+use Rattle.escrow_statement.specs.declared.statement.ColumnMark.{ColumnMark}
+use Rattle.escrow_statement.specs.declared.statement.ColumnMark.TheVariants as mark
 use Rattle.escrow_checks.specs.declared.check.Check.{Check}
 use Rattle.escrow_checks.specs.declared.coefficients.TheConstants.Coefficients.{MAX_LEN}
 use Rattle.escrow_checks.specs.Checks.{checks_of, unit_of}

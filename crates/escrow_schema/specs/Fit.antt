@@ -4,8 +4,8 @@ use Rattle.std.specs.List.{AllZip}
 use Rattle.escrow_num.specs.declared.value.Value.{Value}
 use Rattle.escrow_num.specs.declared.value.Value.TheVariants as value
 use Rattle.escrow_num.specs.declared.row.Row.{Row}
-use Rattle.escrow_sql.specs.declared.statement.InsertText.{InsertText}
-use Rattle.escrow_sql.specs.declared.statement.Literal.{Literal}
+use Rattle.escrow_statement.specs.declared.statement.InsertText.{InsertText}
+use Rattle.escrow_statement.specs.declared.statement.Literal.{Literal}
 use Rattle.escrow_schema.specs.declared.column.Column.{Column}
 use Rattle.escrow_schema.specs.declared.table.TableDef.{TableDef}
 use Rattle.escrow_schema.specs.Column.{fits, reservables, value_in}

@@ -9,7 +9,6 @@ pub mod Fit
 pub mod Laws
 pub mod Plan
 pub mod Print
-pub mod ReadBack
 pub mod Rows
 pub mod Rules
 pub mod Typed

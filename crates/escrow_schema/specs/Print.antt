@@ -3,7 +3,7 @@ use Rattle.std.specs.Prelude.{ℕ, ℤ, pos, negsuc, ◌+◌, ◌-◌, ◌==◌,
 use Rattle.std.specs.Int.RustNames.{unsigned_abs}
 use Rattle.std.specs.Ordering.{int_eq}
 use Rattle.escrow_num.specs.Scaled.{scaled_text}
-use Rattle.escrow_sql.specs.Joined.{joined}
+use Rattle.escrow_statement.specs.Joined.{joined}
 use Rattle.escrow_checks.specs.declared.check.Check.{Check}
 use Rattle.escrow_checks.specs.DeclaredCheck.{written_of}
 use Rattle.escrow_schema.specs.declared.column.Column.{Column}

@@ -1,7 +1,7 @@
 -- Believed: the rules of definitions, one by one.
 use Rattle.std.specs.Prelude.{◌≡◌, ◌≤◌, false, Some, List, ◌∷◌, [], ◌++◌, length, slice_get, bytes_eq, IsTrue}
 use Rattle.std.specs.List.{AllByRecursion, IsDistinct}
-use Rattle.escrow_sql.specs.declared.statement.CreateText.{CreateText}
+use Rattle.escrow_statement.specs.declared.statement.CreateText.{CreateText}
 use Rattle.escrow_checks.specs.declared.check.Check.{Check}
 use Rattle.escrow_checks.specs.declared.coefficients.TheConstants.Coefficients.{MAX_LEN}
 use Rattle.escrow_checks.specs.declared.condition.TheConstants.{MAX_CHECKS}

@@ -10,7 +10,7 @@ use crate::rules::{declared_checks, reservables};
 use crate::table::TableDef;
 use escrow_checks::Check;
 use escrow_num::{Name, Refusal, Seq, copy_all};
-use escrow_sql::{CheckText, TableChange};
+use escrow_statement::{CheckText, TableChange};
 use std::alloc::{AllocError, Global};
 
 /// The table that a change makes of one. An added CHECK is refused as a bad definition only where all

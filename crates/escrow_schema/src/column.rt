@@ -2,7 +2,7 @@ ghost use Rattle.std.specs.Prelude.{◌≡◌, ◌&&◌, if◌then◌else◌, No
 ghost use Rattle.escrow_schema.specs.Column.{is_size, number_type, scale_of};
 
 use escrow_num::{Amount, Name, Scale, Text, Value};
-use escrow_sql::{Literal, TypeText};
+use escrow_statement::{Literal, TypeText};
 
 /// The type of a column: the set of the values that it can hold.
 #[derive(Clone, Copy, Debug, PartialEq, Eq)]

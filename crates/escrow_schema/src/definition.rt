@@ -14,7 +14,7 @@ use crate::rules::{
 use crate::table::TableDef;
 use escrow_checks::{Check, CheckFault, is_written_name, normalise_behind};
 use escrow_num::{Name, Refusal, Seq};
-use escrow_sql::{CheckText, CreateText, Item};
+use escrow_statement::{CheckText, CreateText, Item};
 use std::alloc::{AllocError, Global};
 
 /// The table that a text defines. Refused as a bad definition only where a rule of definitions is

@@ -11,7 +11,7 @@ use crate::row::row_with;
 use crate::rules::are_distinct;
 use crate::table::TableDef;
 use escrow_num::{Name, Refusal, Row, Value};
-use escrow_sql::{InsertText, Literal};
+use escrow_statement::{InsertText, Literal};
 use std::alloc::{AllocError, Global};
 
 /// The row that an INSERT makes. Refused as a bad value exactly where its columns aren't each of the

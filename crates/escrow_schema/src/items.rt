@@ -6,7 +6,7 @@ ghost use Rattle.escrow_schema.specs.Definition.{column_of, column_texts, column
 use crate::column::{Column, ColumnType};
 use crate::lists::add;
 use escrow_num::{Name, Seq};
-use escrow_sql::{CheckText, ColumnMark, ColumnText, Item};
+use escrow_statement::{CheckText, ColumnMark, ColumnText, Item};
 use std::alloc::{AllocError, Global};
 
 /// The columns that items write, in order, or `None` where one has no type.

@@ -6,7 +6,7 @@ ghost use Rattle.escrow_schema.specs.Plan.{key_named};
 
 use crate::table::TableDef;
 use escrow_num::Refusal;
-use escrow_sql::WhereText;
+use escrow_statement::WhereText;
 
 /// Why a WHERE names no key, if it names none: it is of another column than the key, or its literal
 /// isn't one that the key's type holds, the first of these that applies. Takes no memory.

@@ -4,9 +4,10 @@
 //!
 //! [`define`] gives the table that a text defines, and refuses exactly where a rule of definitions
 //! is broken; [`alter`] adds checks to such a table and drops one, by the same rules. [`Catalog`]
-//! keeps such tables in order of name. [`fit_row`] and [`plan_update`] refuse exactly what doesn't fit
-//! the table, before they take memory. [`values_of`] and [`row_of`] turn a row into its values and
-//! back. [`print_table`]'s text is read back as the same table.
+//! keeps such tables in order of name. [`fit_row`] and [`plan_update`] refuse exactly what doesn't
+//! fit the table, before they take memory. [`values_of`] and [`row_of`] turn a row into its values
+//! and back. [`print_table`] writes the canonical text of a table, which is read back as the same
+//! table by the law of `escrow_readback`.
 //!
 //! A number of a column is a whole number of units of 10^-scale, where the scale is that of the
 //! column's type; a literal that isn't one is refused, and nothing is rounded.

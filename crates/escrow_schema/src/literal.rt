@@ -3,7 +3,7 @@ ghost use Rattle.std.specs.Prelude.{◌≡◌, ◌↔◌, IfOk, IsSome, IsTrue, 
 ghost use Rattle.escrow_schema.specs.Column.{value_at, truncated_value};
 
 use escrow_num::{Scale, Value};
-use escrow_sql::Literal;
+use escrow_statement::Literal;
 use std::alloc::{AllocError, Global};
 
 /// Whether a value is the one that a literal is at a scale. Takes no memory.

@@ -13,7 +13,7 @@ use crate::literal::truncated_value;
 use crate::table::TableDef;
 use changes::{are_changes, whole_changes};
 use escrow_num::{Changes, Refusal, Seq, Value};
-use escrow_sql::UpdateText;
+use escrow_statement::UpdateText;
 use std::alloc::Global;
 use values::{all_fit, are_replacements, new_values};
 

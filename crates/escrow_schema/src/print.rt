@@ -1,9 +1,8 @@
 //! The canonical text of a table: a CREATE TABLE that is read back as the same table.
 ghost use Rattle.std.specs.Prelude.{◌≡◌, ◌++◌, ◌==◌, [], IfOk, OnOk, codes, decimal, if◌then◌else◌, map, string_bytes, true};
 ghost use Rattle.std.specs.List.{flat_map};
-ghost use Rattle.escrow_sql.specs.Joined.{joined};
+ghost use Rattle.escrow_statement.specs.Joined.{joined};
 ghost use Rattle.escrow_schema.specs.Definition.{IsTable};
-ghost use Rattle.escrow_schema.specs.ReadBack.{ReadsBack};
 ghost use Rattle.escrow_schema.specs.Print.{canonical, check_words, column_words, columns_words, condition_words, declared_checks, marks_words, scale_words, table_words, type_words};
 
 mod words;
@@ -22,7 +21,6 @@ use std::alloc::{AllocError, Global};
 pub fn print_table(alloc: Global, table: &TableDef) -> Result<Text, AllocError>
     requires { IsTable table.now }
     ensures text { IfOk result (λ text. text ≡ canonical table.now) }
-    ensures read_back { IfOk result (λ text. ReadsBack table.now text) }
 {
     let mut text = String::new(alloc);
     push_table(alloc, &mut text, table)?;

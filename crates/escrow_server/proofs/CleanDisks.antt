@@ -1,24 +1,10 @@
 -- Databases whose disks have returned what was written.
-use Rattle.std.proofs.Common.{◌≡◌, ℕ, zero, suc, ◌<◌, List, [], ◌∷◌, length, Some, arith, subst}
-use Rattle.std.specs.Prelude.{slice_get, slice_set}
-use Rattle.std.specs.List.{AllByRecursion}
+use Rattle.std.proofs.Common.{List, [], ◌∷◌}
 use Rattle.escrow_memory.specs.declared.store.BlockStore.{BlockStore}
 use Rattle.escrow_memory.specs.Store.{over_blocks}
 use Rattle.escrow_memory.proofs.Clean.{memory_is_clean}
 use Rattle.escrow_core.specs.Seen.{Seen}
-use Rattle.escrow_server.specs.Output.{HaveCleanDisks}
-
--- what holds of each element after one changed holds of that one
-pub all_after : {A : Type 0} (P : A → Type 0) (xs : List A) (place : ℕ) (x : A) → place < length xs → AllByRecursion P (slice_set xs place x) → P x
-all_after P [] place x within all = absurd (omega arith)
-all_after P (y ∷ xs) zero x within all = all.0
-all_after P (y ∷ xs) (suc place) x within all = all_after P xs place x (omega arith) all.1
-
--- and of each before, where it did of the one that changed
-pub all_before : {A : Type 0} (P : A → Type 0) (xs : List A) (place : ℕ) (old x : A) → slice_get xs place ≡ Some old → P old → AllByRecursion P (slice_set xs place x) → AllByRecursion P xs
-all_before P [] place old x found held all = all
-all_before P (y ∷ xs) zero old x found held all = let same : old ≡ y = cc in (subst P same held, all.1)
-all_before P (y ∷ xs) (suc place) old x found held all = (all.0, all_before P xs place old x found held all.1)
+use Rattle.escrow_serve.specs.Output.{HaveCleanDisks}
 
 -- databases in memory have clean disks
 pub memory_are_clean : (databases : List (Seen BlockStore)) → HaveCleanDisks over_blocks databases

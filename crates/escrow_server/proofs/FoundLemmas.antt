@@ -18,7 +18,7 @@ use Rattle.escrow_core.specs.Seen.{Seen}
 use Rattle.escrow_machine.specs.State.{State, empty}
 use Rattle.escrow_server.specs.declared.fault.RunFault.{RunFault}
 use Rattle.escrow_server.specs.Opened.{IsOpened}
-use Rattle.escrow_server.specs.Output.{HaveCleanDisks, states_of}
+use Rattle.escrow_serve.specs.Output.{HaveCleanDisks, states_of}
 use Rattle.escrow_server.specs.Program.{empty_states, AreFound, IsFound, StartsAs}
 
 -- what is held was held before it was opened, in the known format or in the one before

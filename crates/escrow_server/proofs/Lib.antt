@@ -2,9 +2,6 @@ pub mod ArgsFaults
 pub mod ArgsLemmas
 pub mod FoundLemmas
 pub mod ProgramLemmas
-pub mod ServeLemmas
-pub mod ShownLemmas
-pub mod TotalsLemmas
 pub mod CleanDisks
 pub mod Crossing
 pub mod Runs

@@ -16,10 +16,10 @@ use Rattle.escrow_server.specs.declared.fault.RunFault.{RunFault}
 use Rattle.escrow_server.specs.declared.fault.RunFault.TheVariants as run_fault
 use Rattle.escrow_script.specs.declared.fault.ServeFault.TheVariants as fault
 use Rattle.escrow_server.specs.Free.{RunsFree}
-use Rattle.escrow_server.specs.Output.{ServesWhole, StopsWithin}
+use Rattle.escrow_serve.specs.Output.{ServesWhole, StopsWithin}
 use Rattle.escrow_server.specs.Program.{empty_states, file_of, migrated_line, run_status, AreLinesOf, EndsFree, EndsInMemory, EndsOverFiles, EndsScript, IsQuiet, SaysReason, SaysWhy, Stops, TellsOfMigrated, TellsOfStoresAlone, WritesPrefix, WritesNothing}
 use Rattle.escrow_script.proofs.WrittenLemmas.{appends_more, appends_none}
-use Rattle.escrow_server.proofs.ServeLemmas.{stopped_unserved}
+use Rattle.escrow_serve.proofs.ServeLemmas.{stopped_unserved}
 
 -- all of the bytes were written, or fewer of them
 abbrev pub Writes : {X Z : Type 0} → Option (List ℕ) → Option (List ℕ) → List ℕ → Result X Z → Type 0

@@ -15,7 +15,7 @@ use Rattle.escrow_free.specs.FreeOutput.{ServesFree}
 use Rattle.escrow_free.specs.Histories.{histories, AreHistories}
 use Rattle.escrow_free.proofs.Closing.{history_at, long_histories}
 use Rattle.escrow_server.specs.Free.{AreRuns, HoldCleanDisks, RunsFree, RunsFrom}
-use Rattle.escrow_server.specs.Output.{state_in, states_of}
+use Rattle.escrow_serve.specs.Output.{state_in, states_of}
 
 -- what holds of all holds of the elements of a list
 everywhere : {A : Type 0} (P : A → Type 0) (xs : List A) → ((x : A) → P x) → AllByRecursion P xs

@@ -2,6 +2,4 @@ pub mod Args
 pub mod Drawing
 pub mod Free
 pub mod Opened
-pub mod Output
 pub mod Program
-pub mod Totals

@@ -4,7 +4,7 @@ use Rattle.sqlite_trees.specs.declared.store.Store.{Ghosts}
 use Rattle.escrow_core.specs.Seen.{Seen}
 use Rattle.escrow_machine.specs.State.{State}
 use Rattle.escrow_server.specs.declared.fault.RunFault.{RunFault}
-use Rattle.escrow_server.specs.Output.{states_of, HaveCleanDisks}
+use Rattle.escrow_serve.specs.Output.{states_of, HaveCleanDisks}
 
 -- all stores were opened, each disk has returned what was written, and these are the states of the databases
 abbrev pub IsOpened : {S : Type 0} → Ghosts S → Result (Unit {0}) RunFault → List (Seen S) → List State → Type 0

@@ -17,7 +17,7 @@ use Rattle.escrow_server.specs.declared.fault.RunFault.{RunFault}
 use Rattle.escrow_server.specs.declared.fault.RunFault.TheVariants as run_fault
 use Rattle.escrow_script.specs.declared.fault.ServeFault.{ServeFault}
 use Rattle.escrow_server.specs.Free.{RunsFree}
-use Rattle.escrow_server.specs.Output.{ServesWhole, StopsWithin}
+use Rattle.escrow_serve.specs.Output.{ServesWhole, StopsWithin}
 
 -- WHERE STORES ARE
 

@@ -20,7 +20,7 @@ pub enum Mode {
 }
 
 /// The arguments of the program.
-#[derive(Debug, Drop)]
+#[derive(Drop)]
 pub struct Args {
     /// What it is to do.
     pub mode: Mode,
@@ -32,7 +32,7 @@ pub struct Args {
 }
 
 /// Why there are no arguments to go on with.
-#[derive(Debug, Drop)]
+#[derive(Drop)]
 pub enum ArgFault {
     /// Help is asked, which is this text.
     Help(Text),

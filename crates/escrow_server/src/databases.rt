@@ -3,7 +3,7 @@ ghost use Rattle.std.specs.Prelude.{◌≡◌, ◌≤◌, ◌<◌, [], vec_len, 
 ghost use Rattle.sqlite.specs.Held.{state};
 ghost use Rattle.sqlite.specs.State.{HasCleanDisk};
 ghost use Rattle.escrow_rows.specs.Answers.{IsUsable};
-ghost use Rattle.escrow_server.specs.Output.{states_of, HaveCleanDisks};
+ghost use Rattle.escrow_serve.specs.Output.{states_of, HaveCleanDisks};
 ghost use Rattle.escrow_server.specs.Program.{run_status, AreFound, IsFound, StartsAs};
 
 use crate::fault::RunFault;

@@ -3,7 +3,7 @@ use escrow_free::FreeFault;
 use escrow_script::ServeFault;
 
 /// Why the program ends before its script is served to its end.
-#[derive(Clone, Copy, Debug)]
+#[derive(Clone, Copy)]
 pub(crate) enum RunFault {
     /// The store of a database can't be opened. Nothing was read.
     Unopened {

@@ -5,7 +5,7 @@ ghost use Rattle.std.specs.Io.KnownBytes.{IsAtEnd};
 ghost use Rattle.escrow_free.specs.FreeOutput.{ServesFree};
 ghost use Rattle.escrow_free.specs.Histories.{AreHistories, histories};
 ghost use Rattle.escrow_server.specs.Free.{HoldCleanDisks, RunsFree};
-ghost use Rattle.escrow_server.specs.Output.{states_of};
+ghost use Rattle.escrow_serve.specs.Output.{states_of};
 
 use crate::desk::start;
 use crate::screen::Screen;

@@ -19,7 +19,7 @@ pub trait Screen {
 pub const NO_SCREEN: Option<NoScreen> = None;
 
 /// A screen that shows nothing.
-#[derive(Clone, Copy, Debug)]
+#[derive(Clone, Copy)]
 pub struct NoScreen;
 
 impl Screen for NoScreen {

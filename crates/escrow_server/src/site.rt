@@ -9,7 +9,7 @@ use std::os::unix::fs::MetadataExt;
 use std::path::Path;
 
 /// Where a path leads, and what stood there before anything was locked.
-#[derive(Debug, Drop)]
+#[derive(Drop)]
 pub struct Outlook {
     database: String,
     log: String,
@@ -20,7 +20,7 @@ pub struct Outlook {
 }
 
 /// The two files of a store, the database and its log, and which of them the program makes. Both are locked.
-#[derive(Debug, Drop)]
+#[derive(Drop)]
 pub struct Site {
     outlook: Outlook,
     // Which files they are, and how long the log was when both were locked.
@@ -32,7 +32,7 @@ pub struct Site {
 }
 
 /// Which file of the system's a file is, whatever it is called: its device, and its number there.
-#[derive(Clone, Copy, Debug, PartialEq, Eq)]
+#[derive(Clone, Copy, PartialEq, Eq)]
 struct Identity {
     device: u64,
     number: u64,

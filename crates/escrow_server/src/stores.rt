@@ -155,7 +155,7 @@ pub trait OpenStore<S: Alter> {
 }
 
 /// Stores in memory, which hold nothing at first.
-#[derive(Clone, Copy, Debug)]
+#[derive(Clone, Copy)]
 pub struct InMemory;
 
 impl OpenStore<BlockStore> for InMemory {

@@ -1,5 +1,5 @@
-//! Tests of the server, by its public calls alone: its streams, command lines and files. They stand apart, so
-//! that the server isn't proved once more with them.
+//! Tests of the program, and of scripts whose sessions run at the same time, by public calls alone: streams, command lines,
+//! files and histories. They are a crate of their own, so that the server isn't proved once more with them.
 #![tactic(auto)]
 
 #[cfg(test)]

@@ -1,7 +1,7 @@
 -- Requests that were given, and answers to them, one after another.
 use Rattle.std.proofs.Common.{◌≡◌, ◌+◌, List, [], ◌∷◌, ◌++◌, length, Option, Some, None, refl, sym, ap, ◌∙◌, length-append, arith}
 use Rattle.std.specs.Iterator.{Yields, YieldsThen}
-use Rattle.escrow_sql.specs.declared.statement.Request.{Request}
+use Rattle.escrow_statement.specs.declared.statement.Request.{Request}
 use Rattle.escrow_shards.specs.Seat.{Seat}
 use Rattle.escrow_sessions.specs.Serving.{IsGiven, Serves}
 use Rattle.escrow_sessions.specs.Work.{IsServedSoFar, IsServed}

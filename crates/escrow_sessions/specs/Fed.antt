@@ -1,6 +1,6 @@
 -- Believed: what fed workers did.
 use Rattle.std.specs.Prelude.{◌≡◌, ℕ, ◌==◌, if◌then◌else◌, List, [], ◌∷◌, length, slice_get, Some}
-use Rattle.escrow_sql.specs.declared.statement.Request.{Request}
+use Rattle.escrow_statement.specs.declared.statement.Request.{Request}
 use Rattle.escrow_shards.specs.Seat.{Seat}
 use Rattle.escrow_sessions.specs.Serving.{IsDone}
 use Rattle.escrow_sessions.specs.declared.done.Done.{Done}

@@ -1,8 +1,8 @@
 -- Believed: the statements of the laws in src/laws.rt.
 use Rattle.std.specs.Prelude.{◌≡◌, List, [], ◌∷◌, ◌++◌, map}
-use Rattle.escrow_sql.specs.declared.statement.Request.{Request}
-use Rattle.escrow_sql.specs.declared.statement.Request.TheVariants as request
-use Rattle.escrow_sql.specs.declared.statement.Statement.{Statement}
+use Rattle.escrow_statement.specs.declared.statement.Request.{Request}
+use Rattle.escrow_statement.specs.declared.statement.Request.TheVariants as request
+use Rattle.escrow_statement.specs.declared.statement.Statement.{Statement}
 use Rattle.escrow_machine.specs.declared.reply.Reply.{Reply}
 use Rattle.escrow_shards.specs.Seat.{Seat}
 use Rattle.escrow_shards.specs.declared.answer.Answer.TheVariants.{Served}

@@ -1,8 +1,8 @@
 -- Believed: what a worker does with its requests.
 use Rattle.std.specs.Prelude.{◌≡◌, ℕ, ◌<◌, List, [], ◌∷◌, map, length}
 use Rattle.std.specs.List.{AllZip}
-use Rattle.escrow_sql.specs.declared.statement.Request.{Request}
-use Rattle.escrow_sql.specs.declared.statement.Request.TheVariants as request
+use Rattle.escrow_statement.specs.declared.statement.Request.{Request}
+use Rattle.escrow_statement.specs.declared.statement.Request.TheVariants as request
 use Rattle.escrow_machine.specs.declared.reply.Reply.{Reply}
 use Rattle.escrow_stats.specs.Tally.{tally_of}
 use Rattle.escrow_stats.specs.declared.tally.Tally.{Tally}

@@ -1,6 +1,6 @@
 -- Helps: workers that are being fed.
 use Rattle.std.specs.Prelude.{◌≡◌, ℕ, ◌<◌, ◌≤◌, List, [], ◌∷◌, ◌++◌, length, map, slice_get, Some}
-use Rattle.escrow_sql.specs.declared.statement.Request.{Request}
+use Rattle.escrow_statement.specs.declared.statement.Request.{Request}
 use Rattle.escrow_shards.specs.Seat.{Seat}
 use Rattle.escrow_sessions.specs.Fed.{of}
 use Rattle.escrow_sessions.specs.Line.{sent_on}

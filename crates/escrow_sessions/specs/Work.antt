@@ -2,7 +2,7 @@
 use Rattle.std.specs.Prelude.{◌≡◌, ◌⊎◌, List, [], length, Option, None}
 use Rattle.std.specs.Iterator.{Yields, YieldsThen, YieldsFirst}
 use Rattle.std.specs.Vec.Iter.{into_iter_items}
-use Rattle.escrow_sql.specs.declared.statement.Request.{Request}
+use Rattle.escrow_statement.specs.declared.statement.Request.{Request}
 use Rattle.escrow_shards.specs.Seat.{Seat}
 use Rattle.escrow_sessions.specs.Serving.{Serves, IsDone}
 use Rattle.escrow_sessions.specs.declared.done.Done.{Done}

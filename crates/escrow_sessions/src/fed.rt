@@ -2,7 +2,7 @@ ghost use Rattle.std.specs.Prelude.{◌≡◌, ◌↔◌, ℕ, ◌<◌, ◌≤�
 ghost use Rattle.std.specs.Iterator.{IsFinite, Drains, HoldsAlong};
 ghost use Rattle.std.specs.List.{AllByRecursion, AllZip};
 ghost use Rattle.std.specs.Vec.{vec_capacity};
-ghost use Rattle.escrow_sql.specs.declared.statement.Request.{Request};
+ghost use Rattle.escrow_statement.specs.declared.statement.Request.{Request};
 ghost use Rattle.escrow_shards.specs.Sharing.{HasSeat};
 ghost use Rattle.escrow_sessions.specs.declared.feed.TheConstants.{MAX_WORKERS};
 ghost use Rattle.escrow_sessions.specs.Fed.{AreFed};
@@ -17,7 +17,7 @@ use crate::not_fed::NotFed;
 use crate::rule::Item;
 use crate::slot::{Slot, start_fed};
 use escrow_shards::{Gate, Pass, Shared, UnderLock};
-use escrow_sql::Request;
+use escrow_statement::Request;
 use sqlite::Alter;
 use std::alloc::Global;
 use std::sync::Wait;

@@ -1,5 +1,5 @@
 use escrow_shards::Pass;
-use escrow_sql::Request;
+use escrow_statement::Request;
 
 /// The most workers that are started together.
 pub const MAX_WORKERS: usize = 64;

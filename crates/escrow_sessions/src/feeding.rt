@@ -1,6 +1,6 @@
 //! What is done with a worker that is fed.
 ghost use Rattle.std.specs.Prelude.{◌≡◌, List};
-ghost use Rattle.escrow_sql.specs.declared.statement.Request.{Request};
+ghost use Rattle.escrow_statement.specs.declared.statement.Request.{Request};
 ghost use Rattle.escrow_sessions.specs.Line.{sent_on};
 ghost use Rattle.escrow_sessions.specs.Serving.{IsDone};
 ghost use Rattle.escrow_sessions.specs.Slots.{IsSentTo, to_the_end};

@@ -9,7 +9,7 @@ ghost use Rattle.escrow_sessions.specs.Serving.{replies_of, IsGiven};
 use crate::done::Given;
 use crate::hall::Hall;
 use escrow_shards::{Answer, Gate, Pass, Receipt};
-use escrow_sql::{Request, Statement};
+use escrow_statement::{Request, Statement};
 use escrow_stats::Tally;
 use std::alloc::Global;
 use std::sync::Wait;

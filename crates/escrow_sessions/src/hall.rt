@@ -1,5 +1,5 @@
 use escrow_shards::{Answer, Gate, Pass, Shared, UnderLock};
-use escrow_sql::Statement;
+use escrow_statement::Statement;
 use sqlite::Alter;
 use std::alloc::Global;
 use std::sync::Wait;

@@ -8,7 +8,7 @@ use crate::ends::{Line, Taker};
 use crate::rule::{Ends, InOrder, Item, Log, Sends, Takes, Whole};
 use crate::source::Source;
 use crossbeam_channel::bounded_with;
-use escrow_sql::Request;
+use escrow_statement::Request;
 use std::alloc::{AllocError, Global};
 use std::sync::Wait;
 use std::unreachable;

@@ -1,6 +1,6 @@
 //! Requests of a list.
 use crate::source::Source;
-use escrow_sql::Request;
+use escrow_statement::Request;
 use std::sync::Wait;
 use std::vec::IntoIter;
 

@@ -1,6 +1,6 @@
 //! The rule of the channel to a worker.
 use crossbeam_channel::protocol::{Join, Lesson, Outcome, Protocol, Split};
-use escrow_sql::Request;
+use escrow_statement::Request;
 use std::collections::LinkedList;
 
 /// A message to a worker.

@@ -1,10 +1,10 @@
-use escrow_sql::Request;
+use escrow_statement::Request;
 use std::sync::Wait;
 
 /// Where the requests of a worker come from.
 pub(crate) trait Source {
     ghost use Rattle.std.specs.Prelude.{Option};
-    ghost use Rattle.escrow_sql.specs.declared.statement.Request.{Request};
+    ghost use Rattle.escrow_statement.specs.declared.statement.Request.{Request};
 
     /// What it gives from a state, and the state then.
     ghost gives: { Self → Option Request → Self → Type 0 };

@@ -1,7 +1,7 @@
 //! What a worker does: it gives each request of its source what it asks for.
 ghost use Rattle.std.specs.Prelude.{◌≡◌, List, None};
 ghost use Rattle.std.specs.Iterator.{YieldsThen};
-ghost use Rattle.escrow_sql.specs.declared.statement.Request.{Request};
+ghost use Rattle.escrow_statement.specs.declared.statement.Request.{Request};
 ghost use Rattle.escrow_sessions.specs.Work.{IsServed};
 
 use crate::done::{Done, Ended};

@@ -1,6 +1,6 @@
 -- A pass with one receipt more.
 use Rattle.std.proofs.Common.{◌≡◌, ℕ, List, [], ◌∷◌, ◌++◌, refl, inl, inr}
-use Rattle.escrow_sql.specs.declared.statement.Statement.{Statement}
+use Rattle.escrow_statement.specs.declared.statement.Statement.{Statement}
 use Rattle.escrow_machine.specs.declared.reply.Reply.{Reply}
 use Rattle.escrow_history.specs.declared.served.Unserved.{Unserved}
 use Rattle.escrow_history.specs.declared.served.Unserved.TheVariants.{Full, Failed}

@@ -9,7 +9,7 @@ use Rattle.sqlite.specs.State.{HasCleanDisk}
 use Rattle.sqlite_trees.specs.declared.store.Store.{Ghosts}
 use Rattle.sqlite_trees.specs.View.{doubt}
 use Rattle.escrow_num.specs.declared.refusal.Refusal.{Refusal}
-use Rattle.escrow_sql.specs.declared.statement.Statement.{Statement}
+use Rattle.escrow_statement.specs.declared.statement.Statement.{Statement}
 use Rattle.escrow_machine.specs.declared.reply.Reply.{Reply}
 use Rattle.escrow_machine.specs.State.{State}
 use Rattle.escrow_transcript.specs.declared.base.Base.{Base}

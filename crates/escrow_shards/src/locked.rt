@@ -4,7 +4,7 @@ use crate::part::Part;
 use crate::under_lock::UnderLock;
 use escrow_history::{Audited, Served, Unserved};
 use escrow_num::{Refusal, Session};
-use escrow_sql::Statement;
+use escrow_statement::Statement;
 use escrow_transcript::Transcript;
 use sqlite::Alter;
 use std::alloc::Global;

@@ -2,7 +2,7 @@ ghost use Rattle.std.specs.Prelude.{◌≡◌, ◌↔◌, IsTrue};
 ghost use Rattle.escrow_shards.specs.Receipts.{receipt_of};
 
 use escrow_machine::Reply;
-use escrow_sql::Statement;
+use escrow_statement::Statement;
 use escrow_transcript::Entry;
 
 /// What a session keeps of a call that was served.

@@ -5,7 +5,7 @@ use crate::part::Part;
 use crate::under_lock::UnderLock;
 use escrow_history::{Served, Unserved};
 use escrow_num::{Refusal, Session};
-use escrow_sql::Statement;
+use escrow_statement::Statement;
 use sqlite::Alter;
 use std::alloc::Global;
 use std::marker::Model;

@@ -2,7 +2,7 @@ use crate::locked::Locked;
 use crate::part::Part;
 use escrow_history::{Served, Unserved};
 use escrow_num::{Refusal, Session};
-use escrow_sql::Statement;
+use escrow_statement::Statement;
 use sqlite::Alter;
 use std::alloc::Global;
 use std::sync::Wait;

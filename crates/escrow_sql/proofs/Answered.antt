@@ -4,7 +4,7 @@ use Rattle.std.proofs.lemmas.Bool.{cases_lt}
 use Rattle.std.proofs.lemmas.List.{take-append-drop, take-take}
 use Rattle.escrow_sql.proofs.ParseLemmas.{asked, fault_column}
 use Rattle.escrow_sql.proofs.Pieces.{each_lexed, lexed_once}
-use Rattle.escrow_sql.specs.declared.statement.Request.{Request}
+use Rattle.escrow_statement.specs.declared.statement.Request.{Request}
 use Rattle.escrow_sql.specs.declared.token.Token.{Token}
 use Rattle.escrow_sql.specs.Grammar.{Grammar, Sentence, Begins, IsFirstFault}
 use Rattle.escrow_sql.specs.Lex.{IsLexed}

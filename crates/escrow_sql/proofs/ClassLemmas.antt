@@ -1,34 +1,19 @@
 -- The numbers of classes tell classes apart.
-use Rattle.std.proofs.Common.{◌≡◌, ℕ, pos, ◌≤◌, [], get_or, refl, sym, ap, ap₂, ◌∙◌, arith}
-use Rattle.std.specs.Prelude.{map}
-use Rattle.std.proofs.Math.ListN.{get_or-map}
-use Rattle.escrow_sql.specs.Classes.{class_number, number_of}
+use Rattle.std.proofs.Common.{◌≡◌, ℕ, pos, ◌≤◌, [], refl, sym, ap, ◌∙◌, arith}
+use Rattle.escrow_sql.specs.Classes.{class_number}
 use Rattle.escrow_sql.specs.Sort.{IsSort, kind_at}
 use Rattle.escrow_sql.specs.Token.{class_of}
-use Rattle.escrow_sql.specs.Word.{reserved_words}
+use Rattle.escrow_statement.proofs.WordLemmas.{each_word}
 use Rattle.escrow_sql.specs.declared.token.Symbol.{Symbol}
 use Rattle.escrow_sql.specs.declared.token.Symbol.TheVariants as symbol
 use Rattle.escrow_sql.specs.declared.token.Kind.{Kind}
 use Rattle.escrow_sql.specs.declared.token.Kind.TheVariants as kind
-use Rattle.escrow_sql.specs.declared.word.Word.{Word}
-use Rattle.escrow_sql.specs.declared.word.Word.TheVariants as word
+use Rattle.escrow_statement.specs.declared.word.Word.{Word}
 
 -- the kind of a symbol's class is the symbol
 symbol_kind : (s : Symbol) → kind_at (class_number (kind.Symbol s)) [] (pos 0) ≡ kind.Symbol s
 symbol_kind symbol.Open = refl
 symbol_kind other = refl
-
--- each reserved word is found by its number
-word_found : (w : Word) → get_or reserved_words (number_of w) word.Add ≡ w
-word_found word.Add = refl
-word_found other = refl
-
--- what agrees along the list of reserved words agrees at each of them
-pub each_word : {A : Type 0} (f g : Word → A) → map f reserved_words ≡ map g reserved_words → (w : Word) → f w ≡ g w
-each_word f g same w =
-    let n = number_of w in
-    let first : f word.Add ≡ g word.Add = ap (λ xs. get_or xs 0 (f word.Add)) same in
-    ap f (sym (word_found w)) ∙ (sym (get_or-map f reserved_words n word.Add) ∙ (ap₂ (λ xs d. get_or xs n d) same first ∙ (get_or-map g reserved_words n word.Add ∙ ap g (word_found w))))
 
 -- the kind of a reserved word's class is the word
 word_kind : (w : Word) → kind_at (class_number (kind.Word w)) [] (pos 0) ≡ kind.Word w

@@ -1,5 +1,4 @@
 pub mod Answered
-pub mod AnyCase
 pub mod ClassLemmas
 pub mod Factoring
 pub mod Faults

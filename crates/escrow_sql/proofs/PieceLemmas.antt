@@ -12,7 +12,7 @@ use Rattle.escrow_num.specs.declared.name.TheConstants.Name.{MAX_WRITTEN}
 use Rattle.escrow_sql.proofs.NameLemmas.{letter_goes_on}
 use Rattle.escrow_sql.proofs.NumberLemmas.{number_within}
 use Rattle.escrow_sql.proofs.QuotedLemmas.{text_within}
-use Rattle.escrow_sql.specs.Word.{reserved}
+use Rattle.escrow_statement.specs.Word.{reserved}
 use Rattle.escrow_sql.specs.declared.lexer.piece.Piece.{Piece}
 use Rattle.escrow_sql.specs.declared.lexer.piece.Piece.TheVariants as piece
 use Rattle.escrow_sql.specs.declared.token.Kind.{Kind}

@@ -8,7 +8,7 @@ use Rattle.std.proofs.lemmas.List.{take-take, length-take-le, length-take, lengt
 use Rattle.std.proofs.lemmas.List.Sums.{prefix_len_is, prefix_len-le-length, prefix_len_passes}
 use Rattle.escrow_num.specs.declared.name.TheConstants.Name.{MAX_WRITTEN}
 use Rattle.escrow_sql.specs.declared.lexer.TheConstants.{MAX_TEXT}
-use Rattle.escrow_sql.specs.Word.{reserved}
+use Rattle.escrow_statement.specs.Word.{reserved}
 use Rattle.escrow_sql.specs.declared.lexer.piece.Piece.{Piece}
 use Rattle.escrow_sql.specs.declared.lexer.piece.Piece.TheVariants as piece
 use Rattle.escrow_sql.specs.declared.token.Kind.{Kind}

@@ -10,7 +10,7 @@ use Rattle.escrow_sql.specs.Scan.{tokens_from}
 use Rattle.escrow_sql.specs.Parser.{Asks}
 use Rattle.escrow_sql.specs.Statement.{meaning, request}
 use Rattle.escrow_sql.specs.declared.lexer.TheConstants.{MAX_TEXT}
-use Rattle.escrow_sql.specs.declared.statement.Request.{Request}
+use Rattle.escrow_statement.specs.declared.statement.Request.{Request}
 use Rattle.escrow_sql.proofs.Pieces.{is_lexed}
 use Rattle.escrow_sql.proofs.TokenLemmas.{after, tokens_from-piece, tokens_from-behind}
 

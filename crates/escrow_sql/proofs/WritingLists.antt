@@ -5,7 +5,7 @@ use Rattle.std.specs.List.{AllByRecursion}
 use Rattle.std.proofs.lemmas.List.{flat_map_more}
 use Rattle.escrow_sql.specs.declared.token.Symbol.TheVariants as symbols
 use Rattle.escrow_sql.specs.Grammar.{Grammar, many}
-use Rattle.escrow_sql.specs.Joined.{joined}
+use Rattle.escrow_statement.specs.Joined.{joined}
 use Rattle.escrow_sql.specs.Statement.{symbol, ◌then◌, list}
 use Rattle.escrow_sql.proofs.Writing.{Writes, is_behind, writes_joined, writes_apart, writes_blank, none_more, one_more}
 use Rattle.escrow_sql.proofs.WritingTokens.{writes_symbol}

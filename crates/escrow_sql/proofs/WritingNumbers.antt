@@ -14,7 +14,7 @@ use Rattle.escrow_num.specs.Scaled.{before_last, last_digits, magnitude_text, po
 use Rattle.escrow_num.proofs.ReadBack.{before-whole, last-digits, last-length, parts-spelled}
 use Rattle.escrow_num.proofs.ReadLemmas.{parts-numeral}
 use Rattle.escrow_num.proofs.ScaledLemmas.{point-before}
-use Rattle.escrow_sql.specs.declared.statement.Term.TheVariants as terms
+use Rattle.escrow_statement.specs.declared.statement.Term.TheVariants as terms
 use Rattle.escrow_sql.specs.declared.token.Symbol.TheVariants as symbols
 use Rattle.escrow_sql.specs.Statement.{number, point, sign, signed_number, size, term, whole}
 use Rattle.escrow_sql.proofs.Writing.{Writes, is_behind, writes_both, writes_joined, writes_apart, writes_first, writes_left, writes_right, writes_meaning, writes_nothing}

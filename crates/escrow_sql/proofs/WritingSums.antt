@@ -7,14 +7,14 @@ use Rattle.std.proofs.lemmas.Int.{ints}
 use Rattle.escrow_num.specs.Amount.{IsAmount}
 use Rattle.escrow_num.specs.Scale.{IsScale, unit_at}
 use Rattle.escrow_num.specs.Scaled.{scaled_text}
-use Rattle.escrow_sql.specs.declared.statement.Comparison.{Comparison}
-use Rattle.escrow_sql.specs.declared.statement.Comparison.TheVariants as comparisons
-use Rattle.escrow_sql.specs.declared.statement.Term.{Term}
-use Rattle.escrow_sql.specs.declared.statement.Term.TheVariants as terms
-use Rattle.escrow_sql.specs.declared.statement.Test.TheVariants as tests
+use Rattle.escrow_statement.specs.declared.statement.Comparison.{Comparison}
+use Rattle.escrow_statement.specs.declared.statement.Comparison.TheVariants as comparisons
+use Rattle.escrow_statement.specs.declared.statement.Term.{Term}
+use Rattle.escrow_statement.specs.declared.statement.Term.TheVariants as terms
+use Rattle.escrow_statement.specs.declared.statement.Test.TheVariants as tests
 use Rattle.escrow_sql.specs.declared.token.Symbol.{Symbol}
 use Rattle.escrow_sql.specs.declared.token.Symbol.TheVariants as symbols
-use Rattle.escrow_sql.specs.declared.word.Word.TheVariants as words
+use Rattle.escrow_statement.specs.declared.word.Word.TheVariants as words
 use Rattle.escrow_sql.specs.Grammar.{Grammar, many, sequence}
 use Rattle.escrow_sql.specs.Statement.{comparison, name, optional, sign, signed, signed_term, sum, term, test_part}
 use Rattle.escrow_sql.proofs.Writing.{Writes, is_behind, none_more, writes_both, writes_joined, writes_apart, writes_blank, writes_first, writes_left, writes_right, writes_meaning, writes_nothing}

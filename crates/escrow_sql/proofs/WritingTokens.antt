@@ -23,14 +23,14 @@ use Rattle.escrow_sql.specs.declared.token.Kind.TheVariants as kind
 use Rattle.escrow_sql.specs.declared.token.Symbol.{Symbol}
 use Rattle.escrow_sql.specs.declared.token.Symbol.TheVariants as symbols
 use Rattle.escrow_sql.specs.declared.token.Token.{Token}
-use Rattle.escrow_sql.specs.declared.word.Word.{Word}
-use Rattle.escrow_sql.specs.declared.word.Word.TheVariants as words
+use Rattle.escrow_statement.specs.declared.word.Word.{Word}
+use Rattle.escrow_statement.specs.declared.word.Word.TheVariants as words
 use Rattle.escrow_sql.specs.Grammar.{Grammar, token}
 use Rattle.escrow_sql.specs.Lex.{begins, doubled, goes_on, is_blank, is_forbidden, IsQuoted, quoted_piece, word_or_name, name_piece, front_digits, point_digits, point_piece, whole_piece, number_piece, symbol_piece, plain_piece, with_token}
 use Rattle.escrow_sql.specs.Scan.{piece_of, tokens_from}
 use Rattle.escrow_sql.specs.Statement.{word, symbol, in_parentheses, name, name_in, point, point_in, text, text_in, whole, whole_in}
 use Rattle.escrow_sql.specs.Token.{class_of}
-use Rattle.escrow_sql.specs.Word.{reserved, spelling}
+use Rattle.escrow_statement.specs.Word.{reserved, spelling}
 use Rattle.escrow_sql.proofs.NumberLemmas.{behind_len, ends, front_whole, number_read}
 use Rattle.escrow_sql.proofs.QuotedLemmas.{text_piece-only}
 use Rattle.escrow_sql.proofs.TokenLemmas.{after, tokens_from-piece, tokens_from-behind}

@@ -1,11 +1,11 @@
 -- Believed for one law alone (`FactoringKeepsSentences`): the grammar of requests, with SHOW, which begins four of its
 -- alternatives, taken out before them.
 use Rattle.std.specs.Prelude.{Some, None}
-use Rattle.escrow_sql.specs.declared.statement.Request.{Request}
-use Rattle.escrow_sql.specs.declared.statement.Request.TheVariants as requests
-use Rattle.escrow_sql.specs.declared.statement.Statement.TheVariants as statements
+use Rattle.escrow_statement.specs.declared.statement.Request.{Request}
+use Rattle.escrow_statement.specs.declared.statement.Request.TheVariants as requests
+use Rattle.escrow_statement.specs.declared.statement.Statement.TheVariants as statements
 use Rattle.escrow_sql.specs.declared.token.Symbol.TheVariants as symbols
-use Rattle.escrow_sql.specs.declared.word.Word.TheVariants as words
+use Rattle.escrow_statement.specs.declared.word.Word.TheVariants as words
 use Rattle.escrow_sql.specs.Grammar.{Grammar}
 use Rattle.escrow_sql.specs.Statement.{word, symbol, ◌then◌, before, ◌or◌, optional, meaning, name, row, table_statement, row_statement, ending}
 

@@ -2,7 +2,7 @@
 use Rattle.std.specs.Prelude.{◌≡◌, ℕ, ℤ, ◌≤◌, ◌⊎◌, ◌↔◌, true, Some, None, Result, Ok, Err, List, ◌∷◌, ◌++◌, length}
 use Rattle.escrow_num.specs.Amount.{is_numeral}
 use Rattle.escrow_num.specs.Decimal.{decimal_spelled}
-use Rattle.escrow_sql.specs.declared.statement.Request.{Request}
+use Rattle.escrow_statement.specs.declared.statement.Request.{Request}
 use Rattle.escrow_sql.specs.declared.lexer.TheConstants.{MAX_TEXT}
 use Rattle.escrow_sql.specs.declared.token.Token.{Token}
 use Rattle.escrow_sql.specs.Factored.{factored_request}

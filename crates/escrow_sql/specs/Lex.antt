@@ -6,8 +6,8 @@ use Rattle.escrow_num.specs.Amount.{is_amount, number_of}
 use Rattle.escrow_num.specs.Decimal.{millionths_of}
 use Rattle.escrow_num.specs.Name.{is_name_byte}
 use Rattle.escrow_num.specs.declared.name.TheConstants.Name.{MAX_WRITTEN}
-use Rattle.escrow_sql.specs.Word.{reserved}
-use Rattle.escrow_sql.specs.declared.word.Word.{Word}
+use Rattle.escrow_statement.specs.Word.{reserved}
+use Rattle.escrow_statement.specs.declared.word.Word.{Word}
 use Rattle.escrow_sql.specs.declared.token.Symbol.TheVariants as symbol
 use Rattle.escrow_sql.specs.declared.token.Kind.{Kind}
 use Rattle.escrow_sql.specs.declared.token.Kind.TheVariants as kind

@@ -1,9 +1,7 @@
 pub mod Classes
-pub mod Copies
 pub mod Cursor
 pub mod Factored
 pub mod Grammar
-pub mod Joined
 pub mod Laws
 pub mod Lex
 pub mod Lexeme
@@ -14,4 +12,3 @@ pub mod Scan
 pub mod Sort
 pub mod Statement
 pub mod Token
-pub mod Word

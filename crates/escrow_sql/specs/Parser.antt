@@ -2,7 +2,7 @@
 use Rattle.std.specs.Prelude.{◌≡◌, ℕ, ◌⊎◌, Ok, Err, List, length, drop}
 use Rattle.escrow_sql.specs.declared.fault.ParseFault.{ParseFault}
 use Rattle.escrow_sql.specs.declared.fault.ParseFault.TheVariants as fault
-use Rattle.escrow_sql.specs.declared.statement.Request.{Request}
+use Rattle.escrow_statement.specs.declared.statement.Request.{Request}
 use Rattle.escrow_sql.specs.declared.token.Token.{Token}
 use Rattle.escrow_sql.specs.Token.{column_at}
 use Rattle.escrow_sql.specs.Lex.{IsLexed}

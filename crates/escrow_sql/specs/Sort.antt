@@ -10,8 +10,8 @@ use Rattle.escrow_sql.specs.declared.token.Kind.{Kind}
 use Rattle.escrow_sql.specs.declared.token.Kind.TheVariants as kind
 use Rattle.escrow_sql.specs.declared.token.Symbol.TheVariants as symbol
 use Rattle.escrow_sql.specs.declared.token.TheConstants.{SYMBOLS}
-use Rattle.escrow_sql.specs.declared.word.Word.TheVariants as word
-use Rattle.escrow_sql.specs.declared.word.TheConstants.{WORDS}
+use Rattle.escrow_statement.specs.declared.word.Word.TheVariants as word
+use Rattle.escrow_statement.specs.declared.words.TheConstants.{WORDS}
 
 -- the kind of the class of this number that these bytes write or that means this number
 abbrev pub kind_at : ℕ → List ℕ → ℤ → Kind

@@ -6,42 +6,42 @@ use Rattle.escrow_sql.specs.declared.token.Symbol.{Symbol}
 use Rattle.escrow_sql.specs.declared.token.Symbol.TheVariants as symbols
 use Rattle.escrow_sql.specs.declared.token.Kind.{Kind}
 use Rattle.escrow_sql.specs.declared.token.Kind.TheVariants as kind
-use Rattle.escrow_sql.specs.declared.word.Word.{Word}
-use Rattle.escrow_sql.specs.declared.word.Word.TheVariants as words
-use Rattle.escrow_sql.specs.declared.statement.AlterText.{AlterText}
-use Rattle.escrow_sql.specs.declared.statement.Assign.{Assign}
-use Rattle.escrow_sql.specs.declared.statement.Assigned.{Assigned}
-use Rattle.escrow_sql.specs.declared.statement.Assigned.TheVariants as assigned_values
-use Rattle.escrow_sql.specs.declared.statement.CheckText.{CheckText}
-use Rattle.escrow_sql.specs.declared.statement.ColumnMark.{ColumnMark}
-use Rattle.escrow_sql.specs.declared.statement.ColumnMark.TheVariants as marks
-use Rattle.escrow_sql.specs.declared.statement.ColumnText.{ColumnText}
-use Rattle.escrow_sql.specs.declared.statement.Comparison.{Comparison}
-use Rattle.escrow_sql.specs.declared.statement.Comparison.TheVariants as comparisons
-use Rattle.escrow_sql.specs.declared.statement.Condition.{Condition}
-use Rattle.escrow_sql.specs.declared.statement.CreateText.{CreateText}
-use Rattle.escrow_sql.specs.declared.statement.InsertText.{InsertText}
-use Rattle.escrow_sql.specs.declared.statement.Item.{Item}
-use Rattle.escrow_sql.specs.declared.statement.Item.TheVariants as items
-use Rattle.escrow_sql.specs.declared.statement.Literal.{Literal}
-use Rattle.escrow_sql.specs.declared.statement.Literal.TheVariants as literals
-use Rattle.escrow_sql.specs.declared.statement.NumberSize.{NumberSize}
-use Rattle.escrow_sql.specs.declared.statement.Request.{Request}
-use Rattle.escrow_sql.specs.declared.statement.Request.TheVariants as requests
-use Rattle.escrow_sql.specs.declared.statement.RowText.{RowText}
-use Rattle.escrow_sql.specs.declared.statement.SelectText.{SelectText}
-use Rattle.escrow_sql.specs.declared.statement.Statement.{Statement}
-use Rattle.escrow_sql.specs.declared.statement.Statement.TheVariants as statements
-use Rattle.escrow_sql.specs.declared.statement.TableChange.{TableChange}
-use Rattle.escrow_sql.specs.declared.statement.TableChange.TheVariants as table_changes
-use Rattle.escrow_sql.specs.declared.statement.Term.{Term}
-use Rattle.escrow_sql.specs.declared.statement.Term.TheVariants as terms
-use Rattle.escrow_sql.specs.declared.statement.Test.{Test}
-use Rattle.escrow_sql.specs.declared.statement.Test.TheVariants as tests
-use Rattle.escrow_sql.specs.declared.statement.TypeText.{TypeText}
-use Rattle.escrow_sql.specs.declared.statement.TypeText.TheVariants as types
-use Rattle.escrow_sql.specs.declared.statement.UpdateText.{UpdateText}
-use Rattle.escrow_sql.specs.declared.statement.WhereText.{WhereText}
+use Rattle.escrow_statement.specs.declared.word.Word.{Word}
+use Rattle.escrow_statement.specs.declared.word.Word.TheVariants as words
+use Rattle.escrow_statement.specs.declared.statement.AlterText.{AlterText}
+use Rattle.escrow_statement.specs.declared.statement.Assign.{Assign}
+use Rattle.escrow_statement.specs.declared.statement.Assigned.{Assigned}
+use Rattle.escrow_statement.specs.declared.statement.Assigned.TheVariants as assigned_values
+use Rattle.escrow_statement.specs.declared.statement.CheckText.{CheckText}
+use Rattle.escrow_statement.specs.declared.statement.ColumnMark.{ColumnMark}
+use Rattle.escrow_statement.specs.declared.statement.ColumnMark.TheVariants as marks
+use Rattle.escrow_statement.specs.declared.statement.ColumnText.{ColumnText}
+use Rattle.escrow_statement.specs.declared.statement.Comparison.{Comparison}
+use Rattle.escrow_statement.specs.declared.statement.Comparison.TheVariants as comparisons
+use Rattle.escrow_statement.specs.declared.statement.Condition.{Condition}
+use Rattle.escrow_statement.specs.declared.statement.CreateText.{CreateText}
+use Rattle.escrow_statement.specs.declared.statement.InsertText.{InsertText}
+use Rattle.escrow_statement.specs.declared.statement.Item.{Item}
+use Rattle.escrow_statement.specs.declared.statement.Item.TheVariants as items
+use Rattle.escrow_statement.specs.declared.statement.Literal.{Literal}
+use Rattle.escrow_statement.specs.declared.statement.Literal.TheVariants as literals
+use Rattle.escrow_statement.specs.declared.statement.NumberSize.{NumberSize}
+use Rattle.escrow_statement.specs.declared.statement.Request.{Request}
+use Rattle.escrow_statement.specs.declared.statement.Request.TheVariants as requests
+use Rattle.escrow_statement.specs.declared.statement.RowText.{RowText}
+use Rattle.escrow_statement.specs.declared.statement.SelectText.{SelectText}
+use Rattle.escrow_statement.specs.declared.statement.Statement.{Statement}
+use Rattle.escrow_statement.specs.declared.statement.Statement.TheVariants as statements
+use Rattle.escrow_statement.specs.declared.statement.TableChange.{TableChange}
+use Rattle.escrow_statement.specs.declared.statement.TableChange.TheVariants as table_changes
+use Rattle.escrow_statement.specs.declared.statement.Term.{Term}
+use Rattle.escrow_statement.specs.declared.statement.Term.TheVariants as terms
+use Rattle.escrow_statement.specs.declared.statement.Test.{Test}
+use Rattle.escrow_statement.specs.declared.statement.Test.TheVariants as tests
+use Rattle.escrow_statement.specs.declared.statement.TypeText.{TypeText}
+use Rattle.escrow_statement.specs.declared.statement.TypeText.TheVariants as types
+use Rattle.escrow_statement.specs.declared.statement.UpdateText.{UpdateText}
+use Rattle.escrow_statement.specs.declared.statement.WhereText.{WhereText}
 
 infixr 20 ◌then◌
 infixr 15 ◌or◌

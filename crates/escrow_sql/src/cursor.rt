@@ -8,9 +8,9 @@ ghost use Rattle.escrow_sql.specs.declared.token.Kind.TheVariants as kind;
 use crate::halt::Halt;
 use crate::lexeme::Lexeme;
 use crate::token::{Kind, Symbol};
-use crate::word::Word;
 use crate::written::WrittenName;
 use escrow_num::{Amount, Decimal, Name, Text};
+use escrow_statement::Word;
 use std::alloc::Global;
 
 /// A place among the tokens of a text. Each method that reads leaves it behind what was read, or at

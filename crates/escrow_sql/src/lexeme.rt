@@ -4,10 +4,10 @@ ghost use Rattle.escrow_sql.specs.declared.token.Kind.TheVariants as kind;
 
 use crate::lexer::number;
 use crate::token::{Kind, SYMBOLS, Token};
-use crate::word::WORDS;
 use crate::written;
 use crate::written::WrittenName;
 use escrow_num::{Amount, Decimal, Text};
+use escrow_statement::WORDS;
 use std::alloc::{AllocError, Global};
 use std::marker::Model;
 

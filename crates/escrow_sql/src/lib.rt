@@ -4,7 +4,6 @@
 //! the first fault.
 #![tactic(auto)]
 
-mod copies;
 mod cursor;
 mod fault;
 mod halt;
@@ -12,18 +11,15 @@ pub mod laws;
 mod lexeme;
 mod lexer;
 mod parser;
-mod statement;
 mod token;
-mod word;
 mod written;
 
+pub use escrow_statement::{
+    AlterText, Assign, Assigned, CheckText, ColumnMark, ColumnText, Comparison, Condition,
+    CreateText, InsertText, Item, Literal, NumberSize, Request, RowText, SelectText, Statement,
+    TableChange, Term, Test, TypeText, UpdateText, WhereText, Word,
+};
 pub use fault::ParseFault;
 pub use lexer::{MAX_TEXT, lex};
 pub use parser::parse;
-pub use statement::{
-    AlterText, Assign, Assigned, CheckText, ColumnMark, ColumnText, Comparison, Condition,
-    CreateText, InsertText, Item, Literal, NumberSize, Request, RowText, SelectText, Statement,
-    TableChange, Term, Test, TypeText, UpdateText, WhereText,
-};
 pub use token::{Kind, Symbol, Token};
-pub use word::Word;

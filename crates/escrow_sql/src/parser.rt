@@ -6,8 +6,8 @@ ghost use Rattle.escrow_sql.specs.Statement.{word, ◌then◌, optional, meaning
 ghost use Rattle.escrow_sql.specs.Factored.{factored_show, factored_body, factored_request};
 ghost use Rattle.escrow_sql.specs.Parser.{Asks, IsFaultIn};
 ghost use Rattle.escrow_sql.specs.declared.lexer.TheConstants.{MAX_TEXT};
-ghost use Rattle.escrow_sql.specs.declared.statement.Request.{Request};
-ghost use Rattle.escrow_sql.specs.declared.word.Word.TheVariants as words;
+ghost use Rattle.escrow_statement.specs.declared.statement.Request.{Request};
+ghost use Rattle.escrow_statement.specs.declared.word.Word.TheVariants as words;
 ghost use Rattle.escrow_sql.specs.declared.fault.ParseFault.TheVariants.{Memory};
 
 mod alter;
@@ -22,10 +22,9 @@ use crate::fault::ParseFault;
 use crate::halt::Halt;
 use crate::lexeme::Lexeme;
 use crate::lexer;
-use crate::statement::{Request, Statement};
 use crate::token::{Kind, Symbol};
-use crate::word::Word;
 use escrow_num::Name;
+use escrow_statement::{Request, Statement, Word};
 use std::alloc::Global;
 
 impl Cursor<'_> {

@@ -1,7 +1,7 @@
 ghost use Rattle.std.specs.Prelude.{◌≡◌};
 
-use crate::word::Word;
 use escrow_num::{Amount, Decimal, Name, Text};
+use escrow_statement::Word;
 
 /// A symbol of a statement.
 #[derive(Clone, Copy, Debug, PartialEq, Eq)]

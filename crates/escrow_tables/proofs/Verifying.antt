@@ -17,14 +17,14 @@ use Rattle.escrow_num.specs.declared.row.Row.{Row}
 use Rattle.escrow_num.specs.Ascending.{IsAscending}
 use Rattle.escrow_num.proofs.Orders.{before_trans, before_itself}
 use Rattle.escrow_sql.specs.Parser.{Asks}
-use Rattle.escrow_sql.specs.declared.statement.Request.TheVariants as requests
-use Rattle.escrow_sql.specs.declared.statement.Statement.TheVariants as statements
+use Rattle.escrow_statement.specs.declared.statement.Request.TheVariants as requests
+use Rattle.escrow_statement.specs.declared.statement.Statement.TheVariants as statements
 use Rattle.escrow_sql.proofs.ParseLemmas.{asks_once}
 use Rattle.escrow_schema.specs.Catalog.{IsCatalog, table_before}
 use Rattle.escrow_schema.specs.Definition.{IsTable, definition_of}
 use Rattle.escrow_schema.specs.Print.{canonical}
 use Rattle.escrow_schema.specs.declared.table.TableDef.{TableDef}
-use Rattle.escrow_schema.proofs.PrintBack.{read_back}
+use Rattle.escrow_readback.proofs.ReadBack.{read_back}
 use Rattle.escrow_rows.specs.Answers.{IsUsable, OnlyReads}
 use Rattle.escrow_rows.specs.Image.{AreTables, tab_row}
 use Rattle.escrow_rows.specs.View.{rows_in}

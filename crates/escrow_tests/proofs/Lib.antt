@@ -1,2 +1,1 @@
-mod Altered
 mod Placed

@@ -1,5 +1,5 @@
-//! Tests of the crates without a store, by their public calls: words, texts, checks, tables and transactions.
-//! They stand apart, so that none of these crates is proved once more with them.
+//! Tests of the crates without a store, by their public calls, for what no clause says and no scenario shows.
+//! They are a crate of their own because a crate with tests is proved twice.
 #![tactic(auto)]
 
 #[cfg(test)]

@@ -1,7 +1,6 @@
 //! The tests.
 
 mod bounds;
-mod checks;
 mod num;
 mod schema;
 mod sql;

@@ -1,14 +1,12 @@
 //! The tests.
 
-mod causes;
+mod closes;
+mod concert;
 mod databases;
 mod gates;
 mod histories;
 mod kinds;
-mod making;
 mod results;
-mod run;
 mod sharing;
-mod small;
-mod threads;
 mod watching;
+mod workers;

@@ -2,7 +2,7 @@
 use Rattle.std.specs.Prelude.{◌≡◌, ℕ, ◌+◌, false, Some, None, List, [], ◌∷◌, ◌++◌, length, map, slice_get}
 use Rattle.std.specs.List.{AllByRecursion}
 use Rattle.escrow_num.specs.Session.{IsSession}
-use Rattle.escrow_sql.specs.declared.statement.Statement.{Statement}
+use Rattle.escrow_statement.specs.declared.statement.Statement.{Statement}
 use Rattle.escrow_machine.specs.declared.event.Event.{Event}
 use Rattle.escrow_machine.specs.declared.event.Event.TheVariants as event
 use Rattle.escrow_machine.specs.Reply.{failure_of}

@@ -2,7 +2,7 @@ ghost use Rattle.std.specs.Prelude.{◌≡◌, ◌↔◌, IfOk, IsTrue};
 
 use escrow_machine::Reply;
 use escrow_num::Session;
-use escrow_sql::Statement;
+use escrow_statement::Statement;
 use std::alloc::{AllocError, Global};
 
 /// A statement that was served: one step of the machine.

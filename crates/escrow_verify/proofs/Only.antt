@@ -7,12 +7,12 @@ use Rattle.sqlite_value.specs.Order.{Row as SqlRow}
 use Rattle.sqlite_trees.proofs.ListLemmas.{all-permutation, pull_back}
 use Rattle.sqlite.specs.Effect.{Database}
 use Rattle.escrow_sql.proofs.ParseLemmas.{asks_once}
-use Rattle.escrow_sql.specs.declared.statement.Request.TheVariants as requests
-use Rattle.escrow_sql.specs.declared.statement.Statement.TheVariants as statements
+use Rattle.escrow_statement.specs.declared.statement.Request.TheVariants as requests
+use Rattle.escrow_statement.specs.declared.statement.Statement.TheVariants as statements
 use Rattle.escrow_schema.specs.declared.table.TableDef.{TableDef}
 use Rattle.escrow_schema.specs.Definition.{IsTable, definition_of}
 use Rattle.escrow_schema.specs.Print.{canonical}
-use Rattle.escrow_schema.proofs.PrintBack.{read_back}
+use Rattle.escrow_readback.proofs.ReadBack.{read_back}
 use Rattle.escrow_rows.specs.declared.stored.StoredTable.{StoredTable}
 use Rattle.escrow_rows.specs.Image.{tab_row}
 use Rattle.escrow_verify.specs.Inside.{AreTablesIn}

@@ -7,9 +7,9 @@ use Rattle.std.specs.declared.cmp.Ordering.{Ordering}
 use Rattle.sqlite_value.specs.declared.value.Value.TheVariants.{Int, Text}
 use Rattle.sqlite_value.specs.Order.{Row as SqlRow}
 use Rattle.escrow_sql.specs.Parser.{Asks}
-use Rattle.escrow_sql.specs.declared.statement.CreateText.{CreateText}
-use Rattle.escrow_sql.specs.declared.statement.Request.TheVariants as requests
-use Rattle.escrow_sql.specs.declared.statement.Statement.TheVariants as statements
+use Rattle.escrow_statement.specs.declared.statement.CreateText.{CreateText}
+use Rattle.escrow_statement.specs.declared.statement.Request.TheVariants as requests
+use Rattle.escrow_statement.specs.declared.statement.Statement.TheVariants as statements
 use Rattle.escrow_schema.specs.declared.table.TableDef.{TableDef}
 use Rattle.escrow_schema.specs.Definition.{IsTable, definition_of}
 use Rattle.escrow_rows.specs.declared.stored.StoredTable.{StoredTable}

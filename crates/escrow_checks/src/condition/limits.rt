@@ -7,7 +7,7 @@ ghost use Rattle.escrow_checks.specs.Parts.{is_near};
 use super::parts::Parts;
 use super::sums::number_sum;
 use escrow_num::{Amount, Scale, Span, Wide};
-use escrow_sql::{Comparison, Condition, Test};
+use escrow_statement::{Comparison, Condition, Test};
 
 /// The limits of a condition, in units of a scale, or `None` where one isn't a whole number of them
 /// or has more than 15 digits, or the low one is greater than the high one.

@@ -7,7 +7,7 @@ ghost use Rattle.escrow_checks.specs.WrittenName.{is_written_name};
 
 use super::MAX_CHECKS;
 use escrow_num::Name;
-use escrow_sql::Word;
+use escrow_statement::Word;
 
 /// The name of a CHECK's condition, its `k`-th and the `n`-th of the table's, or `None` where no
 /// statement can write it.

@@ -11,7 +11,7 @@ ghost use Rattle.escrow_checks.specs.Parts.{AreTermSums, millionths, rest_in, wh
 use super::MAX_COEFFICIENT;
 use super::parts::{Parts, less, rest_of, wholes_of};
 use escrow_num::{Amount, Name};
-use escrow_sql::{Condition, Term, Test};
+use escrow_statement::{Condition, Term, Test};
 
 /// A column's coefficient in a condition: the sum of those on the left less the sum of those on
 /// the right. `None` where its magnitude is past [`MAX_COEFFICIENT`].

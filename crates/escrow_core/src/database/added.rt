@@ -4,10 +4,9 @@ ghost use Rattle.escrow_schema.specs.Column.{reservables};
 ghost use Rattle.escrow_schema.specs.Definition.{IsTable};
 ghost use Rattle.escrow_schema.specs.Print.{declared_checks};
 
-use crate::reserved::Reserved;
-use crate::violation::first_violation;
 use escrow_bounds::Addition;
 use escrow_num::{Row, Violation};
+use escrow_reserved::{Reserved, first_violation};
 use escrow_schema::{Column, TableDef};
 use escrow_tables::RowJudge;
 use std::marker::Model;

@@ -3,7 +3,7 @@ use crate::database::{Answer, Database};
 use escrow_machine::Reply;
 use escrow_num::{Name, Refusal, Session};
 use escrow_schema::{declared_place, with_check, without_check_at};
-use escrow_sql::{AlterText, CheckText, Statement, TableChange};
+use escrow_statement::{AlterText, CheckText, Statement, TableChange};
 use sqlite::Alter;
 use std::alloc::Global;
 

@@ -1,7 +1,7 @@
 use crate::database::{Answer, Database};
-use crate::shown_bounds::{free_bounds, row_bounds};
 use escrow_num::Refusal;
-use escrow_sql::{RowText, Statement};
+use escrow_reserved::{free_bounds, row_bounds};
+use escrow_statement::{RowText, Statement};
 use sqlite::Alter;
 use std::alloc::Global;
 

@@ -2,7 +2,7 @@ use crate::database::{Answer, Database};
 use escrow_machine::Reply;
 use escrow_num::{Refusal, Session};
 use escrow_schema::{Catalog, TableDef, define};
-use escrow_sql::{CreateText, Statement};
+use escrow_statement::{CreateText, Statement};
 use sqlite::Alter;
 use std::alloc::Global;
 

@@ -1,7 +1,7 @@
 use crate::database::{Answer, Database};
 use escrow_machine::Reply;
 use escrow_num::{Refusal, Session};
-use escrow_sql::{RowText, Statement};
+use escrow_statement::{RowText, Statement};
 use sqlite::Alter;
 use std::alloc::Global;
 

@@ -1,7 +1,7 @@
 use crate::database::{Answer, Database};
 use escrow_machine::Reply;
 use escrow_num::{Name, Refusal, Session};
-use escrow_sql::Statement;
+use escrow_statement::Statement;
 use sqlite::Alter;
 
 impl<S: Alter> Database<S> {

@@ -4,7 +4,7 @@ ghost use Rattle.escrow_journal.specs.Reservations.{own};
 use crate::database::{Answer, Database};
 use escrow_machine::Reply;
 use escrow_num::{End, Failure, Session};
-use escrow_sql::Statement;
+use escrow_statement::Statement;
 use sqlite::Alter;
 use std::alloc::Global;
 

@@ -6,11 +6,11 @@ ghost use Rattle.escrow_schema.specs.Fit.{IsRowOf};
 ghost use Rattle.escrow_schema.specs.declared.table.TheConstants.TableDef.{MAX_ROWS};
 
 use crate::database::{Answer, Database};
-use crate::violation::first_violation;
 use escrow_machine::Reply;
 use escrow_num::{Refusal, Row, Session};
+use escrow_reserved::first_violation;
 use escrow_schema::{TableDef, fit_row};
-use escrow_sql::{InsertText, Statement};
+use escrow_statement::{InsertText, Statement};
 use sqlite::Alter;
 use std::alloc::Global;
 

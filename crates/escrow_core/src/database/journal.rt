@@ -1,10 +1,14 @@
+ghost use Rattle.std.specs.Prelude.{◌≡◌, ◌++◌, ◌∷◌, [], IfOk, OnOk, map};
+ghost use Rattle.escrow_machine.specs.Journal.{entry_of, of_table};
+
 use crate::database::{Answer, Database};
-use crate::shown_journal::journal_entries;
-use escrow_machine::Reply;
-use escrow_num::{Name, Refusal};
-use escrow_sql::Statement;
+use escrow_machine::{JournalEntry, Reply};
+use escrow_num::{Name, Refusal, Reservation, Seq};
+use escrow_reserved::{Reserved, journal_entry};
+use escrow_statement::Statement;
+use escrow_tables::Tables;
 use sqlite::Alter;
-use std::alloc::Global;
+use std::alloc::{AllocError, Global};
 
 impl<S: Alter> Database<S> {
     ghost use Rattle.std.specs.Prelude.{ℕ, ◌≡◌};
@@ -18,7 +22,7 @@ impl<S: Alter> Database<S> {
         if !self.is_known(&table) {
             return Err(Refusal::NoSuchTable);
         }
-        let entries = journal_entries(alloc, &self.tables, self.reserved.txns(), table)?;
+        let entries = journal_entries(alloc, &self.tables, &self.reserved, table)?;
         Ok(Reply::Journal(entries))
     }
 
@@ -31,4 +35,37 @@ impl<S: Alter> Database<S> {
             None => true,
         }
     }
+}
+
+/// The open reservations of all sessions as they are shown, or those of the rows of a table, in
+/// order of id. Want of memory is the only error.
+fn journal_entries<S: Alter>(
+    alloc: Global,
+    tables: &Tables<S>,
+    reserved: &Reserved,
+    table: Option<Name>,
+) -> Result<Seq<JournalEntry>, AllocError>
+    ensures { IfOk result (λ entries. entries ≡ map (entry_of tables.now.catalog) (of_table table reserved.now.txns.reservations)) }
+{
+    let mut entries = Seq::new(alloc);
+    for r in &reserved.txns().all_in_order(alloc)? {
+        push_entry(alloc, &mut entries, tables, table, *r)?;
+    }
+    Ok(entries)
+}
+
+/// Adds a reservation as it is shown, if it is: one of the rows of the table, if one is named.
+fn push_entry<S: Alter>(
+    alloc: Global,
+    entries: &mut Seq<JournalEntry>,
+    tables: &Tables<S>,
+    table: Option<Name>,
+    r: &Reservation,
+) -> Result<(), AllocError>
+    ensures { OnOk result (entries.new ≡ entries.old ++ map (entry_of tables.now.catalog) (of_table table (r.now ∷ []))) }
+{
+    if table.is_none_or(|name| r.row.table == name) {
+        entries.push(journal_entry(alloc, tables.find(r.row.table), r)?)?;
+    }
+    Ok(())
 }

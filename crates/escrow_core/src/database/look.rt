@@ -1,10 +1,10 @@
 ghost use Rattle.std.specs.Prelude.{◌≡◌, IfOk};
 
 use crate::database::Database;
-use crate::recent::ReadRow;
 use escrow_num::{Amount, Failure, Name, Refusal, RowName, Seq, Value};
+use escrow_reserved::ReadRow;
 use escrow_schema::{check_key, truncated_value};
-use escrow_sql::{RowText, Statement, WhereText};
+use escrow_statement::{RowText, Statement, WhereText};
 use sqlite::Alter;
 use std::alloc::{AllocError, Global};
 

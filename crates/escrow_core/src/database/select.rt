@@ -5,7 +5,7 @@ use crate::database::{Answer, Database};
 use escrow_machine::{Heading, Reply};
 use escrow_num::{Failure, Refusal, Seq, Value};
 use escrow_schema::{Column, check_key};
-use escrow_sql::{SelectText, Statement, WhereText};
+use escrow_statement::{SelectText, Statement, WhereText};
 use sqlite::Alter;
 use std::alloc::{AllocError, Global};
 

@@ -2,7 +2,7 @@ use crate::database::{Answer, Database};
 use escrow_machine::Reply;
 use escrow_num::{Name, Refusal};
 use escrow_schema::print_table;
-use escrow_sql::Statement;
+use escrow_statement::Statement;
 use sqlite::Alter;
 use std::alloc::Global;
 

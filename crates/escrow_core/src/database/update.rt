@@ -2,7 +2,7 @@ use crate::database::{Answer, Database};
 use escrow_machine::Reply;
 use escrow_num::{Changes, Refusal, RowName, Seq, Session, Value};
 use escrow_schema::{Plan, plan_update};
-use escrow_sql::{Statement, UpdateText};
+use escrow_statement::{Statement, UpdateText};
 use sqlite::Alter;
 use std::alloc::Global;
 

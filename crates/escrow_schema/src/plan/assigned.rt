@@ -6,7 +6,7 @@ ghost use Rattle.escrow_schema.specs.Definition.{are_distinct};
 ghost use Rattle.escrow_schema.specs.Plan.{assigned_to, change_in, literal_in};
 
 use escrow_num::{Decimal, Name};
-use escrow_sql::{Assign, Assigned, Literal};
+use escrow_statement::{Assign, Assigned, Literal};
 
 /// The change that is assigned to a column, if one is, in millionths.
 pub(crate) fn change_to(assigns: &[Assign], column: Name) -> Option<Decimal>

@@ -9,7 +9,7 @@ ghost use Rattle.escrow_schema.specs.Plan.{are_changes, assigned_to, change_at, 
 use super::assigned::{are_apart, change_to};
 use crate::column::Column;
 use escrow_num::{Amount, Changes, Name, Refusal};
-use escrow_sql::{Assign, Assigned};
+use escrow_statement::{Assign, Assigned};
 use std::alloc::{AllocError, Global};
 
 /// Whether assignments change RESERVABLE columns: each does, and no two are of one column.

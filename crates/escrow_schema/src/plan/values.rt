@@ -12,7 +12,7 @@ use crate::column::Column;
 use crate::literal::value_at;
 use crate::table::TableDef;
 use escrow_num::{Name, Value};
-use escrow_sql::{Assign, Assigned};
+use escrow_statement::{Assign, Assigned};
 use std::alloc::{AllocError, Global};
 
 /// Whether assignments replace plain values: each does, and no two are of one column.

@@ -6,7 +6,7 @@ use crate::receipt::Receipt;
 use crate::shared::Shared;
 use crate::under_lock::UnderLock;
 use escrow_num::Refusal;
-use escrow_sql::Statement;
+use escrow_statement::Statement;
 use sqlite::Alter;
 use std::alloc::Global;
 use std::sync::Wait;

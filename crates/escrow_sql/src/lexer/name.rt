@@ -7,8 +7,8 @@ ghost use Rattle.escrow_sql.specs.Lexeme.{piece_of_scan};
 use crate::lexeme::Sort;
 use crate::lexer::scan::Scan;
 use crate::token::Kind;
-use crate::word::Word;
 use escrow_num::Name;
+use escrow_statement::Word;
 
 /// For each byte whether a name may go on with it.
 const GOES_ON: [bool; 256] = [

@@ -4,8 +4,7 @@ ghost use Rattle.escrow_sql.specs.Statement.{table_change, alter};
 
 use crate::cursor::Cursor;
 use crate::halt::Halt;
-use crate::statement::{AlterText, TableChange};
-use crate::word::Word;
+use escrow_statement::{AlterText, TableChange, Word};
 use std::alloc::Global;
 
 impl Cursor<'_> {

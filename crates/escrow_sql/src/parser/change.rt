@@ -7,10 +7,9 @@ use crate::cursor::Cursor;
 use crate::halt::Halt;
 use crate::parser::part;
 use crate::parser::part::Part;
-use crate::statement::{Assign, Assigned, Literal, UpdateText, WhereText};
 use crate::token::Symbol;
-use crate::word::Word;
 use escrow_num::Decimal;
+use escrow_statement::{Assign, Assigned, Literal, UpdateText, WhereText, Word};
 use std::alloc::Global;
 
 /// The number, made negative by a minus.

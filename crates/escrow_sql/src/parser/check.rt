@@ -4,19 +4,18 @@ ghost use Rattle.escrow_sql.specs.Predictive.{run, starts, first};
 ghost use Rattle.escrow_sql.specs.Cursor.{Advances};
 ghost use Rattle.escrow_sql.specs.Parts.{signed_term-not_empty};
 ghost use Rattle.escrow_sql.specs.Statement.{optional, meaning, ◌then◌, word, symbol, name, whole, sign, signed, signed_number, times, with_sign, term, signed_term, sum, test_part, comparison, condition, constraint, check};
-ghost use Rattle.escrow_sql.specs.declared.statement.Term.TheVariants as terms;
-ghost use Rattle.escrow_sql.specs.declared.statement.Test.TheVariants as tests;
+ghost use Rattle.escrow_statement.specs.declared.statement.Term.TheVariants as terms;
+ghost use Rattle.escrow_statement.specs.declared.statement.Test.TheVariants as tests;
 ghost use Rattle.escrow_sql.specs.declared.token.Symbol.TheVariants as symbols;
-ghost use Rattle.escrow_sql.specs.declared.word.Word.TheVariants as words;
+ghost use Rattle.escrow_statement.specs.declared.word.Word.TheVariants as words;
 
 use crate::cursor::Cursor;
 use crate::halt::Halt;
 use crate::parser::part::{Part, Repeated};
 use crate::parser::{change, part};
-use crate::statement::{CheckText, Comparison, Condition, Term, Test};
 use crate::token::{Kind, Symbol};
-use crate::word::Word;
 use escrow_num::{Amount, Decimal, Name, Seq};
+use escrow_statement::{CheckText, Comparison, Condition, Term, Test, Word};
 use std::alloc::Global;
 
 /// The coefficient, made negative by a minus.

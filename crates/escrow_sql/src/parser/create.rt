@@ -3,16 +3,15 @@ ghost use Rattle.escrow_sql.specs.Predictive.{run};
 ghost use Rattle.escrow_sql.specs.Cursor.{Advances};
 ghost use Rattle.escrow_sql.specs.Parts.{mark-not_empty};
 ghost use Rattle.escrow_sql.specs.Statement.{mark, size, digits, type_text, column, item, create, drop, name, whole, in_parentheses, word, ◌then◌};
-ghost use Rattle.escrow_sql.specs.declared.word.Word.TheVariants as words;
+ghost use Rattle.escrow_statement.specs.declared.word.Word.TheVariants as words;
 
 use crate::cursor::Cursor;
 use crate::halt::Halt;
 use crate::parser::part;
 use crate::parser::part::{Part, Repeated};
-use crate::statement::{ColumnMark, ColumnText, CreateText, Item, NumberSize, TypeText};
 use crate::token::Symbol;
-use crate::word::Word;
 use escrow_num::{Amount, Name};
+use escrow_statement::{ColumnMark, ColumnText, CreateText, Item, NumberSize, TypeText, Word};
 use std::alloc::Global;
 
 impl Cursor<'_> {

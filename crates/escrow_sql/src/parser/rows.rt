@@ -7,10 +7,9 @@ use crate::cursor::Cursor;
 use crate::halt::Halt;
 use crate::parser::part;
 use crate::parser::part::Part;
-use crate::statement::{InsertText, RowText, SelectText, WhereText};
 use crate::token::Symbol;
-use crate::word::Word;
 use escrow_num::{Name, Seq};
+use escrow_statement::{InsertText, RowText, SelectText, WhereText, Word};
 use std::alloc::Global;
 
 impl Cursor<'_> {

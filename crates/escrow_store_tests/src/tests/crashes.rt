@@ -1,155 +1,130 @@
-//! Stores over files in memory that stop at each of their calls in turn: what is then opened has the rows from
-//! before the statement that was stopped, or with what it makes.
-use super::databases::{ask, is_text, over};
-use super::lent::Lent;
-use escrow_core::Database;
-use sqlite::{Connection, FileStore, Files, Options};
-use sqlite_disk::{Crash, Disk, Fuse, Memory};
+//! Stores over files in memory that stop at each of their calls in turn. The store that is opened next shows what was
+//! shown before the stopped statement, or after it.
+use super::databases::{Asked, Bank, Disks, OverFiles, ask, file_with};
+use super::opened::{ACCOUNT, BEFORE, KNOWN};
+use sqlite_disk::{Crash, Fuse, Memory};
 use std::alloc::{AllocError, Global};
-use std::io;
 use std::process::Abort;
 use std::test::Fail;
 
-/// What is done over files, and what is found in them.
-#[derive(Clone, Copy)]
-pub(super) struct Plan<'a> {
-    /// The database file at first. There is no log.
-    pub(super) file: &'a [u8],
-    /// How long the log grows before it is copied into the database file.
-    pub(super) frames: usize,
+/// A store, the statements that it serves, and the queries that show its rows.
+struct Plan {
+    /// Statements of SQL that fill the store. If there are none, the files are empty at first.
+    filled_by: &'static [&'static str],
+    /// Numbers of frames at which the log is copied into the database file. Each is tried.
+    frames: &'static [usize],
     /// The statements of session 1, and the reply to each.
-    pub(super) asked: &'a [(&'a str, &'a str)],
-    /// What shows the rows.
-    pub(super) queries: &'a [&'a str],
-    /// What these show: at first, before each statement, before the closing, and behind it.
-    pub(super) found: &'a [&'a str],
+    asked: Asked,
+    /// Queries that show the rows.
+    queries: &'static [&'static str],
 }
 
-/// A connection over files. Few pages are kept in memory.
-pub(super) fn connect<D: Disk + Drop>(
-    alloc: Global,
-    files: Files<D>,
+/// A plan over a database file, and what its queries show.
+#[derive(Drop)]
+struct Trial<'a> {
+    plan: &'a Plan,
+    /// The database file at first. The log is empty.
+    file: &'a [u8],
+    /// What the queries show: first of the files as they are, then after no statement, after one, and so on.
+    found: &'a [String],
     frames: usize,
-) -> Option<Connection<FileStore<D>>> {
-    if !files.log.may_be_used() || !files.db.may_be_used() {
-        return None;
-    }
-    let options = Options {
-        cache_pages: 32,
-        spill_pages: 8,
-        checkpoint_frames: frames,
-        seed: 1,
-    };
-    match Connection::open_files(alloc, files, options) {
-        Ok(conn) => Some(conn),
-        Err(_) => None,
-    }
 }
 
-/// The database over files.
-pub(super) fn database<D: Disk + Drop>(
-    alloc: Global,
-    files: Files<D>,
-    frames: usize,
-) -> Option<Database<FileStore<D>>> {
-    over(alloc, connect(alloc, files, frames)?).ok()
-}
-
-/// Copies the log of a database into its database file, and tells whether that was done.
-pub(super) fn is_closed<D: Disk + Drop>(database: Database<FileStore<D>>) -> bool {
-    database.into_connection().close().is_ok()
-}
-
-/// Does a plan over files until the store refuses a statement, and answers at which place of what is found that
-/// is.
-fn serve<R: Abort + AllocGlobal, D: Disk + Drop>(
+/// Returns what the queries show, and before it whether the store was migrated.
+fn shown<R: Abort + AllocGlobal, B: Bank>(
     rt: &R,
-    plan: Plan<'_>,
-    files: Files<D>,
-) -> Result<usize, Fail> {
-    let Some(mut database) = database(rt.alloc(), files, plan.frames) else {
-        return Ok(0);
+    bank: &mut B,
+    queries: &[&str],
+    migrated: bool,
+) -> Result<String, Fail> {
+    let mut text = String::new(rt.alloc());
+    if migrated {
+        text.push_str("migrated\n")?;
+    }
+    for query in queries {
+        let reply = ask(rt, bank, 1, query)?;
+        text.push_str(reply.as_str())?;
+    }
+    Ok(text)
+}
+
+/// Runs a plan over files that do not stop, and compares the replies. Returns what the queries show at each place.
+fn find<R: Abort + AllocGlobal, B: Bank>(
+    rt: &R,
+    plan: &Plan,
+    file: &[u8],
+) -> Result<Vec<String>, Fail> {
+    let alloc = rt.alloc();
+    let disks = Disks::new(alloc, [&[], file], [u64::MAX; 2])?;
+    let opened: Option<(B, bool)> = B::open(alloc, disks, 1000, true).ok();
+    let (mut bank, migrated) = opened.expect(rt, "a store");
+    let mut found = Vec::new(alloc);
+    found.push(shown(rt, &mut bank, plan.queries, migrated)?)?;
+    found.push(shown(rt, &mut bank, plan.queries, false)?)?;
+    for (statement, reply) in plan.asked {
+        let got = ask(rt, &mut bank, 1, statement)?;
+        assert_eq!(rt; got.as_str(), *reply, "{statement}");
+        found.push(shown(rt, &mut bank, plan.queries, false)?)?;
+    }
+    Ok(found)
+}
+
+/// Runs a plan until the store refuses a statement. Returns the place of what is shown next, whether the store was
+/// closed, and the files.
+fn serve<R: Abort + AllocGlobal, B: Bank>(
+    rt: &R,
+    trial: &Trial<'_>,
+    disks: Disks,
+) -> Result<(usize, bool, Disks), Fail> {
+    let mut bank: B = match B::open(rt.alloc(), disks, trial.frames, true) {
+        Ok((bank, _)) => bank,
+        Err((number, disks)) => {
+            assert_eq!(rt; number, 60);
+            return Ok((0, false, disks));
+        }
     };
-    for (i, (statement, reply)) in plan.asked.iter().enumerate() {
-        let got = ask(rt, &mut database, 1, statement)?;
-        if is_text(got.as_str(), "bank.1> ERR 60 store\n") {
-            return Ok(i.saturating_add(1));
+    let asked = trial.plan.asked;
+    for (place, (statement, reply)) in asked.iter().enumerate() {
+        let got = ask(rt, &mut bank, 1, statement)?;
+        if got.as_str() == "bank.1> ERR 60 store\n" {
+            return Ok((place.saturating_add(1), false, bank.stop()));
         }
         assert_eq!(rt; got.as_str(), *reply);
     }
-    let closing = plan.asked.len().saturating_add(1);
-    if is_closed(database) {
-        Ok(closing.saturating_add(1))
-    } else {
-        Ok(closing)
-    }
+    let (is_closed, disks) = bank.close(&[]);
+    Ok((asked.len().saturating_add(1), is_closed, disks))
 }
 
-/// Does a plan over files of which each stops after so many calls, and looks at what a crash leaves. Answers
-/// whether the plan was done to its end.
-fn serve_stopped<R: Abort + AllocGlobal>(
-    rt: &R,
-    plan: Plan<'_>,
-    log_calls: u64,
-    db_calls: u64,
-) -> Result<bool, Fail> {
-    let alloc = rt.alloc();
-    let log = file_of(alloc, &[])?;
-    let db = file_of(alloc, plan.file)?;
-    let mut log = Fuse::new(log, log_calls);
-    let mut db = Fuse::new(db, db_calls);
-    let lent = Files {
-        log: Lent::new(&mut log),
-        db: Lent::new(&mut db),
-    };
-    let place = serve(rt, plan, lent)?;
-    check_left(rt, plan, &mut log, &mut db, place)?;
-    Ok(place.saturating_add(1) == plan.found.len())
-}
-
-/// A file of bytes, which are synced.
-pub(super) fn file_of(alloc: Global, bytes: &[u8]) -> io::Result<Memory> {
-    let mut file = Memory::new(alloc);
-    file.write_at(0, bytes)?;
-    file.sync()?;
-    Ok(file)
-}
-
-/// What was written to a file.
-pub(super) fn written(alloc: Global, file: &Fuse<Memory>) -> Result<Vec<u8>, AllocError> {
-    let mut bytes = Vec::new(alloc);
-    bytes.extend_from_slice(file.inner().bytes())?;
-    Ok(bytes)
-}
-
-/// Looks at what a crash leaves at a place: of each of the two files all that was written, or just what was
-/// synced. A store that was closed is whole in its database file.
-fn check_left<R: Abort + AllocGlobal>(
-    rt: &R,
-    plan: Plan<'_>,
-    log: &mut Fuse<Memory>,
-    db: &mut Fuse<Memory>,
+/// What a crash leaves of each file: all that was written, or only what was synced.
+#[derive(Drop)]
+struct Left {
+    /// The place of what is shown next.
     place: usize,
-) -> Result<(), Fail> {
-    let written_log = written(rt.alloc(), log)?;
-    let written_db = written(rt.alloc(), db)?;
-    log.crash();
-    db.crash();
-    let logs = [written_log.as_slice(), log.inner().bytes()];
-    let dbs = [written_db.as_slice(), db.inner().bytes()];
-    for log in distinct(&logs) {
-        for db in distinct(&dbs) {
-            check(rt, plan, log, db, place)?;
-        }
-    }
-    if place.saturating_add(1) == plan.found.len() {
-        check(rt, plan, &[], dbs[1], place)?;
-    }
-    Ok(())
+    logs: [Vec<u8>; 2],
+    dbs: [Vec<u8>; 2],
 }
 
-/// Both of two files, or one where they are the same.
-pub(super) fn distinct<'a, 'b>(files: &'b [&'a [u8]; 2]) -> &'b [&'a [u8]] {
+impl Left {
+    /// Tells whether a log and a database file are among what is left at a place.
+    fn has(&self, place: usize, log: &Vec<u8>, db: &Vec<u8>) -> bool {
+        self.place == place
+            && (self.logs[0] == *log || self.logs[1] == *log)
+            && (self.dbs[0] == *db || self.dbs[1] == *db)
+    }
+}
+
+/// Returns the bytes of a file that were written, and those that were synced.
+fn written_and_synced(alloc: Global, mut file: Fuse<Memory>) -> Result<[Vec<u8>; 2], AllocError> {
+    let mut written = Vec::new(alloc);
+    written.extend_from_slice(file.inner().bytes())?;
+    file.crash();
+    let mut synced = Vec::new(alloc);
+    synced.extend_from_slice(file.inner().bytes())?;
+    Ok([written, synced])
+}
+
+/// Returns both files, or one if they are equal.
+fn distinct(files: &[Vec<u8>; 2]) -> &[Vec<u8>] {
     if files[0] == files[1] {
         &files[..1]
     } else {
@@ -157,174 +132,285 @@ pub(super) fn distinct<'a, 'b>(files: &'b [&'a [u8]; 2]) -> &'b [&'a [u8]] {
     }
 }
 
-/// Opens files, and looks whether what is found in them stands at a place of the plan, or at the next one.
-fn check<R: Abort + AllocGlobal>(
+/// Opens what a crash leaves, unless the crash before left it too. A store that was closed is whole in its database
+/// file.
+fn check_left<R: Abort + AllocGlobal, B: Bank>(
     rt: &R,
-    plan: Plan<'_>,
-    log: &[u8],
-    db: &[u8],
+    trial: &Trial<'_>,
+    left: &Left,
+    before: Option<&Left>,
+    is_closed: bool,
+) -> Result<(), Fail> {
+    for db in distinct(&left.dbs) {
+        for log in distinct(&left.logs) {
+            let is_known = match before {
+                Some(before) => before.has(left.place, log, db),
+                None => false,
+            };
+            if !is_known {
+                check::<_, B>(rt, trial, [log, db], left.place)?;
+            }
+        }
+    }
+    if is_closed {
+        check::<_, B>(rt, trial, [&[], &left.dbs[1]], left.place)?;
+    }
+    Ok(())
+}
+
+/// Opens files, and tests that they show what is shown at a place or at the next one.
+fn check<R: Abort + AllocGlobal, B: Bank>(
+    rt: &R,
+    trial: &Trial<'_>,
+    files: [&[u8]; 2],
     place: usize,
 ) -> Result<(), Fail> {
-    let alloc = rt.alloc();
-    let log = file_of(alloc, log)?;
-    let db = file_of(alloc, db)?;
-    let opened = database(alloc, Files { log, db }, plan.frames);
-    let mut database = opened.expect(rt, "a store");
-    let mut found = String::new(alloc);
-    for query in plan.queries {
-        let shown = ask(rt, &mut database, 1, query)?;
-        found.push_str(shown.as_str())?;
+    let disks = Disks::new(rt.alloc(), files, [u64::MAX; 2])?;
+    let opened: Option<(B, bool)> = B::open(rt.alloc(), disks, trial.frames, true).ok();
+    let (mut bank, migrated) = opened.expect(rt, "a store");
+    let shown = shown(rt, &mut bank, trial.plan.queries, migrated)?;
+    for found in trial.found.iter().skip(place).take(2) {
+        if found.as_str() == shown.as_str() {
+            return Ok(());
+        }
     }
-    let is_before = is_found(plan, place, found.as_str());
-    let is_after = is_found(plan, place.saturating_add(1), found.as_str());
-    assert!(rt; is_before || is_after, "{found} at {place}");
-    Ok(())
+    panic!(rt; "{shown} at {place}")
 }
 
-/// Whether a text stands at a place of what is found.
-fn is_found(plan: Plan<'_>, place: usize, text: &str) -> bool {
-    match plan.found.get(place) {
-        Some(found) => is_text(text, found),
-        None => false,
-    }
-}
-
-/// Does a plan over files of which one stops after 0, 1, 2 calls and so on, until it is done to its end. Answers
-/// how many calls that takes.
-pub(super) fn stop_at_each<R: Abort + AllocGlobal>(
+/// Runs a plan over files of which one stops after 0, 1, 2 calls and so on, until the store is closed. Returns how many
+/// calls that takes.
+fn stop_one<R: Abort + AllocGlobal, B: Bank>(
     rt: &R,
-    plan: Plan<'_>,
+    trial: &Trial<'_>,
     stops_log: bool,
 ) -> Result<u64, Fail> {
+    let alloc = rt.alloc();
+    let mut last: Option<Left> = None;
     for calls in 0..10_000u64 {
-        let (log_calls, db_calls) = if stops_log {
-            (calls, u64::MAX)
+        let calls_of_each = if stops_log {
+            [calls, u64::MAX]
         } else {
-            (u64::MAX, calls)
+            [u64::MAX, calls]
         };
-        if serve_stopped(rt, plan, log_calls, db_calls)? {
+        let disks = Disks::new(alloc, [&[], trial.file], calls_of_each)?;
+        let (place, is_closed, disks) = serve::<_, B>(rt, trial, disks)?;
+        let Disks { log, db } = disks;
+        let logs = written_and_synced(alloc, log)?;
+        let dbs = written_and_synced(alloc, db)?;
+        let left = Left { place, logs, dbs };
+        check_left::<_, B>(rt, trial, &left, last.as_ref(), is_closed)?;
+        if is_closed {
             return Ok(calls);
         }
+        last = Some(left);
     }
-    panic!(rt; "never served")
+    panic!(rt; "never done")
 }
 
-/// The table of an account.
-const CREATE: (&str, &str) = (
-    "CREATE TABLE ACCOUNT (ID INTEGER PRIMARY KEY, BALANCE INTEGER RESERVABLE CONSTRAINT MINIMUM_BALANCE CHECK (BALANCE >= 50))",
-    "bank.1> OK created ACCOUNT\n",
-);
-
-/// The account.
-const INSERT: (&str, &str) = (
-    "INSERT INTO ACCOUNT VALUES (1, 100)",
-    "bank.1> OK inserted\n",
-);
-
-/// An account, a reservation and its COMMIT.
-const ACCOUNT: [(&str, &str); 5] = [
-    CREATE,
-    INSERT,
-    (
-        "UPDATE ACCOUNT SET BALANCE = BALANCE - 30 WHERE ID = 1",
-        "bank.1> OK reserved 1\n",
-    ),
-    ("COMMIT", "bank.1> OK committed 1\n"),
-    ("DELETE FROM ACCOUNT WHERE ID = 1", "bank.1> OK deleted\n"),
-];
-
-/// What shows the account.
-const SHOW_ACCOUNT: [&str; 1] = ["SELECT * FROM ACCOUNT"];
-
-/// No table.
-const NONE: &str = "bank.1> ERR 21 no such table\n";
-
-/// A table without rows.
-const EMPTY: &str = "bank.1> ID | BALANCE\nbank.1> OK rows 0\n";
-
-/// The account as it was inserted.
-pub(super) const FULL: &str = "bank.1> ID | BALANCE\nbank.1> 1 | 100\nbank.1> OK rows 1\n";
-
-/// The account behind the COMMIT.
-const LESS: &str = "bank.1> ID | BALANCE\nbank.1> 1 | 70\nbank.1> OK rows 1\n";
-
-/// What is found of the account.
-const FOUND: [&str; 8] = [NONE, NONE, EMPTY, FULL, FULL, LESS, EMPTY, EMPTY];
-
-/// Does a plan on an empty file over files of which one stops at each of its calls in turn: where the log is copied
-/// at each commit, and where it is copied when the store is closed, at each call of that too.
-fn stop_everywhere<'a, R: Abort + AllocGlobal>(
-    rt: &R,
-    asked: &'a [(&'a str, &'a str)],
-    queries: &'a [&'a str],
-    found: &'a [&'a str],
-) -> Result<(), Fail> {
-    for frames in [1, 1000] {
-        let plan = Plan {
-            file: &[],
-            frames,
-            asked,
-            queries,
-            found,
-        };
+/// Runs a plan over files of which one stops at each of its calls in turn.
+fn stop_at_each<R: Abort + AllocGlobal, B: Bank>(rt: &R, plan: &Plan) -> Result<(), Fail> {
+    let file = match plan.filled_by {
+        [] => Vec::new(rt.alloc()),
+        statements => file_with::<_, B>(rt, statements)?,
+    };
+    let found = find::<_, B>(rt, plan, file.as_slice())?;
+    for frames in plan.frames {
         for stops_log in [true, false] {
-            let calls = stop_at_each(rt, plan, stops_log)?;
-            assert!(rt; calls > 5, "{calls}");
+            let trial = Trial {
+                plan,
+                file: file.as_slice(),
+                found: found.as_slice(),
+                frames: *frames,
+            };
+            let calls = stop_one::<_, B>(rt, &trial, stops_log)?;
+            assert!(rt; calls > 3, "{calls}");
         }
     }
     Ok(())
 }
 
-/// Whichever call of the log or of the database file is the last one, what is then opened has the rows from before
-/// the statement that was stopped, or with what it makes.
+/// The log is copied at each commit, or when the store is closed.
+const COPIED: &[usize] = &[1, 1000];
+
+/// The query of the account.
+const SHOW_ACCOUNT: &str = "SELECT * FROM ACCOUNT";
+
+/// The account after its INSERT.
+const FULL: &str = "bank.1> ID | BALANCE\nbank.1> 1 | 100\nbank.1> OK rows 1\n";
+
+/// A store that is made.
+const MADE: Plan = Plan {
+    filled_by: &[],
+    frames: COPIED,
+    asked: &[],
+    queries: &[SHOW_ACCOUNT],
+};
+
+/// A table and an account.
+const INSERTED: Plan = Plan {
+    filled_by: &[KNOWN],
+    frames: COPIED,
+    asked: &[
+        (
+            "CREATE TABLE ACCOUNT (ID INTEGER PRIMARY KEY, BALANCE INTEGER RESERVABLE CONSTRAINT MINIMUM_BALANCE CHECK (BALANCE >= 50))",
+            "bank.1> OK created ACCOUNT\n",
+        ),
+        (
+            "INSERT INTO ACCOUNT VALUES (1, 100)",
+            "bank.1> OK inserted\n",
+        ),
+        (SHOW_ACCOUNT, FULL),
+    ],
+    queries: &[SHOW_ACCOUNT],
+};
+
+/// A reservation, its COMMIT, and a DELETE.
+const COMMITTED: Plan = Plan {
+    filled_by: &[ACCOUNT],
+    frames: COPIED,
+    asked: &[
+        (
+            "UPDATE ACCOUNT SET BALANCE = BALANCE - 30 WHERE ID = 1",
+            "bank.1> OK reserved 1\n",
+        ),
+        ("COMMIT", "bank.1> OK committed 1\n"),
+        (
+            SHOW_ACCOUNT,
+            "bank.1> ID | BALANCE\nbank.1> 1 | 70\nbank.1> OK rows 1\n",
+        ),
+        ("DELETE FROM ACCOUNT WHERE ID = 1", "bank.1> OK deleted\n"),
+    ],
+    queries: &[SHOW_ACCOUNT],
+};
+
+/// Whichever call of the log or of the database file is the last one, the store has the rows from before the stopped
+/// statement, or from after it.
 #[test]
 fn stopped_at_each_call(rt: HostRuntime) -> Result<(), Fail> {
-    stop_everywhere(&rt, &ACCOUNT, &SHOW_ACCOUNT, &FOUND)
+    for plan in [&MADE, &INSERTED, &COMMITTED] {
+        stop_at_each::<_, OverFiles>(&rt, plan)?;
+    }
+    Ok(())
 }
 
 /// An account whose table is altered twice.
-const ALTERED: [(&str, &str); 4] = [
-    CREATE,
-    INSERT,
-    (
-        "ALTER TABLE ACCOUNT ADD CONSTRAINT CAP CHECK (BALANCE <= 100)",
-        "bank.1> OK altered ACCOUNT\n",
-    ),
-    (
-        "ALTER TABLE ACCOUNT DROP CONSTRAINT MINIMUM_BALANCE",
-        "bank.1> OK altered ACCOUNT\n",
-    ),
-];
+const ALTERED: Plan = Plan {
+    filled_by: &[ACCOUNT],
+    frames: COPIED,
+    asked: &[
+        (
+            "ALTER TABLE ACCOUNT ADD CONSTRAINT CAP CHECK (BALANCE <= 100)",
+            "bank.1> OK altered ACCOUNT\n",
+        ),
+        (
+            "ALTER TABLE ACCOUNT DROP CONSTRAINT MINIMUM_BALANCE",
+            "bank.1> OK altered ACCOUNT\n",
+        ),
+        (
+            "SHOW TABLE ACCOUNT",
+            "bank.1> CREATE TABLE ACCOUNT (ID NUMBER(15) PRIMARY KEY, BALANCE NUMBER(15) RESERVABLE, CONSTRAINT CAP CHECK (BALANCE <= 100))\nbank.1> OK table\n",
+        ),
+    ],
+    queries: &["SHOW TABLE ACCOUNT", SHOW_ACCOUNT],
+};
 
-/// What shows the table and its row.
-const SHOW_TABLE: [&str; 2] = ["SHOW TABLE ACCOUNT", "SELECT * FROM ACCOUNT"];
-
-/// No table.
-const NO_TABLE: &str = "bank.1> ERR 21 no such table\nbank.1> ERR 21 no such table\n";
-
-/// The table as it was created, without a row.
-const CREATED: &str =
-    "bank.1> CREATE TABLE ACCOUNT (ID NUMBER(15) PRIMARY KEY, BALANCE NUMBER(15) RESERVABLE, CONSTRAINT MINIMUM_BALANCE CHECK (BALANCE >= 50))\nbank.1> OK table\nbank.1> ID | BALANCE\nbank.1> OK rows 0\n";
-
-/// The table as it was created, with the row.
-const ONE_CHECK: &str =
-    "bank.1> CREATE TABLE ACCOUNT (ID NUMBER(15) PRIMARY KEY, BALANCE NUMBER(15) RESERVABLE, CONSTRAINT MINIMUM_BALANCE CHECK (BALANCE >= 50))\nbank.1> OK table\nbank.1> ID | BALANCE\nbank.1> 1 | 100\nbank.1> OK rows 1\n";
-
-/// The table with one check more, and the row.
-const TWO_CHECKS: &str =
-    "bank.1> CREATE TABLE ACCOUNT (ID NUMBER(15) PRIMARY KEY, BALANCE NUMBER(15) RESERVABLE, CONSTRAINT MINIMUM_BALANCE CHECK (BALANCE >= 50), CONSTRAINT CAP CHECK (BALANCE <= 100))\nbank.1> OK table\nbank.1> ID | BALANCE\nbank.1> 1 | 100\nbank.1> OK rows 1\n";
-
-/// The table with that check alone, and the row.
-const NEW_CHECK: &str =
-    "bank.1> CREATE TABLE ACCOUNT (ID NUMBER(15) PRIMARY KEY, BALANCE NUMBER(15) RESERVABLE, CONSTRAINT CAP CHECK (BALANCE <= 100))\nbank.1> OK table\nbank.1> ID | BALANCE\nbank.1> 1 | 100\nbank.1> OK rows 1\n";
-
-/// What is found of the table.
-const FOUND_TABLE: [&str; 7] = [
-    NO_TABLE, NO_TABLE, CREATED, ONE_CHECK, TWO_CHECKS, NEW_CHECK, NEW_CHECK,
-];
-
-/// An ALTER TABLE that is stopped leaves the table as it was before it, or as it makes it, and its row.
+/// A stopped ALTER TABLE leaves the table as it was or as it makes it, and leaves its row.
 #[test]
 fn alter_stopped_at_each_call(rt: HostRuntime) -> Result<(), Fail> {
-    stop_everywhere(&rt, &ALTERED, &SHOW_TABLE, &FOUND_TABLE)
+    stop_at_each::<_, OverFiles>(&rt, &ALTERED)
+}
+
+/// An account in a store of the format before.
+const MIGRATED: Plan = Plan {
+    filled_by: &[ACCOUNT, BEFORE],
+    frames: COPIED,
+    asked: &[(SHOW_ACCOUNT, FULL)],
+    queries: &[SHOW_ACCOUNT],
+};
+
+/// A stopped migration leaves the store in the format before or in the known one. Once `migrate` has returned, the
+/// format is the known one.
+#[test]
+fn a_migration_stops_at_each_call(rt: HostRuntime) -> Result<(), Fail> {
+    stop_at_each::<_, OverFiles>(&rt, &MIGRATED)
+}
+
+/// A text with a key of 255 bytes, which ends in a digit.
+macro_rules! with_key {
+    ($before:literal, $digit:literal, $behind:literal) => {
+        with_key!(
+            $before,
+            $digit,
+            $behind,
+            "AAAAAAAAAAAAAAAAAAAAAAAAAAAAAAAAAAAAAAAAAAAAAAAAAA"
+        )
+    };
+    ($before:literal, $digit:literal, $behind:literal, $fifty:literal) => {
+        concat!(
+            $before, "K105", $fifty, $fifty, $fifty, $fifty, $fifty, $digit, $behind
+        )
+    };
+}
+
+/// Two tables of 10 and 12 rows, which almost fill a page of cells. Rows with keys of 255 bytes divide it, and a COMMIT
+/// changes several pages.
+const LARGE: Plan = Plan {
+    filled_by: &[
+        "INSERT INTO TAB VALUES (1, 'A', 'CREATE TABLE A (ID NUMBER(15) PRIMARY KEY, N NUMBER(15) RESERVABLE, CONSTRAINT LEAST CHECK (N >= 0))')",
+        "INSERT INTO TAB VALUES (2, 'B', 'CREATE TABLE B (CODE VARCHAR2(255) PRIMARY KEY, N NUMBER(15) RESERVABLE, C NUMBER(15), D NUMBER(15))')",
+        "CREATE TABLE NUMBERS (I INTEGER PRIMARY KEY)",
+        "INSERT INTO NUMBERS VALUES (0), (1), (2), (3), (4), (5), (6), (7), (8), (9)",
+        "INSERT INTO CELL SELECT 1, I, 1, I FROM NUMBERS",
+        "INSERT INTO CELL SELECT 1, I, 2, I + 100 FROM NUMBERS",
+        "CREATE TABLE KEYS (K TEXT)",
+        "INSERT INTO KEYS SELECT 'K' || (I + 100) FROM NUMBERS",
+        with_key!("INSERT INTO KEYS VALUES ('", "0", "')"),
+        with_key!("INSERT INTO KEYS VALUES ('", "1", "')"),
+        "INSERT INTO CELL SELECT 2, K, 1, K FROM KEYS",
+        "INSERT INTO CELL SELECT 2, K, 2, 1 FROM KEYS",
+        "INSERT INTO CELL SELECT 2, K, 3, 2 FROM KEYS",
+        "INSERT INTO CELL SELECT 2, K, 4, 3 FROM KEYS",
+        "DROP TABLE KEYS",
+        "DROP TABLE NUMBERS",
+    ],
+    frames: &[1000],
+    asked: &[
+        (
+            "SELECT * FROM B WHERE CODE = 'K109'",
+            "bank.1> CODE | N | C | D\nbank.1> 'K109' | 1 | 2 | 3\nbank.1> OK rows 1\n",
+        ),
+        (
+            with_key!("INSERT INTO B VALUES ('", "2", "', 1, 2, 3)"),
+            "bank.1> OK inserted\n",
+        ),
+        (
+            with_key!("INSERT INTO B VALUES ('", "3", "', 1, 2, 3)"),
+            "bank.1> OK inserted\n",
+        ),
+        (
+            "UPDATE A SET N = N - 30 WHERE ID = 0",
+            "bank.1> OK reserved 1\n",
+        ),
+        (
+            "UPDATE B SET N = N + 5 WHERE CODE = 'K109'",
+            "bank.1> OK reserved 2\n",
+        ),
+        (
+            with_key!("UPDATE B SET N = N + 5 WHERE CODE = '", "3", "'"),
+            "bank.1> OK reserved 3\n",
+        ),
+        ("COMMIT", "bank.1> OK committed 3\n"),
+        (
+            "SELECT * FROM A WHERE ID = 0",
+            "bank.1> ID | N\nbank.1> 0 | 70\nbank.1> OK rows 1\n",
+        ),
+        ("DELETE FROM B WHERE CODE = 'K109'", "bank.1> OK deleted\n"),
+    ],
+    queries: &["SELECT * FROM A", "SELECT * FROM B"],
+};
+
+/// The same holds where statements divide pages, and where a COMMIT changes several.
+#[test]
+fn stopped_over_many_rows(rt: HostRuntime) -> Result<(), Fail> {
+    stop_at_each::<_, OverFiles>(&rt, &LARGE)
 }

@@ -1,17 +1,12 @@
-//! What is refused by a store changes nothing.
-use super::databases::{account, ask, ask_all, is_text};
-use escrow_core::Database;
-use escrow_memory::BlockStore;
+//! A statement that the store refuses changes nothing.
+use super::databases::{Asked, Bank, OverFiles, ask, ask_all, over};
 use std::process::Abort;
 use std::test::Fail;
 
-/// Statements, each with its reply.
-type Asked = &'static [(&'static str, &'static str)];
-
-/// A statement that writes, what session 1 asks before it, what it replies once it is served, whether limits
-/// refuse it, and what shows session 9 that it wasn't served and that it was.
-#[derive(Clone, Copy)]
+/// A statement of session 1 that writes, and its reply. A session asks statements before it. Session 9 asks what shows
+/// that it was refused, and what shows that it was served. `is_refused` tells whether limits refuse it at all.
 struct Write {
+    session: u8,
     set_up: Asked,
     statement: &'static str,
     reply: &'static str,
@@ -26,8 +21,21 @@ const STANDS: (&str, &str) = (
     "bank.9> ID | OWNER | BALANCE\nbank.9> 1 | 'it''s é' | 100\nbank.9> OK rows 1\n",
 );
 
+/// A table of accounts, of which 50 have to stay, and an account with a balance of 100.
+const ACCOUNT: Asked = &[
+    (
+        "CREATE TABLE ACCOUNT (ID INTEGER PRIMARY KEY, OWNER VARCHAR2(20), BALANCE INTEGER RESERVABLE CONSTRAINT MINIMUM_BALANCE CHECK (BALANCE >= 50))",
+        "bank.1> OK created ACCOUNT\n",
+    ),
+    (
+        "INSERT INTO ACCOUNT VALUES (1, 'it''s é', 100)",
+        "bank.1> OK inserted\n",
+    ),
+];
+
 /// A COMMIT of a reservation.
 const COMMIT: Write = Write {
+    session: 1,
     set_up: &[(
         "UPDATE ACCOUNT SET BALANCE = BALANCE - 30 WHERE ID = 1",
         "bank.1> OK reserved 1\n",
@@ -53,9 +61,10 @@ const COMMIT: Write = Write {
 
 /// The other statements. A limit counts the rows that SQLite looks at: there is none of a new key, and a CREATE
 /// TABLE looks at none.
-const WRITES: [Write; 6] = [
+const WRITES: &[Write] = &[
     // an UPDATE of plain columns
     Write {
+        session: 1,
         set_up: &[],
         statement: "UPDATE ACCOUNT SET OWNER = 'Ada' WHERE ID = 1",
         reply: "bank.1> OK updated\n",
@@ -68,6 +77,7 @@ const WRITES: [Write; 6] = [
     },
     // an UPDATE that reserves
     Write {
+        session: 1,
         set_up: &[],
         statement: "UPDATE ACCOUNT SET BALANCE = BALANCE + 1 WHERE ID = 1",
         reply: "bank.1> OK reserved 1\n",
@@ -83,6 +93,7 @@ const WRITES: [Write; 6] = [
     },
     // an INSERT
     Write {
+        session: 1,
         set_up: &[],
         statement: "INSERT INTO ACCOUNT VALUES (-2, 'B', 60)",
         reply: "bank.1> OK inserted\n",
@@ -92,6 +103,7 @@ const WRITES: [Write; 6] = [
     },
     // a DELETE
     Write {
+        session: 1,
         set_up: &[(
             "INSERT INTO ACCOUNT VALUES (-2, 'B', 60)",
             "bank.1> OK inserted\n",
@@ -104,6 +116,7 @@ const WRITES: [Write; 6] = [
     },
     // a CREATE TABLE
     Write {
+        session: 1,
         set_up: &[],
         statement: CREATE,
         reply: CREATED,
@@ -113,6 +126,7 @@ const WRITES: [Write; 6] = [
     },
     // a DROP TABLE
     Write {
+        session: 1,
         set_up: &[(CREATE, CREATED)],
         statement: "DROP TABLE ACCOUNT",
         reply: "bank.1> OK dropped ACCOUNT\n",
@@ -121,6 +135,48 @@ const WRITES: [Write; 6] = [
         after: &[
             ("SHOW TABLE ACCOUNT", "bank.9> ERR 21 no such table\n"),
             EMPTY,
+        ],
+    },
+    // an ALTER TABLE that adds a check
+    Write {
+        session: 2,
+        set_up: TAKEN,
+        statement: "ALTER TABLE ACCOUNT ADD CONSTRAINT CAP CHECK (BALANCE <= 100)",
+        reply: "bank.1> OK altered ACCOUNT\n",
+        is_refused: true,
+        before: &[OPEN, BOUNDS, CHECKED, STANDS],
+        after: &[
+            OPEN,
+            (
+                "SHOW BOUNDS ACCOUNT WHERE ID = 1",
+                "bank.9> BALANCE value 100 inf 70 sup 100\nbank.9> CHECK MINIMUM_BALANCE least 70 greatest 100 low 50 high none\nbank.9> CHECK CAP least 70 greatest 100 low none high 100\nbank.9> OK bounds\n",
+            ),
+            (
+                "SHOW TABLE ACCOUNT",
+                "bank.9> CREATE TABLE ACCOUNT (ID NUMBER(15) PRIMARY KEY, OWNER VARCHAR2(20), BALANCE NUMBER(15) RESERVABLE, CONSTRAINT MINIMUM_BALANCE CHECK (BALANCE >= 50), CONSTRAINT CAP CHECK (BALANCE <= 100))\nbank.9> OK table\n",
+            ),
+            STANDS,
+        ],
+    },
+    // an ALTER TABLE that drops one
+    Write {
+        session: 2,
+        set_up: TAKEN,
+        statement: "ALTER TABLE ACCOUNT DROP CONSTRAINT MINIMUM_BALANCE",
+        reply: "bank.1> OK altered ACCOUNT\n",
+        is_refused: true,
+        before: &[OPEN, BOUNDS, CHECKED, STANDS],
+        after: &[
+            OPEN,
+            (
+                "SHOW BOUNDS ACCOUNT WHERE ID = 1",
+                "bank.9> BALANCE value 100 inf 70 sup 100\nbank.9> OK bounds\n",
+            ),
+            (
+                "SHOW TABLE ACCOUNT",
+                "bank.9> CREATE TABLE ACCOUNT (ID NUMBER(15) PRIMARY KEY, OWNER VARCHAR2(20), BALANCE NUMBER(15) RESERVABLE)\nbank.9> OK table\n",
+            ),
+            STANDS,
         ],
     },
 ];
@@ -164,152 +220,60 @@ const CHECKED: (&str, &str) = (
     "bank.9> CREATE TABLE ACCOUNT (ID NUMBER(15) PRIMARY KEY, OWNER VARCHAR2(20), BALANCE NUMBER(15) RESERVABLE, CONSTRAINT MINIMUM_BALANCE CHECK (BALANCE >= 50))\nbank.9> OK table\n",
 );
 
-/// What alters the table under the reservation.
-const ALTERS: [Write; 2] = [
-    // an ALTER TABLE that adds a check
-    Write {
-        set_up: &[],
-        statement: "ALTER TABLE ACCOUNT ADD CONSTRAINT CAP CHECK (BALANCE <= 100)",
-        reply: "bank.1> OK altered ACCOUNT\n",
-        is_refused: true,
-        before: &[OPEN, BOUNDS, CHECKED, STANDS],
-        after: &[
-            OPEN,
-            (
-                "SHOW BOUNDS ACCOUNT WHERE ID = 1",
-                "bank.9> BALANCE value 100 inf 70 sup 100\nbank.9> CHECK MINIMUM_BALANCE least 70 greatest 100 low 50 high none\nbank.9> CHECK CAP least 70 greatest 100 low none high 100\nbank.9> OK bounds\n",
-            ),
-            (
-                "SHOW TABLE ACCOUNT",
-                "bank.9> CREATE TABLE ACCOUNT (ID NUMBER(15) PRIMARY KEY, OWNER VARCHAR2(20), BALANCE NUMBER(15) RESERVABLE, CONSTRAINT MINIMUM_BALANCE CHECK (BALANCE >= 50), CONSTRAINT CAP CHECK (BALANCE <= 100))\nbank.9> OK table\n",
-            ),
-            STANDS,
-        ],
-    },
-    // an ALTER TABLE that drops one
-    Write {
-        set_up: &[],
-        statement: "ALTER TABLE ACCOUNT DROP CONSTRAINT MINIMUM_BALANCE",
-        reply: "bank.1> OK altered ACCOUNT\n",
-        is_refused: true,
-        before: &[OPEN, BOUNDS, CHECKED, STANDS],
-        after: &[
-            OPEN,
-            (
-                "SHOW BOUNDS ACCOUNT WHERE ID = 1",
-                "bank.9> BALANCE value 100 inf 70 sup 100\nbank.9> OK bounds\n",
-            ),
-            (
-                "SHOW TABLE ACCOUNT",
-                "bank.9> CREATE TABLE ACCOUNT (ID NUMBER(15) PRIMARY KEY, OWNER VARCHAR2(20), BALANCE NUMBER(15) RESERVABLE)\nbank.9> OK table\n",
-            ),
-            STANDS,
-        ],
-    },
-];
-
-/// Asks a statement behind an account under each limit of steps of SQLite from 1 on until it is served. After
-/// each refusal what shows that nothing changed is asked without a limit.
-fn refuse_at_each_limit<R: Abort + AllocGlobal>(rt: &R, write: &Write) -> Result<(), Fail> {
-    let mut database = account(rt)?;
-    ask_all(rt, &mut database, 1, write.set_up)?;
-    refuse_until_served(rt, &mut database, write)
-}
-
-/// Asks it of a database that has what comes before it.
-fn refuse_until_served<R: Abort + AllocGlobal>(
+/// Asks a statement under each limit of SQLite's steps, from 1 on, until it is served. After each refusal session 9
+/// looks, without a limit, whether anything changed.
+fn refuse_at_each_limit<R: Abort + AllocGlobal, B: Bank>(
     rt: &R,
-    database: &mut Database<BlockStore>,
     write: &Write,
 ) -> Result<(), Fail> {
+    let mut bank: B = over(rt, &[])?;
+    ask_all(rt, &mut bank, 1, ACCOUNT)?;
+    ask_all(rt, &mut bank, write.session, write.set_up)?;
     for limit in 1..1000u64 {
-        if is_served(rt, database, write, limit)? {
+        if is_served(rt, &mut bank, write, limit)? {
             assert_eq!(rt; limit > 1, write.is_refused, "{}", write.statement);
-            return ask_all(rt, database, 9, write.after);
+            return ask_all(rt, &mut bank, 9, write.after);
         }
-        ask_all(rt, database, 9, write.before)?;
+        ask_all(rt, &mut bank, 9, write.before)?;
     }
     panic!(rt; "never served")
 }
 
-/// Whether a statement is served under a limit. Else it is refused by the store.
-fn is_served<R: Abort + AllocGlobal>(
+/// Tells whether a statement is served under a limit. If not, the store refuses it.
+fn is_served<R: Abort + AllocGlobal, B: Bank>(
     rt: &R,
-    database: &mut Database<BlockStore>,
+    bank: &mut B,
     write: &Write,
     limit: u64,
 ) -> Result<bool, Fail> {
-    database.set_step_limit(Some(limit));
-    let got = ask(rt, database, 1, write.statement)?;
-    database.set_step_limit(None);
+    bank.limit(Some(limit));
+    let got = ask(rt, bank, 1, write.statement)?;
+    bank.limit(None);
     let served = is_text(got.as_str(), write.reply);
-    assert!(rt; served || is_text(got.as_str(), "bank.1> ERR 60 store\n"));
+    assert!(rt;
+        served || is_text(got.as_str(), "bank.1> ERR 60 store\n"),
+        "{got}"
+    );
     Ok(served)
 }
 
-/// A COMMIT that the store refuses leaves the transaction open, whichever limit refuses it, and can be asked
-/// again.
-#[test]
-fn commit_refused_by_store(rt: HostRuntime) -> Result<(), Fail> {
-    refuse_at_each_limit(&rt, &COMMIT)
+/// Tells whether two texts are the same.
+fn is_text(a: &str, b: &str) -> bool {
+    a == b
 }
 
-/// So does each other statement that writes.
+/// A COMMIT that the store refuses leaves the transaction open, and can be asked again.
+#[test]
+fn commit_refused_by_store(rt: HostRuntime) -> Result<(), Fail> {
+    refuse_at_each_limit::<_, OverFiles>(&rt, &COMMIT)
+}
+
+/// No other refused statement changes anything either. A refused ALTER TABLE leaves the table's checks, its rows'
+/// bounds and the open reservations.
 #[test]
 fn writes_refused_by_store(rt: HostRuntime) -> Result<(), Fail> {
     for write in WRITES {
-        refuse_at_each_limit(&rt, &write)?;
+        refuse_at_each_limit::<_, OverFiles>(&rt, write)?;
     }
     Ok(())
-}
-
-/// An ALTER TABLE that the store refuses leaves the table's checks, its rows' bounds and what is open, whichever
-/// limit refuses it.
-#[test]
-fn alters_refused_by_store(rt: HostRuntime) -> Result<(), Fail> {
-    for write in ALTERS {
-        let mut database = account(&rt)?;
-        ask_all(&rt, &mut database, 2, TAKEN)?;
-        refuse_until_served(&rt, &mut database, &write)?;
-    }
-    Ok(())
-}
-
-/// A reservation.
-const TAKE: Asked = &[(
-    "UPDATE ACCOUNT SET BALANCE = BALANCE - 1 WHERE ID = 1",
-    "bank.1> OK reserved 1\n",
-)];
-
-/// Statements behind it, while the store refuses to look at any row.
-const UNREFUSED: Asked = &[
-    ("SAVEPOINT A", "bank.1> OK savepoint A\n"),
-    ("ROLLBACK TO A", "bank.1> OK rolled back to A 0\n"),
-    ("ROLLBACK TO B", "bank.1> ERR 43 no such savepoint\n"),
-    (
-        "SHOW JOURNAL",
-        "bank.1> 1 session 1 ACCOUNT 1 BALANCE -1\nbank.1> OK reservations 1\n",
-    ),
-    ("DROP TABLE ACCOUNT", "bank.1> ERR 26 transaction open\n"),
-    ("SELECT * FROM ACCOUNT", "bank.1> ERR 60 store\n"),
-    ("ROLLBACK", "bank.1> OK rolled back 1\n"),
-    ("COMMIT", "bank.1> OK committed 0\n"),
-    ("DROP TABLE B", "bank.1> ERR 21 no such table\n"),
-    (
-        "ALTER TABLE ACCOUNT DROP CONSTRAINT B",
-        "bank.1> ERR 27 no such constraint\n",
-    ),
-    (
-        "DELETE FROM ACCOUNT WHERE ID = 'A'",
-        "bank.1> ERR 23 bad value\n",
-    ),
-];
-
-/// What asks the store for nothing is not refused by it.
-#[test]
-fn what_asks_nothing_isnt_refused(rt: HostRuntime) -> Result<(), Fail> {
-    let mut database = account(&rt)?;
-    ask_all(&rt, &mut database, 1, TAKE)?;
-    database.set_step_limit(Some(0));
-    ask_all(&rt, &mut database, 1, UNREFUSED)
 }

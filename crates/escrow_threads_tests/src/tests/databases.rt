@@ -1,6 +1,6 @@
-//! Databases over stores, asked by texts. These have no clause, so that the proof of a test does not carry
-//! the state of each call.
-use super::results::made;
+//! Databases over stores in memory, asked by texts. These functions have no clauses, so that the proof of a test
+//! does not carry the state of each call.
+use super::results::{made, push};
 use escrow_core::Database;
 use escrow_machine::Reply;
 use escrow_memory::BlockStore;
@@ -10,10 +10,7 @@ use escrow_sql::{Request, Statement, parse};
 use escrow_tables::open_store;
 use std::process::Abort;
 
-/// The names of databases, from the first on.
-const NAMES: [&str; 3] = ["bank", "bank2", "bank3"];
-
-/// A table of accounts, of which 50 have to stay.
+/// A table of accounts, each of which keeps at least 50.
 pub const CREATE: &str =
     "CREATE TABLE ACCOUNT (ID INTEGER PRIMARY KEY, BALANCE INTEGER RESERVABLE CONSTRAINT MINIMUM_BALANCE CHECK (BALANCE >= 50))";
 
@@ -23,16 +20,32 @@ pub const INSERT: &str = "INSERT INTO ACCOUNT VALUES (1, 100)";
 /// Both.
 pub const ACCOUNT: [&str; 2] = [CREATE, INSERT];
 
-/// A database in memory, in which session 1 has asked some statements. None is refused.
+/// Takes 30 out of the account.
+pub const TAKE: &str = "UPDATE ACCOUNT SET BALANCE = BALANCE - 30 WHERE ID = 1";
+
+/// Shows the account.
+pub const SHOW: &str = "SELECT * FROM ACCOUNT WHERE ID = 1";
+
+/// A table with one counter, which begins at 0 and which no check limits.
+pub const COUNTER: [&str; 2] = [
+    "CREATE TABLE COUNTER (ID INTEGER PRIMARY KEY, HITS INTEGER RESERVABLE)",
+    "INSERT INTO COUNTER VALUES (1, 0)",
+];
+
+/// Adds one hit.
+pub const HIT: &str = "UPDATE COUNTER SET HITS = HITS + 1 WHERE ID = 1";
+
+/// Opens a database in which session 1 has asked some statements. None of them is refused.
 pub fn database<R: Abort + AllocGlobal>(rt: &R, asked: &[&str]) -> Database<BlockStore> {
     let mut database = open(rt);
     for text in asked {
-        prepare(rt, &mut database, text);
+        let reply = database.step(rt.alloc(), Session::FIRST, &statement(rt, text));
+        assert!(rt; !matches!(&reply, Reply::Refused(_)), "{text}: {reply:?}");
     }
     database
 }
 
-/// A new database in memory.
+/// Opens a database in memory.
 fn open<R: Abort + AllocGlobal>(rt: &R) -> Database<BlockStore> {
     let connection = made(rt, escrow_memory::open(rt.alloc()), "memory");
     match open_store(rt.alloc(), connection) {
@@ -41,36 +54,20 @@ fn open<R: Abort + AllocGlobal>(rt: &R) -> Database<BlockStore> {
     }
 }
 
-/// Session 1 asks a statement, which isn't refused.
-fn prepare<R: Abort + AllocGlobal>(rt: &R, database: &mut Database<BlockStore>, text: &str) {
-    let reply = reply_of(rt, database, Session::FIRST, text);
-    assert!(rt; !matches!(&reply, Reply::Refused(_)), "{text}: {reply:?}");
-}
-
-/// What a database replies to a statement of a session.
-fn reply_of<R: Abort + AllocGlobal>(
+/// Opens several such databases.
+pub fn databases<R: Abort + AllocGlobal>(
     rt: &R,
-    database: &mut Database<BlockStore>,
-    session: Session,
-    text: &str,
-) -> Reply {
-    let statement = statement(rt, text);
-    database.step(rt.alloc(), session, &statement)
+    count: usize,
+    asked: &[&str],
+) -> Vec<Database<BlockStore>> {
+    let mut databases = Vec::new(rt.alloc());
+    for _ in 0..count {
+        push(rt, &mut databases, database(rt, asked));
+    }
+    databases
 }
 
-/// The first database replies to a statement of a session what is wanted, as it is printed.
-pub fn check_reply<R: Abort + AllocGlobal>(
-    rt: &R,
-    database: &mut Database<BlockStore>,
-    session: Session,
-    text: &str,
-    wanted: &str,
-) {
-    let reply = reply_of(rt, database, session, text);
-    check_shown(rt, 0, session, &reply, wanted);
-}
-
-/// The statement of a text.
+/// Returns the statement of a text.
 pub fn statement<R: Abort + AllocGlobal>(rt: &R, text: &str) -> Statement {
     match parse(rt.alloc(), text) {
         Ok(Request::Statement(statement)) => statement,
@@ -79,26 +76,20 @@ pub fn statement<R: Abort + AllocGlobal>(rt: &R, text: &str) -> Statement {
     }
 }
 
-/// The session of a number.
-pub fn session<R: Abort>(rt: &R, number: u8) -> Session {
-    Session::new(number).expect(rt, "a session")
+/// Compares the printed reply of `bank` to a session with what is wanted.
+pub fn check_shown<R: Abort + AllocGlobal>(rt: &R, session: Session, reply: &Reply, wanted: &str) {
+    let lines = made(rt, render(rt.alloc(), "bank", session, reply), "memory");
+    let text = made(rt, str::from_utf8(lines.as_slice()), "a text");
+    assert_eq!(rt; text, wanted);
 }
 
-/// A reply to a session of a database is what is wanted, as it is printed.
-pub fn check_shown<R: Abort + AllocGlobal>(
+/// Asks a statement in session 1, and compares the printed reply.
+pub fn check_reply<R: Abort + AllocGlobal>(
     rt: &R,
-    database: usize,
-    session: Session,
-    reply: &Reply,
+    database: &mut Database<BlockStore>,
+    text: &str,
     wanted: &str,
 ) {
-    let name = NAMES.get(database).expect(rt, "a name");
-    let lines = made(rt, render(rt.alloc(), name, session, reply), "memory");
-    check_text(rt, lines.as_slice(), wanted);
-}
-
-/// Bytes are a text.
-fn check_text<R: Abort>(rt: &R, bytes: &[u8], wanted: &str) {
-    let text = made(rt, str::from_utf8(bytes), "a text");
-    assert_eq!(rt; text, wanted);
+    let reply = database.step(rt.alloc(), Session::FIRST, &statement(rt, text));
+    check_shown(rt, Session::FIRST, &reply, wanted);
 }

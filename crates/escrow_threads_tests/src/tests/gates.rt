@@ -1,151 +1,200 @@
-//! Gates, which are called while a lock is held.
-use super::databases::{CREATE, INSERT, database, session, statement};
-use super::results::push;
-use super::sharing::{Sharing, call_gated, close_whole, share};
-use escrow_core::Database;
-use escrow_memory::BlockStore;
+//! Gates, which are called beside a call: how often, what they are told, and calls that wait for each other.
+use super::databases::{COUNTER, CREATE, INSERT, databases, statement};
+use super::results::made;
+use super::sharing::{close_whole, hall, share};
+use super::workers::{BOTH, By, COMMIT, Work, end, serve_all};
 use escrow_num::{Refusal, Session};
-use escrow_shards::{Answer, Gate, Pass, Shared};
+use escrow_shards::{Answer, Gate};
 use std::process::Abort;
 use std::sync::Wait;
 use std::sync::atomic::{AtomicU64, Ordering};
+use std::thread;
+use std::thread::Threads;
 
-/// A gate that remembers its calls inside: how many, and what the last one was told.
+/// How often a call looks whether another one has come.
+const LOOKS: u64 = 10_000_000;
+
+/// Where two calls wait for each other.
+#[derive(Clone, Copy)]
+pub enum Meets {
+    /// They don't.
+    Nowhere,
+    /// Before each is made.
+    Before,
+    /// While each holds the lock of its database.
+    Inside,
+}
+
+/// A gate that counts the calls that hold a lock, and remembers what the last one was told.
 #[derive(Drop)]
-struct Witness {
-    calls: AtomicU64,
+pub struct Watch {
+    meets: Meets,
+    // how many calls came to where they meet
+    came: AtomicU64,
+    // how many calls it has seen, and how many under the lock of the first database
+    pub calls: AtomicU64,
+    first: AtomicU64,
+    // how often a call waited in vain, or had company under the lock of the first database
+    pub faults: AtomicU64,
     database: AtomicU64,
     session: AtomicU64,
     n: AtomicU64,
 }
 
-impl Gate for Witness {
-    fn before<R: Wait>(&self, _: &R, _: usize, _: Session, _: u64) {}
+impl Gate for Watch {
+    fn before<R: Wait>(&self, _: &R, _: usize, _: Session, _: u64) {
+        if matches!(self.meets, Meets::Before) {
+            self.meet();
+        }
+    }
 
     fn inside<R: Wait>(&self, _: &R, database: usize, session: Session, n: u64) {
+        if matches!(self.meets, Meets::Inside) {
+            self.meet();
+        }
         self.calls.fetch_add(1, Ordering::SeqCst);
         self.database.store(database as u64, Ordering::SeqCst);
         self.session
             .store(u64::from(session.get()), Ordering::SeqCst);
         self.n.store(n, Ordering::SeqCst);
+        if database == 0 {
+            // Whether another call comes under the same lock meanwhile.
+            let before = self.first.fetch_add(1, Ordering::SeqCst);
+            for _ in 0..20 {
+                if self.first.load(Ordering::SeqCst) != before.wrapping_add(1) {
+                    self.faults.fetch_add(1, Ordering::SeqCst);
+                }
+            }
+        }
     }
 }
 
-impl Witness {
-    /// One that has seen no call.
-    fn new() -> Self {
-        Witness {
+impl Watch {
+    /// A gate that has seen no call.
+    pub fn new(meets: Meets) -> Self {
+        Watch {
+            meets,
+            came: AtomicU64::new(0),
             calls: AtomicU64::new(0),
+            first: AtomicU64::new(0),
+            faults: AtomicU64::new(0),
             database: AtomicU64::new(0),
             session: AtomicU64::new(0),
             n: AtomicU64::new(0),
         }
     }
 
-    /// How many calls it has seen.
-    fn calls(&self) -> u64 {
-        self.calls.load(Ordering::SeqCst)
+    /// Comes to where two calls meet, and waits for the other one.
+    fn meet(&self) {
+        self.came.fetch_add(1, Ordering::SeqCst);
+        self.wait_for(&self.came, 2);
     }
 
-    /// The last call was one by a pass, for the receipt of a number.
-    fn check<R: Abort>(&self, rt: &R, pass: &Pass, n: u64) {
-        assert_eq!(rt;
-            self.database.load(Ordering::SeqCst),
-            pass.database() as u64
-        );
-        assert_eq!(rt;
-            self.session.load(Ordering::SeqCst),
-            u64::from(pass.session().get())
-        );
-        assert_eq!(rt; self.n.load(Ordering::SeqCst), n);
+    /// Waits until so many have come.
+    pub fn wait_for(&self, came: &AtomicU64, count: u64) {
+        for _ in 0..LOOKS {
+            if came.load(Ordering::SeqCst) >= count {
+                return;
+            }
+            thread::yield_now();
+        }
+        self.faults.fetch_add(1, Ordering::SeqCst);
     }
 }
 
-/// What is asked by the pass of a place, whether it is served, and how many receipts the pass then has.
-type Asked = (usize, &'static str, bool, usize);
-
-/// What is asked. The store looks at one row at most.
-const ASKED: [Asked; 8] = [
-    (0, CREATE, true, 1),
-    (0, INSERT, true, 2),
-    (3, "DROP TABLE NONE", true, 1),
-    (0, "SELECT * FROM ACCOUNT", false, 2),
-    (0, "COMMIT", true, 3),
-    (1, "SELECT * FROM ACCOUNT", false, 0),
-    (1, "COMMIT", true, 1),
-    (0, "ROLLBACK", true, 4),
+/// The place of a pass, what its session asks, and whether it is served. The store looks at one row at most.
+const ASKED: [(usize, &str, bool); 8] = [
+    (0, CREATE, true),
+    (0, INSERT, true),
+    (3, "DROP TABLE NONE", true),
+    (0, "SELECT * FROM ACCOUNT", false),
+    (0, "COMMIT", true),
+    (1, "SELECT * FROM ACCOUNT", false),
+    (1, "COMMIT", true),
+    (0, "ROLLBACK", true),
 ];
 
-/// Two databases whose store looks at one row at most, with two sessions each.
-fn limited<R: Abort + AllocGlobal>(rt: &R) -> Sharing {
-    let mut databases = Vec::new(rt.alloc());
-    for _ in 0..2 {
-        push(rt, &mut databases, limited_database(rt));
-    }
-    share(rt, databases, session(rt, 2))
-}
-
-/// A database whose store looks at one row at most.
-fn limited_database<R: Abort + AllocGlobal>(rt: &R) -> Database<BlockStore> {
-    let mut database = database(rt, &[]);
-    database.set_step_limit(Some(1));
-    database
-}
-
-/// The gate is called once, also where what is asked isn't served. It is told the number of the receipt that the
-/// call would make, and what isn't served makes none.
-fn check_asked<R: Wait + Abort + AllocGlobal>(
-    rt: &R,
-    shared: &Shared<BlockStore>,
-    pass: &mut Pass,
-    witness: &Witness,
-    asked: &Asked,
-) {
-    let (_, text, is_served, receipts) = asked;
-    let n = pass.receipts().len() as u64 + 1;
-    let calls = witness.calls();
-    assert_eq!(rt;
-        ask(rt, shared, pass, witness, text),
-        Some(*is_served),
-        "{text}"
-    );
-    assert_eq!(rt; pass.receipts().len(), *receipts, "{text}");
-    assert_eq!(rt; witness.calls(), calls.wrapping_add(1), "{text}");
-    witness.check(rt, pass, n);
-}
-
-/// Asks a statement, and tells whether it was served, or the store refused it: `None` where the answer is another one.
-fn ask<R: Wait + Abort + AllocGlobal>(
-    rt: &R,
-    shared: &Shared<BlockStore>,
-    pass: &mut Pass,
-    witness: &Witness,
-    text: &str,
-) -> Option<bool> {
-    match call_gated(rt, shared, pass, &statement(rt, text), witness) {
-        Answer::Served(_) => Some(true),
-        Answer::Unserved(Refusal::Store) => Some(false),
-        Answer::Unserved(_) => None,
-    }
-}
-
-/// All that is asked.
-fn check_all<R: Wait + Abort + AllocGlobal>(
-    rt: &R,
-    shared: &Shared<BlockStore>,
-    passes: &mut [Pass],
-) {
-    let witness = Witness::new();
-    for asked in &ASKED {
-        let pass = passes.get_mut(asked.0).expect(rt, "a pass");
-        check_asked(rt, shared, pass, &witness, asked);
-    }
-}
-
-/// The gate is called once a call, also where that isn't served.
+/// Each call calls the gate once, also where it isn't served, and tells it the number of the receipt that it would make.
+/// Workers of two databases hold both locks together.
 #[test]
 fn gate_inside(rt: HostRuntime) {
-    let (shared, mut passes) = limited(&rt);
-    check_all(&rt, &shared, &mut passes);
+    let mut limited = databases(&rt, 2, &[]);
+    for database in limited.iter_mut() {
+        database.set_step_limit(Some(1));
+    }
+    let (shared, mut passes) = made(&rt, share(&rt, limited, 2), "shared");
+    let watch = Watch::new(Meets::Nowhere);
+    for (before, (place, text, is_served)) in ASKED.iter().enumerate() {
+        let pass = passes.get_mut(*place).expect(&rt, "a pass");
+        let receipts = pass.receipts().len();
+        assert!(rt; shared.has_seat(pass));
+        let answer = shared.call_gated(&rt, rt.alloc(), pass, &statement(&rt, text), &watch);
+        let is_right = match &answer {
+            Answer::Served(_) => *is_served,
+            Answer::Unserved(refusal) => !*is_served && refusal.is_same(&Refusal::Store),
+        };
+        assert!(rt; is_right, "{text}: {answer:?}");
+        let more = usize::from(*is_served);
+        assert_eq!(rt;
+            pass.receipts().len(),
+            receipts.wrapping_add(more),
+            "{text}"
+        );
+        assert_eq!(rt;
+            watch.calls.load(Ordering::SeqCst),
+            (before as u64).wrapping_add(1),
+            "{text}"
+        );
+        let told = (
+            watch.database.load(Ordering::SeqCst),
+            watch.session.load(Ordering::SeqCst),
+            watch.n.load(Ordering::SeqCst),
+        );
+        let wanted = (
+            pass.database() as u64,
+            u64::from(pass.session().get()),
+            receipts as u64 + 1,
+        );
+        assert_eq!(rt; told, wanted, "{text}");
+    }
     assert_eq!(rt; close_whole(&rt, shared, passes).len(), 2);
+    meet(&rt, Meets::Inside, 2, 1);
+}
+
+/// Workers of two databases, or of two sessions of one, meet at their first calls.
+fn meet<R: Threads + Wait + Sync + Abort + AllocGlobal>(
+    rt: &R,
+    meets: Meets,
+    databases: usize,
+    sessions: u8,
+) {
+    for by in BOTH {
+        let (shared, passes) = hall(rt, databases, sessions, &COUNTER);
+        let watch = Watch::new(meets);
+        let done = serve_all(rt, by, &shared, passes, COMMIT, &watch);
+        assert_eq!(rt; watch.faults.load(Ordering::SeqCst), 0, "{by:?}");
+        assert_eq!(rt; watch.calls.load(Ordering::SeqCst), 2, "{by:?}");
+        end(rt, by, shared, made(rt, done, "workers"), 1);
+    }
+}
+
+/// The workers of a database come to their first calls together.
+#[test]
+fn gate_before(rt: HostRuntime) {
+    meet(&rt, Meets::Before, 1, 2);
+}
+
+/// An item is sent before the next one is asked for.
+#[test]
+fn fed_live(rt: HostRuntime) {
+    let (shared, passes) = hall(&rt, 1, 1, &COUNTER);
+    let watch = Watch::new(Meets::Nowhere);
+    let work = Work {
+        texts: &["COMMIT", "ROLLBACK"],
+        times: 1,
+        live: Some(&watch),
+    };
+    let done = serve_all(&rt, By::Channels, &shared, passes, work, &watch);
+    assert_eq!(rt; watch.faults.load(Ordering::SeqCst), 0);
+    end(&rt, By::Channels, shared, made(&rt, done, "a worker"), 2);
 }

@@ -1,13 +1,11 @@
 //! Statements of each kind, and refusals of each number that a statement of a small script meets, where two sessions have
 //! reserved: by a history, and by shared databases. Each answer is that with ample memory, or want of memory leaves what
 //! was there, so that the same statement is then answered the same.
-use super::databases::{CREATE, INSERT, database, session, statement};
-use super::histories::{audited, drain, serve, take_room};
-use super::results::push;
-use super::run::{Plan, Run};
-use super::sharing;
-use std::process::Abort;
-use std::sync::Wait;
+use super::databases::{CREATE, INSERT, check_shown, database};
+use super::results::{made, push};
+use super::{histories, sharing};
+use escrow_num::Session;
+use escrow_shards::NoGate;
 
 /// A session, what it asks, and what it is replied, as it is printed.
 type Asked = (u8, &'static str, &'static str);
@@ -205,59 +203,37 @@ const ASKED: [Asked; 49] = [
     (3, "ROLLBACK", "bank.3> OK rolled back 1\n"),
 ];
 
-/// How many sessions there are.
-const SESSIONS: usize = 5;
-
-/// A database that is shared, without a table.
-const EMPTY: Plan = Plan {
-    databases: 1,
-    sessions: 5,
-    before: &[],
-    moves: &[],
-};
-
-/// Ends a run of which one part is handed out, with all its entries.
-fn end<R: Wait + Abort + AllocGlobal>(rt: &R, mut run: Run) {
-    let part = sharing::drain(rt, &run.shared, 0);
-    assert_eq!(rt; (part.number(), part.entries().len()), (1, ASKED.len()));
-    let mut parts = Vec::new(rt.alloc());
-    push(rt, &mut parts, part);
-    let mut passes = Vec::new(rt.alloc());
-    for place in 0..SESSIONS {
-        push(rt, &mut passes, run.take_pass(rt, place));
-    }
-    let (closed, _) = sharing::close(rt, run.into_shared(), passes, parts);
-    assert_eq!(rt; closed.len(), 1);
-}
-
 /// A history serves statements of each kind, and each is one entry.
 #[test]
 fn kinds_by_a_history(rt: HostRuntime) {
-    let mut audited = audited(&rt, database(&rt, &[]));
-    take_room(&rt, &mut audited, 20);
-    for (place, (asks, text, wanted)) in ASKED.iter().enumerate() {
-        let number = (place as u64).wrapping_add(1);
-        let statement = statement(&rt, text);
-        serve(
-            &rt,
-            &mut audited,
-            session(&rt, *asks),
-            &statement,
-            number,
-            wanted,
-        );
+    let mut audited = histories::audited(&rt, database(&rt, &[]));
+    // Where memory is refused nothing has changed, and room is had at the second attempt.
+    if audited.make_room(20).is_err() {
+        made(&rt, audited.make_room(20), "room");
     }
-    let (transcript, end) = drain(&rt, &mut audited);
+    for (asks, text, wanted) in &ASKED {
+        let session = Session::new(*asks).expect(&rt, "a session");
+        histories::serve(&rt, &mut audited, session, text, wanted);
+    }
+    let (transcript, end) = histories::drain(&rt, &mut audited);
     assert_eq!(rt; transcript.entries.len(), ASKED.len());
     assert_eq!(rt; end.before, ASKED.len() as u64);
 }
 
-/// Calls serve statements of each kind, and each has one receipt.
+/// Calls serve statements of each kind, and all of them are the entries of one part.
 #[test]
 fn kinds_by_calls(rt: HostRuntime) {
-    let mut run = Run::of(&rt, &EMPTY);
+    let (shared, mut passes) = sharing::hall(&rt, 1, 5, &[]);
     for (asks, text, wanted) in &ASKED {
-        run.check(&rt, usize::from(*asks).wrapping_sub(1), text, wanted);
+        let place = usize::from(*asks).wrapping_sub(1);
+        let pass = passes.get_mut(place).expect(&rt, "a pass");
+        let reply = sharing::ask(&rt, &shared, pass, text, &NoGate);
+        check_shown(&rt, pass.session(), &reply, wanted);
     }
-    end(&rt, run);
+    let part = made(&rt, sharing::drain(&rt, &shared, 0), "a part");
+    assert_eq!(rt; (part.number(), part.entries().len()), (1, ASKED.len()));
+    let mut parts = Vec::new(rt.alloc());
+    push(&rt, &mut parts, part);
+    let audit = made(&rt, shared.close(passes, parts), "an audit");
+    assert_eq!(rt; audit.closed.len(), 1);
 }

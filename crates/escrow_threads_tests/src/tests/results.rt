@@ -1,7 +1,7 @@
-//! Results of which a test knows how they come out, and items that find room. Else the test ends here.
+//! Results whose outcome a test knows. Any other outcome ends the test.
 use std::process::Abort;
 
-/// What was made. An error ends the test with what was wanted.
+/// Returns the value. An error ends the test with what was wanted.
 pub fn made<R: Abort, T, E>(rt: &R, outcome: Result<T, E>, what: &str) -> T {
     match outcome {
         Ok(value) => value,
@@ -9,7 +9,7 @@ pub fn made<R: Abort, T, E>(rt: &R, outcome: Result<T, E>, what: &str) -> T {
     }
 }
 
-/// The error. Where there is none the test ends with what was wanted.
+/// Returns the error. Success ends the test with what was wanted.
 pub fn refused<R: Abort, T, E>(rt: &R, outcome: Result<T, E>, what: &str) -> E {
     match outcome {
         Ok(_) => rt.panic(what),
@@ -17,7 +17,7 @@ pub fn refused<R: Abort, T, E>(rt: &R, outcome: Result<T, E>, what: &str) -> E {
     }
 }
 
-/// Adds an item. Memory is there.
+/// Adds an item. Want of memory ends the test.
 pub fn push<R: Abort, T>(rt: &R, items: &mut Vec<T>, item: T) {
     made(rt, items.push(item), "memory");
 }

@@ -3,9 +3,9 @@ ghost use Rattle.std.specs.Prelude.{◌≡◌, ◌≢◌, ◌<◌, ℕ, ℤ, Lis
 ghost use Rattle.sqlite_value.specs.declared.value.Value.TheVariants as sql;
 ghost use Rattle.sqlite_value.specs.Order.{column};
 ghost use Rattle.escrow_sql.specs.Parser.{Asks};
-ghost use Rattle.escrow_sql.specs.declared.statement.CreateText.{CreateText as Create};
-ghost use Rattle.escrow_sql.specs.declared.statement.Request.TheVariants as requests;
-ghost use Rattle.escrow_sql.specs.declared.statement.Statement.TheVariants as statements;
+ghost use Rattle.escrow_statement.specs.declared.statement.CreateText.{CreateText as Create};
+ghost use Rattle.escrow_statement.specs.declared.statement.Request.TheVariants as requests;
+ghost use Rattle.escrow_statement.specs.declared.statement.Statement.TheVariants as statements;
 ghost use Rattle.escrow_schema.specs.declared.table.TableDef.{TableDef as Table};
 ghost use Rattle.escrow_schema.specs.Definition.{IsTable, definition_of};
 ghost use Rattle.escrow_schema.specs.Print.{canonical};

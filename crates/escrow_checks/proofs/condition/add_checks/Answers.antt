@@ -1,5 +1,5 @@
 use Rattle.std.proofs.Common.{◌≡◌, ◌+◌, ◌<◌, ◌∙◌, sym, ap, arith, List, Some, length, ◌∷◌, [], get_or, length-append}
-use Rattle.escrow_sql.specs.declared.statement.Condition.{Condition}
+use Rattle.escrow_statement.specs.declared.statement.Condition.{Condition}
 use Rattle.escrow_checks.specs.declared.check.Check.{Check}
 use Rattle.escrow_checks.specs.Checks.{check_name, check_of}
 use Rattle.escrow_checks.specs.Found.{few, found}

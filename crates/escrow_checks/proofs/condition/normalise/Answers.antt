@@ -1,5 +1,5 @@
 use Rattle.std.specs.Prelude.{◌≡◌, ℕ, List, Some, Result, Ok, Err, IfOk}
-use Rattle.escrow_sql.specs.declared.statement.CheckText.{CheckText}
+use Rattle.escrow_statement.specs.declared.statement.CheckText.{CheckText}
 use Rattle.escrow_checks.specs.declared.check.Check.{Check}
 use Rattle.escrow_checks.specs.declared.fault.CheckFault.{CheckFault}
 use Rattle.escrow_checks.specs.Checks.{checks_of}

@@ -1,6 +1,6 @@
 use Rattle.std.proofs.Common.{◌≡◌, ◌<◌, ◌∙◌, sym, ap, arith, List, length, map, get_or, Result, Ok, Err}
 use Rattle.std.proofs.lemmas.List.{length-map, get_or-map}
-use Rattle.escrow_sql.specs.declared.statement.CheckText.{CheckText}
+use Rattle.escrow_statement.specs.declared.statement.CheckText.{CheckText}
 use Rattle.std.specs.Result.{IsErrOf, IsErrAnd}
 use Rattle.escrow_checks.specs.declared.fault.CheckFault.{CheckFault}
 use Rattle.escrow_checks.proofs.FoundLemmas.{text_more, text_none, text_all}

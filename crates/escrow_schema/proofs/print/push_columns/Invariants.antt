@@ -1,5 +1,5 @@
 use Rattle.std.proofs.Common.{◌≡◌, ◌++◌, drop, string_bytes}
-use Rattle.escrow_sql.specs.Joined.{joined}
+use Rattle.escrow_statement.specs.Joined.{joined}
 use Rattle.escrow_schema.specs.Print.{columns_words}
 use Rattle.escrow_schema.proofs.PrintLemmas.{joined_from}
 use Rattle.escrow_schema.proofs.print.push_columns.Given as goal

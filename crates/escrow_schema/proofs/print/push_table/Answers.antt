@@ -1,5 +1,5 @@
 use Rattle.std.proofs.Common.{◌≡◌, ◌++◌, ◌∙◌, ap, codes, map, string_bytes}
-use Rattle.escrow_sql.specs.Joined.{joined}
+use Rattle.escrow_statement.specs.Joined.{joined}
 use Rattle.escrow_schema.specs.Column.{names_of, reservables, scales_of}
 use Rattle.escrow_schema.specs.Print.{check_words, columns_words, declared_checks, table_words}
 use Rattle.escrow_schema.proofs.PrintLemmas.{added, four_texts}

@@ -1,7 +1,7 @@
 use Rattle.std.proofs.Common.{◌≡◌, ◌+◌, ℕ, List, [], ◌∷◌, ◌++◌, false, ap, sym, subst, ◌∙◌}
 use Rattle.std.specs.Prelude.{is_err, vec_len}
 use Rattle.escrow_core.specs.Seen.{Seen}
-use Rattle.escrow_server.specs.Output.{states_of, HaveCleanDisks}
+use Rattle.escrow_serve.specs.Output.{states_of, HaveCleanDisks}
 use Rattle.escrow_server.specs.Program.{AreFound}
 use Rattle.escrow_server.proofs.FoundLemmas.{found_more, if_pushed}
 use Rattle.escrow_server.proofs.databases.open_databases.Goals as goal

@@ -1,5 +1,5 @@
 use Rattle.std.proofs.Common.{◌≡◌, vec_len}
-use Rattle.escrow_server.specs.Output.{states_of, HaveCleanDisks}
+use Rattle.escrow_serve.specs.Output.{states_of, HaveCleanDisks}
 use Rattle.escrow_server.specs.Program.{AreFound}
 use Rattle.escrow_server.proofs.databases.open_databases.Given as goal
 

@@ -1,5 +1,5 @@
 use Rattle.escrow_server.specs.Opened.{IsOpened}
-use Rattle.escrow_server.specs.Output.{states_of}
+use Rattle.escrow_serve.specs.Output.{states_of}
 use Rattle.escrow_memory.specs.Store.{over_blocks}
 use Rattle.std.proofs.Common.{◌≡◌, List, ℕ, Option, Some, inl, subst, sym}
 use Rattle.escrow_server.specs.Program.{TellsOfMigrated}

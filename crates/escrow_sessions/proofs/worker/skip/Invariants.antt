@@ -1,6 +1,6 @@
 use Rattle.std.proofs.Common.{List}
 use Rattle.std.specs.Iterator.{Yields}
-use Rattle.escrow_sql.specs.declared.statement.Request.{Request}
+use Rattle.escrow_statement.specs.declared.statement.Request.{Request}
 use Rattle.escrow_sessions.proofs.worker.skip.Given as goal
 
 abbrev pub invariant-loop : goal.invariant-loop

@@ -1,6 +1,6 @@
 use Rattle.std.proofs.Common.{◌≡◌, ℤ, ◌-ℤ◌, List, ap, ap₂, sym, ◌∙◌}
-use Rattle.escrow_sql.specs.declared.statement.Term.{Term}
-use Rattle.escrow_sql.specs.declared.statement.Test.{Test}
+use Rattle.escrow_statement.specs.declared.statement.Term.{Term}
+use Rattle.escrow_statement.specs.declared.statement.Test.{Test}
 use Rattle.escrow_checks.specs.Checks.{number_in}
 use Rattle.escrow_checks.specs.Condition.{total}
 use Rattle.escrow_checks.specs.Parts.{millionths}

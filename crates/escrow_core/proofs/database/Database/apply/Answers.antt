@@ -6,7 +6,7 @@ use Rattle.escrow_num.specs.declared.failure.Failure.TheVariants as failure
 use Rattle.escrow_journal.specs.Open.{Open}
 use Rattle.escrow_journal.specs.Reservations.{own}
 use Rattle.escrow_num.specs.Refusal.{refusal_for}
-use Rattle.escrow_sql.specs.declared.statement.Statement.TheVariants as statement
+use Rattle.escrow_statement.specs.declared.statement.Statement.TheVariants as statement
 use Rattle.escrow_machine.specs.declared.reply.Reply.TheVariants as reply
 use Rattle.escrow_core.specs.Inside.{seen_of}
 use Rattle.escrow_core.specs.Serves.{Serves}

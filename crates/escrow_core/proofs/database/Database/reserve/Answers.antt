@@ -5,7 +5,7 @@ use Rattle.escrow_bounds.specs.Places.{place_at}
 use Rattle.escrow_machine.specs.Asked.{row_name}
 use Rattle.escrow_machine.specs.State.{State}
 use Rattle.escrow_core.specs.Inside.{seen_of}
-use Rattle.escrow_core.proofs.Places.{from_some, reserved_placed}
+use Rattle.escrow_reserved.proofs.Places.{from_some, reserved_placed}
 use Rattle.escrow_core.proofs.Serving.{left_by}
 use Rattle.escrow_core.proofs.Updating.{IsPlanned, beside_granted, beside_refused, grant_keeps, room_for_one, short_plan}
 use Rattle.escrow_core.proofs.database.Database.reserve.Given as given

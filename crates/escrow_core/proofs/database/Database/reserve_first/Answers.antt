@@ -9,7 +9,8 @@ use Rattle.escrow_schema.specs.declared.table.TableDef.{TableDef}
 use Rattle.escrow_machine.specs.State.{State, is_reserved}
 use Rattle.escrow_machine.proofs.Safe.{some_at}
 use Rattle.escrow_machine.proofs.Shapes.{covered}
-use Rattle.escrow_core.specs.Inside.{amounts_named, seen_of}
+use Rattle.escrow_reserved.specs.Placed.{amounts_named}
+use Rattle.escrow_core.specs.Inside.{seen_of}
 use Rattle.escrow_core.specs.Seen.{Seen}
 use Rattle.escrow_core.specs.Serving.{OnlyReads}
 use Rattle.escrow_core.proofs.Serving.{left_by}

@@ -1,6 +1,6 @@
 use Rattle.std.proofs.Common.{◌≡◌, None, refl}
 use Rattle.escrow_num.specs.Session.{IsSession}
-use Rattle.escrow_sql.specs.declared.statement.Statement.TheVariants as statement
+use Rattle.escrow_statement.specs.declared.statement.Statement.TheVariants as statement
 use Rattle.escrow_machine.specs.State.{open_in}
 use Rattle.escrow_journal.specs.Open.{savepoint_refusal}
 use Rattle.escrow_machine.specs.declared.reply.Reply.TheVariants as reply

@@ -2,7 +2,7 @@ use Rattle.std.specs.Prelude.{◌≡◌, ℕ, false, Some, IsSomeAnd, List, [], 
 use Rattle.std.proofs.Common.{ap, refl, sym, subst, ◌∙◌}
 use Rattle.escrow_num.specs.declared.refusal.Refusal.TheVariants as refusal
 use Rattle.escrow_num.specs.declared.value.RowName.{RowName}
-use Rattle.escrow_sql.specs.declared.statement.Statement.TheVariants as statement
+use Rattle.escrow_statement.specs.declared.statement.Statement.TheVariants as statement
 use Rattle.escrow_bounds.specs.Counts.{Counts}
 use Rattle.escrow_bounds.specs.Held.{CountsJust, of_row}
 use Rattle.escrow_bounds.specs.Kept.{Kept}
@@ -14,12 +14,13 @@ use Rattle.escrow_machine.specs.Asked.{named_by}
 use Rattle.escrow_machine.specs.Bounds.{bounds_in, bounds_over}
 use Rattle.escrow_machine.specs.State.{State, is_reserved}
 use Rattle.escrow_machine.proofs.Safe.{some_at}
-use Rattle.escrow_core.specs.Inside.{IsOfTable, amounts_named, seen_of}
+use Rattle.escrow_reserved.specs.Placed.{IsOfTable, amounts_named}
+use Rattle.escrow_core.specs.Inside.{seen_of}
 use Rattle.escrow_core.specs.Seen.{Seen}
-use Rattle.escrow_core.proofs.Places.{from_some, reserved_placed}
+use Rattle.escrow_reserved.proofs.Places.{from_some, reserved_placed}
 use Rattle.escrow_core.proofs.Queries.{bounds_answers, bounds_lack}
 use Rattle.escrow_core.proofs.Serving.{answered, early_refused, left_by, look_answered, look_refused}
-use Rattle.escrow_core.proofs.Shown.{bounds_same, free_same}
+use Rattle.escrow_reserved.proofs.ShownBounds.{bounds_same, free_same}
 use Rattle.escrow_core.proofs.database.Database.show_bounds.Given as given
 use Rattle.escrow_core.proofs.database.Database.show_bounds.Goals as goal
 use Rattle.escrow_core.proofs.database.Database.show_bounds.Goals.{After-bounds}

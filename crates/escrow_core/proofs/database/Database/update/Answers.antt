@@ -1,4 +1,4 @@
-use Rattle.escrow_sql.specs.declared.statement.Statement.TheVariants as statement
+use Rattle.escrow_statement.specs.declared.statement.Statement.TheVariants as statement
 use Rattle.escrow_core.proofs.Serving.{refusal_serves}
 use Rattle.escrow_core.proofs.database.Database.update.Goals as goal
 

@@ -1,7 +1,7 @@
 use Rattle.std.proofs.Common.{◌∷◌, ◌++◌, [], ℕ, refl, sym, ap, subst, ◌∙◌, inl, inr}
 use Rattle.std.proofs.lemmas.List.{append-nil}
 use Rattle.escrow_sql.specs.Parser.{Asks}
-use Rattle.escrow_sql.specs.declared.statement.Request.TheVariants as request
+use Rattle.escrow_statement.specs.declared.statement.Request.TheVariants as request
 use Rattle.escrow_free.specs.Desks.{desk_of}
 use Rattle.escrow_free.specs.declared.plan.Planned.TheVariants.{Asked, Refused, Totals}
 use Rattle.escrow_free.proofs.plan.Plan.add_text.Goals as goal

@@ -5,8 +5,8 @@ use Rattle.escrow_tests.proofs.tests.bounds.sums_are_kept_between_calls.Goals as
 pub worst-requires : goal.worst-requires
 worst-requires g c = (c.as_slice-2.result.now ∷ [], c.add.ensures [] c.reserve.ensures)
 
-pub verdict-violation-requires : goal.verdict-violation-requires
-verdict-violation-requires g c = let one = c.add.ensures [] c.reserve.ensures in subst (λ place. IsSome place) (sym one.1) refl
+pub verdict-broken-requires : goal.verdict-broken-requires
+verdict-broken-requires g c = let one = c.add.ensures [] c.reserve.ensures in subst (λ place. IsSome place) (sym one.1) refl
 
 pub add-requires-2 : goal.add-requires-2
 add-requires-2 g c = (c.as_slice-2.result.now ∷ [], c.add.ensures [] c.reserve.ensures, omega arith)

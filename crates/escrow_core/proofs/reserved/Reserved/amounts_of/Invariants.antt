@@ -1,6 +1,0 @@
-use Rattle.std.specs.Prelude.{map, take}
-use Rattle.escrow_core.specs.Reserved.{AreAmounts}
-use Rattle.escrow_core.proofs.reserved.Reserved.amounts_of.Given as goal
-
-abbrev pub invariant-loop-r : goal.invariant-loop-r
-invariant-loop-r l = AreAmounts l.self.places (take l.r-index l.reservations) (map (λ amounts. amounts.now) l.all.items)

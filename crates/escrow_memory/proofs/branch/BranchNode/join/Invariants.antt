@@ -1,9 +1,0 @@
-use Rattle.std.proofs.Common.{◌≡◌, ◌++◌, take}
-use Rattle.escrow_memory.specs.Children.{children_rows, AreCounted}
-use Rattle.escrow_memory.proofs.branch.BranchNode.join.Given as goal
-
-abbrev pub invariant-loop-child : goal.invariant-loop-child
-invariant-loop-child g l = record {
-  rows : children_rows g.N.Node.rows l.children.items ≡ children_rows g.N.Node.rows l.fn.self.children.items ++ children_rows g.N.Node.rows (take l.child-index l.next.children.items);
-  counted : AreCounted g.N.Node.rows l.children.items;
-}

@@ -1,0 +1,4 @@
+pub mod PrintLength
+pub mod PrintText
+pub mod PrintWrites
+pub mod ReadBack

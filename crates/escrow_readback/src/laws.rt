@@ -1,0 +1,9 @@
+//! The law of printed tables, the contract of a function that does nothing.
+
+ghost use Rattle.escrow_readback.specs.ReadBack.{TablesAreReadBack};
+
+/// The canonical text of a table, which `print_table` writes, asks a CREATE TABLE, and that defines
+/// the same table.
+pub fn tables_are_read_back()
+    ensures { TablesAreReadBack }
+{}

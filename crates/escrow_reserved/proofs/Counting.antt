@@ -1,0 +1,151 @@
+-- What is open, and the places that count it.
+use Rattle.std.specs.Prelude.{◌≡◌, ◌+◌, map, take, ◌<◌, ◌≤◌, ℕ, zero, suc, ℤ, Bool, true, false, not, nat_eq, is_some, option_map, unwrap_or, Option, Some, None, IsSome, List, [], ◌∷◌, ◌++◌, length, ◌==◌}
+use Rattle.std.specs.List.{AllByRecursion, list_any}
+use Rattle.std.proofs.Common.{inl, inr, refl, sym, ap, ap₂, subst, ◌∙◌, arith, cond, get_or, append-nil}
+use Rattle.std.proofs.lemmas.List.{map_more, map_push}
+use Rattle.std.proofs.lemmas.Bool.{or_left, or_right}
+use Rattle.escrow_num.specs.declared.reservation.Reservation.{Reservation}
+use Rattle.escrow_num.specs.declared.reservation.Savepoint.{Savepoint}
+use Rattle.escrow_num.specs.declared.value.RowName.{RowName}
+use Rattle.escrow_num.specs.Order.{same_row}
+use Rattle.escrow_num.specs.Reservation.{deltas}
+use Rattle.escrow_num.specs.declared.refusal.Refusal.TheVariants as refusal
+use Rattle.escrow_num.proofs.Items.{Has, all_filter, has_all, has_filter}
+use Rattle.escrow_num.proofs.Orders.{same_row_itself}
+use Rattle.escrow_checks.specs.declared.coefficients.TheConstants.Coefficients.{MAX_LEN}
+use Rattle.escrow_checks.specs.declared.check.Check.{Check}
+use Rattle.escrow_checks.specs.Grant.{broken}
+use Rattle.escrow_bounds.specs.Counts.{Counts, TakesIn, is_counting}
+use Rattle.escrow_bounds.specs.Held.{of_row, AllCount, CountsAll}
+use Rattle.escrow_bounds.specs.Kept.{Kept}
+use Rattle.escrow_bounds.specs.Places.{Places, place_at, Becomes, OthersStay}
+use Rattle.escrow_bounds.proofs.Counting.{counting_is, placed_is}
+use Rattle.escrow_bounds.proofs.LawLemmas.{add_counts}
+use Rattle.escrow_bounds.proofs.Reordering.{parts_count}
+use Rattle.escrow_journal.specs.Open.{Open, cut_back, grant_refusal, granted, returned_to}
+use Rattle.escrow_journal.specs.Reservations.{own, others}
+use Rattle.escrow_journal.specs.Savepoints.{savepoint_of, after, is_after, not_after}
+use Rattle.escrow_machine.specs.Walked.{IsShort}
+use Rattle.escrow_machine.proofs.Choices.{append_all}
+use Rattle.escrow_machine.proofs.Refusals.{passed}
+use Rattle.escrow_reserved.specs.Reserved.{AreAmounts, AreCounted, ArePlaced, Releases, reason_by}
+use Rattle.escrow_reserved.proofs.Places.{some_same}
+
+not_zero : (n : ℕ) → not (nat_eq n 0) ≡ true → 0 < n
+not_zero zero is = absurd (cc)
+not_zero (suc n) is = omega arith
+
+-- where just the rows that are reserved have places, each place counts a reservation; and the other way
+pub all_count : (reservations : List Reservation) (places : Places) → ArePlaced reservations places → CountsAll places reservations → AllCount places
+all_count reservations places placed counts = λ row place at.
+    let here : is_some (place_at places row) ≡ true = ap (λ (p : Option Kept). is_some p) at in
+    let counting : is_counting (Some place) ≡ true = ap (λ (p : Option Kept). is_counting p) (sym at) ∙ counting_is places reservations row counts ∙ sym (placed row) ∙ here in
+    not_zero place.count counting
+
+pub all_placed : (reservations : List Reservation) (places : Places) → AllCount places → CountsAll places reservations → ArePlaced reservations places
+all_placed reservations places counting counts = λ row. placed_is places reservations row counting counts
+
+-- a session's reservations, in front of the others
+pub own_first : (session : ℕ) (reservations : List Reservation) (places : Places) → CountsAll places reservations → CountsAll places (own session reservations ++ others session reservations)
+own_first session reservations places counts = parts_count (λ (r : Reservation). r.session == session) places reservations counts
+
+-- what came after a savepoint, in front of the rest
+pub after_first : (p : Savepoint) (reservations : List Reservation) (places : Places) → CountsAll places reservations → CountsAll places (after p reservations ++ not_after p reservations)
+after_first p reservations places counts = parts_count (is_after p) places reservations counts
+
+-- each of both is short
+pub short_own : (session : ℕ) (reservations : List Reservation) → AllByRecursion IsShort reservations → AllByRecursion IsShort (own session reservations)
+short_own session reservations short = all_filter IsShort (λ (r : Reservation). r.session == session) reservations short
+
+pub short_others : (session : ℕ) (reservations : List Reservation) → AllByRecursion IsShort reservations → AllByRecursion IsShort (others session reservations)
+short_others session reservations short = all_filter IsShort (λ (r : Reservation). not (r.session == session)) reservations short
+
+-- a place counts no more than there are open reservations
+length-of_row : (row : RowName) (reservations : List Reservation) → length (of_row row reservations) ≤ length reservations
+length-of_row row [] = omega arith
+length-of_row row (r ∷ reservations) = one (same_row row r.row) (deltas r.changes) (of_row row reservations) reservations (length-of_row row reservations)
+  where
+    one : (b : Bool) (changes : List ℤ) (rest : List (List ℤ)) (others : List Reservation) → length rest ≤ length others → length (cond b (changes ∷ rest) rest) ≤ suc (length others)
+    one true changes rest others few = omega arith
+    one false changes rest others few = omega arith
+
+pub few_counted : (row : RowName) (reservations : List Reservation) (place : Kept) → Counts place (of_row row reservations) → place.count ≤ length reservations
+few_counted row reservations place counts = subst (λ (n : ℕ). n ≤ length reservations) (sym counts.0) (length-of_row row reservations)
+
+-- a place that is given back where it counts nothing is so where its row isn't reserved
+pub released_is : (reservations : List Reservation) (row : RowName) (old new : Places) → CountsAll old reservations
+    → (is_counting (place_at old row) ≡ false → place_at new row ≡ None) → (is_counting (place_at old row) ≡ true → new ≡ old) → Releases reservations row old new
+released_is reservations row old new counts empty counting = record {
+  free = λ none. empty (counting_is old reservations row counts ∙ none);
+  reserved = λ some. counting (counting_is old reservations row counts ∙ some);
+}
+
+-- nothing in the table of transactions refuses what nothing refuses
+pub free_of : (session : ℕ) (checks : List Check) (amounts changes : List ℤ) (reservations : List (List ℤ)) (o : Open) → reason_by session checks amounts changes reservations o ≡ None
+    → grant_refusal session o ≡ None
+free_of session checks amounts changes reservations o none = (passed (grant_refusal session o) (option_map refusal.Check (broken checks amounts changes reservations) ∷ []) none).first
+
+-- one more is counted, the last
+pub granted_counts : (session : ℕ) (row : RowName) (changes : List (Option ℤ)) (o : Open) (old new : Places) → CountsAll old o.reservations → AllByRecursion IsShort o.reservations → length changes ≤ MAX_LEN
+    → IsSome (place_at old row) → Becomes (TakesIn (deltas changes)) (place_at old row) (place_at new row) → OthersStay row old new
+    → AreCounted (record { txns = granted session row changes o; places = new })
+granted_counts session row changes o old new counts short few there becomes others =
+    let r : Reservation = record { id = o.next_id; session = session; row = row; changes = changes } in
+    record {
+      counts = add_counts old new r o.reservations [] (subst (λ (rs : List Reservation). CountsAll old rs) (sym (append-nil o.reservations)) counts) there becomes others;
+      short = append_all IsShort o.reservations (r ∷ []) short (few, tt);
+    }
+
+-- what came after a savepoint, if there is one, and the rest
+pub later_first : (session : ℕ) (name : List ℕ) (o : Open) (later : List Reservation) (places : Places) → Some later ≡ option_map (λ p. after p o.reservations) (savepoint_of session name o.savepoints)
+    → CountsAll places o.reservations → CountsAll places (later ++ (cut_back session name o).reservations)
+later_first session name o later places is counts = at (savepoint_of session name o.savepoints) is
+  where
+    at : (p : Option Savepoint) → Some later ≡ option_map (λ p. after p o.reservations) p → CountsAll places (later ++ (unwrap_or (option_map (returned_to o) p) o).reservations)
+    at None is = absurd (cc)
+    at (Some p) is =
+        subst (λ (rs : List Reservation). CountsAll places (rs ++ not_after p o.reservations)) (sym (some_same is)) (after_first p o.reservations places counts)
+
+pub later_short : (session : ℕ) (name : List ℕ) (o : Open) (later : List Reservation) → Some later ≡ option_map (λ p. after p o.reservations) (savepoint_of session name o.savepoints)
+    → AllByRecursion IsShort o.reservations → AllByRecursion IsShort later
+later_short session name o later is short = at (savepoint_of session name o.savepoints) is
+  where
+    at : (p : Option Savepoint) → Some later ≡ option_map (λ p. after p o.reservations) p → AllByRecursion IsShort later
+    at None is = absurd (cc)
+    at (Some p) is = subst (AllByRecursion IsShort) (sym (some_same is)) (all_filter IsShort (is_after p) o.reservations short)
+
+-- and the rest is short
+pub short_cut : (session : ℕ) (name : List ℕ) (o : Open) → AllByRecursion IsShort o.reservations → AllByRecursion IsShort (cut_back session name o).reservations
+short_cut session name o short = at (savepoint_of session name o.savepoints)
+  where
+    at : (p : Option Savepoint) → AllByRecursion IsShort (unwrap_or (option_map (returned_to o) p) o).reservations
+    at None = short
+    at (Some p) = all_filter IsShort (λ (r : Reservation). not (is_after p r)) o.reservations short
+
+-- the amounts of one place more
+pub amounts_more : {A : Type 0} (of : A → List ℤ) (places : Places) (reservations : List Reservation) (before : List A) (i : ℕ) (r : Reservation) (amounts : A)
+    → i < length reservations → r ≡ get_or reservations i r → option_map (λ (place : Kept). place.amounts) (place_at places r.row) ≡ Some (of amounts)
+    → AreAmounts places (take i reservations) (map of before) → AreAmounts places (take (i + 1) reservations) (map of (before ++ amounts ∷ []))
+amounts_more of places reservations before i r amounts below at has so_far =
+    let own : Reservation → Option (List ℤ) = λ r. option_map (λ (place : Kept). place.amounts) (place_at places r.row) in
+    map_more own reservations i r below
+    ∙ ap₂ (λ (zs : List (Option (List ℤ))) (z : Option (List ℤ)). zs ++ z ∷ []) so_far (sym (ap own at) ∙ has)
+    ∙ sym (ap (map Some) (map_push of before amounts) ∙ map_push Some (map of before) (of amounts))
+
+-- a reservation that is open has a place
+pub open_placed : (places : Places) (reservations : List Reservation) (r : Reservation) → CountsAll places reservations → Has reservations r → IsSome (place_at places r.row)
+open_placed places reservations r counts has = counting_some (place_at places r.row) (counting_is places reservations r.row counts ∙ any_has (λ (x : Reservation). same_row x.row r.row) reservations r has (same_row_itself r.row))
+  where
+    counting_some : (p : Option Kept) → is_counting p ≡ true → IsSome p
+    counting_some None is = absurd (cc)
+    counting_some (Some place) is = refl
+
+    any_has : (p : Reservation → Bool) (rs : List Reservation) (x : Reservation) → Has rs x → p x ≡ true → list_any p rs ≡ true
+    any_has p [] x has is = absurd has
+    any_has p (y ∷ rs) x (inl same) is = or_left (p y) (list_any p rs) (ap p same ∙ is)
+    any_has p (y ∷ rs) x (inr later) is = or_right (p y) (list_any p rs) (any_has p rs x later is)
+
+pub own_placed : (session : ℕ) (places : Places) (reservations : List Reservation) → CountsAll places reservations → AllByRecursion (λ r. IsSome (place_at places r.row)) (own session reservations)
+own_placed session places reservations counts =
+    has_all (λ (r : Reservation). IsSome (place_at places r.row)) (own session reservations)
+    (λ r has. open_placed places reservations r counts (has_filter (λ (x : Reservation). x.session == session) reservations r has).0)

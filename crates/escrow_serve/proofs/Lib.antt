@@ -1,0 +1,4 @@
+pub mod Elements
+pub mod ServeLemmas
+pub mod ShownLemmas
+pub mod TotalsLemmas

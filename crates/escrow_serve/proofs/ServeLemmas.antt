@@ -1,0 +1,317 @@
+-- Lines that are served one by one.
+use Rattle.std.proofs.Common.{◌≡◌, ◌⊎◌, ℕ, ◌+◌, ◌<◌, ◌≤◌, List, [], ◌∷◌, ◌++◌, length, map, replicate, take, drop, Option, Some, None, arith, refl, sym, ap, subst, ◌∙◌, append_assoc, inl, inr, lit<, lit≤}
+use Rattle.std.specs.Prelude.{◌==◌, slice_get, slice_index_or, slice_set, option_map, codes, decimal, IfSome, Bool, true, false, Result, Ok, Err}
+use Rattle.std.specs.Io.KnownBytes.{Appends, IsAtEnd}
+use Rattle.std.proofs.lemmas.Bool.{cases_Bool}
+use Rattle.std.proofs.lemmas.Fmt.{length-decimal-le}
+use Rattle.std.proofs.lemmas.List.{append-nil, take-append-drop, length-append, length-map, map-set}
+use Rattle.std.proofs.lemmas.Option.{slice_get-get_or, slice_get-map}
+use Rattle.sqlite_trees.specs.declared.store.Store.{Ghosts}
+use Rattle.escrow_num.specs.declared.failure.Failure.{Failure}
+use Rattle.escrow_machine.specs.declared.reply.Reply.{Reply}
+use Rattle.escrow_machine.specs.Reply.{holds_memory, restart_reply}
+use Rattle.escrow_core.specs.Seen.{Seen}
+use Rattle.escrow_machine.specs.State.{State}
+use Rattle.escrow_script.specs.declared.fault.ServeFault.{ServeFault}
+use Rattle.escrow_machine.specs.Step as machine
+use Rattle.escrow_machine.specs.declared.event.Event.TheVariants as event
+use Rattle.escrow_script.specs.declared.line.Line.{Line}
+use Rattle.escrow_script.specs.declared.line.Line.TheVariants as line
+use Rattle.escrow_script.specs.Reading.{seen}
+use Rattle.escrow_script.specs.Line.{Reading, nothing, join, restart, statement, database_name, Reads, lines_of}
+use Rattle.escrow_reply.specs.Text.{rendered_whole}
+use Rattle.escrow_reply.specs.declared.short.TheConstants.{MAX_FRONT}
+use Rattle.escrow_script.specs.Written.{Leaves}
+use Rattle.escrow_serve.specs.Output.{Sitting, begun, state_in, states_of, HaveCleanDisks, ServesBytes, ServesLines, WritesLines, ServesWhole, StopsWithin}
+use Rattle.escrow_script.proofs.LineLemmas.{names_one, restarts_one}
+use Rattle.escrow_script.proofs.TakenLemmas.{kept_line, Rests, rests_at_start, next_of, within_limit}
+use Rattle.escrow_script.proofs.WrittenLemmas.{appends_more, appends_none}
+use Rattle.escrow_serve.specs.declared.totals.Totals.{Totals}
+use Rattle.escrow_serve.specs.Totals.{no_totals, totals_after, AllSit, TextServed, LineServed}
+use Rattle.escrow_serve.proofs.TotalsLemmas.{all_begun, all_states, line_of_none, line_of_statement, line_of_restart}
+use Rattle.escrow_script.specs.declared.limits.TheConstants.{MAX_DATABASES, MAX_LINE, MAX_SCRIPT}
+use Rattle.escrow_script.specs.Script.{TakesLine, Spends, left}
+
+-- databases, as contracts show them
+abbrev pub Databases : Type 0 → Type 0
+Databases S = List (Seen S)
+
+serves_kept : (sittings new : List Sitting) (line kept out : List ℕ) → kept ≡ take (MAX_LINE + 1) line → ServesBytes sittings kept out new → ServesBytes sittings line out new
+serves_kept sittings new line kept out e serves = (serves.0, kept_line (length sittings) line kept serves.0 e serves.1, serves.2)
+
+-- one line more is served
+serves_more : (sittings mid new : List Sitting) (served : List (List ℕ)) (line out first : List ℕ) → ServesLines sittings served out mid
+    → ServesBytes mid line first new → ServesLines sittings (served ++ line ∷ []) (out ++ first) new
+serves_more sittings mid new [] line out first h step =
+    let here : ServesBytes sittings line first new = subst (λ (m : List Sitting). ServesBytes m line first new) h.1 step in
+    (first, [], new, here, (refl, refl), ap (λ (o : List ℕ). o ++ first) h.0 ∙ sym (append-nil first))
+serves_more sittings mid new (l ∷ ls) line out first h step =
+    (h.0, h.1 ++ first, h.2, h.3, serves_more h.2 mid new ls line h.1 first h.4 step, ap (λ (o : List ℕ). o ++ first) h.5 ∙ append_assoc h.0 h.1 first)
+
+-- How a script stands: some of its lines were served, and left such states and totals; what they write was
+-- written but for what is gathered; and there were no more of them than the bytes that were spent.
+pub record Stood (states new : List State) (totals : List Totals) (script rest old_bytes new_bytes : Option (List ℕ)) (gathered : List ℕ) (budget : ℕ) : Type 0 where
+  pub served : List (List ℕ)
+  pub written : List ℕ
+  pub sittings : List Sitting
+  pub serves : ServesLines (map begun states) served (written ++ gathered) sittings
+  pub sit : AllSit new totals sittings (length served)
+  pub few : length served + budget ≤ MAX_SCRIPT
+  pub appends : Appends old_bytes new_bytes written
+  pub rests : Rests served script rest
+
+-- nothing is served: of states that are begun these are the states
+states_begun : (states : List State) → states ≡ map (λ (sitting : Sitting). sitting.state) (map begun states)
+states_begun [] = refl
+states_begun (s ∷ states) = ap (λ (ss : List State). s ∷ ss) (states_begun states)
+
+-- a fault before the first line
+pub stopped_unserved : (why : ServeFault) (states : List State) (script : List ℕ) (old_bytes new_bytes : Option (List ℕ)) → Leaves why [] → Appends old_bytes new_bytes []
+    → StopsWithin why script states states old_bytes new_bytes
+stopped_unserved why states script old_bytes new_bytes leaves wrote = record {
+  served = [];
+  unserved = lines_of script;
+  written = [];
+  unwritten = [];
+  lines = refl;
+  serves = (map begun states, (refl, refl), states_begun states);
+  appends = wrote;
+  leaves = leaves;
+}
+
+pub stopped_at_start : (why : ServeFault) (states : List State) (script bytes : Option (List ℕ)) → Leaves why [] → IfSome script (λ s. StopsWithin why s states states bytes bytes)
+stopped_at_start why states None bytes leaves = tt
+stopped_at_start why states (Some script) bytes leaves = stopped_unserved why states script bytes bytes leaves (appends_none bytes)
+
+-- nothing is read and nothing is gathered
+stood_begun : (states : List State) (totals : List Totals) (script bytes : Option (List ℕ)) (unread gathered : List ℕ) (left_bytes : ℕ) → totals ≡ replicate (length states) no_totals
+    → unread ≡ [] → gathered ≡ [] → left_bytes ≡ MAX_SCRIPT → Stood states states totals script (left unread script) bytes bytes gathered (left_bytes + length unread)
+stood_begun states totals script bytes unread gathered left_bytes are_none none_unread none_gathered all = record {
+  served = [];
+  written = [];
+  sittings = map begun states;
+  serves = (none_gathered, refl);
+  sit = subst (λ (ts : List Totals). AllSit states ts (map begun states) 0) (sym are_none) (all_begun states);
+  few = omega (arith, all, ap length none_unread);
+  appends = appends_none bytes;
+  rests = subst (λ (u : List ℕ). Rests [] script (left u script)) (sym none_unread) (rests_at_start script);
+}
+
+-- A line's turn: the bytes that were kept of it, the databases and their totals before and after it, and
+-- what it writes where their stores can be used after it.
+pub record Turn {S : Type 0} (g : Ghosts S) (mid new : Databases S) (totals counted : List Totals) (rest new_rest : Option (List ℕ)) (first : List ℕ) (budget less : ℕ) : Type 0 where
+  pub kept : List ℕ
+  pub short : length kept ≤ MAX_LINE + 1
+  pub taken : TakesLine true rest new_rest kept
+  pub step : HaveCleanDisks g new → LineServed (states_of mid) totals kept first (states_of new) counted
+  pub clean : HaveCleanDisks g new → HaveCleanDisks g mid
+  pub spent : less < budget
+
+pub turn_of : {S : Type 0} (g : Ghosts S) (found : Bool) (kept line first : List ℕ) (mid new : Databases S) (totals counted : List Totals) (rest new_rest : Option (List ℕ)) (budget less : ℕ)
+    → found ≡ true → line ≡ kept → length line ≤ MAX_LINE + 1 → TakesLine found rest new_rest kept → (found ≡ true → less < budget)
+    → (HaveCleanDisks g new → LineServed (states_of mid) totals line first (states_of new) counted) → (HaveCleanDisks g new → HaveCleanDisks g mid)
+    → Turn g mid new totals counted rest new_rest first budget less
+turn_of g found kept line first mid new totals counted rest new_rest budget less is_true is_line short taken spent step clean = record {
+  kept = kept;
+  short = subst (λ (k : List ℕ). length k ≤ MAX_LINE + 1) is_line short;
+  taken = subst (λ (f : Bool). TakesLine f rest new_rest kept) is_true taken;
+  step = λ used. subst (λ (k : List ℕ). LineServed (states_of mid) totals k first (states_of new) counted) is_line (step used);
+  clean = clean;
+  spent = spent is_true;
+}
+
+-- How a script stands in databases: as their states tell, where their stores can be used.
+pub record Stands {S : Type 0} (g : Ghosts S) (old new : Databases S) (totals : List Totals) (script rest old_bytes new_bytes : Option (List ℕ)) (gathered : List ℕ) (budget : ℕ) : Type 0 where
+  pub stood : HaveCleanDisks g new → Stood (states_of old) (states_of new) totals script rest old_bytes new_bytes gathered budget
+  pub clean : HaveCleanDisks g new → HaveCleanDisks g old
+
+pub stands_begun : {S : Type 0} (g : Ghosts S) (databases : Databases S) (totals : List Totals) (script bytes : Option (List ℕ)) (unread gathered : List ℕ) (left_bytes : ℕ)
+    → totals ≡ replicate (length databases) no_totals → unread ≡ [] → gathered ≡ [] → left_bytes ≡ MAX_SCRIPT
+    → Stands g databases databases totals script (left unread script) bytes bytes gathered (left_bytes + length unread)
+stands_begun g databases totals script bytes unread gathered left_bytes are_none none_unread none_gathered all =
+    let are : totals ≡ replicate (length (states_of databases)) no_totals = are_none ∙ ap (λ (n : ℕ). replicate n no_totals) (sym (length-map databases state_in)) in
+    record { stood = λ _. stood_begun (states_of databases) totals script bytes unread gathered left_bytes are none_unread none_gathered all; clean = λ used. used }
+
+-- one line more is served, and what it writes is gathered
+turn_stood : (states mid new : List State) (totals counted : List Totals) (script rest new_rest old_bytes new_bytes : Option (List ℕ)) (kept gathered first : List ℕ) (budget less : ℕ)
+    → length kept ≤ MAX_LINE + 1 → TakesLine true rest new_rest kept → LineServed mid totals kept first new counted → less < budget
+    → Stood states mid totals script rest old_bytes new_bytes gathered budget → Stood states new counted script new_rest old_bytes new_bytes (gathered ++ first) less
+turn_stood states mid new totals counted script rest new_rest old_bytes new_bytes kept gathered first budget less short taken step spent stood =
+    let next = next_of script rest new_rest kept stood.served short taken stood.rests in
+    let served = step stood.sittings (length stood.served) stood.sit (omega (arith, stood.few, spent)) in
+    let here = serves_kept stood.sittings served.0 next.line kept first next.is_kept served.1 in
+    let whole = serves_more (map begun states) stood.sittings served.0 stood.served next.line (stood.written ++ gathered) first stood.serves here in
+    let one_more : length stood.served + 1 ≡ length (stood.served ++ next.line ∷ []) = sym (length-append stood.served (next.line ∷ [])) in
+    record {
+      served = stood.served ++ next.line ∷ [];
+      written = stood.written;
+      sittings = served.0;
+      serves = subst (λ (o : List ℕ). ServesLines (map begun states) (stood.served ++ next.line ∷ []) o served.0) (append_assoc stood.written gathered first) whole;
+      sit = subst (λ (n : ℕ). AllSit new counted served.0 n) one_more served.2;
+      few = omega (arith, stood.few, spent, one_more);
+      appends = stood.appends;
+      rests = next.rests;
+    }
+
+pub turn_served : {S : Type 0} (g : Ghosts S) (old mid new : Databases S) (totals counted : List Totals) (script rest new_rest old_bytes new_bytes now_bytes : Option (List ℕ)) (gathered held first all : List ℕ) (budget less : ℕ)
+    → Turn g mid new totals counted rest new_rest first budget less → now_bytes ≡ new_bytes → held ≡ gathered → all ≡ held ++ first
+    → Stands g old mid totals script rest old_bytes new_bytes gathered budget → Stands g old new counted script new_rest old_bytes now_bytes all less
+turn_served g old mid new totals counted script rest new_rest old_bytes new_bytes now_bytes gathered held first all budget less turn is_now is_held is_all stands =
+    let whole : all ≡ gathered ++ first = is_all ∙ ap (λ (l : List ℕ). l ++ first) is_held in
+    subst (λ (b : Option (List ℕ)). Stands g old new counted script new_rest old_bytes b all less) (sym is_now)
+    (subst (λ (a : List ℕ). Stands g old new counted script new_rest old_bytes new_bytes a less) (sym whole)
+    (record {
+      stood = λ used. turn_stood (states_of old) (states_of mid) (states_of new) totals counted script rest new_rest old_bytes new_bytes turn.kept gathered first budget less turn.short turn.taken
+          (turn.step used) turn.spent (stands.stood (turn.clean used));
+      clean = λ used. stands.clean (turn.clean used);
+    }))
+
+-- what was gathered is written
+stood_written : (states new : List State) (totals : List Totals) (script rest old_bytes mid_bytes new_bytes : Option (List ℕ)) (gathered left_over : List ℕ) (budget : ℕ)
+    → Stood states new totals script rest old_bytes mid_bytes gathered budget → Appends mid_bytes new_bytes gathered → left_over ≡ []
+    → Stood states new totals script rest old_bytes new_bytes left_over budget
+stood_written states new totals script rest old_bytes mid_bytes new_bytes gathered left_over budget stood wrote none =
+    let whole : stood.written ++ gathered ≡ (stood.written ++ gathered) ++ left_over = sym (append-nil (stood.written ++ gathered)) ∙ ap (λ (l : List ℕ). (stood.written ++ gathered) ++ l) (sym none) in
+    record {
+      served = stood.served;
+      written = stood.written ++ gathered;
+      sittings = stood.sittings;
+      serves = subst (λ (o : List ℕ). ServesLines (map begun states) stood.served o stood.sittings) whole stood.serves;
+      sit = stood.sit;
+      few = stood.few;
+      appends = appends_more old_bytes mid_bytes new_bytes stood.written gathered stood.appends wrote;
+      rests = stood.rests;
+    }
+
+pub stands_written : {S : Type 0} (g : Ghosts S) (old new : Databases S) (totals : List Totals) (script rest old_bytes mid_bytes new_bytes : Option (List ℕ)) (gathered left_over : List ℕ) (budget : ℕ)
+    → Stands g old new totals script rest old_bytes mid_bytes gathered budget → Appends mid_bytes new_bytes gathered → left_over ≡ []
+    → Stands g old new totals script rest old_bytes new_bytes left_over budget
+stands_written g old new totals script rest old_bytes mid_bytes new_bytes gathered left_over budget stands wrote none = record {
+  stood = λ used. stood_written (states_of old) (states_of new) totals script rest old_bytes mid_bytes new_bytes gathered left_over budget (stands.stood used) wrote none;
+  clean = stands.clean;
+}
+
+-- what lines write, from states to states
+writes_stood : (states new : List State) (totals : List Totals) (sittings : List Sitting) (lines : List (List ℕ)) (out : List ℕ) (most : ℕ)
+    → ServesLines (map begun states) lines out sittings → AllSit new totals sittings most → WritesLines states lines out new
+writes_stood states new totals sittings lines out most serves sit = (sittings, serves, all_states new totals sittings most sit)
+
+-- a fault, at which what was gathered isn't written
+pub stopped : (why : ServeFault) (states new : List State) (totals : List Totals) (script rest old_bytes new_bytes : Option (List ℕ)) (gathered : List ℕ) (budget : ℕ) → Leaves why gathered
+    → Stood states new totals script rest old_bytes new_bytes gathered budget → IfSome script (λ bytes. StopsWithin why bytes states new old_bytes new_bytes)
+stopped why states new totals None rest old_bytes new_bytes gathered budget leaves stood = tt
+stopped why states new totals (Some bytes) None old_bytes new_bytes gathered budget leaves stood = absurd stood.rests
+stopped why states new totals (Some bytes) (Some rest) old_bytes new_bytes gathered budget leaves stood = record {
+  served = stood.served;
+  unserved = lines_of rest;
+  written = stood.written;
+  unwritten = gathered;
+  lines = stood.rests;
+  serves = writes_stood states new totals stood.sittings stood.served (stood.written ++ gathered) (length stood.served) stood.serves stood.sit;
+  appends = stood.appends;
+  leaves = leaves;
+}
+
+-- a prefix of what was gathered is written
+stood_in_front : (states new : List State) (totals : List Totals) (script rest old_bytes mid_bytes new_bytes : Option (List ℕ)) (front back : List ℕ) (budget : ℕ)
+    → Stood states new totals script rest old_bytes mid_bytes (front ++ back) budget → Appends mid_bytes new_bytes front → Stood states new totals script rest old_bytes new_bytes back budget
+stood_in_front states new totals script rest old_bytes mid_bytes new_bytes front back budget stood wrote = record {
+  served = stood.served;
+  written = stood.written ++ front;
+  sittings = stood.sittings;
+  serves = subst (λ (o : List ℕ). ServesLines (map begun states) stood.served o stood.sittings) (sym (append_assoc stood.written front back)) stood.serves;
+  sit = stood.sit;
+  few = stood.few;
+  appends = appends_more old_bytes mid_bytes new_bytes stood.written front stood.appends wrote;
+  rests = stood.rests;
+}
+
+-- a fault of the writer, which took a prefix of what was gathered
+pub stopped_writing : (why : ServeFault) (states new : List State) (totals : List Totals) (script rest old_bytes mid_bytes new_bytes : Option (List ℕ)) (gathered : List ℕ) (len budget : ℕ)
+    → Leaves why (drop len gathered) → Stood states new totals script rest old_bytes mid_bytes gathered budget → Appends mid_bytes new_bytes (take len gathered)
+    → IfSome script (λ bytes. StopsWithin why bytes states new old_bytes new_bytes)
+stopped_writing why states new totals script rest old_bytes mid_bytes new_bytes gathered len budget leaves stood wrote =
+    let whole : gathered ≡ take len gathered ++ drop len gathered = sym (take-append-drop len gathered) in
+    let parted = subst (λ (g : List ℕ). Stood states new totals script rest old_bytes mid_bytes g budget) whole stood in
+    stopped why states new totals script rest old_bytes new_bytes (drop len gathered) budget leaves
+    (stood_in_front states new totals script rest old_bytes mid_bytes new_bytes (take len gathered) (drop len gathered) budget parted wrote)
+
+-- and all its lines are served
+stood_at_end : (states new : List State) (totals : List Totals) (bytes : List ℕ) (rest more remaining old_bytes new_bytes : Option (List ℕ)) (kept : List ℕ) (now budget : ℕ)
+    → Stood states new totals (Some bytes) rest old_bytes new_bytes [] budget → TakesLine false rest more kept → Spends (Some bytes) remaining MAX_SCRIPT now → IsAtEnd remaining
+    → ServesWhole bytes states new old_bytes new_bytes
+stood_at_end states new totals bytes None more remaining old_bytes new_bytes kept now budget stood taken spends at_end = absurd stood.rests
+stood_at_end states new totals bytes (Some rest) None remaining old_bytes new_bytes kept now budget stood taken spends at_end = absurd taken
+stood_at_end states new totals bytes (Some rest) (Some more) remaining old_bytes new_bytes kept now budget stood taken spends at_end =
+    let all : stood.served ≡ lines_of bytes = sym (stood.rests ∙ ap (λ (ls : List (List ℕ)). stood.served ++ ls) taken.0 ∙ append-nil stood.served) in
+    record {
+      limit = within_limit bytes remaining MAX_SCRIPT now spends at_end;
+      out = stood.written;
+      output = subst (λ (ls : List (List ℕ)). WritesLines states ls stood.written new) all
+          (subst (λ (o : List ℕ). WritesLines states stood.served o new) (append-nil stood.written)
+          (writes_stood states new totals stood.sittings stood.served (stood.written ++ []) (length stood.served) stood.serves stood.sit));
+      appends = stood.appends;
+    }
+
+pub finished : (states new : List State) (totals : List Totals) (script rest remaining old_bytes new_bytes : Option (List ℕ)) (found : Bool) (kept unread : List ℕ) (now budget : ℕ) → found ≡ false
+    → TakesLine found rest (left unread remaining) kept → Stood states new totals script rest old_bytes new_bytes [] budget → Spends script remaining MAX_SCRIPT now → IfSome script (λ bytes. IsAtEnd remaining)
+    → IfSome script (λ bytes. ServesWhole bytes states new old_bytes new_bytes)
+finished states new totals None rest remaining old_bytes new_bytes found kept unread now budget is_false taken stood spends at_end = tt
+finished states new totals (Some bytes) rest remaining old_bytes new_bytes found kept unread now budget is_false taken stood spends at_end =
+    let none = subst (λ (f : Bool). TakesLine f rest (left unread remaining) kept) is_false taken in
+    stood_at_end states new totals bytes rest (left unread remaining) remaining old_bytes new_bytes kept now budget stood none spends at_end
+
+-- what a line is read as among databases, it is read as among their states
+pub reads_states : {S : Type 0} (databases : Databases S) (bytes : List ℕ) (reading : Reading) → Reads (length databases) bytes reading → Reads (length (states_of databases)) bytes reading
+reads_states databases bytes reading reads = subst (λ (n : ℕ). Reads n bytes reading) (sym (length-map databases state_in)) reads
+
+-- where a line asks nothing, nothing is written
+pub nothing_served : (states : List State) (totals : List Totals) (bytes out : List ℕ) (found : Line) → Reads (length states) bytes (seen found) → (found ≡ line.Nothing) ⊎ (found ≡ line.Join)
+    → out ≡ [] → LineServed states totals bytes out states totals
+nothing_served states totals bytes out found reads (inl is) none =
+    line_of_none states totals bytes out nothing (subst (λ (f : Line). Reads (length states) bytes (seen f)) is reads) (λ sittings. (none, refl))
+nothing_served states totals bytes out found reads (inr is) none =
+    line_of_none states totals bytes out join (subst (λ (f : Line). Reads (length states) bytes (seen f)) is reads) (λ sittings. (none, refl))
+
+-- the state of one database, and those after it changes
+state_at : {S : Type 0} (databases : Databases S) (place : ℕ) (database : Seen S) → slice_get databases place ≡ Some database
+    → slice_get (states_of databases) place ≡ Some (state_in database)
+state_at databases place database found = slice_get-map state_in databases place ∙ ap (option_map state_in) found
+
+-- the line of a statement is answered by the database at its place
+pub serves_place : {S : Type 0} (databases : Databases S) (totals : List Totals) (place session : ℕ) (bytes text name out : List ℕ) (old after : Seen S) (own counted : Totals)
+    → Reads (length databases) bytes (statement place session text) → old ≡ slice_index_or databases place old → own ≡ slice_index_or totals place own → length totals ≡ length databases
+    → name ≡ database_name place → TextServed name old.state own session text out after.state counted
+    → LineServed (states_of databases) totals bytes out (states_of (slice_set databases place after)) (slice_set totals place counted)
+serves_place databases totals place session bytes text name out old after own counted reads is_old is_own each is_name served =
+    let within = names_one (length databases) bytes place session text reads in
+    let found : slice_get databases place ≡ Some old = slice_get-get_or databases place old within ∙ ap Some (sym is_old) in
+    let has : slice_get totals place ≡ Some own = slice_get-get_or totals place own (omega (arith, within, each)) ∙ ap Some (sym is_own) in
+    subst (λ (states : List State). LineServed (states_of databases) totals bytes out states (slice_set totals place counted)) (sym (map-set state_in databases place after))
+    (line_of_statement (states_of databases) totals place session bytes text name out old.state after.state own counted (reads_states databases bytes (statement place session text) reads)
+    (state_at databases place old found) has is_name served)
+
+-- so is the line of a restart
+pub restarts_place : {S : Type 0} (databases : Databases S) (totals : List Totals) (place : ℕ) (bytes name : List ℕ) (answer : Reply) (old after : Seen S) (own counted : Totals)
+    → Reads (length databases) bytes (restart place) → old ≡ slice_index_or databases place old → own ≡ slice_index_or totals place own → length totals ≡ length databases
+    → name ≡ database_name place → machine.IsServed old.state event.Restart answer after.state → counted ≡ totals_after answer own
+    → LineServed (states_of databases) totals bytes (rendered_whole name answer) (states_of (slice_set databases place after)) (slice_set totals place counted)
+restarts_place databases totals place bytes name answer old after own counted reads is_old is_own each is_name served is_counted =
+    let within = restarts_one (length databases) bytes place reads in
+    let found : slice_get databases place ≡ Some old = slice_get-get_or databases place old within ∙ ap Some (sym is_old) in
+    let has : slice_get totals place ≡ Some own = slice_get-get_or totals place own (omega (arith, within, each)) ∙ ap Some (sym is_own) in
+    subst (λ (states : List State). LineServed (states_of databases) totals bytes (rendered_whole name answer) states (slice_set totals place counted)) (sym (map-set state_in databases place after))
+    (line_of_restart (states_of databases) totals place bytes name answer old.state after.state own counted (reads_states databases bytes (restart place) reads)
+    (state_at databases place old found) has is_name served is_counted)
+
+-- a database's name is short enough to stand in front of a short reply
+pub name_short : (place : ℕ) → place < MAX_DATABASES → length (database_name place) ≤ MAX_FRONT
+name_short place within = elim (cases_Bool (place == 0)) [
+  | inl e ↦ rw e (lit≤ tt)
+  | inr e ↦ rw e (let digits = length-decimal-le 2 (place + 1) (lit< tt) (omega arith) (omega arith) in omega (arith, length-append (codes "bank") (decimal (place + 1))))
+]
+
+-- the reply to a restart is short
+pub restart_short : (outcome : Result (Unit {0}) Failure) → holds_memory (restart_reply outcome) ≡ false
+restart_short (Ok done) = refl
+restart_short (Err failed) = refl

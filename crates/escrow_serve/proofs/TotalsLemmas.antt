@@ -1,0 +1,253 @@
+-- Totals that are kept of databases, and the sittings that they are of.
+use Rattle.std.proofs.Common.{◌≡◌, ◌≢◌, ℕ, zero, suc, ◌+◌, ◌-◌, ◌^◌, ◌<◌, ◌≤◌, List, [], ◌∷◌, ◌++◌, length, get_or, map, replicate, Some, arith, refl, sym, ap, subst, ◌∙◌, inl, inr}
+use Rattle.std.specs.Prelude.{◌==◌, filter, slice_get, slice_set}
+use Rattle.std.proofs.lemmas.Bool.{cases_eq, eq-eqb, ne_eqb}
+use Rattle.std.proofs.lemmas.List.{append-nil, length-append, length-map, map-append, get_or-replicate}
+use Rattle.std.proofs.lemmas.List.Elements.{filter-append}
+use Rattle.std.proofs.lemmas.List.Sums.{length-filter, count_by-le-length}
+use Rattle.std.proofs.lemmas.Option.{slice_get-get_or, slice_get_within, get_or_from_slice_get}
+use Rattle.escrow_num.specs.Session.{IsSession}
+use Rattle.escrow_machine.specs.declared.event.Event.TheVariants as event
+use Rattle.escrow_machine.specs.declared.reply.Reply.{Reply}
+use Rattle.escrow_machine.specs.declared.reply.Reply.TheVariants as reply
+use Rattle.escrow_machine.specs.State.{State}
+use Rattle.escrow_machine.specs.Step as machine
+use Rattle.escrow_reply.specs.Text.{rendered, rendered_whole}
+use Rattle.escrow_statement.specs.declared.statement.Request.TheVariants as request
+use Rattle.escrow_sql.specs.Parser.{Asks}
+use Rattle.escrow_stats.specs.declared.tally.Tally.{Tally}
+use Rattle.escrow_stats.specs.Tally.{tally_of}
+use Rattle.escrow_stats.specs.Text.{rendered_totals}
+use Rattle.escrow_script.specs.declared.limits.TheConstants.{MAX_SCRIPT}
+use Rattle.escrow_serve.specs.declared.totals.TheConstants.{SESSIONS}
+use Rattle.escrow_serve.specs.declared.totals.Totals.{Totals}
+use Rattle.escrow_script.specs.Line.{Reading, restart, statement, database_name, Reads}
+use Rattle.escrow_serve.specs.Output.{Sitting, begun, replies_to, answered_after, Answers, PrintsText, ServesLine}
+use Rattle.escrow_serve.specs.Totals.{no_totals, totals_after, AreTotals, Sits, AllSit, TextServed, LineServed}
+
+-- AN ELEMENT THAT WAS SET
+
+get_set_same : {A : Type 0} (xs : List A) (place : ℕ) (x : A) → place < length xs → slice_get (slice_set xs place x) place ≡ Some x
+get_set_same [] place x within = absurd (omega arith)
+get_set_same (y ∷ xs) zero x within = refl
+get_set_same (y ∷ xs) (suc place) x within = get_set_same xs place x (omega arith)
+
+get_set_other : {A : Type 0} (xs : List A) (place other : ℕ) (x : A) → other ≢ place → slice_get (slice_set xs place x) other ≡ slice_get xs other
+get_set_other [] place other x apart = refl
+get_set_other (y ∷ xs) zero zero x apart = absurd (apart refl)
+get_set_other (y ∷ xs) zero (suc other) x apart = refl
+get_set_other (y ∷ xs) (suc place) zero x apart = refl
+get_set_other (y ∷ xs) (suc place) (suc other) x apart = get_set_other xs place other x (λ same. apart (ap suc same))
+
+-- WHAT A SESSION WAS ANSWERED
+
+replies_joined : (session : ℕ) (before after : List (ℕ × Reply)) → replies_to session (before ++ after) ≡ replies_to session before ++ replies_to session after
+replies_joined session before after =
+    ap (map (λ (given : ℕ × Reply). given.1)) (filter-append (λ (given : ℕ × Reply). given.0 == session) before after)
+    ∙ map-append (λ (given : ℕ × Reply). given.1) (filter (λ given. given.0 == session) before) (filter (λ given. given.0 == session) after)
+
+-- a reply to the session is one more
+replies_with : (session : ℕ) (answered : List (ℕ × Reply)) (r : Reply) → replies_to session (answered ++ (session, r) ∷ []) ≡ replies_to session answered ++ r ∷ []
+replies_with session answered r =
+    let one : replies_to session ((session, r) ∷ []) ≡ r ∷ [] = rw (eq-eqb session session refl) refl in
+    replies_joined session answered ((session, r) ∷ []) ∙ ap (λ (l : List Reply). replies_to session answered ++ l) one
+
+-- and one to another session is none
+replies_without : (session other : ℕ) (answered : List (ℕ × Reply)) (r : Reply) → session ≢ other → replies_to other (answered ++ (session, r) ∷ []) ≡ replies_to other answered
+replies_without session other answered r apart =
+    let none : replies_to other ((session, r) ∷ []) ≡ [] = rw (ne_eqb session other apart) refl in
+    replies_joined other answered ((session, r) ∷ []) ∙ ap (λ (l : List Reply). replies_to other answered ++ l) none ∙ append-nil (replies_to other answered)
+
+-- no session was answered more than all
+few_replies : (session : ℕ) (answered : List (ℕ × Reply)) → length (replies_to session answered) ≤ length answered
+few_replies session answered =
+    omega (
+      arith,
+      length-map (filter (λ given. given.0 == session) answered) (λ (given : ℕ × Reply). given.1),
+      length-filter (λ (given : ℕ × Reply). given.0 == session) answered,
+      count_by-le-length (λ (given : ℕ × Reply). given.0 == session) answered,
+    )
+
+-- THE TOTALS OF A DATABASE
+
+are_none : AreTotals no_totals [] 0
+are_none = record {
+  each = λ session is.
+      let within : session - 1 < length (replicate SESSIONS (tally_of [])) = omega arith in
+      slice_get-get_or (replicate SESSIONS (tally_of [])) (session - 1) (tally_of []) within ∙ ap Some (get_or-replicate SESSIONS (session - 1) (tally_of []) (tally_of []) (omega (arith, is.1)));
+  few = omega arith;
+}
+
+totals_more : (totals : Totals) (answered : List (ℕ × Reply)) (most : ℕ) → AreTotals totals answered most → AreTotals totals answered (most + 1)
+totals_more totals answered most are = record { each = are.each; few = omega (arith, are.few) }
+
+-- the tally of a session
+pub own_tally : (totals : Totals) (session : ℕ) (d : Tally) → IsSession session → (answered : List (ℕ × Reply)) (most : ℕ) → AreTotals totals answered most
+    → get_or totals.tallies (session - 1) d ≡ tally_of (replies_to session answered)
+own_tally totals session d is_session answered most are =
+    get_or_from_slice_get totals.tallies (session - 1) (tally_of (replies_to session answered)) d (are.each session is_session)
+
+-- a reply to a session is counted
+totals_at : (old new : Totals) (session : ℕ) (r : Reply) (d now : Tally) → IsSession session → new.tallies ≡ slice_set old.tallies (session - 1) now
+    → ((replies : List Reply) → get_or old.tallies (session - 1) d ≡ tally_of replies → length replies < 2 ^ 64 - 1 → now ≡ tally_of (replies ++ r ∷ []))
+    → (answered : List (ℕ × Reply)) (most : ℕ) → AreTotals old answered most → most < MAX_SCRIPT → AreTotals new (answered ++ (session, r) ∷ []) (most + 1)
+totals_at old new session r d now is_session set counts answered most are below =
+    let is_now = counts (replies_to session answered) (own_tally old session d is_session answered most are) (omega (arith, few_replies session answered, are.few, below)) in
+    let within = slice_get_within old.tallies (session - 1) (tally_of (replies_to session answered)) (are.each session is_session) in
+    record {
+      each = λ other is_other. elim (cases_eq session other) [
+        | inl same ↦ subst (λ (n : ℕ). slice_get new.tallies (n - 1) ≡ Some (tally_of (replies_to n (answered ++ (session, r) ∷ [])))) same
+            (ap (λ (ts : List Tally). slice_get ts (session - 1)) set ∙ get_set_same old.tallies (session - 1) now within
+            ∙ ap Some (is_now ∙ ap tally_of (sym (replies_with session answered r))))
+        | inr apart ↦
+            let places : other - 1 ≢ session - 1 = omega (arith, is_session.0, is_other.0, apart) in
+            ap (λ (ts : List Tally). slice_get ts (other - 1)) set ∙ get_set_other old.tallies (session - 1) (other - 1) now places
+            ∙ are.each other is_other ∙ ap (λ (rs : List Reply). Some (tally_of rs)) (sym (replies_without session other answered r apart))
+      ];
+      few = omega (arith, are.few, length-append answered ((session, r) ∷ []));
+    }
+
+pub totals_with : (old new : Totals) (session place : ℕ) (r : Reply) (d now : Tally) → IsSession session → place ≡ session - 1 → new.tallies ≡ slice_set old.tallies place now
+    → ((replies : List Reply) → get_or old.tallies place d ≡ tally_of replies → length replies < 2 ^ 64 - 1 → now ≡ tally_of (replies ++ r ∷ []))
+    → (answered : List (ℕ × Reply)) (most : ℕ) → AreTotals old answered most → most < MAX_SCRIPT → AreTotals new (answered ++ (session, r) ∷ []) (most + 1)
+totals_with old new session place r d now is_session is_place set counts =
+    totals_at old new session r d now is_session (set ∙ ap (λ (n : ℕ). slice_set old.tallies n now) is_place)
+    (λ replies is few. counts replies (ap (λ (n : ℕ). get_or old.tallies n d) is_place ∙ is) few)
+
+-- A DATABASE'S SITTING
+
+sits_more : (state : State) (totals : Totals) (sitting : Sitting) (most : ℕ) → Sits state totals sitting most → Sits state totals sitting (most + 1)
+sits_more state totals sitting most sits = record { is_state = sits.is_state; are_totals = totals_more totals sitting.answered most sits.are_totals }
+
+-- a restart
+sits_restarted : (old new : State) (totals : Totals) (sitting : Sitting) (most : ℕ) (answer : Reply) → Sits old totals sitting most
+    → Sits new (totals_after answer totals) (record { state = new; answered = answered_after answer sitting.answered }) (most + 1)
+sits_restarted old new totals sitting most reply.Restarted sits =
+    record { is_state = refl; are_totals = record { each = are_none.each; few = omega arith } }
+sits_restarted old new totals sitting most _ sits =
+    record { is_state = refl; are_totals = totals_more totals sitting.answered most sits.are_totals }
+
+-- a text that is answered
+pub text_answered : (name : List ℕ) (old new : State) (totals counted : Totals) (session : ℕ) (text : List ℕ) (answer : Reply) → Answers old session text answer new
+    → ((answered : List (ℕ × Reply)) (most : ℕ) → AreTotals totals answered most → most < MAX_SCRIPT → AreTotals counted (answered ++ (session, answer) ∷ []) (most + 1))
+    → TextServed name old totals session text (rendered name session answer) new counted
+text_answered name old new totals counted session text answer answers counts = λ sitting most sits below. (
+  record { state = new; answered = sitting.answered ++ (session, answer) ∷ [] },
+  inl (answer, new, subst (λ (s : State). Answers s session text answer new) (sym sits.is_state) answers, refl, refl),
+  record { is_state = refl; are_totals = counts sitting.answered most sits.are_totals below },
+)
+
+-- and one that asks totals
+pub text_totals : (name : List ℕ) (old new : State) (totals : Totals) (session : ℕ) (text : List ℕ) (tally : Tally) → Asks text request.Statistics → new ≡ old
+    → ((answered : List (ℕ × Reply)) (most : ℕ) → AreTotals totals answered most → tally ≡ tally_of (replies_to session answered)) → TextServed name old totals session text (rendered_totals name session tally) new totals
+text_totals name old new totals session text tally asks same counted = λ sitting most sits below. (
+  sitting,
+  inr (asks, ap (rendered_totals name session) (counted sitting.answered most sits.are_totals), refl),
+  record { is_state = sits.is_state ∙ sym same; are_totals = totals_more totals sitting.answered most sits.are_totals },
+)
+
+-- THE SITTINGS OF ALL DATABASES
+
+all_more : (states : List State) (totals : List Totals) (sittings : List Sitting) (most : ℕ) → AllSit states totals sittings most → AllSit states totals sittings (most + 1)
+all_more [] [] [] most all = tt
+all_more [] [] (x ∷ sittings) most all = absurd all
+all_more [] (t ∷ totals) sittings most all = absurd all
+all_more (s ∷ states) [] sittings most all = absurd all
+all_more (s ∷ states) (t ∷ totals) [] most all = absurd all
+all_more (s ∷ states) (t ∷ totals) (x ∷ sittings) most all = (sits_more s t x most all.0, all_more states totals sittings most all.1)
+
+all_length : (states : List State) (totals : List Totals) (sittings : List Sitting) (most : ℕ) → AllSit states totals sittings most → length sittings ≡ length states
+all_length [] [] [] most all = refl
+all_length [] [] (x ∷ sittings) most all = absurd all
+all_length [] (t ∷ totals) sittings most all = absurd all
+all_length (s ∷ states) [] sittings most all = absurd all
+all_length (s ∷ states) (t ∷ totals) [] most all = absurd all
+all_length (s ∷ states) (t ∷ totals) (x ∷ sittings) most all = ap suc (all_length states totals sittings most all.1)
+
+pub all_states : (states : List State) (totals : List Totals) (sittings : List Sitting) (most : ℕ) → AllSit states totals sittings most → states ≡ map (λ (x : Sitting). x.state) sittings
+all_states [] [] [] most all = refl
+all_states [] [] (x ∷ sittings) most all = absurd all
+all_states [] (t ∷ totals) sittings most all = absurd all
+all_states (s ∷ states) [] sittings most all = absurd all
+all_states (s ∷ states) (t ∷ totals) [] most all = absurd all
+all_states (s ∷ states) (t ∷ totals) (x ∷ sittings) most all =
+    let head : s ≡ x.state = sym all.0.is_state in let tail = all_states states totals sittings most all.1 in cc
+
+-- as a script begins
+pub all_begun : (states : List State) → AllSit states (replicate (length states) no_totals) (map begun states) 0
+all_begun [] = tt
+all_begun (s ∷ states) = (record { is_state = refl; are_totals = are_none }, all_begun states)
+
+-- the sitting of one of them
+record IsAt (state : State) (totals : Totals) (sittings : List Sitting) (most place : ℕ) : Type 0 where
+  pub sitting : Sitting
+  pub found : slice_get sittings place ≡ Some sitting
+  pub sits : Sits state totals sitting most
+
+sits_at : (states : List State) (totals : List Totals) (sittings : List Sitting) (most place : ℕ) (state : State) (own : Totals) → AllSit states totals sittings most
+    → slice_get states place ≡ Some state → slice_get totals place ≡ Some own → IsAt state own sittings most place
+sits_at [] totals sittings most place state own all found has = absurd (omega (arith, slice_get_within [] place state found))
+sits_at (s ∷ states) [] sittings most place state own all found has = absurd all
+sits_at (s ∷ states) (t ∷ totals) [] most place state own all found has = absurd all
+sits_at (s ∷ states) (t ∷ totals) (x ∷ sittings) most zero state own all found has =
+    let is_state : s ≡ state = cc in let is_own : t ≡ own = cc in
+    record { sitting = x; found = refl; sits = subst (λ (u : Totals). Sits state u x most) is_own (subst (λ (r : State). Sits r t x most) is_state all.0) }
+sits_at (s ∷ states) (t ∷ totals) (x ∷ sittings) most (suc place) state own all found has =
+    let behind = sits_at states totals sittings most place state own all.1 found has in
+    record { sitting = behind.sitting; found = behind.found; sits = behind.sits }
+
+-- one of them is another
+sits_set : (states : List State) (totals : List Totals) (sittings : List Sitting) (most place : ℕ) (state : State) (own : Totals) (sitting : Sitting) → AllSit states totals sittings most
+    → Sits state own sitting (most + 1) → AllSit (slice_set states place state) (slice_set totals place own) (slice_set sittings place sitting) (most + 1)
+sits_set [] [] [] most place state own sitting all sits = tt
+sits_set [] [] (x ∷ sittings) most place state own sitting all sits = absurd all
+sits_set [] (t ∷ totals) sittings most place state own sitting all sits = absurd all
+sits_set (s ∷ states) [] sittings most place state own sitting all sits = absurd all
+sits_set (s ∷ states) (t ∷ totals) [] most place state own sitting all sits = absurd all
+sits_set (s ∷ states) (t ∷ totals) (x ∷ sittings) most zero state own sitting all sits = (sits, all_more states totals sittings most all.1)
+sits_set (s ∷ states) (t ∷ totals) (x ∷ sittings) most (suc place) state own sitting all sits =
+    (sits_more s t x most all.0, sits_set states totals sittings most place state own sitting all.1 sits)
+
+-- A LINE
+
+-- what a line is read as
+line_read : (states new : List State) (totals counted : List Totals) (bytes out : List ℕ) (reading : Reading) → Reads (length states) bytes reading
+    → ((sittings : List Sitting) (most : ℕ) → AllSit states totals sittings most → most < MAX_SCRIPT → (after : List Sitting) × ServesLine sittings reading out after × AllSit new counted after (most + 1))
+    → LineServed states totals bytes out new counted
+line_read states new totals counted bytes out reading reads serves = λ sittings most all below.
+    let step = serves sittings most all below in
+    let count = all_length states totals sittings most all in
+    (step.0, (reading, subst (λ (n : ℕ). Reads n bytes reading) (sym count) reads, step.1), step.2)
+
+-- one that changes nothing
+pub line_of_none : (states : List State) (totals : List Totals) (bytes out : List ℕ) (reading : Reading) → Reads (length states) bytes reading
+    → ((sittings : List Sitting) → ServesLine sittings reading out sittings) → LineServed states totals bytes out states totals
+line_of_none states totals bytes out reading reads serves =
+    line_read states states totals totals bytes out reading reads (λ sittings most all below. (sittings, serves sittings, all_more states totals sittings most all))
+
+-- a statement's line
+pub line_of_statement : (states : List State) (totals : List Totals) (place session : ℕ) (bytes text name out : List ℕ) (old new : State) (own counted : Totals)
+    → Reads (length states) bytes (statement place session text) → slice_get states place ≡ Some old → slice_get totals place ≡ Some own → name ≡ database_name place
+    → TextServed name old own session text out new counted → LineServed states totals bytes out (slice_set states place new) (slice_set totals place counted)
+line_of_statement states totals place session bytes text name out old new own counted reads found has is_name served =
+    line_read states (slice_set states place new) totals (slice_set totals place counted) bytes out (statement place session text) reads (λ sittings most all below.
+    let at = sits_at states totals sittings most place old own all found has in
+    let step = served at.sitting most at.sits below in
+    let prints = subst (λ (n : List ℕ). PrintsText n at.sitting session text out step.0) is_name step.1 in
+    (slice_set sittings place step.0, rw at.found (step.0, prints, refl), sits_set states totals sittings most place new counted step.0 all step.2))
+
+-- a restart's line
+pub line_of_restart : (states : List State) (totals : List Totals) (place : ℕ) (bytes name : List ℕ) (answer : Reply) (old new : State) (own counted : Totals)
+    → Reads (length states) bytes (restart place) → slice_get states place ≡ Some old → slice_get totals place ≡ Some own → name ≡ database_name place
+    → machine.IsServed old event.Restart answer new → counted ≡ totals_after answer own
+    → LineServed states totals bytes (rendered_whole name answer) (slice_set states place new) (slice_set totals place counted)
+line_of_restart states totals place bytes name answer old new own counted reads found has is_name served is_counted =
+    line_read states (slice_set states place new) totals (slice_set totals place counted) bytes (rendered_whole name answer) (restart place) reads (λ sittings most all below.
+    let at = sits_at states totals sittings most place old own all found has in
+    let after : Sitting = record { state = new; answered = answered_after answer at.sitting.answered } in
+    let sits = subst (λ (t : Totals). Sits new t after (most + 1)) (sym is_counted) (sits_restarted old new own at.sitting most answer at.sits) in
+    let restarted = subst (λ (s : State). machine.IsServed s event.Restart answer new) (sym at.sits.is_state) served in (
+      slice_set sittings place after,
+      rw at.found (after, (answer, new, restarted, ap (λ (n : List ℕ). rendered_whole n answer) is_name, refl), refl),
+      sits_set states totals sittings most place new counted after all sits,
+    ))

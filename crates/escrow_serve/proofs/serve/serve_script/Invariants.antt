@@ -1,0 +1,22 @@
+use Rattle.std.proofs.Common.{◌≡◌, ◌+◌, true, false, [], length, vec_len}
+use Rattle.escrow_script.specs.Script.{left, has_line, HasEnded, Spends}
+use Rattle.escrow_serve.proofs.ServeLemmas.{Stands}
+use Rattle.escrow_script.specs.declared.limits.TheConstants.{MAX_SCRIPT}
+use Rattle.escrow_serve.proofs.serve.serve_script.Given as goal
+
+-- some lines of the script were served, what they write was written or is gathered, and each database has its
+-- totals, where the stores can be used, and their bytes were counted; nothing is gathered unless the next line is
+-- in hand; and behind the script's end nothing is left
+abbrev pub invariant-loop-replies : goal.invariant-loop-replies
+invariant-loop-replies g l = record {
+  count : vec_len l.databases ≡ vec_len l.fn.databases;
+  each : vec_len l.totals ≡ vec_len l.databases;
+  stands : Stands g.S.Store l.fn.databases.items l.databases.items l.totals.items (g.R.Read.remaining l.fn.reader) (left l.script.unread (g.R.Read.remaining l.reader))
+      (g.W.Write.contents l.fn.writer) (g.W.Write.contents l.writer) l.replies.items (l.script.bytes_left + length l.script.unread);
+  waits : has_line l.script.reads_left l.script.unread ≡ false → l.replies.items ≡ [];
+  ended : l.script.has_ended ≡ true → HasEnded l.script.unread (g.R.Read.remaining l.reader);
+  spent : Spends (g.R.Read.remaining l.fn.reader) (g.R.Read.remaining l.reader) MAX_SCRIPT l.script.bytes_left;
+}
+
+abbrev pub decreases-loop-replies : goal.decreases-loop-replies
+decreases-loop-replies g l = l.script.bytes_left + length l.script.unread

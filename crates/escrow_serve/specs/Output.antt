@@ -1,0 +1,148 @@
+-- Believed: the output of a script.
+use Rattle.std.specs.Prelude.{◌≡◌, ◌⊎◌, ℕ, ◌==◌, ◌≤◌, Option, IsSomeAnd, List, [], ◌∷◌, ◌++◌, length, map, filter, slice_get, slice_set}
+use Rattle.std.specs.Io.KnownBytes.{Appends}
+use Rattle.std.specs.List.{AllByRecursion}
+use Rattle.sqlite.specs.Held.{state}
+use Rattle.sqlite_trees.specs.declared.store.Store.{Ghosts}
+use Rattle.escrow_sql.specs.declared.fault.ParseFault.{ParseFault}
+use Rattle.escrow_statement.specs.declared.statement.Statement.{Statement}
+use Rattle.escrow_statement.specs.declared.statement.Request.TheVariants as request
+use Rattle.escrow_sql.specs.Parser.{Asks, IsFaultIn}
+use Rattle.sqlite.specs.State.{HasCleanDisk}
+use Rattle.escrow_machine.specs.declared.reply.Reply.{Reply}
+use Rattle.escrow_machine.specs.declared.reply.Reply.TheVariants as reply
+use Rattle.escrow_core.specs.Seen.{Seen}
+use Rattle.escrow_machine.specs.State.{State}
+use Rattle.escrow_machine.specs.Step as machine
+use Rattle.escrow_machine.specs.Step.{StepOrRefusal}
+use Rattle.escrow_machine.specs.declared.event.Event.TheVariants as event
+use Rattle.escrow_reply.specs.Text.{rendered, rendered_whole}
+use Rattle.escrow_stats.specs.Tally.{tally_of}
+use Rattle.escrow_stats.specs.Text.{rendered_totals}
+use Rattle.escrow_script.specs.declared.fault.ServeFault.{ServeFault}
+use Rattle.escrow_script.specs.declared.limits.TheConstants.{MAX_SCRIPT}
+use Rattle.escrow_script.specs.Written.{fault_refusal, no_line_text, Leaves}
+use Rattle.escrow_script.specs.Line.{Reading, nothing, join, restart, statement, no_line, database_name, Reads, lines_of}
+
+-- the state in a database, as contracts show it
+abbrev pub state_in : {S : Type 0} → Seen S → State
+state_in database = database.state
+
+-- the states of databases, by place
+abbrev pub states_of : {S : Type 0} → List (Seen S) → List State
+states_of databases = map state_in databases
+
+-- the disk of each database's store has returned what was written
+abbrev pub HaveCleanDisks : {S : Type 0} → Ghosts S → List (Seen S) → Type 0
+HaveCleanDisks g databases = AllByRecursion (λ database. HasCleanDisk (state g database.store)) databases
+
+-- a text is a statement, and its answer is the machine's step or its refusal
+abbrev pub IsServed : State → ℕ → List ℕ → Reply → State → Type 0
+IsServed s session text answer new =
+    (asked : Statement) × Asks text (request.Statement asked) × StepOrRefusal s session asked answer new
+
+-- A text is none, and is refused with the column of its first fault; or it is refused for memory, as
+-- any text may be, since reading it takes memory. Nothing changes.
+abbrev pub IsRefused : State → List ℕ → Reply → State → Type 0
+IsRefused s text answer new = (f : ParseFault) × IsFaultIn text f × (answer ≡ reply.Refused (fault_refusal f)) × (new ≡ s)
+
+-- the answer to a text of a session, and the state after it: the machine's step or what may come in its place, where
+-- the text is a statement; 11 with the column of its first fault, where it asks nothing; or 51 for want of memory to
+-- read it
+abbrev pub Answers : State → ℕ → List ℕ → Reply → State → Type 0
+Answers s session text answer new = IsServed s session text answer new ⊎ IsRefused s text answer new
+
+-- WHAT A SCRIPT'S LINES DO
+
+-- A database in a script: its state, and what its sessions were answered, in order, each reply with its
+-- session, since the script began or the database was last restarted.
+pub record Sitting : Type 0 where
+  pub state : State
+  pub answered : List (ℕ × Reply)
+
+-- a database as the script finds it
+abbrev pub begun : State → Sitting
+begun s = record { state = s; answered = [] }
+
+-- what one session was answered
+abbrev pub replies_to : ℕ → List (ℕ × Reply) → List Reply
+replies_to session answered = map (λ given. given.1) (filter (λ given. given.0 == session) answered)
+
+-- what was answered before counts no more where a database was restarted
+abbrev pub answered_after : Reply → List (ℕ × Reply) → List (ℕ × Reply)
+answered_after reply.Restarted answered = []
+answered_after _ answered = answered
+
+-- a restart prints its reply
+abbrev pub Restarts : List ℕ → Sitting → List ℕ → Sitting → Type 0
+Restarts name sitting out new =
+    (answer : Reply) × (after : State) × machine.IsServed sitting.state event.Restart answer after
+    × (out ≡ rendered_whole name answer) × (new ≡ record { state = after; answered = answered_after answer sitting.answered })
+
+-- the text of a session prints its answer, which is one more that the session was given
+abbrev pub PrintsAnswer : List ℕ → Sitting → ℕ → List ℕ → List ℕ → Sitting → Type 0
+PrintsAnswer name sitting session text out new =
+    (answer : Reply) × (after : State) × Answers sitting.state session text answer after
+    × (out ≡ rendered name session answer) × (new ≡ record { state = after; answered = sitting.answered ++ (session, answer) ∷ [] })
+
+-- the text of a session asks totals: it prints those of what its session was answered, and nothing changes
+abbrev pub PrintsTotals : List ℕ → Sitting → ℕ → List ℕ → List ℕ → Sitting → Type 0
+PrintsTotals name sitting session text out new =
+    Asks text request.Statistics × (out ≡ rendered_totals name session (tally_of (replies_to session sitting.answered))) × (new ≡ sitting)
+
+-- what the text of a session prints
+abbrev pub PrintsText : List ℕ → Sitting → ℕ → List ℕ → List ℕ → Sitting → Type 0
+PrintsText name sitting session text out new = PrintsAnswer name sitting session text out new ⊎ PrintsTotals name sitting session text out new
+
+-- what a line writes, and the sittings of the databases after it: a restart and a statement are those of the
+-- database at its place, and the others stay
+abbrev pub ServesLine : List Sitting → Reading → List ℕ → List Sitting → Type 0
+ServesLine sittings nothing out new = (out ≡ []) × (new ≡ sittings)
+ServesLine sittings join out new = (out ≡ []) × (new ≡ sittings)
+ServesLine sittings no_line out new = (out ≡ no_line_text) × (new ≡ sittings)
+ServesLine sittings (restart place) out new =
+    IsSomeAnd (slice_get sittings place) (λ sitting. (after : Sitting) × Restarts (database_name place) sitting out after
+    × (new ≡ slice_set sittings place after))
+ServesLine sittings (statement place session text) out new =
+    IsSomeAnd (slice_get sittings place) (λ sitting. (after : Sitting) × PrintsText (database_name place) sitting session text out after
+    × (new ≡ slice_set sittings place after))
+
+-- what the bytes of a line write, and the sittings after it
+abbrev pub ServesBytes : List Sitting → List ℕ → List ℕ → List Sitting → Type 0
+ServesBytes sittings bytes out new = (reading : Reading) × Reads (length sittings) bytes reading × ServesLine sittings reading out new
+
+-- what lines write, one after another, and the sittings after them
+abbrev pub ServesLines : List Sitting → List (List ℕ) → List ℕ → List Sitting → Type 0
+ServesLines sittings [] out new = (out ≡ []) × (new ≡ sittings)
+ServesLines sittings (line ∷ lines) out new =
+    (first rest : List ℕ) × (mid : List Sitting) × ServesBytes sittings line first mid
+    × ServesLines mid lines rest new × (out ≡ first ++ rest)
+
+-- what a script's first lines write from the databases' states, and the states after them
+abbrev pub WritesLines : List State → List (List ℕ) → List ℕ → List State → Type 0
+WritesLines states lines out new =
+    (end : List Sitting) × ServesLines (map begun states) lines out end × (new ≡ map (λ sitting. sitting.state) end)
+
+-- THE OUTPUT OF A SCRIPT: what it writes from the databases' states, when no session was answered yet, and the states
+-- after it
+abbrev pub Output : List ℕ → List State → List ℕ → List State → Type 0
+Output script states out new = WritesLines states (lines_of script) out new
+
+-- the script was served whole: it is no longer than a script may be, and its output was written
+pub record ServesWhole (script : List ℕ) (states new : List State) (old_bytes new_bytes : Option (List ℕ)) : Type 0 where
+  pub limit : length script ≤ MAX_SCRIPT
+  pub out : List ℕ
+  pub output : Output script states out new
+  pub appends : Appends old_bytes new_bytes out
+
+-- What a fault leaves: some lines of the script from its first on were served, and a prefix of their
+-- output was written.
+pub record StopsWithin (fault : ServeFault) (script : List ℕ) (states new : List State) (old_bytes new_bytes : Option (List ℕ)) : Type 0 where
+  pub served : List (List ℕ)
+  pub unserved : List (List ℕ)
+  pub written : List ℕ
+  pub unwritten : List ℕ
+  pub lines : lines_of script ≡ served ++ unserved
+  pub serves : WritesLines states served (written ++ unwritten) new
+  pub appends : Appends old_bytes new_bytes written
+  pub leaves : Leaves fault unwritten

@@ -1,0 +1,126 @@
+//! What a terminal is sent while the sessions of a phase run at the same time.
+use super::program::CommandLine;
+use escrow_server::{Terminal, run_program};
+use std::alloc::Global;
+use std::io::{self, Write};
+use std::process::{Abort, ExitCode};
+use std::sync::{Arc, Mutex, Wait};
+use std::thread::Threads;
+use std::time::{Clock, Duration};
+
+/// What a terminal was sent.
+type Sent = Arc<Mutex<Vec<u8>>, Global>;
+
+/// A terminal that keeps what it is sent: what is drawn, and the replies.
+#[derive(Drop)]
+struct Tape<R> {
+    rt: R,
+    sent: Sent,
+}
+
+impl<R: Wait + Drop> Write for Tape<R> {
+    fn write(&mut self, buf: &[u8]) -> io::Result<usize> {
+        self.sent.lock(&self.rt).extend_from_slice(buf)?;
+        Ok(buf.len())
+    }
+
+    fn flush(&mut self) -> io::Result<()> {
+        Ok(())
+    }
+}
+
+/// Two sessions of the second database ask, over and over.
+const ASKED: &str = "bank2.1: COMMIT\nbank2.2: COMMIT\n";
+
+const ANSWERED: &str = "bank2.1> OK committed 0\nbank2.2> OK committed 0\n";
+
+/// What a drawing begins with, up to the total of the second database.
+const FIRST: &str = "\u{1b}[?7lbank: served 0 granted 0 broken 0 commits 0\u{1b}[K\nbank2: served ";
+
+/// The second line, up to its first total, and what is behind the line.
+const LINE: &str = "bank2: served ";
+
+const END: &str = "\u{1b}[K\n\u{1b}[?7h";
+
+/// How two lines are erased.
+const ERASED: &str = "\r\u{1b}[2A\u{1b}[J";
+
+/// Lines are drawn over and over, the last ones with totals that were taken together, and are erased before the replies.
+/// The last phase may be drawn too.
+fn check_drawn<R: Abort>(rt: &R, sent: &[u8], replies: &str) {
+    let sent = str::from_utf8(sent).unwrap_or_default();
+    let (drawn, rest) = sent.split_once(ERASED).expect(rt, "what erases");
+    assert!(rt; !drawn.contains("OK"));
+    let (_, line) = drawn.rsplit_once(LINE).expect(rt, "a line");
+    let (served, totals) = line
+        .split_once(" granted 0 broken 0 commits ")
+        .expect(rt, "totals");
+    assert_eq!(rt; totals.strip_suffix(END), Some(served));
+    let last = rest.strip_prefix(replies).expect(rt, "replies");
+    let before = last.strip_suffix(ANSWERED).expect(rt, "the last replies");
+    let is_drawn = before.starts_with(FIRST) && before.ends_with(ERASED);
+    assert!(rt; before.is_empty() || is_drawn);
+}
+
+/// Lines are drawn while the sessions of a phase run at the same time. A phase may be too short to be seen, so it is tried
+/// again. If line after line is served nothing is drawn.
+#[test]
+fn drawn_and_erased(rt: HostRuntime) {
+    let sent = Arc::new(rt.alloc(), Mutex::new(Vec::new(rt.alloc()))).expect(&rt, "memory");
+    let mut script = String::new(rt.alloc());
+    let mut replies = String::new(rt.alloc());
+    for _ in 0..5_000 {
+        script.push_str(ASKED).expect(&rt, "memory");
+        replies.push_str(ANSWERED).expect(&rt, "memory");
+    }
+    script.push_str("@join\n").expect(&rt, "memory");
+    script.push_str(ASKED).expect(&rt, "memory");
+    for _ in 0..100 {
+        sent.lock(&rt).clear();
+        serve(rt, &rt, &rt, b"free|--databases|2", script.as_str(), &sent);
+        if sent.lock(&rt).starts_with(FIRST.as_bytes()) {
+            break;
+        }
+    }
+    check_drawn(&rt, sent.lock(&rt).as_slice(), replies.as_str());
+    sent.lock(&rt).clear();
+    serve(rt, &rt, &rt, b"run|--databases|2", script.as_str(), &sent);
+    replies.push_str(ANSWERED).expect(&rt, "memory");
+    assert!(rt; sent.lock(&rt).as_slice() == replies.as_bytes());
+}
+
+/// Serves a script to its end. The replies and what a screen shows, with the shortest pause, go to one terminal. It may wait.
+fn serve<R: Wait + Clock + Copy + Drop + Send + 'static, T: Abort + Threads + Wait + Sync>(
+    own: R,
+    rt: &HostRuntime,
+    to: &T,
+    line: &[u8],
+    script: &str,
+    sent: &Sent,
+) {
+    let mut output = Tape {
+        rt: own,
+        sent: Arc::try_clone(sent).expect(to, "memory"),
+    };
+    let writer = Tape {
+        rt: own,
+        sent: Arc::try_clone(sent).expect(to, "memory"),
+    };
+    let screen = Terminal {
+        rt: own,
+        writer,
+        pause: Duration::from_millis(1),
+    };
+    let mut input = script.as_bytes();
+    let mut errors = Vec::new(rt.alloc());
+    let code = run_program(
+        rt,
+        to,
+        &CommandLine(line),
+        &mut input,
+        &mut output,
+        &mut errors,
+        Some(screen),
+    );
+    assert!(to; code == ExitCode::SUCCESS && errors.is_empty());
+}

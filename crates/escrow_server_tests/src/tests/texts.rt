@@ -1,0 +1,93 @@
+//! Texts of faults and refusals that no script shows.
+use escrow_core::Reply;
+use escrow_num::{Refusal, Session};
+use escrow_reply::{render, render_whole};
+use escrow_server::{CloseFault, OpenFault};
+use sqlite::{Error, ErrorCode};
+use std::io;
+
+/// What is said of errors of the system's at which a store isn't opened, by their numbers.
+const SYSTEM: [(i32, &str); 6] = [
+    (
+        13,
+        "permission denied: the file has to be readable and writable, and its folder too, where a log is made beside it",
+    ),
+    (
+        30,
+        "permission denied: the file has to be readable and writable, and its folder too, where a log is made beside it",
+    ),
+    (28, "the disk is full"),
+    (12, "out of memory"),
+    (95, "it is no plain file, or it has several names"),
+    (5, "Input/output error (os error 5)"),
+];
+
+/// What is said of SQLite's refusals at which a store isn't opened, and at which one isn't closed.
+const SQLITE: [(ErrorCode, &str, &str); 4] = [
+    (ErrorCode::OutOfMemory, "out of memory", "out of memory"),
+    (ErrorCode::DiskFull, "the disk is full", "the disk is full"),
+    (
+        ErrorCode::DatabaseCorrupt,
+        "it is no store of escrowd's: something else is in it, or it was damaged",
+        "it can't be read or written",
+    ),
+    (
+        ErrorCode::SystemIoFailure,
+        "it can't be read or written",
+        "it can't be read or written",
+    ),
+];
+
+#[test]
+fn faults(rt: HostRuntime) {
+    for (number, wanted) in SYSTEM {
+        let fault = OpenFault::from(io::Error::from_raw_os_error(number));
+        let text = format!(in rt.alloc(); "{fault}").expect(&rt, "memory");
+        assert_eq!(rt; text.as_str(), wanted);
+    }
+    for (code, unopened, unclosed) in SQLITE {
+        let opening = OpenFault::from(Error::SqliteFailure(code));
+        let closing = CloseFault::from(Error::SqliteFailure(code));
+        let text = format!(in rt.alloc(); "{opening}|{closing}").expect(&rt, "memory");
+        assert_eq!(rt; text.as_str().split_once('|'), Some((unopened, unclosed)));
+    }
+}
+
+/// Refusals that no script meets, with what is answered.
+const REFUSALS: [(Refusal, &str); 9] = [
+    (
+        Refusal::Syntax { column: 65_537 },
+        "ERR 11 syntax column 65537",
+    ),
+    (Refusal::Line, "ERR 12 line"),
+    (Refusal::TableFull, "ERR 34 table full"),
+    (Refusal::NoMoreIds, "ERR 45 no more ids"),
+    (Refusal::Memory, "ERR 51 memory"),
+    (Refusal::TranscriptFull, "ERR 52 transcript full"),
+    (Refusal::Store, "ERR 60 store"),
+    (Refusal::ForeignStore, "ERR 61 foreign store"),
+    (Refusal::UnknownVersion, "ERR 62 unknown version"),
+];
+
+/// The lines of a session and those of a whole database.
+#[test]
+fn refusals(rt: HostRuntime) {
+    for (refusal, words) in REFUSALS {
+        let reply = Reply::Refused(refusal);
+        let line = render(rt.alloc(), "bank", Session::FIRST, &reply).expect(&rt, "memory");
+        let whole = render_whole(rt.alloc(), "bank2", &reply).expect(&rt, "memory");
+        let line = str::from_utf8(line.as_slice()).unwrap_or_default();
+        let whole = str::from_utf8(whole.as_slice()).unwrap_or_default();
+        assert_eq!(rt;
+            line.strip_prefix("bank.1> ")
+                .and_then(|rest| rest.strip_suffix("\n")),
+            Some(words)
+        );
+        assert_eq!(rt;
+            whole
+                .strip_prefix("bank2> ")
+                .and_then(|rest| rest.strip_suffix("\n")),
+            Some(words)
+        );
+    }
+}

@@ -1,0 +1,2 @@
+pub mod AnyCase
+pub mod WordLemmas

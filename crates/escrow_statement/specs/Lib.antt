@@ -1,0 +1,4 @@
+pub mod Copies
+pub mod Joined
+pub mod Word
+pub mod WordNumber

@@ -1,0 +1,9 @@
+use denote.Param.Send.{sendable}
+use Rattle.std.proofs.Crossing.{crosses}
+use Rattle.escrow_statement.proofs.statement.Statement.TheSendSync as Statement
+use Rattle.escrow_memory.proofs.store.BlockStore.TheSendSync as BlockStore
+use Rattle.escrow_shards.proofs.Crossing.{locked_send, shared_sync}
+use Rattle.escrow_threads_tests.proofs.tests.concert.concert.Goals as goal
+
+pub for_each_mut-requires-sync-F : goal.for_each_mut-requires-sync-F
+for_each_mut-requires-sync-F g c κs within = search (shared_sync, locked_send, BlockStore.the_send, Statement.the_sync, sendable, crosses) depth 20

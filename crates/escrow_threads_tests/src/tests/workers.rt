@@ -1,0 +1,435 @@
+//! Workers over shared databases, which get their requests as lists or fed: what each answers, and what comes back.
+ghost use Rattle.std.specs.Prelude.{◌≡◌, length};
+ghost use Rattle.std.specs.List.{AllByRecursion};
+ghost use Rattle.escrow_shards.specs.Sharing.{HasSeat};
+ghost use Rattle.escrow_sessions.specs.Serving.{HasItsSeat};
+
+use super::closes::check_hits;
+use super::databases::{COUNTER, HIT};
+use super::gates::Watch;
+use super::results::{made, push, refused};
+use super::sharing::{close_whole, hall};
+use escrow_machine::Reply;
+use escrow_memory::BlockStore;
+use escrow_num::Refusal;
+use escrow_sessions::{
+    Cause, Done, Ended, Feed, Given, MAX_WORKERS, NotFed, run_fed, run_sessions,
+};
+use escrow_shards::{Answer, Closed, Gate, NoGate, Pass, Shared};
+use escrow_sql::{Request, parse};
+use escrow_stats::Tally;
+use std::alloc::Global;
+use std::process::Abort;
+use std::sync::Wait;
+use std::thread::Threads;
+
+/// How workers get their requests.
+#[derive(Clone, Copy, Debug)]
+pub enum By {
+    /// Each has a list.
+    Lists,
+    /// They are fed.
+    Channels,
+}
+
+/// Both ways.
+pub const BOTH: [By; 2] = [By::Lists, By::Channels];
+
+/// What the session of each pass asks: texts, one after another, so many times.
+#[derive(Clone, Copy)]
+pub struct Work<'a> {
+    pub texts: &'a [&'a str],
+    pub times: usize,
+    /// Where workers are fed, each item, and the end of the items, comes once this gate has seen the calls of those before.
+    pub live: Option<&'a Watch>,
+}
+
+/// Each session commits once.
+pub const COMMIT: Work = Work {
+    texts: &["COMMIT"],
+    times: 1,
+    live: None,
+};
+
+/// Serves the same work in the session of each pass, at the same time. Where there are too many passes, they come back.
+/// Where memory is refused before a worker is started, they are served at the second attempt.
+pub fn serve_all<R: Threads + Wait + Sync + Abort + AllocGlobal, G: Gate + Sync>(
+    rt: &R,
+    by: By,
+    shared: &Shared<BlockStore>,
+    passes: Vec<Pass>,
+    work: Work,
+    gate: &G,
+) -> Result<Vec<Done>, Vec<Pass>> {
+    let count = passes.len();
+    let mut passes = passes;
+    for _ in 0..2 {
+        match try_serve(rt, by, shared, passes, work, gate) {
+            Ok(done) => return Ok(done),
+            Err((back, cause)) => {
+                assert_eq!(rt; back.len(), count);
+                if cause == Cause::TooMany {
+                    return Err(back);
+                }
+                passes = back;
+            }
+        }
+    }
+    rt.panic("memory")
+}
+
+/// The same, at one attempt. Where no worker is started, the passes come back, and no item was asked for.
+fn try_serve<R: Threads + Wait + Sync + Abort + AllocGlobal, G: Gate + Sync>(
+    rt: &R,
+    by: By,
+    shared: &Shared<BlockStore>,
+    passes: Vec<Pass>,
+    work: Work,
+    gate: &G,
+) -> Result<Vec<Done>, (Vec<Pass>, Cause)> {
+    match by {
+        By::Lists => {
+            let feeds = feeds_of(rt, shared, passes, work);
+            match run_sessions(rt, rt.alloc(), shared, feeds, gate) {
+                Ok(done) => Ok(done),
+                Err(refusal) => {
+                    let mut passes = Vec::new(rt.alloc());
+                    for feed in refusal.feeds {
+                        push(rt, &mut passes, feed.pass);
+                    }
+                    Err((passes, refusal.cause))
+                }
+            }
+        }
+        By::Channels => match feed(rt, shared, passes, work, gate) {
+            Ok(done) => Ok(done),
+            Err(refusal) => {
+                assert_eq!(rt; refusal.items.dealt, 0);
+                Err((refusal.passes, refusal.cause))
+            }
+        },
+    }
+}
+
+/// Feeds the same work to the session of each pass.
+fn feed<'a, R: Threads + Wait + Sync + Abort + AllocGlobal, G: Gate + Sync>(
+    rt: &R,
+    shared: &Shared<BlockStore>,
+    passes: Vec<Pass>,
+    work: Work<'a>,
+    gate: &G,
+) -> Result<Vec<Done>, NotFed<Deal<'a>>> {
+    let passes = seated(rt, shared, passes);
+    let items = Deal::new(rt.alloc(), passes.len(), work);
+    run_fed(rt, rt.alloc(), shared, passes, items, gate)
+}
+
+/// Returns a feed for each pass, with the same work.
+fn feeds_of<R: Abort + AllocGlobal>(
+    rt: &R,
+    shared: &Shared<BlockStore>,
+    passes: Vec<Pass>,
+    work: Work,
+) -> Vec<Feed>
+    ensures { AllByRecursion (HasItsSeat shared.now) result.items }
+{
+    let mut feeds = Vec::new(rt.alloc());
+    for pass in passes {
+        assert!(rt; shared.has_seat(&pass));
+        let requests = requests_of(rt, work);
+        if feeds.push(Feed { pass, requests }).is_err() {
+            rt.panic("memory");
+        }
+    }
+    feeds
+}
+
+/// Returns the same passes. Each is for one of the databases and sessions.
+fn seated<R: Abort + AllocGlobal>(
+    rt: &R,
+    shared: &Shared<BlockStore>,
+    passes: Vec<Pass>,
+) -> Vec<Pass>
+    ensures { AllByRecursion (HasSeat shared.now) result.items }
+{
+    let mut seated = Vec::new(rt.alloc());
+    for pass in passes {
+        assert!(rt; shared.has_seat(&pass));
+        if seated.push(pass).is_err() {
+            rt.panic("memory");
+        }
+    }
+    seated
+}
+
+/// Returns the requests of a work.
+fn requests_of<R: Abort + AllocGlobal>(rt: &R, work: Work) -> Vec<Request> {
+    let mut requests = Vec::new(rt.alloc());
+    for _ in 0..work.times {
+        for text in work.texts {
+            push(
+                rt,
+                &mut requests,
+                made(rt, parse(rt.alloc(), text), "memory"),
+            );
+        }
+    }
+    requests
+}
+
+/// The same work for each of so many places, dealt out text by text: that of the first place comes first.
+#[derive(Drop)]
+struct Deal<'a> {
+    alloc: Global,
+    places: usize,
+    work: Work<'a>,
+    dealt: usize,
+    total: usize,
+}
+
+impl<'a> Deal<'a> {
+    ghost use Rattle.std.specs.Prelude.{◌≡◌};
+
+    /// The work, of which nothing is dealt out yet.
+    fn new(alloc: Global, places: usize, work: Work<'a>) -> Self
+        ensures { result.places ≡ places }
+    {
+        let round = places.saturating_mul(work.texts.len());
+        Deal {
+            alloc,
+            places,
+            work,
+            dealt: 0,
+            total: round.saturating_mul(work.times),
+        }
+    }
+}
+
+impl Iterator for Deal<'_> {
+    type Item = (usize, Request);
+
+    ghost use Rattle.std.specs.Prelude.{◌-◌};
+    ghost use Rattle.std.specs.Iterator.{at_most};
+    ghost use Rattle.escrow_threads_tests.specs.Dealt.{Deals};
+
+    ghost next_gives = { λ s r t. Deals s.places r t.places };
+
+    ghost remaining = { λ s. at_most (s.total - s.dealt) };
+
+    fn next(&mut self) -> Option<(usize, Request)> {
+        if let Some(watch) = self.work.live {
+            watch.wait_for(&watch.calls, self.dealt as u64);
+        }
+        if self.dealt >= self.total || self.places == 0 {
+            return None;
+        }
+        let place = self.dealt % self.places;
+        let round = self.dealt / self.places;
+        let text = self
+            .work
+            .texts
+            .get(round.checked_rem(self.work.texts.len())?)?;
+        let request = parse(self.alloc, text).ok()?;
+        self.dealt += 1;
+        Some((place, request))
+    }
+}
+
+/// Each worker has given so many answers, which are all. The close is Ok.
+pub fn end<R: Abort + AllocGlobal>(
+    rt: &R,
+    by: By,
+    shared: Shared<BlockStore>,
+    done: Vec<Done>,
+    answers: usize,
+) -> Vec<Closed<BlockStore>> {
+    let mut passes = Vec::new(rt.alloc());
+    for worker in done {
+        assert_eq!(rt; worker.ended, Ended::All, "{by:?}");
+        assert_eq!(rt; worker.answers.len(), answers, "{by:?}");
+        push(rt, &mut passes, worker.pass);
+    }
+    close_whole(rt, shared, passes)
+}
+
+/// How many hits there are in all.
+const ALL_HITS: usize = 800;
+
+/// Each session adds a hit and commits it, a hundred times.
+const HITS: Work = Work {
+    texts: &[HIT, "COMMIT"],
+    times: 100,
+    live: None,
+};
+
+/// Eight sessions hit one counter: the ids of the hits are the first ones, each granted once, and the history is whole.
+#[test]
+fn all_hits(rt: HostRuntime) {
+    for by in BOTH {
+        let (shared, passes) = hall(&rt, 1, 8, &COUNTER);
+        let done = made(
+            &rt,
+            serve_all(&rt, by, &shared, passes, HITS, &NoGate),
+            "workers",
+        );
+        let mut granted = [false; ALL_HITS + 1];
+        for worker in &done {
+            for given in &worker.answers {
+                if let Given::Reply(Answer::Served(Reply::Reserved { id })) = given {
+                    let place = usize::try_from(*id).ok().expect(&rt, "an id");
+                    let mark = granted.get_mut(place).expect(&rt, "an id of a hit");
+                    assert!(rt; !*mark && place > 0, "{id}");
+                    *mark = true;
+                }
+            }
+        }
+        let count = granted.iter().filter(|is_granted| **is_granted).count();
+        assert_eq!(rt; count, ALL_HITS, "{by:?}");
+        for closed in end(&rt, by, shared, done, 200) {
+            assert_eq!(rt; closed.entries().len(), 1_600, "{by:?}");
+            check_hits(&rt, closed, ALL_HITS);
+        }
+    }
+}
+
+/// Each session asks for its totals before, between and behind two statements.
+const TOTALS: Work = Work {
+    texts: &[
+        "SHOW STATISTICS",
+        "COMMIT",
+        "SHOW STATISTICS",
+        "ROLLBACK",
+        "SHOW STATISTICS",
+    ],
+    times: 1,
+    live: None,
+};
+
+/// Totals are those of the replies so far, and no reply themselves.
+#[test]
+fn totals_so_far(rt: HostRuntime) {
+    let one = Tally {
+        served: 1,
+        commits: 1,
+        ..Tally::new()
+    };
+    let two = Tally {
+        served: 2,
+        rollbacks: 1,
+        ..one
+    };
+    for by in BOTH {
+        let (shared, passes) = hall(&rt, 1, 1, &COUNTER);
+        let done = made(
+            &rt,
+            serve_all(&rt, by, &shared, passes, TOTALS, &NoGate),
+            "workers",
+        );
+        for worker in &done {
+            for (place, wanted) in [(0, Tally::new()), (2, one), (4, two)] {
+                match worker.answers.get(place) {
+                    Some(Given::Totals(tally)) => assert_eq!(rt; *tally, wanted, "{by:?}"),
+                    _ => rt.panic("totals"),
+                }
+            }
+            assert_eq!(rt; worker.pass.receipts().len(), 2, "{by:?}");
+        }
+        end(&rt, by, shared, done, 5);
+    }
+}
+
+/// Of 65 none is started, and all are handed back; 64 are started.
+#[test]
+fn too_many(rt: HostRuntime) {
+    for by in BOTH {
+        let (shared, passes) = hall(&rt, 5, 13, &COUNTER);
+        let served = serve_all(&rt, by, &shared, passes, COMMIT, &NoGate);
+        let mut passes = refused(&rt, served, "too many");
+        assert_eq!(rt; passes.len(), MAX_WORKERS + 1, "{by:?}");
+        passes.pop();
+        let done = made(
+            &rt,
+            serve_all(&rt, by, &shared, passes, COMMIT, &NoGate),
+            "workers",
+        );
+        assert_eq!(rt; done.len(), MAX_WORKERS, "{by:?}");
+        for worker in &done {
+            assert_eq!(rt; worker.ended, Ended::All, "{by:?}");
+            assert_eq!(rt; worker.pass.receipts().len(), 1, "{by:?}");
+        }
+    }
+}
+
+/// Each session adds a hit and commits it, three times, and asks for its totals.
+const FEW_HITS: Work = Work {
+    texts: &[HIT, "COMMIT", "SHOW STATISTICS"],
+    times: 3,
+    live: None,
+};
+
+/// How many requests each session then has.
+const REQUESTS: usize = 9;
+
+/// What came of requests: how many statements were served, how many reservations were committed, and how many requests
+/// weren't served.
+#[derive(Clone, Copy)]
+struct Came {
+    served: usize,
+    committed: usize,
+    wanting: usize,
+}
+
+/// Adds what came of the requests of a worker. Its pass has a receipt for each that was served, and memory alone was wanting.
+fn add_came<R: Abort>(rt: &R, came: &mut Came, worker: &Done) {
+    let before = came.served;
+    for given in &worker.answers {
+        match given {
+            Given::Totals(_) => {}
+            Given::Reply(Answer::Served(reply)) => {
+                came.served = came.served.saturating_add(1);
+                if let Reply::Committed { count } = reply {
+                    came.committed = came.committed.saturating_add(*count as usize);
+                }
+            }
+            Given::Reply(Answer::Unserved(refusal)) => {
+                assert!(rt; matches!(refusal, Refusal::Memory), "{refusal:?}");
+                came.wanting = came.wanting.saturating_add(1);
+            }
+        }
+    }
+    let served = came.served.saturating_sub(before);
+    assert_eq!(rt; worker.pass.receipts().len(), served);
+    let unanswered = REQUESTS.saturating_sub(worker.answers.len());
+    came.wanting = came.wanting.saturating_add(unanswered);
+}
+
+/// Whether memory is refused or not, receipts, entries and the counter are those of what was answered. Where it isn't, all
+/// is served.
+#[test]
+fn what_was_answered_happened(rt: HostRuntime) {
+    for by in BOTH {
+        let (shared, passes) = hall(&rt, 1, 2, &COUNTER);
+        let done = made(
+            &rt,
+            serve_all(&rt, by, &shared, passes, FEW_HITS, &NoGate),
+            "workers",
+        );
+        let mut came = Came {
+            served: 0,
+            committed: 0,
+            wanting: 0,
+        };
+        let mut passes = Vec::new(rt.alloc());
+        for worker in done {
+            add_came(&rt, &mut came, &worker);
+            push(&rt, &mut passes, worker.pass);
+        }
+        if came.wanting == 0 {
+            assert_eq!(rt; (came.served, came.committed), (12, 6), "{by:?}");
+        }
+        for closed in close_whole(&rt, shared, passes) {
+            assert_eq!(rt; closed.entries().len(), came.served, "{by:?}");
+            check_hits(&rt, closed, came.committed);
+        }
+    }
+}
