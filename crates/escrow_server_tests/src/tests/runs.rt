@@ -16,7 +16,7 @@ const MODE: &str = "escrowd: the mode has to be `run` or `free`\n";
 
 const DATABASES: &str = "escrowd: --databases has to be a number from 1 to 16\n";
 
-/// A script of phases, in each of which one session of a database asks.
+/// A script of phases. In each phase one session of a database asks.
 const PHASES: Run = Run {
     line: b"free|--databases|2",
     script: "bank.1: CREATE TABLE ACCOUNT (ID INTEGER PRIMARY KEY, BALANCE INTEGER RESERVABLE CONSTRAINT MINIMUM_BALANCE CHECK (BALANCE >= 50))

@@ -107,7 +107,7 @@ const PATHS: &[Step] = &[
     Step::Hold("stores/byte.db", "b"),
 ];
 
-/// A run of two databases of which the second isn't opened, since a folder is at its path.
+/// A run of two databases. A folder is at the path of the second, so it isn't opened.
 const HALF: Run = Run {
     line: b"run|--databases|2|--store|stores/two.db",
     script: "bank.1: COMMIT\n",
@@ -385,7 +385,7 @@ const CUT: Run = Run {
     ..SERVED
 };
 
-/// A store that can't be closed is told of, and the status stays: 0 where all was served, and 1 behind a fault.
+/// The program reports a store that can't be closed, and keeps its status: 0 if all was served, 1 after a fault.
 const UNCLOSED: &[Step] = &[
     Step::Make(&[Change::Fresh("stores")]),
     Step::Run(CUT),

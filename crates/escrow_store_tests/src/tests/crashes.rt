@@ -177,7 +177,7 @@ fn check<R: Abort + AllocGlobal, B: Bank>(
     panic!(rt; "{shown} at {place}")
 }
 
-/// Runs a plan over files of which one stops after 0, 1, 2 calls and so on, until the store is closed. Returns how many
+/// Runs a plan over files. One of them stops after 0, 1, 2 calls and so on, until the store is closed. Returns how many
 /// calls that takes.
 fn stop_one<R: Abort + AllocGlobal, B: Bank>(
     rt: &R,
@@ -207,7 +207,7 @@ fn stop_one<R: Abort + AllocGlobal, B: Bank>(
     panic!(rt; "never done")
 }
 
-/// Runs a plan over files of which one stops at each of its calls in turn.
+/// Runs a plan over files. One of them stops at each of its calls in turn.
 fn stop_at_each<R: Abort + AllocGlobal, B: Bank>(rt: &R, plan: &Plan) -> Result<(), Fail> {
     let file = match plan.filled_by {
         [] => Vec::new(rt.alloc()),

@@ -7,7 +7,7 @@ use std::alloc::Global;
 use std::process::Abort;
 use std::test::Fail;
 
-/// Fills a store with an account of 100, of which 50 have to stay.
+/// Fills a store with an account of 100, which keeps at least 50.
 pub(super) const ACCOUNT: &str =
     "INSERT INTO TAB VALUES (1, 'ACCOUNT', 'CREATE TABLE ACCOUNT (ID NUMBER(15) PRIMARY KEY, BALANCE NUMBER(15) RESERVABLE, CONSTRAINT MINIMUM_BALANCE CHECK (BALANCE >= 50))'); INSERT INTO CELL VALUES (1, 1, 1, 1), (1, 1, 2, 100)";
 

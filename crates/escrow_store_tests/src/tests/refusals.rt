@@ -21,7 +21,7 @@ const STANDS: (&str, &str) = (
     "bank.9> ID | OWNER | BALANCE\nbank.9> 1 | 'it''s é' | 100\nbank.9> OK rows 1\n",
 );
 
-/// A table of accounts, of which 50 have to stay, and an account with a balance of 100.
+/// A table of accounts, which keep at least 50, and an account with a balance of 100.
 const ACCOUNT: Asked = &[
     (
         "CREATE TABLE ACCOUNT (ID INTEGER PRIMARY KEY, OWNER VARCHAR2(20), BALANCE INTEGER RESERVABLE CONSTRAINT MINIMUM_BALANCE CHECK (BALANCE >= 50))",

@@ -31,7 +31,7 @@ const OPENED: [[&str; 4]; 2] = [
     ],
 ];
 
-/// Databases of which one has an open transaction aren't shared, and come back as they were. Else there is a pass for
+/// If a database has an open transaction, none is shared, and all come back as they were. Else there is a pass for
 /// each session of each database.
 #[test]
 fn sharing_databases(rt: HostRuntime) {
@@ -65,7 +65,7 @@ const TOLD: [Told; 4] = [
     ),
 ];
 
-/// Two databases with two sessions each, of which the first has an account: what it served stands in a part and in a last
+/// Two databases with two sessions each. The first has an account: what it served stands in a part and in a last
 /// transcript, and it comes back with what was committed. No part is handed out where something is open.
 #[test]
 fn close_small(rt: HostRuntime) {

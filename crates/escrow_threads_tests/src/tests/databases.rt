@@ -10,7 +10,7 @@ use escrow_sql::{Request, Statement, parse};
 use escrow_tables::open_store;
 use std::process::Abort;
 
-/// A table of accounts, each of which keeps at least 50.
+/// A table of accounts. Each keeps at least 50.
 pub const CREATE: &str =
     "CREATE TABLE ACCOUNT (ID INTEGER PRIMARY KEY, BALANCE INTEGER RESERVABLE CONSTRAINT MINIMUM_BALANCE CHECK (BALANCE >= 50))";
 

@@ -207,7 +207,7 @@ const ASKED: [Asked; 49] = [
 #[test]
 fn kinds_by_a_history(rt: HostRuntime) {
     let mut audited = histories::audited(&rt, database(&rt, &[]));
-    // Where memory is refused nothing has changed, and room is had at the second attempt.
+    // Where memory is refused nothing has changed, and the second attempt gets the room.
     if audited.make_room(20).is_err() {
         made(&rt, audited.make_room(20), "room");
     }

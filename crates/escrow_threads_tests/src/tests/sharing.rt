@@ -36,7 +36,7 @@ pub fn share<R: Abort + AllocGlobal>(
     Shared::make(rt.alloc(), databases, sessions.get())
 }
 
-/// Shares new databases, in each of which session 1 has asked some statements.
+/// Shares new databases. In each of them session 1 has asked some statements.
 pub fn hall<R: Abort + AllocGlobal>(rt: &R, count: usize, sessions: u8, asked: &[&str]) -> Sharing {
     let opened = databases(rt, count, asked);
     made(rt, share(rt, opened, sessions), "shared")
@@ -80,7 +80,7 @@ pub fn drain<R: Wait + Abort + AllocGlobal, L: UnderLock<BlockStore>>(
     rt.panic("memory")
 }
 
-/// Closes a sharing of which no part was handed out. The close is Ok.
+/// Closes a sharing that has handed out no part. The close is Ok.
 pub fn close_whole<R: Abort + AllocGlobal>(
     rt: &R,
     shared: Shared<BlockStore>,

@@ -190,7 +190,7 @@ struct Deal<'a> {
 impl<'a> Deal<'a> {
     ghost use Rattle.std.specs.Prelude.{◌≡◌};
 
-    /// The work, of which nothing is dealt out yet.
+    /// The work, before any of it is dealt out.
     fn new(alloc: Global, places: usize, work: Work<'a>) -> Self
         ensures { result.places ≡ places }
     {
