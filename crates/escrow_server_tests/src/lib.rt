@@ -1,5 +1,6 @@
-//! Tests of the program, and of scripts whose sessions run at the same time, by public calls alone: streams, command lines,
-//! files and histories. They are a crate of their own, so that the server isn't proved once more with them.
+//! Tests of what the program can't be made to show from the outside: readers, writers, screens and gates of their own, files that
+//! change between two calls, and calls that no script makes. They are a crate of their own, so that the server isn't proved once
+//! more with them.
 #![tactic(auto)]
 
 #[cfg(test)]

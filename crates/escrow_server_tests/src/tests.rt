@@ -1,11 +1,9 @@
 //! The tests.
 mod drawn;
 mod ends;
-mod files;
 mod free;
-mod many;
 mod program;
+mod put_back;
 mod runs;
-mod stores;
 mod streams;
 mod texts;

@@ -1,6 +1,6 @@
 //! Scripts whose sessions run at the same time, with their histories, and past a gate.
 use super::runs::{BY_PHASES, THREE, THREE_REPLIES, due};
-use super::streams::{End, Sink, Source};
+use super::streams::{Sink, Source};
 use escrow_core::Database;
 use escrow_memory::BlockStore;
 use escrow_num::Session;
@@ -123,20 +123,14 @@ fn meet<R: Abort + AllocGlobal + Threads + Wait + Sync>(
     assert_eq!(rt; written.as_slice(), replies.as_bytes());
 }
 
-/// The sessions of a database come to their first calls together.
+/// The sessions of a database come to their first calls together, and those of two databases hold both locks together.
 #[test]
-fn gate_before(rt: HostRuntime) {
-    let script = "bank.1: COMMIT\nbank.2: COMMIT\n";
-    let replies = "bank.1> OK committed 0\nbank.2> OK committed 0\n";
-    meet(&rt, false, (0, 2), script, replies);
-}
-
-/// The sessions of two databases hold both locks together.
-#[test]
-fn gate_inside(rt: HostRuntime) {
-    let script = "bank.1: COMMIT\nbank2.1: COMMIT\n";
-    let replies = "bank.1> OK committed 0\nbank2.1> OK committed 0\n";
-    meet(&rt, true, (1, 1), script, replies);
+fn gates(rt: HostRuntime) {
+    let script = "bank.1: COMMIT\nbank.2: COMMIT\nbank2.1: COMMIT\n";
+    let replies = "bank.1> OK committed 0\nbank.2> OK committed 0\nbank2.1> OK committed 0\n";
+    for (is_inside, other) in [(false, (0, 2)), (true, (1, 1))] {
+        meet(&rt, is_inside, other, script, replies);
+    }
 }
 
 /// The replies to a phase are written before the lines of the next one are asked for, and not before it came whole, however
@@ -146,10 +140,9 @@ fn phase_by_phase(rt: HostRuntime) {
     for at_a_time in [1, 3, 20, 33] {
         let written = Cell::new(0);
         let mut reader = Source {
-            rt: &rt,
             rest: THREE.as_bytes(),
             at_a_time,
-            end: End::Over,
+            fails: false,
             given: 0,
             written: &written,
             reads: Vec::new(rt.alloc()),
@@ -229,41 +222,6 @@ fn histories(rt: HostRuntime) {
     assert_eq!(rt; audit.closed.len(), 2);
     for closed in &audit.closed {
         check_history(&rt, closed.entries());
-    }
-}
-
-/// Eight sessions count up one row, 100 times each: each id is given once, and in the end all are counted.
-#[test]
-fn counter(rt: HostRuntime) {
-    let made =
-        "bank.1: CREATE TABLE COUNTER (ID INTEGER PRIMARY KEY, HITS INTEGER RESERVABLE)\nbank.1: INSERT INTO COUNTER VALUES (1, 0)\n@join\n";
-    let mut script = String::from_str(rt.alloc(), made).expect(&rt, "memory");
-    for _ in 0..100 {
-        for session in 1..9u8 {
-            write!(
-                script,
-                "bank.{session}: UPDATE COUNTER SET HITS = HITS + 1 WHERE ID = 1\nbank.{session}: COMMIT\n"
-            )
-            .expect(&rt, "memory");
-        }
-    }
-    script
-        .push_str("@join\nbank.1: SELECT * FROM COUNTER")
-        .expect(&rt, "memory");
-    let mut reader = script.as_bytes();
-    let mut written = Vec::new(rt.alloc());
-    let served = serve_in(&rt, databases(&rt, 1), &mut reader, &mut written, &NoGate);
-    let Ok(audit) = served else {
-        rt.panic("served")
-    };
-    for closed in &audit.closed {
-        assert_eq!(rt; closed.entries().len(), 1_603);
-    }
-    let written = str::from_utf8(written.as_slice()).unwrap_or_default();
-    assert!(rt; written.ends_with("\nbank.1> ID | HITS\nbank.1> 1 | 800\nbank.1> OK rows 1\n"));
-    for id in 1..801u32 {
-        let line = format!(in rt.alloc(); "> OK reserved {id}\n").expect(&rt, "memory");
-        assert_eq!(rt; written.split(line.as_str()).count(), 2);
     }
 }
 
@@ -367,12 +325,9 @@ fn check_long<R: Abort + AllocGlobal + Threads + Wait + Sync>(rt: &R, long: &Lon
 
 #[test]
 fn long_free(rt: HostRuntime) {
-    check_long(&rt, FULL);
-}
-
-#[test]
-fn drains(rt: HostRuntime) {
-    check_long(&rt, DRAINED);
+    for long in [FULL, DRAINED] {
+        check_long(&rt, long);
+    }
 }
 
 /// The fault of a script of one line over two databases, if there is one. The second has served statements of its first
@@ -405,22 +360,18 @@ fn fault_of<R: Abort + AllocGlobal + Threads + Wait + Sync>(
     fault
 }
 
-/// Nothing may be open in a database that is handed in.
-#[test]
-fn open(rt: HostRuntime) {
-    let fault = fault_of(&rt, &["SAVEPOINT A"], None);
-    assert!(rt; matches!(fault, Some(FreeFault::Open)));
-}
-
 /// A table with a row.
 const ROW: [&str; 2] = [
     "CREATE TABLE T (ID INTEGER PRIMARY KEY, N INTEGER RESERVABLE)",
     "INSERT INTO T VALUES (1, 5)",
 ];
 
-/// Nor may a store fail when it is read at the beginning, whichever step is one too many.
+/// Nothing may be open in a database that is handed in. Nor may a store fail when it is read at the beginning, whichever step
+/// is one too many.
 #[test]
-fn store(rt: HostRuntime) {
+fn handed_in(rt: HostRuntime) {
+    let fault = fault_of(&rt, &["SAVEPOINT A"], None);
+    assert!(rt; matches!(fault, Some(FreeFault::Open)));
     for limit in 1..1000u64 {
         match fault_of(&rt, &ROW, Some(limit)) {
             Some(fault) => assert!(rt; matches!(fault, FreeFault::Store)),

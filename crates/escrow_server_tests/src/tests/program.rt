@@ -1,5 +1,5 @@
 //! Runs of the program.
-use super::streams::{End, Sink, Source};
+use super::streams::{Sink, Source};
 use escrow_server::{NO_SCREEN, run_program};
 use std::cell::Cell;
 use std::env::{Env, FillError};
@@ -36,21 +36,20 @@ impl Env for CommandLine<'_> {
     }
 }
 
-/// A run of the program, and what it has to show.
+/// A run of the program over streams of a test's own, and what it has to show.
 #[derive(Clone, Copy)]
-pub(super) struct Run {
+pub(super) struct Run<'a> {
     /// The command line.
     pub(super) line: &'static [u8],
-    /// The script, how many bytes of it a read gives, and what the reader does behind it.
-    pub(super) script: &'static str,
+    /// The script, how many bytes of it a read gives, and whether the reader fails behind it.
+    pub(super) script: &'a str,
     pub(super) at_a_time: usize,
-    pub(super) end: End,
+    pub(super) fails: bool,
     /// How many bytes the output takes.
     pub(super) room: usize,
     pub(super) status: u8,
-    pub(super) replies: &'static str,
-    /// What is said of errors. None: that stream takes nothing.
-    pub(super) errors: Option<&'static str>,
+    pub(super) replies: &'a str,
+    pub(super) errors: &'a str,
 }
 
 /// A run that serves an empty script.
@@ -58,35 +57,25 @@ pub(super) const SERVED: Run = Run {
     line: b"run",
     script: "",
     at_a_time: usize::MAX,
-    end: End::Over,
+    fails: false,
     room: usize::MAX,
     status: 0,
     replies: "",
-    errors: Some(""),
+    errors: "",
 };
 
-/// Runs the program, and compares what it shows. It may wait.
-pub(super) fn check<T: Abort + Threads + Wait + Sync>(rt: &HostRuntime, to: &T, run: &Run) {
-    check_texts(rt, to, run, run.line, run.script, run.replies, run.errors);
-}
-
-/// Runs the program with texts in place of those of a run, and compares its status, its replies and its errors. With status
-/// 2 or 3 it has read nothing. Returns how often it wrote to the output. It may wait.
-pub(super) fn check_texts<T: Abort + Threads + Wait + Sync>(
+/// Runs the program, and compares its status, its replies and its errors. Returns how often it wrote to the output. It may
+/// wait.
+pub(super) fn check<T: Abort + Threads + Wait + Sync>(
     rt: &HostRuntime,
     to: &T,
     run: &Run,
-    line: &[u8],
-    script: &str,
-    replies: &str,
-    errors: Option<&str>,
 ) -> usize {
-    let (written, told) = (Cell::new(0), Cell::new(0));
+    let written = Cell::new(0);
     let mut input = Source {
-        rt,
-        rest: script.as_bytes(),
+        rest: run.script.as_bytes(),
         at_a_time: run.at_a_time,
-        end: run.end,
+        fails: run.fails,
         given: 0,
         written: &written,
         reads: Vec::new(rt.alloc()),
@@ -103,29 +92,14 @@ pub(super) fn check_texts<T: Abort + Threads + Wait + Sync>(
         calls: 0,
         written: &written,
     };
-    let mut said = Sink {
-        taken: Vec::new(rt.alloc()),
-        room: if errors.is_some() { usize::MAX } else { 0 },
-        at_a_time: usize::MAX,
-        is_silent: false,
-        calls: 0,
-        written: &told,
-    };
-    let code = run_program(
-        rt,
-        to,
-        &CommandLine(line),
-        &mut input,
-        &mut output,
-        &mut said,
-        NO_SCREEN,
-    );
-    let words = str::from_utf8(line).unwrap_or_default();
-    let told = str::from_utf8(said.taken.as_slice()).unwrap_or_default();
+    let mut said = Vec::new(rt.alloc());
+    let line = CommandLine(run.line);
+    let code = run_program(rt, to, &line, &mut input, &mut output, &mut said, NO_SCREEN);
+    let words = str::from_utf8(run.line).unwrap_or_default();
+    let told = str::from_utf8(said.as_slice()).unwrap_or_default();
     let answered = str::from_utf8(output.taken.as_slice()).unwrap_or_default();
-    assert_eq!(to; told, errors.unwrap_or_default(), "{words}");
-    assert_eq!(to; answered, replies, "{words}");
+    assert_eq!(to; told, run.errors, "{words}");
+    assert_eq!(to; answered, run.replies, "{words}");
     assert!(to; code == ExitCode::from(run.status), "{words}");
-    assert!(to; run.status < 2 || input.given == 0, "{words}");
     output.calls
 }

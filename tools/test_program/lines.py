@@ -1,0 +1,179 @@
+"""Command lines, and standard streams that are closed, full, broken, folders or terminals."""
+from typing import Iterator, List, NamedTuple, Optional, Sequence
+
+from process import Case, Input, Output, Word
+from texts import DATABASES, FOLDER_INPUT, NOT_UTF8, READ, Reason, Texts
+
+SCRIPT = "bank.1: COMMIT\nbank2.1: COMMIT\nbank3.1: COMMIT\n"
+ONE_OF_THREE = "bank.1> OK committed 0\nscript> ERR 12 line\nscript> ERR 12 line\n"
+ONE = "bank.1: COMMIT\n"
+COMMITTED = "bank.1> OK committed 0\n"
+HELP = "A server of tables"
+
+# In each phase one session of a database asks. The last line has no line feed.
+PHASES = Case(
+    "phases", ("free", "--databases", "2"), reads=True,
+    script="""bank.1: CREATE TABLE ACCOUNT (ID INTEGER PRIMARY KEY, BALANCE INTEGER RESERVABLE CONSTRAINT MINIMUM_BALANCE CHECK (BALANCE >= 50))
+bank.1: INSERT INTO ACCOUNT VALUES (1, 100)
+bank2.1: SELECT * FROM ACCOUNT
+@join
+bank.2: UPDATE ACCOUNT SET BALANCE = BALANCE - 30 WHERE ID = 1
+bank2.2: COMIT
+@join
+bank.1: UPDATE ACCOUNT SET BALANCE = BALANCE - 30 WHERE ID = 1
+@restart bank
+@join
+bank.2: COMMIT
+@join
+bank.3: SELECT * FROM ACCOUNT
+bank2.2: SHOW STATISTICS
+bank3.1: COMMIT""",
+    replies="""bank.1> OK created ACCOUNT
+bank.1> OK inserted
+bank2.1> ERR 21 no such table
+bank.2> OK reserved 1
+bank2.2> ERR 11 syntax column 2
+bank.1> ERR 41 MINIMUM_BALANCE low 40 limit 50
+script> ERR 12 line
+bank.2> OK committed 1
+bank.3> ID | BALANCE
+bank.3> 1 | 70
+bank.3> OK rows 1
+bank2.2> served 0 granted 0 broken 0 refused 0 commits 0 rollbacks 0 writes 0 queries 0
+bank2.2> OK statistics
+script> ERR 12 line
+""")
+
+# Scripts that are served to their end, and behind which nothing is read.
+SERVED = [
+    Case("nothing", ("run",), reads=True),
+    Case("nothing", ("free",), reads=True),
+    Case("one database", ("run",), SCRIPT, ONE_OF_THREE, reads=True),
+    Case("one database", ("free",), SCRIPT, ONE_OF_THREE, reads=True),
+    Case("two databases", ("run", "--databases", "2"), SCRIPT, "bank.1> OK committed 0\nbank2.1> OK committed 0\nscript> ERR 12 line\n", reads=True),
+    Case("three databases", ("--databases", "+3", "run"), SCRIPT, "bank.1> OK committed 0\nbank2.1> OK committed 0\nbank3.1> OK committed 0\n", reads=True),
+    PHASES,
+    PHASES._replace(name="phases from a pipe", stdin=Input.PIPE),
+]
+
+
+class Good(NamedTuple):
+    """Words that are taken: the mode, how many databases there are, and the file that is then there, if stores are in files."""
+
+    words: Sequence[Word]
+    mode: str = "run"
+    databases: int = 1
+    path: Optional[str] = None
+
+
+GOOD = [
+    Good(("run",)),
+    Good(("run", "--databases", "1")),
+    Good(("run", "--databases", "16"), databases=16),
+    Good(("run", "--databases=2"), databases=2),
+    Good(("--databases", "3", "run"), databases=3),
+    Good(("run", "--databases", "+3"), databases=3),
+    Good(("run", "--databases", "00000016"), databases=16),
+    Good(("run", "--store", "bank.db"), path="bank.db"),
+    Good(("--store=a b.db", "run", "--databases", "2"), databases=2, path="a b.db"),
+    Good(("run", "--databases", "2", "--store", "run"), databases=2, path="run"),
+    Good(("run", "--store", "bänk"), path="bänk"),
+    Good(("run", "--store=--databases"), path="--databases"),
+    Good(("free",), "free"),
+    Good(("--databases", "2", "free"), "free", 2),
+    Good(("free", "--store", "run", "--databases=16"), "free", 16, "run"),
+]
+
+
+def good_case(good: Good) -> Case:
+    """What shows how words were taken: each database that there is answers, and @restart is refused by the mode `free` alone."""
+    names = ["bank", *(f"bank{number}" for number in range(2, 18))]
+    script = "".join(f"{name}.1: COMMIT\n" for name in names) + "@restart bank\n"
+    replies = "".join(f"{name}.1> OK committed 0\n" for name in names[: good.databases]) + "script> ERR 12 line\n" * (17 - good.databases)
+    restarted = "bank> OK restarted\n" if good.mode == "run" else "script> ERR 12 line\n"
+    return Case("good words", good.words, script, replies + restarted, reads=True)
+
+
+# Words that are refused, with the first line of what is said; nothing is read, and nothing written.
+MULTIPLE = "escrowd: the argument '{}' cannot be used multiple times"
+NO_VALUE = "escrowd: a value is required for '--store <PATH>' but none was supplied"
+BAD = [
+    ((), "escrowd: the following required arguments were not provided:"),
+    (("free", "run"), "escrowd: unexpected argument 'run' found"),
+    (("run", "run"), "escrowd: unexpected argument 'run' found"),
+    (("run", "bank.db"), "escrowd: unexpected argument 'bank.db' found"),
+    (("run", "--nothing"), "escrowd: unexpected argument '--nothing' found"),
+    (("run", "--store"), NO_VALUE),
+    (("run", "--store", "--databases", "2"), NO_VALUE),
+    (("run", "--store", "a", "--store", "b"), MULTIPLE.format("--store <PATH>")),
+    (("run", "--databases=2", "--databases=2"), MULTIPLE.format("--databases <N>")),
+]
+BAD_NUMBERS = ["0", "17", "x", "", "-1", "1.0", " 2", "256", "18446744073709551617"]
+# An empty path is taken as one, and refused.
+EMPTY_PATH = "escrowd: the store of bank, ``, can't be opened: a path may not be empty, nor be `:memory:`, nor begin with `file:`\n"
+
+
+def bad_cases(texts: Texts) -> Iterator[Case]:
+    """Command lines that are refused."""
+    for words, line in BAD:
+        yield Case("bad words", words, SCRIPT, first_line=line, status=2, reads=False)
+    for word in ("walk", "FREE", ""):
+        yield Case("bad mode", (word,), SCRIPT, errors=texts.bad_mode, status=2, reads=False)
+    for mode in texts.modes:
+        for number in BAD_NUMBERS:
+            yield Case("bad number", (mode, f"--databases={number}"), SCRIPT, errors=DATABASES, status=2, reads=False)
+    yield Case("no UTF-8", ("run", b"\xff"), SCRIPT, errors=NOT_UTF8, status=2, reads=False)
+    for path in (("--store=",), ("--store", "")):
+        yield Case("empty path", ("run", *path), SCRIPT, errors=EMPTY_PATH, status=3, reads=False)
+
+
+def help_cases(texts: Texts) -> Iterator[Case]:
+    """Help reads nothing. Standard output takes its first bytes alone."""
+    for words in (("--help",), ("-h",), ("run", "--help")):
+        yield Case("help", words, SCRIPT, HELP, texts.unprinted(Reason.LARGE), status=int(texts.has_serve), reads=False, room=len(HELP))
+
+
+def unread_cases(texts: Texts) -> Iterator[Case]:
+    """Standard input that can't be read, where standard error takes the text or doesn't. What had come whole is answered before."""
+    for mode in texts.modes:
+        for kind, text in ((Input.FAILING, READ), (Input.CLOSED, texts.closed_input), (Input.FOLDER, FOLDER_INPUT)):
+            yield Case("unread", (mode,), errors=text, status=1, stdin=kind)
+            yield Case("unread, over a full device", (mode,), status=1, stdin=kind, stderr=Output.FULL)
+            yield Case("unread, and nowhere to say so", (mode,), status=1, stdin=kind, stderr=Output.CLOSED)
+    yield Case("unread behind a line", ("run",), f"{ONE}bank.2: ROLL", COMMITTED, READ, status=1, stdin=Input.FAILING)
+    yield Case("unread behind a phase", ("free",), f"{ONE}@join\nbank.2: ROLLBACK\n", COMMITTED, READ, status=1, stdin=Input.FAILING)
+
+
+def unwritten_cases(texts: Texts) -> Iterator[Case]:
+    """Standard output that doesn't take the replies: none of them, or a part. Where there are none it isn't looked at."""
+    for mode in texts.modes:
+        for kind, reason in ((Output.FULL, Reason.FULL), (Output.CLOSED, Reason.CLOSED), (Output.BROKEN, Reason.BROKEN)):
+            yield Case("unwritten", (mode,), "bank.1: COMMIT", errors=texts.unwritten(reason), status=1, stdout=kind)
+            yield Case("unwritten, and nowhere to say so", (mode,), "bank.1: COMMIT", status=1, stdout=kind, stderr=Output.CLOSED)
+            yield Case("no replies", (mode,), "-- nothing is answered\n", stdout=kind, reads=True)
+        for room in (0, 1, 12, 22):
+            yield Case("unwritten from a byte on", (mode,), ONE, COMMITTED[:room], texts.unwritten(Reason.LARGE), status=1, room=room)
+        yield Case("written to the last byte", (mode,), ONE, COMMITTED, room=23, reads=True)
+
+
+def refused_in_silence() -> Iterator[Case]:
+    """The status is the same where nobody can be told why."""
+    for kind in (Output.FULL, Output.CLOSED, Output.BROKEN):
+        yield Case("bad words in silence", ("walk",), SCRIPT, status=2, reads=False, stderr=kind)
+        yield Case("bad path in silence", ("run", "--store", "nowhere/bank.db"), SCRIPT, status=3, reads=False, stderr=kind)
+
+
+# A terminal at which the end is typed isn't asked again: at the head of a line, or behind half of one.
+TYPED = [
+    ("", ""),
+    (ONE, COMMITTED),
+    ("bank.1: COMMIT", COMMITTED),
+    (f"{ONE}bank.2: ROLL", f"{COMMITTED}bank.2> ERR 11 syntax column 2\n"),
+]
+
+
+def cases(texts: Texts) -> List[Case]:
+    """All runs of command lines and streams."""
+    typed = [Case("typed", (mode,), *both, stdin=Input.TERMINAL) for mode in texts.modes for both in TYPED]
+    wrong = [*bad_cases(texts), *unread_cases(texts), *unwritten_cases(texts), *refused_in_silence()]
+    return [*SERVED, *map(good_case, GOOD), *help_cases(texts), *typed, *wrong]
