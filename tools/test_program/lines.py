@@ -86,12 +86,13 @@ GOOD = [
 
 
 def good_case(good: Good) -> Case:
-    """What shows how words were taken: each database that there is answers, and @restart is refused by the mode `free` alone."""
+    """What shows how words were taken: each database that there is answers, `@restart` is refused by the mode `free` alone, and each store has its file."""
     names = ["bank", *(f"bank{number}" for number in range(2, 18))]
     script = "".join(f"{name}.1: COMMIT\n" for name in names) + "@restart bank\n"
     replies = "".join(f"{name}.1> OK committed 0\n" for name in names[: good.databases]) + "script> ERR 12 line\n" * (17 - good.databases)
-    restarted = "bank> OK restarted\n" if good.mode == "run" else "script> ERR 12 line\n"
-    return Case("good words", good.words, script, replies + restarted, reads=True)
+    restarted = "script> ERR 12 line\n" if good.mode == "free" else "bank> OK restarted\n"
+    files = [good.path, *(f"{good.path}.{number}" for number in range(2, good.databases + 1))] if good.path else []
+    return Case("good words", good.words, script, replies + restarted, reads=True, files=files)
 
 
 # Words that are refused, with the first line of what is said; nothing is read, and nothing written.
@@ -116,15 +117,15 @@ EMPTY_PATH = "escrowd: the store of bank, ``, can't be opened: a path may not be
 def bad_cases(texts: Texts) -> Iterator[Case]:
     """Command lines that are refused."""
     for words, line in BAD:
-        yield Case("bad words", words, SCRIPT, first_line=line, status=2, reads=False)
+        yield Case("bad words", words, SCRIPT, first_line=line, status=2, reads=False, files=())
     for word in ("walk", "FREE", ""):
         yield Case("bad mode", (word,), SCRIPT, errors=texts.bad_mode, status=2, reads=False)
     for mode in texts.modes:
         for number in BAD_NUMBERS:
-            yield Case("bad number", (mode, f"--databases={number}"), SCRIPT, errors=DATABASES, status=2, reads=False)
+            yield Case("bad number", (mode, f"--databases={number}"), SCRIPT, errors=DATABASES, status=2, reads=False, files=())
     yield Case("no UTF-8", ("run", b"\xff"), SCRIPT, errors=NOT_UTF8, status=2, reads=False)
     for path in (("--store=",), ("--store", "")):
-        yield Case("empty path", ("run", *path), SCRIPT, errors=EMPTY_PATH, status=3, reads=False)
+        yield Case("empty path", ("run", *path), SCRIPT, errors=EMPTY_PATH, status=3, reads=False, files=())
 
 
 def help_cases(texts: Texts) -> Iterator[Case]:

@@ -85,6 +85,8 @@ class Case(NamedTuple):
     room: Optional[int] = None
     # Whether the script is read to its end, or nothing of it. None: nobody looks.
     reads: Optional[bool] = None
+    # The names of all files that are then in the folder. None: nobody looks.
+    files: Optional[Sequence[str]] = None
 
 
 def expect(holds: bool, what: str) -> None:
@@ -314,6 +316,8 @@ def check(program: Program, case: Case, folder: str) -> None:
         compare("the status", case.status, status)
         if case.stdin == Input.FILE and case.reads is not None:
             compare("how many bytes were read", len(script) if case.reads else 0, stage.position())
+    if case.files is not None:
+        compare("the files", sorted(case.files), sorted(os.listdir(folder)))
 
 
 def compare_errors(case: Case, errors: str) -> None:

@@ -1,5 +1,5 @@
 """What a program with the mode `serve` shows besides."""
-from lines import COMMITTED, ONE, SCRIPT
+from lines import COMMITTED, ONE, SCRIPT, Good, good_case
 from longest import MOST_BYTES
 from process import Case, Input, Output, Program, Stage, compare
 from texts import Reason, Texts
@@ -28,6 +28,7 @@ TEXTS = Texts(has_serve=True)
 SERVING_CASES = [
     Case("version", ("--version",), SCRIPT, VERSION, reads=False),
     Case("version", ("-V",), SCRIPT, VERSION, reads=False),
+    Case("version", ("run", "-V"), SCRIPT, VERSION, reads=False),
     Case("version unwritten", ("--version",), errors=TEXTS.unprinted(Reason.FULL), status=1, stdout=Output.FULL),
     Case("help unwritten", ("--help",), errors=TEXTS.unprinted(Reason.FULL), status=1, stdout=Output.FULL),
     Case("help unwritten", ("--help",), errors=TEXTS.unprinted(Reason.CLOSED), status=1, stdout=Output.CLOSED),
@@ -36,6 +37,8 @@ SERVING_CASES = [
     Case("a word too many", ("serve", "run"), SCRIPT, errors=TOO_MANY.format("run"), status=2, reads=False),
     Case("a word too many", ("serve", "1"), SCRIPT, errors=TOO_MANY.format("1"), status=2, reads=False),
     Case("no option", ("run", "--bogus"), SCRIPT, errors=NO_OPTION, status=2, reads=False),
+    good_case(Good(("--databases", "2", "serve"), "serve", 2)),
+    good_case(Good(("serve", "--store", "run"), "serve", path="run")),
     Case("one database", ("serve",), SCRIPT, "bank.1> OK committed 0\nscript> ERR 12 line\nscript> ERR 12 line\n", reads=True),
     Case("two databases", ("serve", "--databases", "2"), SCRIPT, "bank.1> OK committed 0\nbank2.1> OK committed 0\nscript> ERR 12 line\n", reads=True),
     Case("nothing", ("serve",), reads=True),

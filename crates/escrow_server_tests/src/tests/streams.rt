@@ -1,9 +1,14 @@
 //! What gives a script, and what takes replies.
 use std::cell::Cell;
-use std::io::{self, Error, ErrorKind, Read, Write};
+use std::io::{self, Error, Read, Write};
 
-/// Gives bytes, so many at a time, and reports the end behind them, or fails there with the system's error 5. It notes at each
-/// read how many bytes it had given, and how many were written.
+/// The numbers of Linux's errors of devices that fail, and of disks that are full.
+const IO_ERROR: i32 = 5;
+
+const NO_SPACE: i32 = 28;
+
+/// Gives bytes, so many at a time, and reports the end behind them, or fails there as a device does. It notes at each read how
+/// many bytes it had given, and how many were written.
 #[derive(Drop)]
 pub(super) struct Source<'a> {
     pub(super) rest: &'a [u8],
@@ -18,7 +23,7 @@ impl Read for Source<'_> {
     fn read(&mut self, buf: &mut [u8]) -> io::Result<usize> {
         self.reads.push((self.given, self.written.get()))?;
         if self.rest.is_empty() && self.fails {
-            return Err(Error::from_raw_os_error(5));
+            return Err(Error::from_raw_os_error(IO_ERROR));
         }
         let most = buf.len().min(self.at_a_time);
         let count = self.rest.read(&mut buf[..most])?;
@@ -27,7 +32,7 @@ impl Read for Source<'_> {
     }
 }
 
-/// Takes so many bytes, and then fails, or takes nothing. It counts the calls.
+/// Takes so many bytes, and then fails for want of space, or takes nothing. It counts the calls.
 #[derive(Drop)]
 pub(super) struct Sink<'a> {
     pub(super) taken: Vec<u8>,
@@ -43,7 +48,7 @@ impl Write for Sink<'_> {
         self.calls = self.calls.saturating_add(1);
         let count = buf.len().min(self.room).min(self.at_a_time);
         if count == 0 && !self.is_silent {
-            return Err(Error::from(ErrorKind::Other));
+            return Err(Error::from_raw_os_error(NO_SPACE));
         }
         self.taken.extend_from_slice(&buf[..count])?;
         self.room -= count;
