@@ -311,6 +311,19 @@ def one_file_at_rest(texts: Texts) -> Story:
     ])
 
 
+def closed_streams(texts: Texts) -> Story:
+    """Where a standard stream is closed, no file of a store comes in its place: the store stays as it was."""
+    return Story("closed streams", [
+        Folder("stores"),
+        Serve(BANK, MADE),
+        Run(Case("", BANK, stdin=Input.CLOSED, errors=texts.closed_input, status=1)),
+        Run(Case("", BANK, "bank.1: ROLLBACK\n", stdout=Output.CLOSED, errors=texts.unwritten(Reason.CLOSED), status=1)),
+        Run(Case("", BANK, "bank.1: COMIT\n", "bank.1> ERR 11 syntax column 2\n", stderr=Output.CLOSED, reads=True)),
+        Stand("stores", ["bank.db"]),
+        Serve(BANK, AS_MADE),
+    ])
+
+
 def stopped(texts: Texts) -> Story:
     """Where sessions at the same time aren't served to the end, what they committed is in two files a store. The next run finds it, whatever its mode, and
     leaves one file."""
@@ -363,4 +376,4 @@ def stories(texts: Texts) -> List[Story]:
     by_mode = [story(mode) for story in (copied_while_open, in_use, unclosed) for mode in texts.modes]
     by_modes = [two_modes(*modes) for modes in itertools.permutations(texts.modes, 2)]
     return [paths(texts), SEVERAL_DATABASES, STORES_OF_OTHERS, names(texts), MOVED_WITH_ITS_LOG, MOVED_WHILE_OPEN, KILLED, MIGRATIONS, WITHOUT_RIGHTS, *by_mode, *by_modes,
-            one_file_at_rest(texts), stopped(texts), unclosed_and_unwritten(texts)]
+            one_file_at_rest(texts), closed_streams(texts), stopped(texts), unclosed_and_unwritten(texts)]
