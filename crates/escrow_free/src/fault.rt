@@ -1,5 +1,5 @@
 use escrow_num::Refusal;
-use escrow_script::{ReadFault, ServeFault};
+use escrow_script::{ReadFault, ServeFault, WriteFault};
 use escrow_shards::{Cause, Unshared};
 use std::alloc::AllocError;
 use thiserror::Error;
@@ -11,8 +11,8 @@ pub enum FreeFault {
     #[error("the script can't be read: {0}")]
     Read(ReadFault),
     /// The writer answered an error, or took nothing of what was left to write.
-    #[error("a reply can't be written")]
-    Write,
+    #[error("a reply can't be written: {0}")]
+    Write(WriteFault),
     /// Memory was refused outside a statement, or a place at which totals are read.
     #[error("out of memory")]
     Memory,
@@ -72,7 +72,7 @@ impl From<ServeFault> for FreeFault {
     fn from(fault: ServeFault) -> FreeFault {
         match fault {
             ServeFault::Read(cause) => FreeFault::Read(cause),
-            ServeFault::Write => FreeFault::Write,
+            ServeFault::Write(cause) => FreeFault::Write(cause),
             ServeFault::Memory => FreeFault::Memory,
         }
     }

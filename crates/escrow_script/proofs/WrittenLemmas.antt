@@ -4,8 +4,7 @@ use Rattle.std.specs.Prelude.{Bool, true, false}
 use Rattle.std.specs.Io.KnownBytes.{Appends}
 use Rattle.std.proofs.lemmas.List.{append-nil, length-drop}
 use Rattle.escrow_script.specs.declared.fault.ServeFault.{ServeFault}
-use Rattle.escrow_script.specs.declared.fault.ServeFault.TheVariants as fault
-use Rattle.escrow_script.specs.Written.{Leaves}
+use Rattle.escrow_script.specs.Written.{IsOfWriter, Leaves}
 
 -- what is written after what was written
 pub appends_more : (old mid new : Option (List ℕ)) (xs ys : List ℕ) → Appends old mid xs → Appends mid new ys → Appends old new (xs ++ ys)
@@ -19,10 +18,10 @@ appends_none None = tt
 appends_none (Some bs) = sym (append-nil bs)
 
 -- what is left at a fault of the writer
-pub leaves_some : (why : ServeFault) (bytes : List ℕ) (len : ℕ) → why ≡ fault.Write → len < length bytes → Leaves why (drop len bytes)
+pub leaves_some : (why : ServeFault) (bytes : List ℕ) (len : ℕ) → IsOfWriter why → len < length bytes → Leaves why (drop len bytes)
 leaves_some why bytes len write short =
     let some : 0 < length (drop len bytes) = omega (arith, length-drop len bytes) in
-    rw write some
+    rw write.1 some
 
 -- where there was no next line, none was in hand
 pub nothing_waits : (found in_hand : Bool) (gathered : List ℕ) → found ≡ false → (in_hand ≡ true → found ≡ true) → (in_hand ≡ false → gathered ≡ []) → gathered ≡ []

@@ -3,7 +3,14 @@ use Rattle.std.specs.Prelude.{◌≡◌, ℕ, ◌+◌, ◌==◌, ◌&&◌, Bool,
 use Rattle.std.specs.Io.KnownBytes.{prepend_known, IsAtEnd}
 use Rattle.std.specs.List.{position_or_len}
 use Rattle.escrow_script.specs.Line.{lines_of}
-use Rattle.escrow_script.specs.declared.limits.TheConstants.{MAX_LINE}
+use Rattle.escrow_script.specs.declared.limits.Limit.{Limit}
+use Rattle.escrow_script.specs.declared.limits.Limit.TheVariants as limit
+use Rattle.escrow_script.specs.declared.limits.TheConstants.{MAX_LINE, MAX_SCRIPT, MAX_STREAM}
+
+-- the most bytes that a limit allows
+abbrev pub most_bytes : Limit → ℕ
+most_bytes limit.Script = MAX_SCRIPT
+most_bytes limit.Stream = MAX_STREAM
 
 -- a line feed
 abbrev pub is_feed : ℕ → Bool

@@ -8,6 +8,7 @@ use Rattle.escrow_machine.specs.declared.reply.Reply.TheVariants as reply
 use Rattle.escrow_reply.specs.Text.{reply_lines, with_prefix}
 use Rattle.escrow_script.specs.declared.fault.ServeFault.{ServeFault}
 use Rattle.escrow_script.specs.declared.fault.ServeFault.TheVariants as serve_fault
+use Rattle.escrow_script.specs.declared.fault.WriteFault.{WriteFault}
 
 -- the refusal of a text that isn't served: 11 with the column of its first fault, or 51
 abbrev pub fault_refusal : ParseFault → Refusal
@@ -18,8 +19,12 @@ fault_refusal fault.Memory = refusal.Memory
 abbrev pub no_line_text : List ℕ
 no_line_text = with_prefix (codes "script> ") (reply_lines (reply.Refused refusal.Line))
 
+-- a fault is the writer's, whatever its cause
+abbrev pub IsOfWriter : ServeFault → Type 0
+IsOfWriter fault = (cause : WriteFault) × (fault ≡ serve_fault.Write cause)
+
 -- after want of memory, or a fault of the reader, no reply is left to write, and after one of the writer some of one is
 abbrev pub Leaves : ServeFault → List ℕ → Type 0
 Leaves (serve_fault.Read cause) unwritten = unwritten ≡ []
-Leaves serve_fault.Write unwritten = 0 < length unwritten
+Leaves (serve_fault.Write cause) unwritten = 0 < length unwritten
 Leaves serve_fault.Memory unwritten = unwritten ≡ []

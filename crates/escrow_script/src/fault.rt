@@ -1,7 +1,7 @@
 ghost use Rattle.std.specs.Prelude.{◌≡◌};
 ghost use Rattle.escrow_script.specs.Written.{fault_refusal};
 
-use crate::limits::MAX_SCRIPT;
+use crate::limits::{MAX_SCRIPT, MAX_STREAM};
 use escrow_num::Refusal;
 use escrow_sql::ParseFault;
 use std::alloc::AllocError;
@@ -14,8 +14,11 @@ pub enum ReadFault {
     /// It has more bytes than a script may have.
     #[error("it is longer than {MAX_SCRIPT} bytes")]
     TooLong,
-    /// What it is to be read from is closed.
-    #[error("standard input is closed")]
+    /// It has more bytes than can be counted.
+    #[error("it is longer than {MAX_STREAM} bytes")]
+    Endless,
+    /// Its descriptor is closed, or is not open for reading. The system reports both alike.
+    #[error("standard input is closed or isn't open for reading")]
     Closed,
     /// What it is to be read from is a folder.
     #[error("standard input is a folder")]
@@ -25,7 +28,7 @@ pub enum ReadFault {
     System(io::Error),
 }
 
-/// The number of Linux's error for a descriptor that is closed, EBADF, which is of no kind.
+/// The number of Linux's error for a descriptor that is closed or is open for something else, EBADF. It has no kind.
 const BAD_DESCRIPTOR: i32 = 9;
 
 impl From<io::Error> for ReadFault {
@@ -38,6 +41,30 @@ impl From<io::Error> for ReadFault {
     }
 }
 
+/// Why replies can't be written.
+#[derive(Clone, Copy, Debug, Error)]
+pub enum WriteFault {
+    /// The descriptor is closed, or is not open for writing. The system reports both alike.
+    #[error("standard output is closed or isn't open for writing")]
+    Closed,
+    /// The writer took none of the bytes, and reported no error.
+    #[error("standard output takes nothing")]
+    TakesNothing,
+    /// The system fails.
+    #[error("{0}")]
+    System(io::Error),
+}
+
+impl From<io::Error> for WriteFault {
+    fn from(error: io::Error) -> WriteFault {
+        if error.raw_os_error() == Some(BAD_DESCRIPTOR) {
+            WriteFault::Closed
+        } else {
+            WriteFault::System(error)
+        }
+    }
+}
+
 /// Why a script isn't served to its end. The lines before the fault are served.
 #[derive(Clone, Copy, Debug, Error)]
 pub enum ServeFault {
@@ -45,8 +72,8 @@ pub enum ServeFault {
     #[error("the script can't be read: {0}")]
     Read(ReadFault),
     /// The writer answered an error, or took nothing of what was left to write.
-    #[error("a reply can't be written")]
-    Write,
+    #[error("a reply can't be written: {0}")]
+    Write(WriteFault),
     /// Memory was refused outside a statement.
     #[error("out of memory")]
     Memory,
@@ -71,6 +98,17 @@ impl From<ReadFault> for ServeFault {
 
     fn from(fault: ReadFault) -> ServeFault {
         ServeFault::Read(fault)
+    }
+}
+
+impl From<WriteFault> for ServeFault {
+    ghost use Rattle.std.specs.Prelude.{◌≡◌};
+    ghost use Rattle.escrow_script.specs.declared.fault.ServeFault.TheVariants.{Write};
+
+    ghost from_gives = { λ f e. e ≡ Write f };
+
+    fn from(fault: WriteFault) -> ServeFault {
+        ServeFault::Write(fault)
     }
 }
 

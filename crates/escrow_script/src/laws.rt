@@ -5,7 +5,7 @@ pub fn lines_are_read_in_one_way()
     ensures { HasOneReading }
 {}
 
-/// A program serves 16 databases at most, a line of a script has 4,096 bytes at most, and a script 16,777,216.
+/// A program serves 16 databases at most, a line has 4,096 bytes at most, a script 16,777,216, and a stream 2^64 - 1.
 pub fn limits()
     ensures { Limits }
 {}

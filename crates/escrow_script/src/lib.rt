@@ -14,8 +14,8 @@ mod script;
 mod unread;
 mod written;
 
-pub use fault::{ReadFault, ServeFault, fault_refusal};
-pub use limits::{MAX_DATABASES, MAX_LINE, MAX_READS, MAX_SCRIPT};
+pub use fault::{ReadFault, ServeFault, WriteFault, fault_refusal};
+pub use limits::{Limit, MAX_DATABASES, MAX_LINE, MAX_READS, MAX_SCRIPT, MAX_STREAM};
 pub use line::{Line, classify};
 pub use names::database_name;
 pub use script::Script;

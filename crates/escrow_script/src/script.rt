@@ -2,10 +2,11 @@ ghost use Rattle.std.specs.Prelude.{◌≡◌, ◌≢◌, ◌≤◌, ◌<◌, �
 ghost use Rattle.std.specs.List.{position_or_len};
 ghost use Rattle.std.specs.Io.KnownBytes.{Consumes, IsAtEnd};
 ghost use Rattle.escrow_script.specs.Script.{is_feed};
+ghost use Rattle.escrow_script.specs.declared.fault.WriteFault.{WriteFault};
 ghost use Rattle.escrow_script.specs.declared.limits.TheConstants.{MAX_LINE, MAX_SCRIPT};
 
-use crate::fault::{ReadFault, ServeFault};
-use crate::limits::{MAX_LINE, MAX_READS, MAX_SCRIPT};
+use crate::fault::ServeFault;
+use crate::limits::{Limit, MAX_LINE};
 use crate::unread::Unread;
 use memchr::memchr;
 use std::alloc::{AllocError, Global};
@@ -18,16 +19,16 @@ use std::io::Read;
 pub struct Script {
     unread: Unread,
     line: Vec<u8>,
+    limit: Limit,
     bytes_left: usize,
     reads_left: usize,
     // The reader has said that it is at its end, and isn't asked again.
     has_ended: bool,
     ghost short: { vec_len line ≤ MAX_LINE + 1 },
-    ghost few: { bytes_left ≤ MAX_SCRIPT },
 }
 
 impl Script {
-    ghost use Rattle.escrow_script.specs.Script.{left, has_line, HasEnded, Spends, TakesLine, Moves};
+    ghost use Rattle.escrow_script.specs.Script.{left, has_line, most_bytes, HasEnded, Spends, TakesLine, Moves};
 
     /// A script of which nothing is read.
     ///
@@ -37,11 +38,23 @@ impl Script {
     pub fn new(alloc: Global) -> Result<Script, AllocError>
         ensures { IfOk result (λ s. (s.unread ≡ []) × (s.bytes_left ≡ MAX_SCRIPT) × (s.has_ended ≡ false)) }
     {
+        Script::up_to(alloc, Limit::Script)
+    }
+
+    /// A script of which nothing is read, and of which so much may be read.
+    ///
+    /// # Errors
+    ///
+    /// Memory is short.
+    pub fn up_to(alloc: Global, limit: Limit) -> Result<Script, AllocError>
+        ensures { IfOk result (λ s. (s.unread ≡ []) × (s.bytes_left ≡ most_bytes limit) × (s.has_ended ≡ false)) }
+    {
         Ok(Script {
             unread: Unread::new(alloc)?,
             line: Vec::new(alloc),
-            bytes_left: MAX_SCRIPT,
-            reads_left: MAX_READS,
+            limit,
+            bytes_left: limit.bytes(),
+            reads_left: limit.reads(),
             has_ended: false,
         })
     }
@@ -70,8 +83,8 @@ impl Script {
     ///
     /// # Errors
     ///
-    /// [`ServeFault::Read`] where the reader answers an error, gives more than [`MAX_SCRIPT`] bytes, or is called
-    /// more than [`MAX_READS`] times; [`ServeFault::Memory`] for want of memory. It is no other.
+    /// [`ServeFault::Read`] where the reader answers an error, gives more bytes than the limit, or is called more
+    /// often than the limit; [`ServeFault::Memory`] for want of memory. It is no other.
     pub fn next_line<R: Read>(&mut self, reader: &mut R) -> Result<bool, ServeFault>
         requires ended { self.old.has_ended ≡ true → HasEnded self.old.unread (R.remaining reader.old) }
         ensures taken { IfOk result (λ found. TakesLine found (left self.old.unread (R.remaining reader.old))
@@ -83,7 +96,7 @@ impl Script {
         ensures cause { IfErr result (λ fault. has_line self.old.reads_left self.old.unread ≡ true → fault ≡ ServeFault.Memory) }
         ensures ended { IfOk result (λ _. self.new.has_ended ≡ true → HasEnded self.new.unread (R.remaining reader.new)) }
         // The writer has no part in it.
-        ensures kind { IfErr result (λ fault. fault ≢ ServeFault.Write) }
+        ensures kind { IfErr result (λ fault. (cause : WriteFault) → fault ≢ ServeFault.Write cause) }
     {
         if self.has_ended {
             return Ok(false);
@@ -98,7 +111,7 @@ impl Script {
                 return Ok(!self.line.is_empty());
             }
         }
-        Err(ServeFault::Read(ReadFault::TooLong))
+        Err(ServeFault::Read(self.limit.fault()))
     }
 
     /// Moves the unread bytes up to a line feed into the line, and answers whether there was one.
@@ -130,12 +143,12 @@ impl Script {
         ensures bytes { IfOk result (λ count. self.new.bytes_left + count ≡ self.old.bytes_left) }
         ensures reads { self.new.reads_left + 1 ≡ self.old.reads_left }
         ensures ended { self.new.has_ended ≡ self.old.has_ended }
-        ensures kind { IfErr result (λ fault. fault ≢ ServeFault.Write) }
+        ensures kind { IfErr result (λ fault. (cause : WriteFault) → fault ≢ ServeFault.Write cause) }
     {
         self.reads_left -= 1;
         let count = self.unread.fill(reader)?;
         if count > self.bytes_left {
-            return Err(ServeFault::Read(ReadFault::TooLong));
+            return Err(ServeFault::Read(self.limit.fault()));
         }
         self.bytes_left -= count;
         Ok(count)

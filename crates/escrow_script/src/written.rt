@@ -1,8 +1,8 @@
 ghost use Rattle.std.specs.Prelude.{◌≡◌, ◌<◌, ◌≤◌, ◌++◌, [], ℕ, length, take, drop, vec_capacity, OnOk, OnErr, IfErr};
 ghost use Rattle.std.specs.Io.KnownBytes.{Appends};
-ghost use Rattle.escrow_script.specs.Written.{Leaves};
+ghost use Rattle.escrow_script.specs.Written.{IsOfWriter, Leaves};
 
-use crate::fault::ServeFault;
+use crate::fault::{ServeFault, WriteFault};
 use std::alloc::AllocError;
 use std::io::Write;
 
@@ -36,7 +36,7 @@ pub fn write_gathered<W: Write>(writer: &mut W, replies: &mut Vec<u8>) -> Result
     ensures ok { OnOk result (Appends (W.contents writer.old) (W.contents writer.new) replies.old.items) }
     ensures none { OnOk result (replies.new.items ≡ []) }
     ensures err { OnErr result ((len : ℕ) × (len < length replies.old.items) × Appends (W.contents writer.old) (W.contents writer.new) (take len replies.old.items)) }
-    ensures kind { IfErr result (λ fault. fault ≡ ServeFault.Write) }
+    ensures kind { IfErr result IsOfWriter }
 {
     write_whole(writer, replies.as_slice())?;
     replies.clear();
@@ -58,18 +58,18 @@ pub fn out_of_memory<W: Write>(writer: &mut W, replies: &mut Vec<u8>) -> ServeFa
 ///
 /// # Errors
 ///
-/// [`ServeFault::Write`], and no other: the writer answered an error, or took nothing of what was left. What it
-/// took before is a prefix of the bytes, and not all of them.
-pub fn write_whole<W: Write>(writer: &mut W, bytes: &[u8]) -> Result<(), ServeFault>
+/// The writer answered an error, or took nothing of what was left. What it took before is a prefix of the bytes, and
+/// not all of them.
+pub fn write_whole<W: Write>(writer: &mut W, bytes: &[u8]) -> Result<(), WriteFault>
     ensures ok { OnOk result (Appends (W.contents writer.old) (W.contents writer.new) bytes.now) }
     ensures err { OnErr result ((len : ℕ) × (len < length bytes.now) × Appends (W.contents writer.old) (W.contents writer.new) (take len bytes.now)) }
-    ensures kind { IfErr result (λ fault. fault ≡ ServeFault.Write) }
 {
     let mut rest = bytes;
     while !rest.is_empty() {
         match writer.write(rest) {
-            Ok(0) | Err(_) => return Err(ServeFault::Write),
+            Ok(0) => return Err(WriteFault::TakesNothing),
             Ok(count) => rest = &rest[count..],
+            Err(error) => return Err(WriteFault::from(error)),
         }
     }
     Ok(())

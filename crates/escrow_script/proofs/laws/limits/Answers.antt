@@ -6,4 +6,5 @@ returns c = record {
   databases = refl;
   lines = refl;
   scripts = refl;
+  streams = refl;
 }
