@@ -1,11 +1,11 @@
 -- Lines that are served one by one.
-use Rattle.std.proofs.Common.{◌≡◌, ◌⊎◌, ℕ, ◌+◌, ◌<◌, ◌≤◌, List, [], ◌∷◌, ◌++◌, length, map, replicate, take, drop, Option, Some, None, arith, refl, sym, ap, subst, ◌∙◌, append_assoc, inl, inr, lit<, lit≤}
-use Rattle.std.specs.Prelude.{◌==◌, slice_get, slice_index_or, slice_set, option_map, codes, decimal, IfSome, Bool, true, false, Result, Ok, Err}
+use Rattle.std.proofs.Common.{◌≡◌, ◌⊎◌, ℕ, ◌+◌, ◌-◌, ◌^◌, ◌<◌, ◌≤◌, List, [], ◌∷◌, ◌++◌, length, map, replicate, take, drop, Option, Some, None, arith, refl, sym, ap, subst, ◌∙◌, append_assoc, inl, inr, lit<, lit≤}
+use Rattle.std.specs.Prelude.{◌==◌, slice_get, slice_index_or, slice_set, option_map, codes, decimal, IfSome, OnOk, Bool, true, false, Result, Ok, Err}
 use Rattle.std.specs.Io.KnownBytes.{Appends, IsAtEnd}
 use Rattle.std.proofs.lemmas.Bool.{cases_Bool}
 use Rattle.std.proofs.lemmas.Fmt.{length-decimal-le}
 use Rattle.std.proofs.lemmas.List.{append-nil, take-append-drop, length-append, length-map, map-set}
-use Rattle.std.proofs.lemmas.Option.{slice_get-get_or, slice_get-map}
+use Rattle.std.proofs.lemmas.Option.{slice_get-get_or, slice_get-map, IfSome_then}
 use Rattle.sqlite_trees.specs.declared.store.Store.{Ghosts}
 use Rattle.escrow_num.specs.declared.failure.Failure.{Failure}
 use Rattle.escrow_machine.specs.declared.reply.Reply.{Reply}
@@ -22,15 +22,17 @@ use Rattle.escrow_script.specs.Line.{Reading, nothing, join, restart, statement,
 use Rattle.escrow_reply.specs.Text.{rendered_whole}
 use Rattle.escrow_reply.specs.declared.short.TheConstants.{MAX_FRONT}
 use Rattle.escrow_script.specs.Written.{Leaves}
-use Rattle.escrow_serve.specs.Output.{Sitting, begun, state_in, states_of, HaveCleanDisks, ServesBytes, ServesLines, WritesLines, ServesWhole, StopsWithin}
+use Rattle.escrow_serve.specs.Output.{Sitting, begun, state_in, states_of, HaveCleanDisks, ServesBytes, ServesLines, WritesLines, ServesAll, ServesWhole, StopsWithin}
 use Rattle.escrow_script.proofs.LineLemmas.{names_one, restarts_one}
 use Rattle.escrow_script.proofs.TakenLemmas.{kept_line, Rests, rests_at_start, next_of, within_limit}
 use Rattle.escrow_script.proofs.WrittenLemmas.{appends_more, appends_none}
 use Rattle.escrow_serve.specs.declared.totals.Totals.{Totals}
 use Rattle.escrow_serve.specs.Totals.{no_totals, totals_after, AllSit, TextServed, LineServed}
 use Rattle.escrow_serve.proofs.TotalsLemmas.{all_begun, all_states, line_of_none, line_of_statement, line_of_restart}
+use Rattle.escrow_script.specs.declared.limits.Limit.{Limit}
+use Rattle.escrow_script.specs.declared.limits.Limit.TheVariants as limit
 use Rattle.escrow_script.specs.declared.limits.TheConstants.{MAX_DATABASES, MAX_LINE, MAX_SCRIPT}
-use Rattle.escrow_script.specs.Script.{TakesLine, Spends, left}
+use Rattle.escrow_script.specs.Script.{most_bytes, TakesLine, Spends, left}
 
 -- databases, as contracts show them
 abbrev pub Databases : Type 0 → Type 0
@@ -56,7 +58,7 @@ pub record Stood (states new : List State) (totals : List Totals) (script rest o
   pub sittings : List Sitting
   pub serves : ServesLines (map begun states) served (written ++ gathered) sittings
   pub sit : AllSit new totals sittings (length served)
-  pub few : length served + budget ≤ MAX_SCRIPT
+  pub few : length served + budget ≤ 2 ^ 64 - 1
   pub appends : Appends old_bytes new_bytes written
   pub rests : Rests served script rest
 
@@ -85,7 +87,7 @@ stopped_at_start why states (Some script) bytes leaves = stopped_unserved why st
 
 -- nothing is read and nothing is gathered
 stood_begun : (states : List State) (totals : List Totals) (script bytes : Option (List ℕ)) (unread gathered : List ℕ) (left_bytes : ℕ) → totals ≡ replicate (length states) no_totals
-    → unread ≡ [] → gathered ≡ [] → left_bytes ≡ MAX_SCRIPT → Stood states states totals script (left unread script) bytes bytes gathered (left_bytes + length unread)
+    → unread ≡ [] → gathered ≡ [] → left_bytes ≤ 2 ^ 64 - 1 → Stood states states totals script (left unread script) bytes bytes gathered (left_bytes + length unread)
 stood_begun states totals script bytes unread gathered left_bytes are_none none_unread none_gathered all = record {
   served = [];
   written = [];
@@ -126,7 +128,7 @@ pub record Stands {S : Type 0} (g : Ghosts S) (old new : Databases S) (totals : 
   pub clean : HaveCleanDisks g new → HaveCleanDisks g old
 
 pub stands_begun : {S : Type 0} (g : Ghosts S) (databases : Databases S) (totals : List Totals) (script bytes : Option (List ℕ)) (unread gathered : List ℕ) (left_bytes : ℕ)
-    → totals ≡ replicate (length databases) no_totals → unread ≡ [] → gathered ≡ [] → left_bytes ≡ MAX_SCRIPT
+    → totals ≡ replicate (length databases) no_totals → unread ≡ [] → gathered ≡ [] → left_bytes ≤ 2 ^ 64 - 1
     → Stands g databases databases totals script (left unread script) bytes bytes gathered (left_bytes + length unread)
 stands_begun g databases totals script bytes unread gathered left_bytes are_none none_unread none_gathered all =
     let are : totals ≡ replicate (length (states_of databases)) no_totals = are_none ∙ ap (λ (n : ℕ). replicate n no_totals) (sym (length-map databases state_in)) in
@@ -237,29 +239,54 @@ stopped_writing why states new totals script rest old_bytes mid_bytes new_bytes 
     (stood_in_front states new totals script rest old_bytes mid_bytes new_bytes (take len gathered) (drop len gathered) budget parted wrote)
 
 -- and all its lines are served
-stood_at_end : (states new : List State) (totals : List Totals) (bytes : List ℕ) (rest more remaining old_bytes new_bytes : Option (List ℕ)) (kept : List ℕ) (now budget : ℕ)
-    → Stood states new totals (Some bytes) rest old_bytes new_bytes [] budget → TakesLine false rest more kept → Spends (Some bytes) remaining MAX_SCRIPT now → IsAtEnd remaining
-    → ServesWhole bytes states new old_bytes new_bytes
-stood_at_end states new totals bytes None more remaining old_bytes new_bytes kept now budget stood taken spends at_end = absurd stood.rests
-stood_at_end states new totals bytes (Some rest) None remaining old_bytes new_bytes kept now budget stood taken spends at_end = absurd taken
-stood_at_end states new totals bytes (Some rest) (Some more) remaining old_bytes new_bytes kept now budget stood taken spends at_end =
-    let all : stood.served ≡ lines_of bytes = sym (stood.rests ∙ ap (λ (ls : List (List ℕ)). stood.served ++ ls) taken.0 ∙ append-nil stood.served) in
-    record {
-      limit = within_limit bytes remaining MAX_SCRIPT now spends at_end;
-      out = stood.written;
-      output = subst (λ (ls : List (List ℕ)). WritesLines states ls stood.written new) all
-          (subst (λ (o : List ℕ). WritesLines states stood.served o new) (append-nil stood.written)
-          (writes_stood states new totals stood.sittings stood.served (stood.written ++ []) (length stood.served) stood.serves stood.sit));
-      appends = stood.appends;
-    }
+stood_at_end : (states new : List State) (totals : List Totals) (bytes : List ℕ) (rest more remaining old_bytes new_bytes : Option (List ℕ)) (kept : List ℕ) (most now budget : ℕ)
+    → Stood states new totals (Some bytes) rest old_bytes new_bytes [] budget → TakesLine false rest more kept → Spends (Some bytes) remaining most now → IsAtEnd remaining
+    → (length bytes ≤ most) × ServesAll bytes states new old_bytes new_bytes
+stood_at_end states new totals bytes None more remaining old_bytes new_bytes kept most now budget stood taken spends at_end = absurd stood.rests
+stood_at_end states new totals bytes (Some rest) None remaining old_bytes new_bytes kept most now budget stood taken spends at_end = absurd taken
+stood_at_end states new totals bytes (Some rest) (Some more) remaining old_bytes new_bytes kept most now budget stood taken spends at_end =
+    let all : stood.served ≡ lines_of bytes = sym (stood.rests ∙ ap (λ (ls : List (List ℕ)). stood.served ++ ls) taken.0 ∙ append-nil stood.served) in (
+      within_limit bytes remaining most now spends at_end,
+      record {
+        out = stood.written;
+        output = subst (λ (ls : List (List ℕ)). WritesLines states ls stood.written new) all
+            (subst (λ (o : List ℕ). WritesLines states stood.served o new) (append-nil stood.written)
+            (writes_stood states new totals stood.sittings stood.served (stood.written ++ []) (length stood.served) stood.serves stood.sit));
+        appends = stood.appends;
+      },
+    )
 
-pub finished : (states new : List State) (totals : List Totals) (script rest remaining old_bytes new_bytes : Option (List ℕ)) (found : Bool) (kept unread : List ℕ) (now budget : ℕ) → found ≡ false
-    → TakesLine found rest (left unread remaining) kept → Stood states new totals script rest old_bytes new_bytes [] budget → Spends script remaining MAX_SCRIPT now → IfSome script (λ bytes. IsAtEnd remaining)
-    → IfSome script (λ bytes. ServesWhole bytes states new old_bytes new_bytes)
-finished states new totals None rest remaining old_bytes new_bytes found kept unread now budget is_false taken stood spends at_end = tt
-finished states new totals (Some bytes) rest remaining old_bytes new_bytes found kept unread now budget is_false taken stood spends at_end =
+pub finished : (states new : List State) (totals : List Totals) (script rest remaining old_bytes new_bytes : Option (List ℕ)) (found : Bool) (kept unread : List ℕ) (most now budget : ℕ) → found ≡ false
+    → TakesLine found rest (left unread remaining) kept → Stood states new totals script rest old_bytes new_bytes [] budget → Spends script remaining most now → IfSome script (λ bytes. IsAtEnd remaining)
+    → IfSome script (λ bytes. (length bytes ≤ most) × ServesAll bytes states new old_bytes new_bytes)
+finished states new totals None rest remaining old_bytes new_bytes found kept unread most now budget is_false taken stood spends at_end = tt
+finished states new totals (Some bytes) rest remaining old_bytes new_bytes found kept unread most now budget is_false taken stood spends at_end =
     let none = subst (λ (f : Bool). TakesLine f rest (left unread remaining) kept) is_false taken in
-    stood_at_end states new totals bytes rest (left unread remaining) remaining old_bytes new_bytes kept now budget stood none spends at_end
+    stood_at_end states new totals bytes rest (left unread remaining) remaining old_bytes new_bytes kept most now budget stood none spends at_end
+
+-- a limit is below what a total counts
+pub most_bytes_fit : (l : Limit) → most_bytes l ≤ 2 ^ 64 - 1
+most_bytes_fit limit.Script = lit≤ tt
+most_bytes_fit limit.Stream = lit≤ tt
+
+-- what was served of a script, within its limit, is the script whole
+pub whole_of : {X Z : Type 0} (r : Result X Z) (script : Option (List ℕ)) (states new : List State) (old_bytes new_bytes : Option (List ℕ))
+    → OnOk r (IfSome script (λ bytes. (length bytes ≤ MAX_SCRIPT) × ServesAll bytes states new old_bytes new_bytes))
+    → OnOk r (IfSome script (λ bytes. ServesWhole bytes states new old_bytes new_bytes))
+whole_of (Ok x) script states new old_bytes new_bytes serves = IfSome_then script serves (λ bytes all. record {
+  limit = all.0;
+  out = all.1.out;
+  output = all.1.output;
+  appends = all.1.appends;
+})
+whole_of (Err z) script states new old_bytes new_bytes serves = tt
+
+-- and all of what has no limit that is met
+pub all_of : {X Z : Type 0} (r : Result X Z) (most : ℕ) (script : Option (List ℕ)) (states new : List State) (old_bytes new_bytes : Option (List ℕ))
+    → OnOk r (IfSome script (λ bytes. (length bytes ≤ most) × ServesAll bytes states new old_bytes new_bytes))
+    → OnOk r (IfSome script (λ bytes. ServesAll bytes states new old_bytes new_bytes))
+all_of (Ok x) most script states new old_bytes new_bytes serves = IfSome_then script serves (λ bytes all. all.1)
+all_of (Err z) most script states new old_bytes new_bytes serves = tt
 
 -- what a line is read as among databases, it is read as among their states
 pub reads_states : {S : Type 0} (databases : Databases S) (bytes : List ℕ) (reading : Reading) → Reads (length databases) bytes reading → Reads (length (states_of databases)) bytes reading

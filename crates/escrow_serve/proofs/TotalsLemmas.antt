@@ -18,7 +18,6 @@ use Rattle.escrow_sql.specs.Parser.{Asks}
 use Rattle.escrow_stats.specs.declared.tally.Tally.{Tally}
 use Rattle.escrow_stats.specs.Tally.{tally_of}
 use Rattle.escrow_stats.specs.Text.{rendered_totals}
-use Rattle.escrow_script.specs.declared.limits.TheConstants.{MAX_SCRIPT}
 use Rattle.escrow_serve.specs.declared.totals.TheConstants.{SESSIONS}
 use Rattle.escrow_serve.specs.declared.totals.Totals.{Totals}
 use Rattle.escrow_script.specs.Line.{Reading, restart, statement, database_name, Reads}
@@ -90,7 +89,7 @@ own_tally totals session d is_session answered most are =
 -- a reply to a session is counted
 totals_at : (old new : Totals) (session : ℕ) (r : Reply) (d now : Tally) → IsSession session → new.tallies ≡ slice_set old.tallies (session - 1) now
     → ((replies : List Reply) → get_or old.tallies (session - 1) d ≡ tally_of replies → length replies < 2 ^ 64 - 1 → now ≡ tally_of (replies ++ r ∷ []))
-    → (answered : List (ℕ × Reply)) (most : ℕ) → AreTotals old answered most → most < MAX_SCRIPT → AreTotals new (answered ++ (session, r) ∷ []) (most + 1)
+    → (answered : List (ℕ × Reply)) (most : ℕ) → AreTotals old answered most → most < 2 ^ 64 - 1 → AreTotals new (answered ++ (session, r) ∷ []) (most + 1)
 totals_at old new session r d now is_session set counts answered most are below =
     let is_now = counts (replies_to session answered) (own_tally old session d is_session answered most are) (omega (arith, few_replies session answered, are.few, below)) in
     let within = slice_get_within old.tallies (session - 1) (tally_of (replies_to session answered)) (are.each session is_session) in
@@ -109,7 +108,7 @@ totals_at old new session r d now is_session set counts answered most are below 
 
 pub totals_with : (old new : Totals) (session place : ℕ) (r : Reply) (d now : Tally) → IsSession session → place ≡ session - 1 → new.tallies ≡ slice_set old.tallies place now
     → ((replies : List Reply) → get_or old.tallies place d ≡ tally_of replies → length replies < 2 ^ 64 - 1 → now ≡ tally_of (replies ++ r ∷ []))
-    → (answered : List (ℕ × Reply)) (most : ℕ) → AreTotals old answered most → most < MAX_SCRIPT → AreTotals new (answered ++ (session, r) ∷ []) (most + 1)
+    → (answered : List (ℕ × Reply)) (most : ℕ) → AreTotals old answered most → most < 2 ^ 64 - 1 → AreTotals new (answered ++ (session, r) ∷ []) (most + 1)
 totals_with old new session place r d now is_session is_place set counts =
     totals_at old new session r d now is_session (set ∙ ap (λ (n : ℕ). slice_set old.tallies n now) is_place)
     (λ replies is few. counts replies (ap (λ (n : ℕ). get_or old.tallies n d) is_place ∙ is) few)
@@ -129,7 +128,7 @@ sits_restarted old new totals sitting most _ sits =
 
 -- a text that is answered
 pub text_answered : (name : List ℕ) (old new : State) (totals counted : Totals) (session : ℕ) (text : List ℕ) (answer : Reply) → Answers old session text answer new
-    → ((answered : List (ℕ × Reply)) (most : ℕ) → AreTotals totals answered most → most < MAX_SCRIPT → AreTotals counted (answered ++ (session, answer) ∷ []) (most + 1))
+    → ((answered : List (ℕ × Reply)) (most : ℕ) → AreTotals totals answered most → most < 2 ^ 64 - 1 → AreTotals counted (answered ++ (session, answer) ∷ []) (most + 1))
     → TextServed name old totals session text (rendered name session answer) new counted
 text_answered name old new totals counted session text answer answers counts = λ sitting most sits below. (
   record { state = new; answered = sitting.answered ++ (session, answer) ∷ [] },
@@ -212,7 +211,7 @@ sits_set (s ∷ states) (t ∷ totals) (x ∷ sittings) most (suc place) state o
 
 -- what a line is read as
 line_read : (states new : List State) (totals counted : List Totals) (bytes out : List ℕ) (reading : Reading) → Reads (length states) bytes reading
-    → ((sittings : List Sitting) (most : ℕ) → AllSit states totals sittings most → most < MAX_SCRIPT → (after : List Sitting) × ServesLine sittings reading out after × AllSit new counted after (most + 1))
+    → ((sittings : List Sitting) (most : ℕ) → AllSit states totals sittings most → most < 2 ^ 64 - 1 → (after : List Sitting) × ServesLine sittings reading out after × AllSit new counted after (most + 1))
     → LineServed states totals bytes out new counted
 line_read states new totals counted bytes out reading reads serves = λ sittings most all below.
     let step = serves sittings most all below in

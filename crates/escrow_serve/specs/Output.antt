@@ -128,6 +128,12 @@ WritesLines states lines out new =
 abbrev pub Output : List ℕ → List State → List ℕ → List State → Type 0
 Output script states out new = WritesLines states (lines_of script) out new
 
+-- all of the lines were served, however many they are: their output was written
+pub record ServesAll (script : List ℕ) (states new : List State) (old_bytes new_bytes : Option (List ℕ)) : Type 0 where
+  pub out : List ℕ
+  pub output : Output script states out new
+  pub appends : Appends old_bytes new_bytes out
+
 -- the script was served whole: it is no longer than a script may be, and its output was written
 pub record ServesWhole (script : List ℕ) (states new : List State) (old_bytes new_bytes : Option (List ℕ)) : Type 0 where
   pub limit : length script ≤ MAX_SCRIPT

@@ -1,11 +1,10 @@
 -- Helps: the totals that are kept while a script is served, and the sittings that they are of.
-use Rattle.std.specs.Prelude.{◌≡◌, ℕ, ◌+◌, ◌-◌, ◌<◌, ◌≤◌, Some, List, [], ◌∷◌, length, replicate, slice_get}
+use Rattle.std.specs.Prelude.{◌≡◌, ℕ, ◌+◌, ◌-◌, ◌^◌, ◌<◌, ◌≤◌, Some, List, [], ◌∷◌, length, replicate, slice_get}
 use Rattle.escrow_num.specs.Session.{IsSession}
 use Rattle.escrow_machine.specs.declared.reply.Reply.{Reply}
 use Rattle.escrow_machine.specs.declared.reply.Reply.TheVariants as reply
 use Rattle.escrow_machine.specs.State.{State}
 use Rattle.escrow_stats.specs.Tally.{tally_of}
-use Rattle.escrow_script.specs.declared.limits.TheConstants.{MAX_SCRIPT}
 use Rattle.escrow_serve.specs.declared.totals.TheConstants.{SESSIONS}
 use Rattle.escrow_serve.specs.declared.totals.Totals.{Totals}
 use Rattle.escrow_serve.specs.Output.{Sitting, PrintsText, ServesBytes, replies_to}
@@ -35,15 +34,15 @@ AllSit [] [] [] most = Unit {0}
 AllSit (state ∷ states) (totals ∷ others) (sitting ∷ sittings) most = Sits state totals sitting most × AllSit states others sittings most
 AllSit _ _ _ most = ⊥
 
--- what a text prints and leaves of a database, whichever sitting it had, as long as no more was answered than a script
--- has lines
+-- what a text prints and leaves of a database, whichever sitting it had, as long as fewer replies were given than a
+-- total counts
 abbrev pub TextServed : List ℕ → State → Totals → ℕ → List ℕ → List ℕ → State → Totals → Type 0
 TextServed name state totals session text out new_state new_totals =
-    (sitting : Sitting) (most : ℕ) → Sits state totals sitting most → most < MAX_SCRIPT
+    (sitting : Sitting) (most : ℕ) → Sits state totals sitting most → most < 2 ^ 64 - 1
     → (after : Sitting) × PrintsText name sitting session text out after × Sits new_state new_totals after (most + 1)
 
 -- what a line writes and leaves of all databases
 abbrev pub LineServed : List State → List Totals → List ℕ → List ℕ → List State → List Totals → Type 0
 LineServed states totals bytes out new_states new_totals =
-    (sittings : List Sitting) (most : ℕ) → AllSit states totals sittings most → most < MAX_SCRIPT
+    (sittings : List Sitting) (most : ℕ) → AllSit states totals sittings most → most < 2 ^ 64 - 1
     → (after : List Sitting) × ServesBytes sittings bytes out after × AllSit new_states new_totals after (most + 1)

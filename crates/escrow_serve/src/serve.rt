@@ -1,15 +1,17 @@
 ghost use Rattle.std.specs.Prelude.{◌≡◌, ◌≤◌, ◌<◌, ◌+◌, ◌⊎◌, ◌++◌, [], List, ℕ, true, false, length, take, drop, vec_len, vec_capacity, OnOk, OnErr, IfOk, IfErr, IfSome, MatchOption};
 ghost use Rattle.std.specs.Io.KnownBytes.{Appends, IsAtEnd};
+ghost use Rattle.std.specs.List.{AllByRecursion};
 ghost use Rattle.sqlite.specs.Held.{state};
 ghost use Rattle.escrow_sql.specs.Parser.{Asks};
 ghost use Rattle.sqlite.specs.State.{HasCleanDisk};
 ghost use Rattle.escrow_machine.specs.Reply.{holds_memory};
 ghost use Rattle.escrow_machine.specs.Step.{IsServed};
 ghost use Rattle.escrow_reply.specs.Text.{rendered};
-ghost use Rattle.escrow_script.specs.Script.{left, has_line, HasEnded, Spends, TakesLine};
+ghost use Rattle.escrow_script.specs.Script.{left, has_line, most_bytes, HasEnded, Spends, TakesLine};
 ghost use Rattle.escrow_script.specs.Written.{Leaves};
 ghost use Rattle.escrow_stats.specs.Text.{rendered_totals};
-ghost use Rattle.escrow_serve.specs.Output.{states_of, Answers, HaveCleanDisks, ServesWhole, StopsWithin};
+ghost use Rattle.escrow_serve.specs.Left.{LeavesItsRows};
+ghost use Rattle.escrow_serve.specs.Output.{states_of, Answers, HaveCleanDisks, ServesAll, ServesWhole, StopsWithin};
 ghost use Rattle.escrow_serve.specs.Totals.{totals_after, LineServed, TextServed};
 
 use crate::totals::{Totals, totals_of};
@@ -19,8 +21,8 @@ use escrow_reply::{
     MAX_FRONT, MAX_SHORT, is_short, push_short, push_short_line, push_short_whole, render,
 };
 use escrow_script::{
-    Line, MAX_DATABASES, MOST_GATHERED, Script, ServeFault, classify, database_name, fault_refusal,
-    gather, out_of_memory, write_gathered,
+    Limit, Line, MAX_DATABASES, MOST_GATHERED, Script, ServeFault, classify, database_name,
+    fault_refusal, gather, out_of_memory, write_gathered,
 };
 use escrow_sql::{Request, parse};
 use escrow_stats::Tally;
@@ -57,8 +59,65 @@ pub fn serve_script<S: Alter, R: Read, W: Write>(
 
     // A disk that has returned what was written had done so before.
     ensures clean { HaveCleanDisks S.Store databases.new.items → HaveCleanDisks S.Store databases.old.items }
+
+    // However the call ends, a crash leaves just the tables and the rows of the states after it, where stores can be
+    // used.
+    ensures on_disk { AllByRecursion (LeavesItsRows S.Store) databases.new.items }
 {
-    let mut script = Script::new(alloc)?;
+    let served = serve_from(alloc, Limit::Script, databases, reader, writer);
+    see_left(databases.as_slice());
+    served
+}
+
+/// Serves lines as [`serve_script`] does, until their reader is at its end, however many they are.
+pub fn serve_lines<S: Alter, R: Read, W: Write>(
+    alloc: Global,
+    databases: &mut Vec<Database<S>>,
+    reader: &mut R,
+    writer: &mut W,
+) -> Result<(), ServeFault>
+    requires some { 1 ≤ vec_len databases.old }
+    requires few { vec_len databases.old ≤ MAX_DATABASES }
+
+    // Where each disk has returned what was written, the output and the states after it are those of all
+    // lines, all of which were read, also where a fault has shut a store.
+    ensures output { HaveCleanDisks S.Store databases.new.items → OnOk result (IfSome (R.remaining reader.old) (λ script.
+        ServesAll script (states_of databases.old.items) (states_of databases.new.items) (W.contents writer.old) (W.contents writer.new))) }
+    ensures end { OnOk result (IfSome (R.remaining reader.old) (λ script. IsAtEnd (R.remaining reader.new))) }
+
+    // After a fault some lines were served, and their output was written, or a prefix of it where the writer failed.
+    ensures fault { HaveCleanDisks S.Store databases.new.items → IfErr result (λ fault. IfSome (R.remaining reader.old) (λ script.
+        StopsWithin fault script (states_of databases.old.items) (states_of databases.new.items) (W.contents writer.old) (W.contents writer.new))) }
+
+    // A disk that has returned what was written had done so before.
+    ensures clean { HaveCleanDisks S.Store databases.new.items → HaveCleanDisks S.Store databases.old.items }
+
+    // However the call ends, a crash leaves just the tables and the rows of the states after it, where stores can be
+    // used.
+    ensures on_disk { AllByRecursion (LeavesItsRows S.Store) databases.new.items }
+{
+    let served = serve_from(alloc, Limit::Stream, databases, reader, writer);
+    see_left(databases.as_slice());
+    served
+}
+
+/// Serves lines, of which no more is read than a limit allows, as [`serve_script`] does.
+fn serve_from<S: Alter, R: Read, W: Write>(
+    alloc: Global,
+    limit: Limit,
+    databases: &mut Vec<Database<S>>,
+    reader: &mut R,
+    writer: &mut W,
+) -> Result<(), ServeFault>
+    requires few { vec_len databases.old ≤ MAX_DATABASES }
+    ensures output { HaveCleanDisks S.Store databases.new.items → OnOk result (IfSome (R.remaining reader.old) (λ script. (length script ≤ most_bytes limit)
+        × ServesAll script (states_of databases.old.items) (states_of databases.new.items) (W.contents writer.old) (W.contents writer.new))) }
+    ensures end { OnOk result (IfSome (R.remaining reader.old) (λ script. IsAtEnd (R.remaining reader.new))) }
+    ensures fault { HaveCleanDisks S.Store databases.new.items → IfErr result (λ fault. IfSome (R.remaining reader.old) (λ script.
+        StopsWithin fault script (states_of databases.old.items) (states_of databases.new.items) (W.contents writer.old) (W.contents writer.new))) }
+    ensures clean { HaveCleanDisks S.Store databases.new.items → HaveCleanDisks S.Store databases.old.items }
+{
+    let mut script = Script::up_to(alloc, limit)?;
     let mut totals = totals_of(alloc, databases.len())?;
     let mut replies = Vec::new(alloc);
     while take_line(&mut script, reader, writer, &mut replies)? {
@@ -68,6 +127,15 @@ pub fn serve_script<S: Alter, R: Read, W: Write>(
         }
     }
     Ok(())
+}
+
+/// Shows that a crash leaves just its tables and its rows of each database whose store can be used.
+fn see_left<S: Alter>(databases: &[Database<S>])
+    ensures { AllByRecursion (LeavesItsRows S.Store) databases.now }
+{
+    for database in databases {
+        let _ = database.next_id();
+    }
 }
 
 /// Takes the next line, with room for a short reply to it, and answers whether there was one. Where memory is
@@ -100,7 +168,7 @@ fn take_line<R: Read, W: Write>(
         },
         Ok(false) => Ok(false),
         Err(ServeFault::Read(cause)) => Err(ServeFault::Read(cause)),
-        Err(ServeFault::Memory | ServeFault::Write) => Err(out_of_memory(writer, replies)),
+        Err(ServeFault::Memory | ServeFault::Write(_)) => Err(out_of_memory(writer, replies)),
     }
 }
 

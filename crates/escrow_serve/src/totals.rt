@@ -1,10 +1,9 @@
-ghost use Rattle.std.specs.Prelude.{◌≡◌, ◌+◌, ◌-◌, ◌<◌, ◌∷◌, ◌++◌, [], ℕ, List, IfOk, replicate};
+ghost use Rattle.std.specs.Prelude.{◌≡◌, ◌+◌, ◌-◌, ◌^◌, ◌<◌, ◌∷◌, ◌++◌, [], ℕ, List, IfOk, replicate};
 ghost use Rattle.escrow_num.specs.Session.{IsSession};
 ghost use Rattle.escrow_machine.specs.declared.reply.Reply.{Reply};
 ghost use Rattle.escrow_stats.specs.Tally.{tally_of};
 ghost use Rattle.escrow_serve.specs.Output.{replies_to};
 ghost use Rattle.escrow_serve.specs.Totals.{no_totals, AreTotals};
-ghost use Rattle.escrow_script.specs.declared.limits.TheConstants.{MAX_SCRIPT};
 
 use escrow_core::Reply;
 use escrow_num::Session;
@@ -41,7 +40,7 @@ impl Totals {
 
     /// Counts a reply that a session was given.
     pub(crate) fn count(&mut self, session: Session, reply: &Reply)
-        ensures { (answered : List (ℕ × Reply)) (most : ℕ) → AreTotals self.old answered most → most < MAX_SCRIPT
+        ensures { (answered : List (ℕ × Reply)) (most : ℕ) → AreTotals self.old answered most → most < 2 ^ 64 - 1
             → AreTotals self.new (answered ++ (session, reply.now) ∷ []) (most + 1) }
     {
         let place = place_of(session);

@@ -1,10 +1,9 @@
 use Rattle.std.proofs.Common.{◌≡◌, ◌+◌, true, false, [], length, vec_len}
-use Rattle.escrow_script.specs.Script.{left, has_line, HasEnded, Spends}
+use Rattle.escrow_script.specs.Script.{left, has_line, most_bytes, HasEnded, Spends}
 use Rattle.escrow_serve.proofs.ServeLemmas.{Stands}
-use Rattle.escrow_script.specs.declared.limits.TheConstants.{MAX_SCRIPT}
-use Rattle.escrow_serve.proofs.serve.serve_script.Given as goal
+use Rattle.escrow_serve.proofs.serve.serve_from.Given as goal
 
--- some lines of the script were served, what they write was written or is gathered, and each database has its
+-- some lines were served, what they write was written or is gathered, and each database has its
 -- totals, where the stores can be used, and their bytes were counted; nothing is gathered unless the next line is
 -- in hand; and behind the script's end nothing is left
 abbrev pub invariant-loop-replies : goal.invariant-loop-replies
@@ -15,7 +14,7 @@ invariant-loop-replies g l = record {
       (g.W.Write.contents l.fn.writer) (g.W.Write.contents l.writer) l.replies.items (l.script.bytes_left + length l.script.unread);
   waits : has_line l.script.reads_left l.script.unread ≡ false → l.replies.items ≡ [];
   ended : l.script.has_ended ≡ true → HasEnded l.script.unread (g.R.Read.remaining l.reader);
-  spent : Spends (g.R.Read.remaining l.fn.reader) (g.R.Read.remaining l.reader) MAX_SCRIPT l.script.bytes_left;
+  spent : Spends (g.R.Read.remaining l.fn.reader) (g.R.Read.remaining l.reader) (most_bytes l.fn.limit) l.script.bytes_left;
 }
 
 abbrev pub decreases-loop-replies : goal.decreases-loop-replies
