@@ -1,5 +1,6 @@
 //! Long histories are handed out in parts.
 use crate::desk::Desk;
+use escrow_num::Session;
 use escrow_shards::{Part, Shared, UnderLock};
 use sqlite::Alter;
 use std::alloc::{AllocError, Global};
@@ -29,17 +30,22 @@ impl<S: Alter + Drop> Drains<S> {
         })
     }
 
-    /// Drains each database whose transcript is long, as the receipts at desks tell.
+    /// Drains each database whose transcript is long, as the receipts at desks tell, after a phase that had
+    /// statements or none. Without any no transcript has grown, so no desk is looked at.
     pub(crate) fn drain_long<L: UnderLock<S>, R: Wait>(
         &mut self,
         rt: &R,
         alloc: Global,
         shared: &Shared<S, L>,
         desks: &[Desk],
+        had_statements: bool,
     )
         requires { vec_len self.old.last_drained ≡ length shared.now.openings }
         ensures { vec_len self.new.last_drained ≡ vec_len self.old.last_drained }
     {
+        if !had_statements {
+            return;
+        }
         for database in 0..self.last_drained.len() {
             let last = last_number(database, desks);
             if last.saturating_sub(self.last_drained[database]) >= LONG {
@@ -71,14 +77,17 @@ impl<S: Alter + Drop> Drains<S> {
     }
 }
 
-/// The number of the last entry of a database, as the receipts at its desks tell; 0 where it has none.
+/// The number of the last entry of a database, as the receipts at its desks tell; 0 where it has none. The desks of
+/// a database are one behind another.
 fn last_number(database: usize, desks: &[Desk]) -> u64 {
+    let sessions = usize::from(Session::MAX);
+    let Some(its_desks) = desks.chunks(sessions).nth(database) else {
+        return 0;
+    };
     let mut last = 0;
-    for desk in desks {
-        if desk.pass.database() == database {
-            if let Some(receipt) = desk.pass.receipts().last() {
-                last = last.max(receipt.number);
-            }
+    for desk in its_desks {
+        if let Some(receipt) = desk.pass.receipts().last() {
+            last = last.max(receipt.number);
         }
     }
     last

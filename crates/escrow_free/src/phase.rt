@@ -44,7 +44,7 @@ pub(crate) fn run_phase<
     requires places { All (λ x. x.0 < length desks.items) items.items }
     ensures { IfOk result (λ new. AreServed desks.items items.items new.items) }
 {
-    audience.begin();
+    audience.begin(items.len());
     let served = serve_requests(rt, alloc, shared, desks, items, gate);
     audience.end();
     served

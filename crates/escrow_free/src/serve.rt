@@ -195,9 +195,10 @@ fn serve_phases<
     'phases: loop {
         let Phase { plan, has_more } = read_phase(alloc, databases, &mut script, reader)?;
         let Plan { lines, items } = plan;
+        let had_statements = !items.is_empty();
         desks = run_phase(rt, alloc, shared, desks, items, gate, audience)?;
         print_phase(alloc, &mut desks, &mut totals, lines, writer)?;
-        drains.drain_long(rt, alloc, shared, desks.as_slice());
+        drains.drain_long(rt, alloc, shared, desks.as_slice(), had_statements);
         if !has_more {
             let parts = drains.parts;
             return Ok(Served { desks, parts });

@@ -1,7 +1,8 @@
 -- Helps: what a terminal is sent to show how far a script is, to the byte.
-use Rattle.std.specs.Prelude.{ℕ, zero, suc, Bool, true, false, Option, Some, None, List, [], ◌++◌, length, slice_get, codes, decimal}
+use Rattle.std.specs.Prelude.{ℕ, zero, suc, ◌==◌, if◌then◌else◌, Bool, true, false, Option, Some, None, List, [], ◌+◌, ◌++◌, slice_get, codes, decimal}
 use Rattle.escrow_script.specs.Line.{database_name}
-use Rattle.escrow_script.specs.declared.limits.TheConstants.{MAX_DATABASES}
+use Rattle.escrow_server.specs.declared.drawing.Layout.{Layout}
+use Rattle.escrow_server.specs.declared.drawing.Progress.{Progress}
 use Rattle.escrow_stats.specs.declared.tally.Tally.{Tally}
 
 -- what stands behind the name of a database in its line
@@ -24,6 +25,20 @@ abbrev pub lines_text : List Tally → ℕ → List ℕ
 lines_text ts zero = []
 lines_text ts (suc n) = lines_text ts n ++ shown_text n (slice_get ts n)
 
+-- the line of a phase
+unfoldable pub phase_text : Progress → List ℕ
+phase_text p =
+    codes "phase " ++ decimal p.phase ++ codes ": " ++ decimal p.served ++ codes " of "
+    ++ decimal p.statements ++ codes " statements\u{1b}[K\n"
+
+-- the line of so many databases that have none of their own
+abbrev pub more_text : ℕ → List ℕ
+more_text count = if count == 0 then [] else codes "and " ++ decimal count ++ codes " more databases\u{1b}[K\n"
+
+-- how many lines a drawing has
+abbrev pub height : ℕ → ℕ → ℕ
+height shown more = if more == 0 then shown + 1 else shown + 2
+
 -- the cursor goes up so many rows, to the first column
 unfoldable pub back_text : ℕ → List ℕ
 back_text rows = codes "\r\u{1b}[" ++ decimal rows ++ codes "A"
@@ -33,10 +48,11 @@ abbrev pub over_text : Bool → ℕ → List ℕ
 over_text true rows = back_text rows
 over_text false rows = []
 
--- a drawing: a line for each database, none of which goes on in a further row
-abbrev pub drawing_text : Bool → List Tally → List ℕ
-drawing_text is_drawn ts =
-    over_text is_drawn (length ts) ++ codes "\u{1b}[?7l" ++ lines_text ts MAX_DATABASES ++ codes "\u{1b}[?7h"
+-- a drawing: a line for the phase and for each database that is shown, none of which goes on in a further row
+abbrev pub drawing_text : Bool → Progress → Layout → List Tally → List ℕ
+drawing_text is_drawn p l ts =
+    over_text is_drawn (height l.shown l.more) ++ codes "\u{1b}[?7l" ++ phase_text p
+    ++ lines_text ts l.shown ++ more_text l.more ++ codes "\u{1b}[?7h"
 
 -- nothing is left of so many lines
 abbrev pub erasing_text : ℕ → List ℕ

@@ -1,5 +1,5 @@
 //! What the thread is told that shows how far a script is.
-use crate::screen::Screen;
+use crate::screen::{Screen, served_by_all};
 use escrow_free::Audience;
 use escrow_stats::Watcher;
 use sqlite::Alter;
@@ -34,10 +34,21 @@ pub(crate) struct Told<V> {
 pub(crate) enum Stage {
     /// It reads lines, or writes replies.
     Between,
-    /// The sessions of the phase of this number are served.
-    Phase(u64),
+    /// The sessions of a phase are served.
+    Phase(Phase),
     /// Nothing any more.
     Over,
+}
+
+/// A phase whose sessions are served.
+#[derive(Clone, Copy, PartialEq, Eq)]
+pub(crate) struct Phase {
+    /// Its number, from 1.
+    pub(crate) number: u64,
+    /// How many statements it has.
+    pub(crate) statements: usize,
+    /// How many statements all databases had served when it began.
+    pub(crate) served_before: u64,
 }
 
 impl<V> Desk<V> {
@@ -88,20 +99,28 @@ impl<V> Desk<V> {
         self.bell.notify_one();
     }
 
-    /// Tells that the next phase is served.
-    fn begin<P: Wait>(&self, rt: &P) {
-        let mut told = self.told(rt);
-        told.begun = told.begun.wrapping_add(1);
-        told.stage = Stage::Phase(told.begun);
-        self.bell.notify_one();
-    }
-
     /// Tells that no phase is served, and waits until nothing stands on the screen.
     fn leave<P: Wait>(&self, rt: &P, stage: Stage) {
         let mut told = self.told(rt);
         told.stage = stage;
         self.bell.notify_one();
         drop(self.bell.wait_while(rt, told, |told| told.is_drawn));
+    }
+}
+
+impl<S: Alter> Desk<Watcher<S>> {
+    /// Tells that the next phase is served, which has so many statements.
+    fn begin<P: Wait>(&self, rt: &P, statements: usize) {
+        let mut told = self.told(rt);
+        let number = told.begun.wrapping_add(1);
+        let served_before = served_by_all(&mut told.watchers);
+        told.begun = number;
+        told.stage = Stage::Phase(Phase {
+            number,
+            statements,
+            served_before,
+        });
+        self.bell.notify_one();
     }
 }
 
@@ -122,13 +141,13 @@ impl<V: Drop, T: Threads + Wait> Shower<'_, V, T> {
     }
 }
 
-impl<V: Drop, T: Threads + Wait> Audience<V> for Shower<'_, V, T> {
-    fn watch(&mut self, _alloc: Global, watchers: Vec<V>) {
+impl<S: Alter + Drop, T: Threads + Wait> Audience<Watcher<S>> for Shower<'_, Watcher<S>, T> {
+    fn watch(&mut self, _alloc: Global, watchers: Vec<Watcher<S>>) {
         self.desk.told(self.rt).watchers = watchers;
     }
 
-    fn begin(&mut self) {
-        self.desk.begin(self.rt);
+    fn begin(&mut self, statements: usize) {
+        self.desk.begin(self.rt, statements);
     }
 
     fn end(&mut self) {

@@ -1,23 +1,112 @@
 //! What a terminal is sent to show how far a script is.
-ghost use Rattle.std.specs.Prelude.{◌≡◌, ◌<◌, ◌++◌, IfOk, OnOk, string_bytes, slice_get};
-ghost use Rattle.escrow_server.specs.Drawing.{back_text, drawing_text, erasing_text, line_text, lines_text, over_text, shown_text, totals_text};
+ghost use Rattle.std.specs.Prelude.{◌≡◌, ◌<◌, ◌≤◌, ◌++◌, IfOk, OnOk, string_bytes, slice_get};
+ghost use Rattle.escrow_server.specs.Drawing.{back_text, drawing_text, erasing_text, height, line_text, lines_text, more_text, over_text, phase_text, shown_text, totals_text};
 
 use escrow_script::{MAX_DATABASES, database_name};
 use escrow_stats::Tally;
 use std::alloc::{AllocError, Global};
 
-/// A line for each database, in their order. Where lines were drawn before, and the cursor stands
-/// below them, they are drawn over. What is too long for a row of the terminal is left out.
+/// How far a phase is.
+#[derive(Clone, Copy)]
+pub(crate) struct Progress {
+    /// Its number, from 1.
+    pub(crate) phase: u64,
+    /// How many of its statements were served.
+    pub(crate) served: u64,
+    /// How many it has.
+    pub(crate) statements: usize,
+}
+
+/// Which databases have a line.
+#[derive(Clone, Copy)]
+pub(crate) struct Layout {
+    /// How many of them, the first ones.
+    pub(crate) shown: usize,
+    /// How many more there are, which have one line together.
+    pub(crate) more: usize,
+}
+
+impl Layout {
+    ghost use Rattle.std.specs.Prelude.{◌≡◌, ◌≤◌};
+    ghost use Rattle.escrow_script.specs.declared.limits.TheConstants.{MAX_DATABASES};
+    ghost use Rattle.escrow_server.specs.Drawing.{height};
+
+    /// The layout of so many databases on a terminal of so many rows. One row is the phase's, and the cursor is in
+    /// the last one, so that the terminal doesn't scroll.
+    pub(crate) fn new(rows: usize, databases: usize) -> Self
+        ensures { result.shown ≤ MAX_DATABASES }
+    {
+        let room = rows.saturating_sub(2).min(usize::from(MAX_DATABASES));
+        if databases <= room {
+            Layout {
+                shown: databases,
+                more: 0,
+            }
+        } else if room == 0 {
+            Layout { shown: 0, more: 0 }
+        } else {
+            let shown = room - 1;
+            Layout {
+                shown,
+                more: databases - shown,
+            }
+        }
+    }
+
+    /// How many lines a drawing has.
+    pub(crate) fn height(self) -> usize
+        requires { self.shown ≤ MAX_DATABASES }
+        ensures { result ≡ height self.shown self.more }
+    {
+        if self.more == 0 {
+            self.shown + 1
+        } else {
+            self.shown + 2
+        }
+    }
+}
+
+/// A line for a phase, one for each database that has one, in their order, and one for those that have none. Where
+/// lines were drawn before, and the cursor stands below them, they are drawn over. What is too long for a row of the
+/// terminal is left out.
 pub(crate) fn drawing(
     alloc: Global,
     is_drawn: bool,
+    progress: Progress,
+    layout: Layout,
     tallies: &[Tally],
 ) -> Result<String, AllocError>
-    ensures { IfOk result (λ text. string_bytes text ≡ drawing_text is_drawn tallies.now) }
+    requires { layout.shown ≤ MAX_DATABASES }
+    ensures { IfOk result (λ text. string_bytes text ≡ drawing_text is_drawn progress layout tallies.now) }
 {
-    let over = over(alloc, is_drawn, tallies.len())?;
-    let lines = lines(alloc, tallies)?;
-    format!(in alloc; "{over}\u{1b}[?7l{lines}\u{1b}[?7h")
+    let over = over(alloc, is_drawn, layout.height())?;
+    let phase = phase(alloc, progress)?;
+    let lines = lines(alloc, tallies, layout.shown)?;
+    let more = more(alloc, layout.more)?;
+    format!(in alloc; "{over}\u{1b}[?7l{phase}{lines}{more}\u{1b}[?7h")
+}
+
+/// The line of a phase.
+fn phase(alloc: Global, progress: Progress) -> Result<String, AllocError>
+    ensures { IfOk result (λ text. string_bytes text ≡ phase_text progress) }
+{
+    let Progress {
+        phase,
+        served,
+        statements,
+    } = progress;
+    format!(in alloc; "phase {phase}: {served} of {statements} statements\u{1b}[K\n")
+}
+
+/// The line of so many databases that have none of their own, if there are any.
+fn more(alloc: Global, count: usize) -> Result<String, AllocError>
+    ensures { IfOk result (λ text. string_bytes text ≡ more_text count) }
+{
+    if count == 0 {
+        Ok(String::new(alloc))
+    } else {
+        format!(in alloc; "and {count} more databases\u{1b}[K\n")
+    }
 }
 
 /// Nothing is left of so many lines that were drawn, below which the cursor stands.
@@ -46,13 +135,14 @@ fn back(alloc: Global, rows: usize) -> Result<String, AllocError>
     format!(in alloc; "\r\u{1b}[{rows}A")
 }
 
-/// The lines of databases.
-fn lines(alloc: Global, tallies: &[Tally]) -> Result<String, AllocError>
-    ensures { IfOk result (λ text. string_bytes text ≡ lines_text tallies.now MAX_DATABASES) }
+/// The lines of the first so many databases.
+fn lines(alloc: Global, tallies: &[Tally], shown: usize) -> Result<String, AllocError>
+    requires { shown ≤ MAX_DATABASES }
+    ensures { IfOk result (λ text. string_bytes text ≡ lines_text tallies.now shown) }
 {
     let mut text = String::new(alloc);
-    for place in 0..MAX_DATABASES {
-        push_line(alloc, &mut text, tallies, usize::from(place))?;
+    for place in 0..shown {
+        push_line(alloc, &mut text, tallies, place)?;
     }
     Ok(text)
 }

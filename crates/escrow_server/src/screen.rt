@@ -1,6 +1,6 @@
 //! Where it is shown how far a script is.
-use crate::desk::{Desk, Stage, Told};
-use crate::drawing::{drawing, erasing};
+use crate::desk::{Desk, Phase, Stage, Told};
+use crate::drawing::{Layout, Progress, drawing, erasing};
 use escrow_script::write_whole;
 use escrow_stats::{Tally, Watcher};
 use sqlite::Alter;
@@ -26,10 +26,13 @@ impl Screen for NoScreen {
     fn show<S: Alter>(self, _alloc: Global, _desk: &Desk<Watcher<S>>) {}
 }
 
-/// A terminal, on which a line for each database stands while a phase is long: how many statements
-/// all of its sessions had served, and how many of these were granted, broken and commits. The lines
-/// come a pause after the phase began, and after each further pause others in their place. They are
-/// erased before the replies of the phase are written, which may stand on the same terminal.
+/// A terminal, which shows how far a phase is while it is long. One line has the phase, how many of its statements
+/// were served, and how many it has. Below, a line for each database has how many statements it served since the
+/// script began, and how many of these were granted, broken and commits. If the databases are too many for the
+/// terminal, the first ones are shown, and a line says how many more there are.
+///
+/// The lines come a pause after the phase began, and after each further pause others in their place. They are erased
+/// before the replies of the phase are written, which may stand on the same terminal.
 ///
 /// Where there is no clock nothing is shown. What the writer refuses, and what there is no memory
 /// for, is left out.
@@ -41,6 +44,8 @@ pub struct Terminal<P, Q> {
     pub writer: Q,
     /// How long there is nothing new before each drawing.
     pub pause: Duration,
+    /// How many rows the terminal has at least.
+    pub rows: usize,
 }
 
 impl<P: Wait + Clock + Drop, Q: Write + Drop> Screen for Terminal<P, Q> {
@@ -49,8 +54,9 @@ impl<P: Wait + Clock + Drop, Q: Write + Drop> Screen for Terminal<P, Q> {
             rt,
             mut writer,
             pause,
+            rows,
         } = self;
-        draw_all(&rt, &mut writer, pause, alloc, desk);
+        draw_all(&rt, &mut writer, pause, rows, alloc, desk);
     }
 }
 
@@ -59,6 +65,7 @@ fn draw_all<S: Alter, P: Wait + Clock, Q: Write>(
     rt: &P,
     writer: &mut Q,
     pause: Duration,
+    rows: usize,
     alloc: Global,
     desk: &Desk<Watcher<S>>,
 ) {
@@ -69,7 +76,7 @@ fn draw_all<S: Alter, P: Wait + Clock, Q: Write>(
         if told.stage == Stage::Over || Instant::now(rt).is_err() {
             break;
         }
-        told = draw_phase(rt, writer, pause, alloc, desk, told);
+        told = draw_phase(rt, writer, pause, rows, alloc, desk, told);
     }
 }
 
@@ -78,42 +85,67 @@ fn draw_phase<'a, S: Alter, P: Wait + Clock, Q: Write>(
     rt: &P,
     writer: &mut Q,
     pause: Duration,
+    rows: usize,
     alloc: Global,
     desk: &Desk<Watcher<S>>,
     mut told: MutexGuard<'a, Told<Watcher<S>>>,
 ) -> MutexGuard<'a, Told<Watcher<S>>> {
-    let phase = told.stage;
+    let stage = told.stage;
+    let Stage::Phase(phase) = stage else {
+        return told;
+    };
     for _ in rt.forever() {
-        told = desk.wait_at(rt, told, phase, pause);
-        if told.stage != phase || Instant::now(rt).is_err() {
+        told = desk.wait_at(rt, told, stage, pause);
+        if told.stage != stage || Instant::now(rt).is_err() {
             break;
         }
         let is_drawn = told.is_drawn;
-        if draw(writer, alloc, is_drawn, &mut told.watchers).is_ok() {
+        if draw(writer, rows, alloc, phase, is_drawn, &mut told.watchers).is_ok() {
             told.is_drawn = true;
         }
     }
     if told.is_drawn {
-        let _ = erase(writer, alloc, told.watchers.len());
+        let layout = Layout::new(rows, told.watchers.len());
+        let _ = erase(writer, alloc, layout.height());
         desk.clear(&mut *told);
     }
     told
 }
 
-/// Draws what watchers read now. Want of memory is the only error.
+/// Draws how far a phase is, by what watchers read now. Want of memory is the only error.
 fn draw<S: Alter, Q: Write>(
     writer: &mut Q,
+    rows: usize,
     alloc: Global,
+    phase: Phase,
     is_drawn: bool,
     watchers: &mut Vec<Watcher<S>>,
 ) -> Result<(), AllocError> {
     let mut tallies: Vec<Tally> = Vec::new(alloc);
+    let mut served = 0_u64;
     for watcher in watchers.iter_mut() {
-        tallies.push(watcher.read())?;
+        let tally = watcher.read();
+        served = served.saturating_add(tally.served);
+        tallies.push(tally)?;
     }
-    let text = drawing(alloc, is_drawn, tallies.as_slice())?;
+    let progress = Progress {
+        phase: phase.number,
+        served: served.saturating_sub(phase.served_before),
+        statements: phase.statements,
+    };
+    let layout = Layout::new(rows, tallies.len());
+    let text = drawing(alloc, is_drawn, progress, layout, tallies.as_slice())?;
     let _ = write_whole(writer, text.as_bytes());
     Ok(())
+}
+
+/// How many statements all databases had served, as their watchers read now.
+pub(crate) fn served_by_all<S: Alter>(watchers: &mut Vec<Watcher<S>>) -> u64 {
+    let mut served = 0_u64;
+    for watcher in watchers.iter_mut() {
+        served = served.saturating_add(watcher.read().served);
+    }
+    served
 }
 
 /// Erases so many lines that were drawn. Want of memory is the only error.

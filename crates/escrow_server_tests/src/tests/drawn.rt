@@ -34,16 +34,20 @@ const ASKED: &str = "bank2.1: COMMIT\nbank2.2: COMMIT\n";
 
 const ANSWERED: &str = "bank2.1> OK committed 0\nbank2.2> OK committed 0\n";
 
-/// What a drawing begins with, up to the total of the second database.
-const FIRST: &str = "\u{1b}[?7lbank: served 0 granted 0 broken 0 commits 0\u{1b}[K\nbank2: served ";
+/// How a drawing of the first phase begins, up to how many statements of the phase were served, and one of the last.
+const FIRST: &str = "\u{1b}[?7lphase 1: ";
 
-/// The second line, up to its first total, and what is behind the line.
-const LINE: &str = "bank2: served ";
+const LAST: &str = "\u{1b}[?7lphase 2: ";
 
+/// What is behind that number, up to the first total of the second database.
+const BESIDE: &str =
+    " of 10000 statements\u{1b}[K\nbank: served 0 granted 0 broken 0 commits 0\u{1b}[K\nbank2: served ";
+
+/// What is behind the line of the second database.
 const END: &str = "\u{1b}[K\n\u{1b}[?7h";
 
-/// How two lines are erased.
-const ERASED: &str = "\r\u{1b}[2A\u{1b}[J";
+/// How three lines are erased.
+const ERASED: &str = "\r\u{1b}[3A\u{1b}[J";
 
 /// Lines are drawn over and over, the last ones with totals that were taken together, and are erased before the replies.
 /// The last phase may be drawn too.
@@ -51,14 +55,16 @@ fn check_drawn<R: Abort>(rt: &R, sent: &[u8], replies: &str) {
     let sent = str::from_utf8(sent).unwrap_or_default();
     let (drawn, rest) = sent.split_once(ERASED).expect(rt, "what erases");
     assert!(rt; !drawn.contains("OK"));
-    let (_, line) = drawn.rsplit_once(LINE).expect(rt, "a line");
+    let (_, lines) = drawn.rsplit_once("phase 1: ").expect(rt, "a phase");
+    let (of_phase, line) = lines.split_once(BESIDE).expect(rt, "a line");
     let (served, totals) = line
         .split_once(" granted 0 broken 0 commits ")
         .expect(rt, "totals");
+    assert_eq!(rt; of_phase, served);
     assert_eq!(rt; totals.strip_suffix(END), Some(served));
     let last = rest.strip_prefix(replies).expect(rt, "replies");
     let before = last.strip_suffix(ANSWERED).expect(rt, "the last replies");
-    let is_drawn = before.starts_with(FIRST) && before.ends_with(ERASED);
+    let is_drawn = before.starts_with(LAST) && before.ends_with(ERASED);
     assert!(rt; before.is_empty() || is_drawn);
 }
 
@@ -110,6 +116,7 @@ fn serve<R: Wait + Clock + Copy + Drop + Send + 'static, T: Abort + Threads + Wa
         rt: own,
         writer,
         pause: Duration::from_millis(1),
+        rows: 24,
     };
     let mut input = script.as_bytes();
     let mut errors = Vec::new(rt.alloc());
