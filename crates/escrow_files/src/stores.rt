@@ -4,7 +4,7 @@ ghost use Rattle.sqlite.specs.Effect.{Database};
 ghost use Rattle.sqlite.specs.Held.{state};
 ghost use Rattle.escrow_cells.specs.Tables.{no_schema};
 ghost use Rattle.escrow_rows.specs.Answers.{IsUsable};
-ghost use Rattle.escrow_server.specs.Program.{file_of};
+ghost use Rattle.escrow_files.specs.Files.{file_of};
 
 use crate::site::{Outlook, Site};
 use escrow_memory::BlockStore;
@@ -29,6 +29,12 @@ pub enum OpenFault {
     /// A folder or a device stands there, or the file has several names.
     #[error("it is no plain file, or it has several names")]
     NoFile,
+    /// The path is a link that leads nowhere.
+    #[error("it is a link to a file that doesn't exist")]
+    Dangling,
+    /// The path has a folder that doesn't exist.
+    #[error("its folder doesn't exist")]
+    NoFolder,
     /// The system gives no permission.
     #[error("permission denied: the file has to be readable and writable, and its folder too, where a log is made beside it")]
     Denied,
@@ -215,7 +221,7 @@ fn is_path(path: &str) -> bool {
 
 /// The file of the database at a place, counted from 0: the path itself, or the path with a point and the
 /// database's number behind it.
-pub(crate) fn file_of(alloc: Global, path: &str, place: u8) -> Result<String, AllocError>
+pub fn file_of(alloc: Global, path: &str, place: u8) -> Result<String, AllocError>
     ensures { IfOk result (λ file. string_bytes file ≡ file_of path.now place) }
 {
     if place == 0 {
@@ -259,6 +265,9 @@ fn open_file(
 /// Refuses what would be refused anyway, before a file is made beside it, and a file of a single byte, which
 /// would be made a store.
 fn test_outlook(rt: &HostRuntime, outlook: &Outlook) -> Result<(), OpenFault> {
+    if outlook.is_dangling(rt)? {
+        return Err(OpenFault::Dangling);
+    }
     if outlook.is_one_byte(rt)? {
         return Err(OpenFault::Foreign);
     }
@@ -268,13 +277,18 @@ fn test_outlook(rt: &HostRuntime, outlook: &Outlook) -> Result<(), OpenFault> {
     if outlook.has_journal_alone(rt)? {
         return Err(OpenFault::Journal);
     }
-    outlook.read_folder(rt)?;
+    if let Err(error) = outlook.read_folder(rt) {
+        return Err(match error.kind() {
+            ErrorKind::NotFound => OpenFault::NoFolder,
+            _ => OpenFault::from(error),
+        });
+    }
     outlook.try_lone_log(rt)?;
     Ok(())
 }
 
 /// Closes a store: copies its log into its database, and takes it away.
-pub(crate) fn close(
+pub fn close(
     rt: &HostRuntime,
     connection: Connection<FileStore<File>>,
     site: Option<&Site>,

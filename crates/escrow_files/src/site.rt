@@ -76,6 +76,17 @@ impl Outlook {
         )
     }
 
+    /// Whether the path is a link that leads nowhere.
+    pub(crate) fn is_dangling(&self, rt: &HostRuntime) -> io::Result<bool> {
+        if !self.makes_database {
+            return Ok(false);
+        }
+        match found(rt, self.database.as_str())? {
+            Some(found) => Ok(found.is_symlink()),
+            None => Ok(false),
+        }
+    }
+
     /// Whether no database can be made there, since something stands where its log would: a folder, a
     /// device, a link, or a file of several names.
     pub(crate) fn is_blocked(&self, rt: &HostRuntime) -> io::Result<bool> {
@@ -156,12 +167,12 @@ impl Outlook {
 
 impl Site {
     /// Notes whether the store had the format before when it was opened, and has the known one since.
-    pub(crate) fn note_migrated(&mut self, migrated: bool) {
+    pub fn note_migrated(&mut self, migrated: bool) {
         self.migrated = migrated;
     }
 
     /// Whether the store had the format before when it was opened.
-    pub(crate) fn is_migrated(&self) -> bool {
+    pub fn is_migrated(&self) -> bool {
         self.migrated
     }
 
