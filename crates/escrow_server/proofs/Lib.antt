@@ -1,5 +1,3 @@
-pub mod ArgsFaults
-pub mod ArgsLemmas
 pub mod FoundLemmas
 pub mod ProgramLemmas
 pub mod CleanDisks

@@ -1,5 +1,5 @@
 -- What is said before the program ends.
-use Rattle.std.proofs.Common.{◌≡◌, ℕ, ◌+◌, ◌<◌, List, [], ◌∷◌, ◌++◌, length, map, take, Option, Some, None, true, false, if◌then◌else◌, arith, refl, sym, ap, ap₂, subst, ◌∙◌, inl, inr}
+use Rattle.std.proofs.Common.{◌≡◌, ◌≢◌, ◌⊎◌, ℕ, ◌+◌, ◌<◌, List, [], ◌∷◌, ◌++◌, length, map, take, Option, Some, None, true, false, if◌then◌else◌, arith, refl, sym, ap, ap₂, subst, ◌∙◌, inl, inr}
 use Rattle.std.specs.Prelude.{Result, Ok, Err, OnOk, OnErr, IfErr, IfSome, is_ok, option_and_then}
 use Rattle.std.specs.Io.KnownBytes.{Appends, IsAtEnd, Keeps}
 use Rattle.std.proofs.Math.Seq.{take-append-add}
@@ -9,15 +9,19 @@ use Rattle.std.proofs.lemmas.List.{append-nil, map-append, take_all, take-append
 use Rattle.std.proofs.lemmas.Bool.{true≢false}
 use Rattle.std.proofs.lemmas.Option.{IfSome_then}
 use Rattle.escrow_machine.specs.State.{State}
-use Rattle.escrow_server.specs.declared.args.Args.{Args}
-use Rattle.escrow_server.specs.declared.args.Mode.{Mode}
-use Rattle.escrow_server.specs.declared.args.Mode.TheVariants as mode
+use Rattle.escrow_args.specs.declared.args.ArgFault.{ArgFault}
+use Rattle.escrow_args.specs.declared.args.ArgFault.TheVariants as arg_fault
+use Rattle.escrow_args.specs.declared.args.Args.{Args}
+use Rattle.escrow_args.specs.declared.args.Mode.{Mode}
+use Rattle.escrow_args.specs.declared.args.Mode.TheVariants as mode
 use Rattle.escrow_server.specs.declared.fault.RunFault.{RunFault}
 use Rattle.escrow_server.specs.declared.fault.RunFault.TheVariants as run_fault
 use Rattle.escrow_script.specs.declared.fault.ServeFault.TheVariants as fault
+use Rattle.escrow_args.specs.Args.{fault_status}
 use Rattle.escrow_server.specs.Free.{RunsFree}
-use Rattle.escrow_serve.specs.Output.{ServesWhole, StopsWithin}
-use Rattle.escrow_server.specs.Program.{empty_states, file_of, migrated_line, run_status, AreLinesOf, EndsFree, EndsInMemory, EndsOverFiles, EndsScript, IsQuiet, SaysReason, SaysWhy, Stops, TellsOfMigrated, TellsOfStoresAlone, WritesPrefix, WritesNothing}
+use Rattle.escrow_serve.specs.Output.{ServesAll, ServesWhole, StopsWithin}
+use Rattle.escrow_files.specs.Files.{file_of}
+use Rattle.escrow_server.specs.Program.{empty_states, migrated_line, run_status, AreLinesOf, EndsFree, EndsInMemory, EndsInTurn, EndsOverFiles, IsQuiet, SaysReason, SaysWhy, Stops, TellsOfMigrated, TellsOfStoresAlone, WritesPrefix, WritesNothing}
 use Rattle.escrow_script.proofs.WrittenLemmas.{appends_more, appends_none}
 use Rattle.escrow_serve.proofs.ServeLemmas.{stopped_unserved}
 
@@ -91,29 +95,43 @@ ends_unserved asked count status None rest old_bytes new_bytes failed wrote = tt
 ends_unserved mode.Free count status (Some bytes) rest old_bytes new_bytes failed wrote = inr (inl failed)
 ends_unserved mode.Run count status (Some bytes) rest old_bytes new_bytes failed wrote =
     inr (inl (failed, fault.Memory, empty_states count, stopped_unserved fault.Memory (empty_states count) bytes old_bytes new_bytes refl wrote))
+ends_unserved mode.Serve count status (Some bytes) rest old_bytes new_bytes failed wrote =
+    inr (inl (failed, fault.Memory, empty_states count, stopped_unserved fault.Memory (empty_states count) bytes old_bytes new_bytes refl wrote))
+
+-- the status where words are refused
+pub status_refused : (status expected : ℕ) (fault : ArgFault) → (status ≡ 1) ⊎ (status ≡ fault_status fault) → (fault ≡ arg_fault.Memory) ⊎ (fault_status fault ≡ expected)
+    → (status ≡ 1) ⊎ (status ≡ expected)
+status_refused status expected fault (inl one) is = inl one
+status_refused status expected fault (inr same) (inl memory) = inl (same ∙ ap fault_status memory)
+status_refused status expected fault (inr same) (inr is) = inr (same ∙ is)
+
+-- words that don't ask for help aren't given it
+pub not_helped : (expected : ℕ) (fault : ArgFault) → (fault ≡ arg_fault.Memory) ⊎ (fault_status fault ≡ expected) → expected ≢ 0 → fault_status fault ≢ 0
+not_helped expected fault (inl memory) some = λ helped. let one : fault_status fault ≡ 1 = ap fault_status memory in omega (arith, one, helped)
+not_helped expected fault (inr is) some = λ helped. some (sym is ∙ helped)
 
 -- HOW A RUN ENDS
 
--- in memory
-at_stop : (why : RunFault) (status count : ℕ) (starts : List State → Type 0) (new : List State) (script rest old_bytes new_bytes : Option (List ℕ))
+-- in memory, line after line
+at_stop : (Serves : List ℕ → List State → List State → Option (List ℕ) → Option (List ℕ) → Type 0) (why : RunFault) (status count : ℕ) (starts : List State → Type 0) (new : List State) (script rest old_bytes new_bytes : Option (List ℕ))
     → ((old : List State) → starts old → old ≡ empty_states count) → status ≡ run_status why → IfSome script (λ s. Stops why starts new s rest old_bytes new_bytes)
-    → IfSome script (λ s. EndsScript count status s rest old_bytes new_bytes)
-at_stop (run_fault.Unopened database place cause) status count starts new script rest old_bytes new_bytes are_empty is stops =
+    → IfSome script (λ s. EndsInTurn Serves count status s rest old_bytes new_bytes)
+at_stop Serves (run_fault.Unopened database place cause) status count starts new script rest old_bytes new_bytes are_empty is stops =
     IfSome_then script stops (λ s kept. inr (inr (is, kept.0, kept.1)))
-at_stop (run_fault.Unserved why) status count starts new script rest old_bytes new_bytes are_empty is stops =
+at_stop Serves (run_fault.Unserved why) status count starts new script rest old_bytes new_bytes are_empty is stops =
     IfSome_then script stops (λ s from. inr (inl (is, why, new, subst (λ (ss : List State). StopsWithin why s ss new old_bytes new_bytes) (are_empty from.0 from.1) from.2)))
-at_stop (run_fault.Unjoined why) status count starts new script rest old_bytes new_bytes are_empty is stops =
+at_stop Serves (run_fault.Unjoined why) status count starts new script rest old_bytes new_bytes are_empty is stops =
     IfSome_then script stops (λ s never. absurd never)
 
-ends_in_turn : {X : Type 0} (served : Result X RunFault) (status count : ℕ) (starts : List State → Type 0) (new : List State) (script rest old_bytes new_bytes : Option (List ℕ))
+ends_in_turn : {X : Type 0} (Serves : List ℕ → List State → List State → Option (List ℕ) → Option (List ℕ) → Type 0) (served : Result X RunFault) (status count : ℕ) (starts : List State → Type 0) (new : List State) (script rest old_bytes new_bytes : Option (List ℕ))
     → ((old : List State) → starts old → old ≡ empty_states count) → OnOk served (status ≡ 0) → IfErr served (λ why. status ≡ run_status why)
-    → OnOk served (IfSome script (λ s. (from : List State) × starts from × ServesWhole s from new old_bytes new_bytes))
+    → OnOk served (IfSome script (λ s. (from : List State) × starts from × Serves s from new old_bytes new_bytes))
     → IfErr served (λ why. IfSome script (λ s. Stops why starts new s rest old_bytes new_bytes))
-    → IfSome script (λ s. EndsScript count status s rest old_bytes new_bytes)
-ends_in_turn (Ok x) status count starts new script rest old_bytes new_bytes are_empty ok err serves stops =
-    IfSome_then script serves (λ s from. inl (ok, new, subst (λ (ss : List State). ServesWhole s ss new old_bytes new_bytes) (are_empty from.0 from.1) from.2))
-ends_in_turn (Err why) status count starts new script rest old_bytes new_bytes are_empty ok err serves stops =
-    at_stop why status count starts new script rest old_bytes new_bytes are_empty err stops
+    → IfSome script (λ s. EndsInTurn Serves count status s rest old_bytes new_bytes)
+ends_in_turn Serves (Ok x) status count starts new script rest old_bytes new_bytes are_empty ok err serves stops =
+    IfSome_then script serves (λ s from. inl (ok, new, subst (λ (ss : List State). Serves s ss new old_bytes new_bytes) (are_empty from.0 from.1) from.2))
+ends_in_turn Serves (Err why) status count starts new script rest old_bytes new_bytes are_empty ok err serves stops =
+    at_stop Serves why status count starts new script rest old_bytes new_bytes are_empty err stops
 
 at_free_stop : (why : RunFault) (status count : ℕ) (script rest old_bytes new_bytes : Option (List ℕ)) → status ≡ run_status why
     → (run_status why ≡ 3 → Keeps script rest × WritesNothing old_bytes new_bytes) → IfSome script (λ s. EndsFree count status s rest old_bytes new_bytes)
@@ -137,12 +155,16 @@ pub ends_in_memory : {X : Type 0} (asked : Mode) (served : Result X RunFault) (s
     → ((old : List State) → starts old → old ≡ empty_states count) → OnOk served (status ≡ 0) → IfErr served (λ why. status ≡ run_status why)
     → (asked ≡ mode.Run → OnOk served (IfSome script (λ s. (from : List State) × starts from × ServesWhole s from new old_bytes new_bytes)))
     → (asked ≡ mode.Run → IfErr served (λ why. IfSome script (λ s. Stops why starts new s rest old_bytes new_bytes)))
+    → (asked ≡ mode.Serve → OnOk served (IfSome script (λ s. (from : List State) × starts from × ServesAll s from new old_bytes new_bytes)))
+    → (asked ≡ mode.Serve → IfErr served (λ why. IfSome script (λ s. Stops why starts new s rest old_bytes new_bytes)))
     → (asked ≡ mode.Free → OnOk served (IfSome script (λ s. (from : List State) × starts from × RunsFree s from old_bytes new_bytes)))
     → IfErr served (λ why. run_status why ≡ 3 → Keeps script rest × WritesNothing old_bytes new_bytes)
     → IfSome script (λ s. EndsInMemory asked count status s rest old_bytes new_bytes)
-ends_in_memory mode.Run served status count starts new script rest old_bytes new_bytes are_empty ok err serves stops runs unopened =
-    ends_in_turn served status count starts new script rest old_bytes new_bytes are_empty ok err (serves refl) (stops refl)
-ends_in_memory mode.Free served status count starts new script rest old_bytes new_bytes are_empty ok err serves stops runs unopened =
+ends_in_memory mode.Run served status count starts new script rest old_bytes new_bytes are_empty ok err serves stops lines cut runs unopened =
+    ends_in_turn ServesWhole served status count starts new script rest old_bytes new_bytes are_empty ok err (serves refl) (stops refl)
+ends_in_memory mode.Serve served status count starts new script rest old_bytes new_bytes are_empty ok err serves stops lines cut runs unopened =
+    ends_in_turn ServesAll served status count starts new script rest old_bytes new_bytes are_empty ok err (lines refl) (cut refl)
+ends_in_memory mode.Free served status count starts new script rest old_bytes new_bytes are_empty ok err serves stops lines cut runs unopened =
     ends_free served status count starts script rest old_bytes new_bytes are_empty ok err (runs refl) unopened
 
 -- over files

@@ -1,4 +1,3 @@
-pub mod Args
 pub mod Drawing
 pub mod Free
 pub mod Opened

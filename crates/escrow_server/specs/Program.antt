@@ -9,22 +9,18 @@ use Rattle.escrow_cells.specs.Tables.{no_schema}
 use Rattle.escrow_tables.specs.Committed.{Holds}
 use Rattle.escrow_tables.specs.Migrated.{HoldsBefore}
 use Rattle.escrow_machine.specs.State.{State, empty, opened}
-use Rattle.escrow_server.specs.declared.args.ArgFault.{ArgFault}
-use Rattle.escrow_server.specs.declared.args.ArgFault.TheVariants as arg_fault
-use Rattle.escrow_server.specs.declared.args.Mode.{Mode}
-use Rattle.escrow_server.specs.declared.args.Mode.TheVariants as mode
+use Rattle.escrow_args.specs.declared.args.ArgFault.{ArgFault}
+use Rattle.escrow_args.specs.declared.args.ArgFault.TheVariants as arg_fault
+use Rattle.escrow_args.specs.declared.args.Mode.{Mode}
+use Rattle.escrow_args.specs.declared.args.Mode.TheVariants as mode
+use Rattle.escrow_files.specs.Files.{file_of}
 use Rattle.escrow_server.specs.declared.fault.RunFault.{RunFault}
 use Rattle.escrow_server.specs.declared.fault.RunFault.TheVariants as run_fault
 use Rattle.escrow_script.specs.declared.fault.ServeFault.{ServeFault}
 use Rattle.escrow_server.specs.Free.{RunsFree}
-use Rattle.escrow_serve.specs.Output.{ServesWhole, StopsWithin}
+use Rattle.escrow_serve.specs.Output.{ServesAll, ServesWhole, StopsWithin}
 
 -- WHERE STORES ARE
-
--- the file of the database at a place: the path, and for each further one the path with a point and its
--- number, from 2 on
-abbrev pub file_of : List ℕ → ℕ → List ℕ
-file_of path place = if place == 0 then path else path ++ codes "." ++ decimal (place + 1)
 
 -- a database of SQLite without objects begins without tables, and any other with the tables and rows that
 -- it holds, in the known format or in the one before; nothing is open
@@ -97,7 +93,7 @@ abbrev pub unread_status : ErrorKind → ℕ
 unread_status error.InvalidData = 2
 unread_status _ = 1
 
--- the help that is asked
+-- the help or the version that is asked
 abbrev pub help_of : ArgFault → List ℕ
 help_of (arg_fault.Help text) = text
 help_of (arg_fault.Wrong text) = []
@@ -116,18 +112,12 @@ Stops (run_fault.Unopened database place cause) starts new script rest old_bytes
 Stops (run_fault.Unserved fault) starts new script rest old_bytes new_bytes = (old : List State) × starts old × StopsWithin fault script old new old_bytes new_bytes
 Stops (run_fault.Unjoined fault) starts new script rest old_bytes new_bytes = ⊥
 
--- A script was served line after line with status 0, from such states to these; or it ended at a fault, with status 1;
--- or a store couldn't be opened, with status 3, and nothing was read or written.
-abbrev pub Ends : (List State → Type 0) → List State → ℕ → List ℕ → Option (List ℕ) → Option (List ℕ) → Option (List ℕ) → Type 0
-Ends starts new status script rest old_bytes new_bytes =
-    ((status ≡ 0) × (old : List State) × starts old × ServesWhole script old new old_bytes new_bytes)
-    ⊎ ((status ≡ 1) × (fault : ServeFault) × (old : List State) × starts old × StopsWithin fault script old new old_bytes new_bytes)
-    ⊎ ((status ≡ 3) × Keeps (Some script) rest × WritesNothing old_bytes new_bytes)
-
--- The same in so many databases that were empty.
-abbrev pub EndsScript : ℕ → ℕ → List ℕ → Option (List ℕ) → Option (List ℕ) → Option (List ℕ) → Type 0
-EndsScript count status script rest old_bytes new_bytes =
-    ((status ≡ 0) × (new : List State) × ServesWhole script (empty_states count) new old_bytes new_bytes)
+-- Line after line, in so many databases that were empty: what was read was served with status 0; or it ended at a fault,
+-- with status 1; or a store couldn't be opened, with status 3, and nothing was read or written.
+abbrev pub EndsInTurn : (List ℕ → List State → List State → Option (List ℕ) → Option (List ℕ) → Type 0)
+    → ℕ → ℕ → List ℕ → Option (List ℕ) → Option (List ℕ) → Option (List ℕ) → Type 0
+EndsInTurn Serves count status script rest old_bytes new_bytes =
+    ((status ≡ 0) × (new : List State) × Serves script (empty_states count) new old_bytes new_bytes)
     ⊎ ((status ≡ 1) × (fault : ServeFault) × (new : List State) × StopsWithin fault script (empty_states count) new old_bytes new_bytes)
     ⊎ ((status ≡ 3) × Keeps (Some script) rest × WritesNothing old_bytes new_bytes)
 
@@ -141,8 +131,9 @@ EndsFree count status script rest old_bytes new_bytes =
 
 -- In memory: as the mode asks.
 abbrev pub EndsInMemory : Mode → ℕ → ℕ → List ℕ → Option (List ℕ) → Option (List ℕ) → Option (List ℕ) → Type 0
-EndsInMemory mode.Run count status script rest old_bytes new_bytes = EndsScript count status script rest old_bytes new_bytes
+EndsInMemory mode.Run count status script rest old_bytes new_bytes = EndsInTurn ServesWhole count status script rest old_bytes new_bytes
 EndsInMemory mode.Free count status script rest old_bytes new_bytes = EndsFree count status script rest old_bytes new_bytes
+EndsInMemory mode.Serve count status script rest old_bytes new_bytes = EndsInTurn ServesAll count status script rest old_bytes new_bytes
 
 -- Over files, of which no contract knows what they hold: with status 0 the script was read to its end, and with
 -- status 3 a store couldn't be opened, and nothing was read or written.

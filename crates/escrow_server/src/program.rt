@@ -1,24 +1,24 @@
 ghost use Rattle.std.specs.Prelude.{◌≡◌, ◌≢◌, ◌⊎◌, ◌≤◌, ◌<◌, ◌++◌, ℕ, List, Option, Some, None, map, codes, [], string_bytes, vec_len, IfErr, IfOk, IfSome, IsSome, OnOk};
-ghost use Rattle.std.specs.Io.KnownBytes.{IsAtEnd, Keeps};
+ghost use Rattle.std.specs.Io.KnownBytes.{Appends, IsAtEnd, Keeps};
 ghost use Rattle.std.specs.Process.{exit_status};
 ghost use Rattle.escrow_machine.specs.State.{State};
-ghost use Rattle.escrow_server.specs.declared.args.Args.{Args};
+ghost use Rattle.escrow_args.specs.declared.args.Args.{Args};
 ghost use Rattle.escrow_server.specs.Free.{HoldCleanDisks, RunsFree};
-ghost use Rattle.escrow_server.specs.Args.{asked_by, asked_path, fault_status, refused_status};
-ghost use Rattle.escrow_serve.specs.Output.{states_of, HaveCleanDisks, ServesWhole};
+ghost use Rattle.escrow_args.specs.Args.{asked_by, asked_path, fault_status, refused_status};
+ghost use Rattle.escrow_serve.specs.Output.{states_of, HaveCleanDisks, ServesAll, ServesWhole};
 ghost use Rattle.escrow_server.specs.Opened.{IsOpened};
-ghost use Rattle.escrow_server.specs.Program.{file_of, help_of, migrated_line, run_status, unread_status, AreLinesOf, EndsInMemory, EndsOverFiles, IsQuiet, SaysReason, SaysWhy, Stops, TellsOfMigrated, TellsOfStoresAlone, WritesPrefix, WritesNothing};
+ghost use Rattle.escrow_files.specs.Files.{file_of};
+ghost use Rattle.escrow_server.specs.Program.{help_of, migrated_line, run_status, unread_status, AreLinesOf, EndsInMemory, EndsOverFiles, IsQuiet, SaysReason, SaysWhy, Stops, TellsOfMigrated, TellsOfStoresAlone, WritesPrefix, WritesNothing};
 
-use crate::args::{ArgFault, Args, Mode, read_args};
 use crate::databases::{Unclosed, close_databases, open_databases};
 use crate::fault::RunFault;
 use crate::free::serve_phases;
 use crate::screen::Screen;
-use crate::site::Site;
-use crate::stores::{CloseFault, InFiles, InMemory, file_of};
+use escrow_args::{ArgFault, Args, Mode, read_args};
 use escrow_core::Database;
+use escrow_files::{CloseFault, InFiles, InMemory, Site, file_of};
 use escrow_script::{MAX_DATABASES, database_name, write_whole};
-use escrow_serve::serve_script;
+use escrow_serve::{serve_lines, serve_script};
 use sqlite::Alter;
 use std::alloc::{AllocError, Global};
 use std::convert::AsStr;
@@ -30,20 +30,19 @@ use std::thread::Threads;
 use std::{env, io};
 
 /// Runs the program, with files from `rt` and the threads of workers from `threads`: reads the words of its command
-/// line from `line`, opens the databases that they ask, in
-/// memory or in files, and serves the script that comes from `input`, with the replies to `output`: line after line, or
-/// the sessions of a phase at the same time. Help goes to `output` too, and why the program ends early to `errors`. At
-/// the end, and where the program ends early, the stores in files are closed; one that can't be is told of on `errors`,
-/// and doesn't change the status. Where sessions at the same time aren't served to the end, the logs of the stores
-/// stay beside them. It may wait.
+/// line from `line`, opens the databases that they ask, in memory or in files, and serves what comes from `input`, with
+/// the replies to `output`: lines until they end, a script line after line, or the sessions of a phase at the same time.
+/// Help goes to `output` too, and why the program ends early to `errors`. At the end, and where the program ends early,
+/// the stores in files are closed; one that can't be is told of on `errors`, and doesn't change the status. Where
+/// sessions at the same time aren't served to the end, the logs of the stores stay beside them. It may wait.
 ///
 /// While sessions at the same time are served, a screen, if there is one, shows how far they are. Its thread is started
 /// by `threads`, and nothing of what it shows goes to `errors`: the clauses speak of that stream alone.
 ///
-/// Exit status: 0 when all was served and written, and for help; 1 when the script can't be read, a
-/// reply can't be written, memory is short, a phase has statements of more than 64 sessions or the histories don't fit;
-/// 2 for wrong arguments, one that isn't UTF-8 among them; 3 when the store of a database can't be opened, before
-/// anything is read.
+/// Exit status: 0 when all was served and written, and for help; 1 when the input can't be read, a reply or the help
+/// can't be written, memory is short, a phase has statements of more than 64 sessions or the histories don't fit; 2 for
+/// wrong arguments, one that isn't UTF-8 among them; 3 when the store of a database can't be opened, before anything is
+/// read.
 pub fn run_program<
     T: Threads + Wait + Sync,
     E: Env,
@@ -119,11 +118,11 @@ fn run_words<
     ensures stored { (args : Args) → asked_by (map S.text words.now) ≡ Some args → IsSome args.path → IfSome (R.remaining input.old) (λ script.
         EndsOverFiles result script (R.remaining input.new) (W.contents output.old) (W.contents output.new)) }
 
-    // Other words end with the status of what is wrong with them, or that of memory; nothing is
-    // read, and nothing written but help.
+    // Other words end with the status of what is wrong with them, or with 1 where memory is short or help can't be
+    // written; nothing is read, and nothing written but help.
     ensures refused { asked_by (map S.text words.now) ≡ None → (result ≡ 1) ⊎ (result ≡ refused_status (map S.text words.now)) }
     ensures unread { asked_by (map S.text words.now) ≡ None → Keeps (R.remaining input.old) (R.remaining input.new) }
-    ensures unserved { asked_by (map S.text words.now) ≡ None → result ≢ 0 → WritesNothing (W.contents output.old) (W.contents output.new) }
+    ensures unserved { asked_by (map S.text words.now) ≡ None → refused_status (map S.text words.now) ≢ 0 → WritesNothing (W.contents output.old) (W.contents output.new) }
 
     ensures silent { (args : Args) → asked_by (map S.text words.now) ≡ Some args → args.path ≡ None → result ≡ 0
         → WritesNothing (F.contents errors.old) (F.contents errors.new) }
@@ -132,7 +131,7 @@ fn run_words<
 {
     match read_args(rt.alloc(), words) {
         Ok(args) => run_args(rt, threads, &args, input, output, errors, screen),
-        Err(fault) => refuse(output, errors, &fault),
+        Err(fault) => refuse(rt.alloc(), output, errors, &fault),
     }
 }
 
@@ -240,6 +239,12 @@ fn serve_opened<
     ensures stopped { mode ≡ Mode.Run → HaveCleanDisks S.Store databases.new.items → IfErr result (λ fault. IfSome (R.remaining input.old) (λ script.
         Stops fault (IsOpened S.Store opened databases.old.items) (states_of databases.new.items) script (R.remaining input.new) (W.contents output.old) (W.contents output.new))) }
 
+    // The same of lines that are served until they end.
+    ensures lines { mode ≡ Mode.Serve → HaveCleanDisks S.Store databases.new.items → OnOk result (IfSome (R.remaining input.old) (λ script. (old : List State)
+        × IsOpened S.Store opened databases.old.items old × ServesAll script old (states_of databases.new.items) (W.contents output.old) (W.contents output.new))) }
+    ensures cut { mode ≡ Mode.Serve → HaveCleanDisks S.Store databases.new.items → IfErr result (λ fault. IfSome (R.remaining input.old) (λ script.
+        Stops fault (IsOpened S.Store opened databases.old.items) (states_of databases.new.items) script (R.remaining input.new) (W.contents output.old) (W.contents output.new))) }
+
     // Sessions at the same time: so it was where disks always return what was written.
     ensures free { mode ≡ Mode.Free → HoldCleanDisks S.Store → OnOk result (IfSome (R.remaining input.old) (λ script. (old : List State)
         × IsOpened S.Store opened databases.old.items old × RunsFree script old (W.contents output.old) (W.contents output.new))) }
@@ -252,6 +257,7 @@ fn serve_opened<
     match mode {
         Mode::Run => serve_script(alloc, databases, input, output)?,
         Mode::Free => serve_phases(rt, alloc, databases, input, output, screen)?,
+        Mode::Serve => serve_lines(alloc, databases, input, output)?,
     }
     Ok(())
 }
@@ -301,20 +307,42 @@ fn migrated_line(alloc: Global, path: &str, place: u8) -> Result<String, AllocEr
     format!(in alloc; "escrowd: {file} was of format 1 and is now of format 2\n")
 }
 
-/// Prints help where it is asked, or else says what is wrong, and answers the exit status.
-fn refuse<W: Write, F: Write>(output: &mut W, errors: &mut F, fault: &ArgFault) -> u8
-    ensures status { result ≡ fault_status fault.now }
-    ensures help { WritesPrefix (W.contents output.old) (W.contents output.new) (help_of fault.now) }
-    ensures unserved { result ≢ 0 → WritesNothing (W.contents output.old) (W.contents output.new) }
+/// Prints help or the version where it is asked, or else says what is wrong, and answers the exit status.
+fn refuse<W: Write, F: Write>(alloc: Global, output: &mut W, errors: &mut F, fault: &ArgFault) -> u8
+    ensures status { (result ≡ 1) ⊎ (result ≡ fault_status fault.now) }
+    ensures help { result ≡ 0 → Appends (W.contents output.old) (W.contents output.new) (help_of fault.now) }
+    ensures unserved { fault_status fault.now ≢ 0 → WritesNothing (W.contents output.old) (W.contents output.new) }
     ensures silent { result ≡ 0 → WritesNothing (F.contents errors.old) (F.contents errors.new) }
     ensures said { result ≢ 0 → SaysReason (F.contents errors.old) (F.contents errors.new) }
 {
     match fault {
-        ArgFault::Help(text) => print(output, text.as_str()),
-        ArgFault::Wrong(text) => say_why(errors, text.as_str()),
-        ArgFault::Memory => say_why(errors, NO_MEMORY),
+        ArgFault::Help(text) => give_help(alloc, output, errors, text.as_str()),
+        ArgFault::Wrong(text) => {
+            say_why(errors, text.as_str());
+            2
+        }
+        ArgFault::Memory => {
+            say_why(errors, NO_MEMORY);
+            1
+        }
     }
-    fault.status()
+}
+
+/// Prints help or the version, or says why it can't be written, and answers the exit status.
+fn give_help<W: Write, F: Write>(alloc: Global, output: &mut W, errors: &mut F, help: &str) -> u8
+    ensures status { (result ≡ 0) ⊎ (result ≡ 1) }
+    ensures help { result ≡ 0 → Appends (W.contents output.old) (W.contents output.new) help.now }
+    ensures silent { result ≡ 0 → WritesNothing (F.contents errors.old) (F.contents errors.new) }
+    ensures said { result ≢ 0 → SaysReason (F.contents errors.old) (F.contents errors.new) }
+{
+    match write_whole(output, help.as_bytes()) {
+        Ok(()) => 0,
+        Err(fault) => {
+            let text = format!(in alloc; "the text can't be written: {fault}\n");
+            say_text(errors, text);
+            1
+        }
+    }
 }
 
 /// Prints a text, as far as it is taken: the exit status is the same.
@@ -375,11 +403,18 @@ fn stop<F: Write>(errors: &mut F, fault: RunFault, text: Result<String, AllocErr
     ensures failed { 1 ≤ result }
     ensures said { SaysReason (F.contents errors.old) (F.contents errors.new) }
 {
+    say_text(errors, text);
+    fault.status()
+}
+
+/// Says why the program ends, by a text for which there may have been no memory.
+fn say_text<F: Write>(errors: &mut F, text: Result<String, AllocError>)
+    ensures { SaysReason (F.contents errors.old) (F.contents errors.new) }
+{
     match text {
         Ok(text) => say_why(errors, text.as_str()),
         Err(_) => say_why(errors, NO_MEMORY),
     }
-    fault.status()
 }
 
 /// Why a script isn't served to its end, with the file of a store that isn't opened.

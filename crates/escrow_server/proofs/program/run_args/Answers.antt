@@ -19,7 +19,8 @@ returns-in-None-clause-memory g c = λ none.
     ends_in_memory c.args.args.now.mode c.serve_opened-served.result c.status_in_memory.result count (IsOpened over_blocks opened old) (states_of new)
     (g.R.Read.remaining c.args.input.now) (g.R.Read.remaining c.serve_opened-served.new.input) (g.W.Write.contents c.args.output.now) (g.W.Write.contents c.serve_opened-served.new.output)
     (opened_empty over_blocks opened old count c.open_databases-opened.ensures.found) c.status_in_memory.ensures.ok c.status_in_memory.ensures.err
-    (λ run. served.served run (memory_are_clean new)) (λ run. served.stopped run (memory_are_clean new)) (λ free. served.free free memory_is_clean) served.unopened
+    (λ run. served.served run (memory_are_clean new)) (λ run. served.stopped run (memory_are_clean new))
+    (λ serve. served.lines serve (memory_are_clean new)) (λ serve. served.cut serve (memory_are_clean new)) (λ free. served.free free memory_is_clean) served.unopened
 
 -- in memory no store was written before
 pub returns-in-None-clause-quiet : goal.returns-in-None-clause-quiet

@@ -1,19 +1,29 @@
-use Rattle.std.proofs.Common.{◌≡◌, List, ℕ, Option, map, ap, inl, subst, ◌∙◌, arith}
-use Rattle.escrow_server.specs.Args.{asked_by, asked_path, fault_status}
+use Rattle.std.proofs.Common.{◌≡◌, List, ℕ, Option, map, ap, inl, inr, subst, ◌∙◌, arith}
+use Rattle.escrow_args.specs.Args.{asked_by, asked_path, fault_status, refused_status}
 use Rattle.escrow_server.specs.Program.{IsQuiet, SaysWhy}
-use Rattle.escrow_server.proofs.ProgramLemmas.{ends_unserved, file_unserved, is_quiet, path_asked, says_why}
+use Rattle.escrow_server.proofs.ProgramLemmas.{ends_unserved, file_unserved, is_quiet, not_helped, path_asked, says_why, status_refused}
 use Rattle.escrow_server.proofs.program.run_words.Goals as goal
 
 pub returns-in-Err-clause-asked : goal.returns-in-Err-clause-asked
 returns-in-Err-clause-asked g c = λ args asked _.
-    let failed : c.refuse.result ≡ 1 = c.refuse.ensures.status ∙ ap fault_status (c.in-Err.ensures.asked args asked) in
+    let memory : fault_status c.in-Err.fault ≡ 1 = ap fault_status (c.in-Err.ensures.asked args asked) in
+    let failed : c.refuse.result ≡ 1 = elim c.refuse.ensures.status [ inl one ↦ one | inr same ↦ same ∙ memory ] in
     ends_unserved args.mode args.databases c.refuse.result (g.R.Read.remaining c.args.input.now) (g.R.Read.remaining c.args.input.now) (g.W.Write.contents c.args.output.now) (g.W.Write.contents c.refuse.new.output) failed
-    (c.refuse.ensures.unserved (λ help. omega (arith, failed, help)))
+    (c.refuse.ensures.unserved (λ helped. omega (arith, memory, helped)))
 
 pub returns-in-Err-clause-stored : goal.returns-in-Err-clause-stored
 returns-in-Err-clause-stored g c = λ args asked _.
-    let failed : c.refuse.result ≡ 1 = c.refuse.ensures.status ∙ ap fault_status (c.in-Err.ensures.asked args asked) in
+    let memory : fault_status c.in-Err.fault ≡ 1 = ap fault_status (c.in-Err.ensures.asked args asked) in
+    let failed : c.refuse.result ≡ 1 = elim c.refuse.ensures.status [ inl one ↦ one | inr same ↦ same ∙ memory ] in
     file_unserved c.refuse.result (g.R.Read.remaining c.args.input.now) (g.R.Read.remaining c.args.input.now) (g.W.Write.contents c.args.output.now) (g.W.Write.contents c.refuse.new.output) failed
+
+pub returns-in-Err-clause-refused : goal.returns-in-Err-clause-refused
+returns-in-Err-clause-refused g c = λ none.
+    status_refused c.refuse.result (refused_status (map g.S.AsStr.text c.args.words.now)) c.in-Err.fault c.refuse.ensures.status (c.in-Err.ensures.refused none)
+
+pub returns-in-Err-clause-unserved : goal.returns-in-Err-clause-unserved
+returns-in-Err-clause-unserved g c = λ none some.
+    c.refuse.ensures.unserved (not_helped (refused_status (map g.S.AsStr.text c.args.words.now)) c.in-Err.fault (c.in-Err.ensures.refused none) some)
 
 pub returns-in-Ok-clause-quiet : goal.returns-in-Ok-clause-quiet
 returns-in-Ok-clause-quiet g c = λ ended.

@@ -1,17 +1,17 @@
 -- Believed: what the words of a command line ask, by clap's definition of a simple command.
 use Rattle.std.specs.Prelude.{◌&&◌, ℕ, Option, Some, None, option_map, option_and_then, List, [], ◌∷◌, true, bytes_eq, codes, nat_le, if◌then◌else◌}
 use Rattle.clap.specs.Walk.{Row, Rule, Text, byte_or_zero, first_of, is_empty}
-use Rattle.clap.specs.Simple.{App, matches_of, new_app, new_rule, with_rule}
+use Rattle.clap.specs.Simple.{App, matches_of, new_app, new_rule, on_top, with_rule}
 use Rattle.clap.specs.Kinds.{Kinds}
 use Rattle.clap.specs.Faults.{fault_of}
 use Rattle.clap.specs.declared.builder.action.ArgAction.TheVariants.{Set}
 use Rattle.clap.specs.declared.error.kind.ErrorKind.{ErrorKind}
 use Rattle.clap.specs.declared.error.kind.ErrorKind.TheVariants as kind
-use Rattle.escrow_server.specs.declared.args.ArgFault.{ArgFault}
-use Rattle.escrow_server.specs.declared.args.ArgFault.TheVariants as arg_fault
-use Rattle.escrow_server.specs.declared.args.Args.{Args}
-use Rattle.escrow_server.specs.declared.args.Mode.{Mode}
-use Rattle.escrow_server.specs.declared.args.Mode.TheVariants as mode
+use Rattle.escrow_args.specs.declared.args.ArgFault.{ArgFault}
+use Rattle.escrow_args.specs.declared.args.ArgFault.TheVariants as arg_fault
+use Rattle.escrow_args.specs.declared.args.Args.{Args}
+use Rattle.escrow_args.specs.declared.args.Mode.{Mode}
+use Rattle.escrow_args.specs.declared.args.Mode.TheVariants as mode
 use Rattle.escrow_script.specs.declared.limits.TheConstants.{MAX_DATABASES}
 
 -- THE COMMAND LINE, as clap's definitions take it
@@ -28,12 +28,16 @@ store_rule = record (new_rule (codes "store")) { long = Some (codes "store"); ac
 abbrev pub databases_rule : Rule
 databases_rule = record (new_rule (codes "databases")) { long = Some (codes "databases"); action = Some Set; value_names = 1 }
 
--- the command of these three, to which clap adds `--help`
-abbrev pub app : App
-app = with_rule (with_rule (with_rule (new_app (codes "escrowd")) mode_rule) store_rule) databases_rule
+-- a command that has a version
+abbrev pub with_version : App → App
+with_version a = on_top (λ s. record s { has_version = true }) a
 
--- what is wrong with words before their values are read, or that they ask for help: nothing, or one
--- kind of error
+-- the command of these three, to which clap adds `--help` and `--version`
+abbrev pub app : App
+app = with_rule (with_rule (with_rule (with_version (new_app (codes "escrowd"))) mode_rule) store_rule) databases_rule
+
+-- what is wrong with words before their values are read, or that they ask for help or the version: nothing, or
+-- one kind of error
 abbrev pub faults_of : List Text → Kinds
 faults_of words = fault_of app words
 
@@ -42,7 +46,10 @@ faults_of words = fault_of app words
 -- the mode of a name
 abbrev pub mode_of : Option Text → Option Mode
 mode_of None = None
-mode_of (Some name) = if bytes_eq name (codes "run") then Some mode.Run else if bytes_eq name (codes "free") then Some mode.Free else None
+mode_of (Some name) =
+    if bytes_eq name (codes "run") then Some mode.Run
+    else if bytes_eq name (codes "free") then Some mode.Free
+    else if bytes_eq name (codes "serve") then Some mode.Serve else None
 
 -- a number of databases, from 1 to 16
 abbrev pub allowed : ℕ → Option ℕ
@@ -72,15 +79,16 @@ asked_path words = option_and_then (λ args. args.path) (asked_by words)
 
 -- THE EXIT STATUS
 
--- for a fault: 0 for help, 1 for want of memory, 2 for a mistake
+-- for a fault: 0 for help and the version, 1 for want of memory, 2 for a mistake
 abbrev pub fault_status : ArgFault → ℕ
 fault_status (arg_fault.Help text) = 0
 fault_status (arg_fault.Wrong text) = 2
 fault_status arg_fault.Memory = 1
 
--- for a kind of error: 0 for help, 1 for want of memory, 2 for a mistake
+-- for a kind of error: 0 for help and the version, 1 for want of memory, 2 for a mistake
 abbrev pub status_of : ErrorKind → ℕ
 status_of kind.DisplayHelp = 0
+status_of kind.DisplayVersion = 0
 status_of kind.OutOfMemory = 1
 status_of _ = 2
 

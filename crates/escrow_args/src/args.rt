@@ -1,7 +1,7 @@
 ghost use Rattle.std.specs.Prelude.{◌≡◌, ◌≤◌, ◌⊎◌, false, Some, None, map, option_map, IfOk, IfSome, IsErrAnd, MatchResult};
 ghost use Rattle.clap.specs.Words.{FailsBy, app_of, found_of, kind_of, matches_of, rows_of, rule_of};
-ghost use Rattle.escrow_server.specs.declared.args.Args.{Args};
-ghost use Rattle.escrow_server.specs.Args.{app, asked_by, databases_of, databases_rule, fault_status, faults_of, mode_of, mode_rule, refused_status, status_of, store_rule, values_ask};
+ghost use Rattle.escrow_args.specs.declared.args.Args.{Args};
+ghost use Rattle.escrow_args.specs.Args.{app, asked_by, databases_of, databases_rule, fault_status, faults_of, mode_of, mode_rule, refused_status, status_of, store_rule, values_ask};
 
 use clap::error::ErrorKind;
 use clap::{Arg, ArgAction, ArgMatches, Command, Error};
@@ -17,6 +17,8 @@ pub enum Mode {
     Run,
     /// To serve a script phase by phase, the sessions of a phase at the same time.
     Free,
+    /// To serve lines, one after another, until its input ends.
+    Serve,
 }
 
 /// The arguments of the program.
@@ -34,7 +36,7 @@ pub struct Args {
 /// Why there are no arguments to go on with.
 #[derive(Drop)]
 pub enum ArgFault {
-    /// Help is asked, which is this text.
+    /// Help or the version is asked, which is this text.
     Help(Text),
     /// The words are wrong, and why.
     Wrong(Text),
@@ -44,9 +46,9 @@ pub enum ArgFault {
 
 impl ArgFault {
     ghost use Rattle.std.specs.Prelude.{◌≡◌};
-    ghost use Rattle.escrow_server.specs.Args.{fault_status};
+    ghost use Rattle.escrow_args.specs.Args.{fault_status};
 
-    /// The exit status: 0 where help is asked, 1 for want of memory, 2 for a mistake.
+    /// The exit status: 0 where help or the version is asked, 1 for want of memory, 2 for a mistake.
     pub fn status(&self) -> u8
         ensures { result ≡ fault_status self.now }
     {
@@ -58,12 +60,12 @@ impl ArgFault {
     }
 }
 
-/// Reads the words of a command line, the program's name first: `run` or `free`, `--store PATH`, which may be left
-/// out, and `--databases N` with N from 1 to 16, which is 1 where it isn't given.
+/// Reads the words of a command line, the program's name first: `run`, `free` or `serve`, `--store PATH`, which may be
+/// left out, and `--databases N` with N from 1 to 16, which is 1 where it isn't given.
 ///
 /// # Errors
 ///
-/// Help where the words ask for it, a mistake where anything is wrong with them, and want of memory,
+/// Help or the version where the words ask for it, a mistake where anything is wrong with them, and want of memory,
 /// which may come at any words.
 pub fn read_args<S: AsStr>(alloc: Global, words: &[S]) -> Result<Args, ArgFault>
     // Words that ask are refused for want of memory alone, and others always.
@@ -93,6 +95,7 @@ fn command<'a>(alloc: Global) -> Result<Command<'a>, AllocError>
     ensures { IfOk result (λ command. app_of command ≡ app) }
 {
     Command::new(alloc, "escrowd")
+        .version(VERSION)
         .override_usage("escrowd <MODE> [--store <PATH>] [--databases <N>]")
         .about(ABOUT)
         .after_help(AFTER_HELP)
@@ -110,7 +113,9 @@ fn mode_arg<'a>(alloc: Global) -> Arg<'a>
         .required(true)
         .action(ArgAction::Set)
         .value_name("MODE")
-        .help("`run` serves line after line, `free` the sessions of a phase at the same time")
+        .help(
+            "`serve` and `run` serve line after line, `free` the sessions of a phase at the same time",
+        )
 }
 
 /// `--store PATH`.
@@ -139,13 +144,15 @@ fn databases_arg<'a>(alloc: Global) -> Arg<'a>
         .help("How many databases there are, 1 to 16: bank, bank2, bank3 and so on [default: 1]")
 }
 
+/// The version of the program.
+const VERSION: &str = "1.1";
+
 const ABOUT: &str = "A server of tables whose RESERVABLE columns many sessions change at once.
 
-It reads a script from standard input, one statement a line, and writes the
-replies to standard output.";
+It reads statements from standard input, one a line, and writes the replies to
+standard output.";
 
-const AFTER_HELP: &str =
-    "A line of the script is a database, a point, a session from 1 to 64, a colon
+const AFTER_HELP: &str = "A line is a database, a point, a session from 1 to 64, a colon
 and a statement:
 
   bank.1: CREATE TABLE ACCOUNT (ID INTEGER PRIMARY KEY, BALANCE INTEGER RESERVABLE CHECK (BALANCE >= 50))
@@ -156,8 +163,9 @@ and a statement:
 The line `@restart bank` restarts that database: what is open in it is dropped.
 Empty lines and lines that begin with -- are passed over.
 
-`run` serves one line after another, and writes each reply as soon as its line is
-served. `free` serves the lines up to `@join` in one phase: its sessions, at most
+`serve` serves one line after another until its input ends, and writes each reply
+before it asks for more input. `run` does the same with a script, which has at
+most 16777216 bytes. `free` serves the lines up to `@join` in one phase: its sessions, at most
 64, run at the same time, and the replies are written after it, in the order of
 the lines. At the end it looks whether what the sessions were answered fits one
 history of each database. `@restart` is refused there.
@@ -165,13 +173,13 @@ history of each database. `@restart` is refused there.
 A store's file is made where there is none, and what was committed there is found
 again by the next run. Without --store everything is gone at the end.
 
-Exit status: 0 when all was served and written, 1 when the script can't be read,
+Exit status: 0 when all was served and written, 1 when the input can't be read,
 a reply can't be written, memory is short, a phase has too many sessions or a
 history doesn't fit, 2 for wrong arguments, 3 when a store can't be opened, in
 which case nothing was read.
 
-escrowd 1.0. Later versions add statements, answer those of this one as it
-does, and read the stores that it wrote.";
+Later versions add statements, answer those of this one as it does, and read the
+stores that it wrote. --version prints which one this is.";
 
 /// The arguments that the values ask, or what is wrong with a value.
 fn asked(alloc: Global, matches: &ArgMatches<'_>) -> Result<Args, ArgFault>
@@ -180,7 +188,7 @@ fn asked(alloc: Global, matches: &ArgMatches<'_>) -> Result<Args, ArgFault>
     ensures databases { IfOk result (λ args. (1 ≤ args.databases) × (args.databases ≤ MAX_DATABASES)) }
 {
     let Some(mode) = mode_of(matches.get_str("mode")) else {
-        return Err(wrong(alloc, "the mode has to be `run` or `free`\n"));
+        return Err(wrong(alloc, "the mode has to be `run`, `free` or `serve`\n"));
     };
     let Some(databases) = databases_of(matches.get_str("databases")) else {
         return Err(wrong(alloc, "--databases has to be a number from 1 to 16\n"));
@@ -212,6 +220,7 @@ fn mode_of(name: Option<&str>) -> Option<Mode>
     match name {
         Some("run") => Some(Mode::Run),
         Some("free") => Some(Mode::Free),
+        Some("serve") => Some(Mode::Serve),
         _ => None,
     }
 }
@@ -243,14 +252,45 @@ fn fault_of(alloc: Global, error: &Error) -> ArgFault
     };
     match error.kind() {
         ErrorKind::OutOfMemory => ArgFault::Memory,
-        ErrorKind::DisplayHelp => ArgFault::Help(Text::from_string(text)),
-        _ => wrong(alloc, without_prefix(text.as_str())),
+        ErrorKind::DisplayHelp | ErrorKind::DisplayVersion => {
+            ArgFault::Help(Text::from_string(text))
+        }
+        _ => wrong_words(alloc, without_prefix(text.as_str())),
     }
 }
 
 /// The text without clap's word for an error in front.
 fn without_prefix(text: &str) -> &str {
     text.strip_prefix("error: ").unwrap_or(text)
+}
+
+/// The fault of words that clap refuses with a text. A word too many is most likely a script's file.
+fn wrong_words(alloc: Global, text: &str) -> ArgFault
+    ensures { (result ≡ ArgFault.Memory) ⊎ (fault_status result ≡ 2) }
+{
+    match text.split_once('\n') {
+        Some((said, usage)) if names_a_file(said) => {
+            match format!(in alloc; "{said}\n{FILE_TIP}{usage}") {
+                Ok(text) => ArgFault::Wrong(Text::from_string(text)),
+                Err(_) => ArgFault::Memory,
+            }
+        }
+        _ => wrong(alloc, text),
+    }
+}
+
+/// How clap's text of a word too many begins.
+const WORD: &str = "unexpected argument '";
+
+/// What is said between that text and the usage.
+const FILE_TIP: &str = "
+  tip: a script is read from standard input, as in 'escrowd run < FILE'
+";
+
+/// Whether a text of clap's is of a word too many that is no option.
+fn names_a_file(text: &str) -> bool {
+    text.strip_prefix(WORD)
+        .is_some_and(|word| !word.starts_with('-'))
 }
 
 /// The fault of words that are wrong, or of memory where there is none for its text.

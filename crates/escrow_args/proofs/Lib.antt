@@ -1,0 +1,2 @@
+pub mod ArgsFaults
+pub mod ArgsLemmas
