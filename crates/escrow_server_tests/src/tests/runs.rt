@@ -1,9 +1,16 @@
-//! Readers and writers that fail behind each byte, and how often the program writes, in both modes.
+//! Readers and writers that fail behind each byte, and how often the program writes, in each mode.
 use super::program::{Run, SERVED, check};
 
 const READ: &str = "escrowd: the script can't be read: Input/output error (os error 5)\n";
 
-const WRITE: &str = "escrowd: a reply can't be written\n";
+/// What is said of a writer that took so many bytes. At an even number it takes nothing more, and at an odd one it fails.
+fn write_fault(room: usize) -> &'static str {
+    if room % 2 == 0 {
+        "escrowd: a reply can't be written: standard output takes nothing\n"
+    } else {
+        "escrowd: a reply can't be written: No space left on device (os error 28)\n"
+    }
+}
 
 /// Three phases, and their replies.
 pub(super) const THREE: &str =
@@ -34,7 +41,11 @@ pub(super) fn due(due: Due, read: usize) -> usize {
 /// fails.
 #[test]
 fn failing_readers(rt: HostRuntime) {
-    for (line, dues) in [(b"run".as_slice(), BY_LINES), (b"free", BY_PHASES)] {
+    for (line, dues) in [
+        (b"run".as_slice(), BY_LINES),
+        (b"serve", BY_LINES),
+        (b"free", BY_PHASES),
+    ] {
         for read in 0..=THREE.len() {
             let run = Run {
                 line,
@@ -82,7 +93,7 @@ bank.1> OK reservations 2
 /// What is written before the fault is a prefix of the replies, wherever the writer fails.
 #[test]
 fn failing_writers(rt: HostRuntime) {
-    for line in [b"run".as_slice(), b"free"] {
+    for line in [b"run".as_slice(), b"serve", b"free"] {
         for room in 0..=ACCOUNT_REPLIES.len() {
             let is_whole = room == ACCOUNT_REPLIES.len();
             let run = Run {
@@ -91,7 +102,7 @@ fn failing_writers(rt: HostRuntime) {
                 room,
                 status: u8::from(!is_whole),
                 replies: ACCOUNT_REPLIES.get(..room).expect(&rt, "replies"),
-                errors: if is_whole { "" } else { WRITE },
+                errors: if is_whole { "" } else { write_fault(room) },
                 ..SERVED
             };
             check(&rt, &rt, &run);
