@@ -20,7 +20,7 @@ use Rattle.escrow_script.specs.declared.fault.ServeFault.{ServeFault}
 use Rattle.escrow_server.specs.Free.{RunsFree}
 use Rattle.escrow_serve.specs.Output.{ServesAll, ServesWhole, StopsWithin}
 
--- WHERE STORES ARE
+-- HOW DATABASES BEGIN
 
 -- a database of SQLite without objects begins without tables, and any other with the tables and rows that
 -- it holds, in the known format or in the one before; nothing is open
