@@ -9,7 +9,7 @@ import termios
 import threading
 import time
 import tty
-from typing import Any, Callable, Dict, List, NamedTuple, Optional, Sequence, Union
+from typing import Any, Callable, Dict, List, Mapping, NamedTuple, Optional, Sequence, Union
 
 Word = Union[str, bytes]
 # The seconds that one run of the program may take.
@@ -87,6 +87,8 @@ class Case(NamedTuple):
     reads: Optional[bool] = None
     # The names of all files that are then in the folder. None: nobody looks.
     files: Optional[Sequence[str]] = None
+    # The variables of the environment. None: those of this process.
+    variables: Optional[Mapping[str, str]] = None
 
 
 def expect(holds: bool, what: str) -> None:
@@ -245,7 +247,7 @@ class Stage:
         self.give("stdout", descriptor)
         self.shell += LIMIT
 
-    def start(self, program: Program, words: Sequence[Word], folder: str, variables: Optional[Dict[str, str]] = None) -> None:
+    def start(self, program: Program, words: Sequence[Word], folder: str, variables: Optional[Mapping[str, str]] = None) -> None:
         """Starts the program in a folder, with these variables of the environment alone if they are given."""
         self.started = subprocess.Popen(program.command(words, self.shell), cwd=folder, env=variables, **self.streams)  # type: ignore[call-overload]
         self.close_given()
@@ -307,7 +309,7 @@ def check(program: Program, case: Case, folder: str) -> None:
         else:
             stage.give_limited(limited, case.room)
         stage.give_output("stderr", case.stderr)
-        stage.start(program, case.words, folder)
+        stage.start(program, case.words, folder, case.variables)
         if case.stdin == Input.PIPE:
             stage.write(script)
         status = stage.end()

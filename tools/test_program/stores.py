@@ -6,7 +6,7 @@ from typing import List
 
 from process import Case, Input, Output
 from steps import Copy, Folder, Hold, Link, Meanwhile, Mode, Patch, Pipe, Refuse, Rename, Rights, Run, Same, Serve, Stand, Step, Story, Talk, Write
-from texts import NO_FILE, READ, Reason, Texts
+from texts import FOREIGN, NO_FILE, READ, Reason, Texts
 
 TOP = os.path.dirname(os.path.dirname(os.path.dirname(os.path.abspath(__file__))))
 
@@ -34,7 +34,6 @@ NOTHING: Talk = ("", "")
 
 # Why stores aren't opened.
 WORD = "a path may not be empty, nor be `:memory:`, nor begin with `file:`"
-FOREIGN = "it is no store of escrowd's: something else is in it, or it was damaged"
 IN_USE = "another program has it open"
 OTHER_VERSION = "it was made by another version of escrowd"
 JOURNAL = "SQLite was stopped while it wrote there: open it with sqlite3 once, then here"

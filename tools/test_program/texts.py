@@ -7,6 +7,7 @@ FOLDER_INPUT = "escrowd: the script can't be read: standard input is a folder\n"
 TOO_LONG = "escrowd: the script can't be read: it is longer than 16777216 bytes\n"
 NOT_UTF8 = "escrowd: the arguments have to be UTF-8\n"
 NO_FILE = "it is no plain file, or it has several names"
+FOREIGN = "it is no store of escrowd's: something else is in it, or it was damaged"
 DATABASES = "escrowd: --databases has to be a number from 1 to 16\n"
 
 
