@@ -38,42 +38,40 @@ impl Env for CommandLine<'_> {
 
 /// A run of the program over streams of a test's own, and what it has to show.
 #[derive(Clone, Copy)]
-pub(super) struct Run<'a> {
+pub(super) struct Run {
     /// The command line.
     pub(super) line: &'static [u8],
-    /// The script, how many bytes of it a read gives, and whether the reader fails behind it.
-    pub(super) script: &'a str,
+    /// How many bytes of the script a read gives, and whether the reader fails behind it.
     pub(super) at_a_time: usize,
     pub(super) fails: bool,
     /// How many bytes the output takes.
     pub(super) room: usize,
     pub(super) status: u8,
-    pub(super) replies: &'a str,
-    pub(super) errors: &'a str,
+    pub(super) errors: &'static str,
 }
 
-/// A run that serves an empty script.
+/// A run that serves a script to its end.
 pub(super) const SERVED: Run = Run {
     line: b"run",
-    script: "",
     at_a_time: usize::MAX,
     fails: false,
     room: usize::MAX,
     status: 0,
-    replies: "",
     errors: "",
 };
 
-/// Runs the program, and compares its status, its replies and its errors. Returns how often it wrote to the output. It may
-/// wait.
+/// Runs the program over a script, and compares its status, its replies and its errors. Returns how often it wrote to the
+/// output. It may wait.
 pub(super) fn check<T: Abort + Threads + Wait + Sync>(
     rt: &HostRuntime,
     to: &T,
     run: &Run,
+    script: &str,
+    replies: &str,
 ) -> usize {
     let written = Cell::new(0);
     let mut input = Source {
-        rest: run.script.as_bytes(),
+        rest: script.as_bytes(),
         at_a_time: run.at_a_time,
         fails: run.fails,
         given: 0,
@@ -93,13 +91,20 @@ pub(super) fn check<T: Abort + Threads + Wait + Sync>(
         written: &written,
     };
     let mut said = Vec::new(rt.alloc());
-    let line = CommandLine(run.line);
-    let code = run_program(rt, to, &line, &mut input, &mut output, &mut said, NO_SCREEN);
+    let code = run_program(
+        rt,
+        to,
+        &CommandLine(run.line),
+        &mut input,
+        &mut output,
+        &mut said,
+        NO_SCREEN,
+    );
     let words = str::from_utf8(run.line).unwrap_or_default();
     let told = str::from_utf8(said.as_slice()).unwrap_or_default();
     let answered = str::from_utf8(output.taken.as_slice()).unwrap_or_default();
     assert_eq!(to; told, run.errors, "{words}");
-    assert_eq!(to; answered, run.replies, "{words}");
+    assert_eq!(to; answered, replies, "{words}");
     assert!(to; code == ExitCode::from(run.status), "{words}");
     output.calls
 }

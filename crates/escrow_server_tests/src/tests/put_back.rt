@@ -113,14 +113,19 @@ fn move_in(rt: &HostRuntime, files: Files) -> io::Result<()> {
     Ok(())
 }
 
+/// A file has this content.
+fn hold<T: Abort>(rt: &HostRuntime, to: &T, path: &str, text: &str) {
+    let found = fs::read(rt, path).expect(to, "a file");
+    assert_eq!(to; found.as_slice(), text.as_bytes(), "{path}");
+}
+
 /// The folder has just these files.
 fn stand<T: Abort>(rt: &HostRuntime, to: &T, files: Files) {
-    let mut count = 0;
+    let mut count = 0usize;
     for (path, text) in FILES.iter().zip(files.iter()) {
         if let Some(text) = text {
-            let found = fs::read(rt, *path).expect(to, "a file");
-            assert_eq!(to; found.as_slice(), text.as_bytes(), "{path}");
-            count += 1;
+            hold(rt, to, *path, *text);
+            count = count.saturating_add(1);
         }
     }
     let entries = fs::read_dir(rt, FOLDER).expect(to, "a folder");

@@ -49,15 +49,15 @@ fn failing_readers(rt: HostRuntime) {
         for read in 0..=THREE.len() {
             let run = Run {
                 line,
-                script: THREE.get(..read).expect(&rt, "a script"),
                 at_a_time: 3,
                 fails: true,
                 status: 1,
-                replies: THREE_REPLIES.get(..due(dues, read)).expect(&rt, "replies"),
                 errors: READ,
                 ..SERVED
             };
-            check(&rt, &rt, &run);
+            let script = THREE.get(..read).expect(&rt, "a script");
+            let replies = THREE_REPLIES.get(..due(dues, read)).expect(&rt, "replies");
+            check(&rt, &rt, &run, script, replies);
         }
     }
 }
@@ -98,14 +98,13 @@ fn failing_writers(rt: HostRuntime) {
             let is_whole = room == ACCOUNT_REPLIES.len();
             let run = Run {
                 line,
-                script: ACCOUNT,
                 room,
                 status: u8::from(!is_whole),
-                replies: ACCOUNT_REPLIES.get(..room).expect(&rt, "replies"),
                 errors: if is_whole { "" } else { write_fault(room) },
                 ..SERVED
             };
-            check(&rt, &rt, &run);
+            let replies = ACCOUNT_REPLIES.get(..room).expect(&rt, "replies");
+            check(&rt, &rt, &run, ACCOUNT, replies);
         }
     }
 }
@@ -141,11 +140,10 @@ fn one_write_a_read(rt: HostRuntime) {
             replies.push_str(line_replies).expect(&rt, "memory");
         }
         let run = Run {
-            script: script.as_str(),
-            replies: replies.as_str(),
             at_a_time,
             ..SERVED
         };
-        assert_eq!(rt; check(&rt, &rt, &run), calls, "{at_a_time} bytes at a time");
+        let written = check(&rt, &rt, &run, script.as_str(), replies.as_str());
+        assert_eq!(rt; written, calls, "{at_a_time} bytes at a time");
     }
 }
