@@ -1,0 +1,1 @@
+"""Tests of escrowd-pg by the clients that people use, and by raw bytes. `gateway/test` runs them."""

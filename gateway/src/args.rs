@@ -1,0 +1,230 @@
+//! The command line.
+
+use std::collections::HashSet;
+use std::ffi::OsString;
+use std::os::unix::ffi::{OsStrExt, OsStringExt};
+use std::path::PathBuf;
+use std::time::Duration;
+
+use clap::builder::{OsStringValueParser, TypedValueParser};
+use clap::error::ErrorKind;
+use clap::{CommandFactory, Parser};
+
+/// The longest name of a database, in bytes: PostgreSQL's clients cut longer ones.
+const NAME_LIMIT: usize = 63;
+
+/// What `--help` says behind the options.
+const AFTER_HELP: &str = "\
+Each database is served by a program of its own, `escrowd serve`. The gateway looks for it at
+--program, then in the environment variable ESCROWD, then beside its own executable.
+
+Clients connect to the Unix socket FOLDER/.s.PGSQL.PORT, for example by
+`psql -h FOLDER -p PORT NAME`. The socket appears as soon as all stores are open. Its mode is the
+only access control: whoever may write to it is served.
+
+Exit status:
+  0  it was ended by SIGTERM or SIGINT, and all programs ended well
+  1  the system refused something, or a program did not end well
+  2  the arguments cannot be used
+  3  a program cannot be started, or a store cannot be opened
+  4  the socket cannot be made, or another process answers there
+  5  a program ended while it was in use
+  6  a reply of a program did not belong to the statement before it";
+
+/// PostgreSQL's protocol in front of `escrowd serve`.
+#[derive(Debug, Parser)]
+#[command(name = "escrowd-pg", version, after_help = AFTER_HELP)]
+pub struct Args {
+    /// The folder of the socket. It must exist
+    #[arg(long, value_name = "FOLDER")]
+    pub listen: PathBuf,
+
+    /// The number in the socket's name
+    #[arg(long, default_value_t = 5432, value_parser = clap::value_parser!(u16).range(1..))]
+    pub port: u16,
+
+    /// The socket's permissions, in octal
+    #[arg(long, default_value = "0600", value_parser = mode)]
+    pub mode: u32,
+
+    /// A database and the file of its store. Without a path it is kept in memory. May be repeated
+    #[arg(
+        long = "database",
+        value_name = "NAME[=PATH]",
+        required = true,
+        value_parser = OsStringValueParser::new().try_map(|value| database(&value))
+    )]
+    pub databases: Vec<Database>,
+
+    /// The program that serves a database
+    #[arg(long, value_name = "PATH")]
+    pub program: Option<PathBuf>,
+
+    /// Ends connections that are idle inside a transaction for longer. 0: never
+    #[arg(long, value_name = "SECONDS", default_value_t = 0)]
+    idle_in_transaction_timeout: u32,
+
+    /// Writes metrics there every ten seconds, for the textfile collector of node_exporter
+    #[arg(long, value_name = "FILE")]
+    pub metrics: Option<PathBuf>,
+}
+
+/// A database that is served.
+#[derive(Clone, Debug, PartialEq, Eq)]
+pub struct Database {
+    /// The name by which clients connect.
+    pub name: String,
+    /// The file of its store. None: it is kept in memory.
+    pub store: Option<PathBuf>,
+}
+
+impl Args {
+    /// Reads the command line of this process. Ends it with status 2 if it cannot be used.
+    pub fn read() -> Args {
+        Args::from(std::env::args_os()).unwrap_or_else(|error| error.exit())
+    }
+
+    /// Reads a command line, the name of the program first.
+    fn from(words: impl IntoIterator<Item = OsString>) -> Result<Args, clap::Error> {
+        let args = Args::try_parse_from(words)?;
+        let mut names = HashSet::new();
+        match args
+            .databases
+            .iter()
+            .find(|database| !names.insert(database.name.as_str()))
+        {
+            None => Ok(args),
+            Some(twice) => {
+                let text = format!("there are two databases called {}", twice.name);
+                Err(Args::command().error(ErrorKind::ValueValidation, text))
+            }
+        }
+    }
+
+    /// Returns how long a connection may be idle inside a transaction, if there is a limit.
+    pub fn idle_in_transaction(&self) -> Option<Duration> {
+        match self.idle_in_transaction_timeout {
+            0 => None,
+            seconds => Some(Duration::from_secs(seconds.into())),
+        }
+    }
+}
+
+/// Reads the permissions of a socket.
+fn mode(text: &str) -> Result<u32, String> {
+    match u32::from_str_radix(text, 8) {
+        Ok(mode) if mode <= 0o777 => Ok(mode),
+        _ => Err("a mode is an octal number of at most 0777".to_owned()),
+    }
+}
+
+/// Reads `NAME=PATH` or `NAME`.
+fn database(value: &OsString) -> Result<Database, String> {
+    let mut parts = value.as_bytes().splitn(2, |&byte| byte == b'=');
+    let name = parts.next().unwrap_or_default();
+    let name = std::str::from_utf8(name).map_err(|_| "its name is not in UTF-8".to_owned())?;
+    if name.is_empty() || name.len() > NAME_LIMIT || name.chars().any(char::is_control) {
+        return Err(format!(
+            "a name has 1 to {NAME_LIMIT} bytes, and no control characters"
+        ));
+    }
+    let store = match parts.next() {
+        None => None,
+        Some(b"") => return Err("no path follows the `=`".to_owned()),
+        Some(path) => Some(OsString::from_vec(path.to_vec()).into()),
+    };
+    Ok(Database {
+        name: name.to_owned(),
+        store,
+    })
+}
+
+#[cfg(test)]
+mod tests {
+    use super::*;
+
+    fn read(words: &[&str]) -> Result<Args, clap::Error> {
+        Args::from(["escrowd-pg"].iter().chain(words).map(OsString::from))
+    }
+
+    #[test]
+    fn the_command_is_well_formed() {
+        Args::command().debug_assert();
+    }
+
+    #[test]
+    fn what_is_not_given_has_its_default() {
+        let args = read(&["--listen", "/run/x", "--database", "shop"]).unwrap();
+        assert_eq!(args.listen, PathBuf::from("/run/x"));
+        assert_eq!((args.port, args.mode), (5432, 0o600));
+        assert_eq!(
+            args.databases,
+            [Database {
+                name: "shop".to_owned(),
+                store: None
+            }]
+        );
+        assert_eq!(args.idle_in_transaction(), None);
+        assert_eq!((args.program, args.metrics), (None, None));
+    }
+
+    #[test]
+    fn all_options_are_read() {
+        let args = read(&[
+            "--listen=/run/x",
+            "--port=6432",
+            "--mode=0660",
+            "--database=shop=/var/a=b.db",
+            "--database=other",
+            "--program=/opt/escrowd",
+            "--idle-in-transaction-timeout=30",
+            "--metrics=/var/m.prom",
+        ])
+        .unwrap();
+        assert_eq!((args.port, args.mode), (6432, 0o660));
+        assert_eq!(args.databases[0].store, Some(PathBuf::from("/var/a=b.db")));
+        assert_eq!(args.databases[1].store, None);
+        assert_eq!(args.program, Some(PathBuf::from("/opt/escrowd")));
+        assert_eq!(args.idle_in_transaction(), Some(Duration::from_secs(30)));
+        assert_eq!(args.metrics, Some(PathBuf::from("/var/m.prom")));
+    }
+
+    #[test]
+    fn a_path_may_be_in_any_encoding() {
+        let words = ["escrowd-pg", "--listen", "x", "--database"]
+            .iter()
+            .map(OsString::from);
+        let odd = OsString::from_vec(b"a=\xFF.db".to_vec());
+        let args = Args::from(words.chain([odd])).unwrap();
+        assert_eq!(
+            args.databases[0]
+                .store
+                .as_ref()
+                .unwrap()
+                .as_os_str()
+                .as_bytes(),
+            b"\xFF.db"
+        );
+    }
+
+    #[test]
+    fn what_cannot_be_used_is_refused() {
+        let long = "n".repeat(NAME_LIMIT + 1);
+        let refused: [&[&str]; 10] = [
+            &[],
+            &["--listen", "x"],
+            &["--database", "a"],
+            &["--listen", "x", "--database", ""],
+            &["--listen", "x", "--database", "=p"],
+            &["--listen", "x", "--database", "a="],
+            &["--listen", "x", "--database", &long],
+            &["--listen", "x", "--database", "a", "--database", "a=b"],
+            &["--listen", "x", "--database", "a", "--mode", "1777"],
+            &["--listen", "x", "--database", "a", "--port", "0"],
+        ];
+        for words in refused {
+            let error = read(words).expect_err(&format!("{words:?} was read"));
+            assert!(error.use_stderr(), "{words:?}");
+        }
+    }
+}

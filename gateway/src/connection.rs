@@ -1,0 +1,501 @@
+//! The state machine of one client, without input and output.
+
+mod channel;
+mod extended;
+mod local;
+mod prepared;
+mod simple;
+mod startup;
+mod transaction;
+mod work;
+
+#[cfg(test)]
+mod tests;
+
+use std::rc::Rc;
+use std::time::{Duration, Instant};
+
+use crate::rows::Definition;
+use crate::sqlstate::{Failure, Report, Severity, SqlState};
+use crate::statement::lexer::Token;
+use crate::statement::Kind;
+use crate::variables::Variables;
+use crate::wire::backend::{self, Status};
+use crate::wire::frontend::{self, Fault, Frame, Message, Raw};
+use channel::{Input, Output, Requests};
+use prepared::Prepared;
+use simple::Query;
+use startup::Startup;
+use transaction::{Block, Transaction};
+use work::{Expected, Work};
+
+/// What every connection of a gateway shares.
+#[derive(Clone, Debug)]
+pub struct Settings {
+    /// The names of the databases that are served, in order.
+    pub databases: Vec<String>,
+    /// The version that `server_version` reports: PostgreSQL's number in front, as in `15.0 (escrowd 1.1)`.
+    pub version: String,
+    /// How long a connection may be idle inside a transaction. None: forever.
+    pub idle_in_transaction: Option<Duration>,
+    /// How long a client may take for its startup.
+    pub startup: Duration,
+    /// The most connections of a database, for the text of the refusal.
+    pub sessions: usize,
+}
+
+/// What a connection asks the engine for.
+#[derive(Debug, PartialEq, Eq)]
+pub enum Request<'a> {
+    /// A session of the database at this place of [`Settings::databases`].
+    Open {
+        /// The place, from 0.
+        database: usize,
+    },
+    /// A statement of its session: one line, without prefix and without line feed. It gets one reply.
+    Statement(&'a [u8]),
+}
+
+/// The answer to [`Request::Open`].
+#[derive(Clone, Copy, Debug, PartialEq, Eq)]
+pub enum Opened {
+    /// The connection has a session.
+    Session,
+    /// All sessions of the database are taken.
+    TooMany,
+}
+
+/// Why the gateway ends a connection.
+#[derive(Clone, Debug, PartialEq, Eq)]
+pub enum Ending {
+    /// The program ended, with this text.
+    ProgramEnded(String),
+    /// The gateway is stopping.
+    Shutdown,
+}
+
+/// A fact for the metrics.
+#[derive(Clone, Copy, Debug, PartialEq, Eq)]
+pub enum Event {
+    /// A statement was begun.
+    Statement(Kind),
+    /// A statement was refused.
+    Refused(SqlState),
+    /// A transaction was committed.
+    Committed,
+    /// A transaction was rolled back.
+    RolledBack,
+}
+
+/// How much output may wait before nothing more is done for the client.
+const MOST_OUTPUT: usize = 256 * 1024;
+
+/// How much input may wait while a statement runs.
+const MOST_INPUT: usize = 64 * 1024;
+
+/// How long a client may take for its last words.
+const LINGER: Duration = Duration::from_secs(5);
+
+/// How many definitions of tables are kept; a database has at most as many tables.
+const MOST_DEFINITIONS: usize = 32;
+
+/// Where a connection is in its life.
+#[derive(Debug)]
+enum Phase {
+    /// The startup packet hasn't come.
+    Startup(Startup),
+    /// The engine looks for a session.
+    Opening,
+    /// Statements are served.
+    Serving,
+    /// It is closed as soon as its output is sent.
+    Closing,
+}
+
+/// One client.
+pub struct Connection {
+    settings: Rc<Settings>,
+    process_id: i32,
+    phase: Phase,
+    now: Instant,
+    /// When the startup, or the last words, have to be over.
+    limit: Option<Instant>,
+    input: Input,
+    output: Output,
+    requests: Requests,
+    /// What replies are expected, in order.
+    expected: std::collections::VecDeque<Expected>,
+    work: Option<Work>,
+    /// The simple query that is being served.
+    query: Option<Query>,
+    /// The tokens of its statement.
+    tokens: Vec<Token>,
+    /// Whether messages are skipped up to the next Sync.
+    skipping: bool,
+    /// Whether nothing of the client's has been begun since it was told to be ready.
+    resting: bool,
+    /// Since when it waits for the client.
+    idle_since: Instant,
+    transaction: Transaction,
+    variables: Variables,
+    prepared: Prepared,
+    definitions: Vec<Rc<Definition>>,
+    database: String,
+    user: String,
+    events: Vec<Event>,
+    shutting_down: bool,
+    input_ended: bool,
+}
+
+impl Connection {
+    /// Begins a connection, of which no byte has come yet. `process_id` is what BackendKeyData names.
+    pub fn new(settings: Rc<Settings>, process_id: i32, now: Instant) -> Connection {
+        let variables = Variables::new(&settings.version, "", settings.idle_in_transaction);
+        let limit = now.checked_add(settings.startup);
+        Connection {
+            settings,
+            process_id,
+            phase: Phase::Startup(Startup::default()),
+            now,
+            limit,
+            input: Input::default(),
+            output: Output::default(),
+            requests: Requests::default(),
+            expected: std::collections::VecDeque::new(),
+            work: None,
+            query: None,
+            tokens: Vec::new(),
+            skipping: false,
+            resting: true,
+            idle_since: now,
+            transaction: Transaction::default(),
+            variables,
+            prepared: Prepared::default(),
+            definitions: Vec::new(),
+            database: String::new(),
+            user: String::new(),
+            events: Vec::new(),
+            shutting_down: false,
+            input_ended: false,
+        }
+    }
+
+    /// Takes bytes that came from the client.
+    pub fn receive(&mut self, bytes: &[u8], now: Instant) {
+        self.now = now;
+        if !self.is_closing() {
+            self.input.extend(bytes);
+            self.advance();
+        }
+    }
+
+    /// Is told that the client sends nothing more. What it has sent is served, then the connection ends.
+    pub fn input_ended(&mut self, now: Instant) {
+        self.now = now;
+        self.input_ended = true;
+        self.advance();
+    }
+
+    /// Returns whether it takes more input: what is in flight and what is unsent is bounded.
+    pub fn wants_input(&self) -> bool {
+        let has_room = match self.phase {
+            Phase::Closing => false,
+            Phase::Startup(_) => true,
+            Phase::Opening => self.input.len() < MOST_INPUT,
+            Phase::Serving => self.work.is_none() || self.input.len() < MOST_INPUT,
+        };
+        has_room && !self.input_ended && self.output.len() < MOST_OUTPUT
+    }
+
+    /// Returns the next thing that it asks for. The engine takes all there are, in order.
+    pub fn next_request(&mut self) -> Option<Request<'_>> {
+        self.requests.next()
+    }
+
+    /// Takes the answer to [`Request::Open`].
+    pub fn opened(&mut self, outcome: Opened, now: Instant) {
+        self.now = now;
+        if let Phase::Opening = self.phase {
+            match outcome {
+                Opened::Session => self.serve(),
+                Opened::TooMany => {
+                    let text = "sorry, too many clients already";
+                    let report = Report::fatal(SqlState::TOO_MANY_CONNECTIONS, text);
+                    self.die(report.detail(format!(
+                        "A database serves at most {} connections.",
+                        self.settings.sessions
+                    )));
+                }
+            }
+        }
+    }
+
+    /// Takes the whole reply to the oldest unanswered statement: its lines without prefix, each with its line feed.
+    pub fn replied(&mut self, reply: &[u8], now: Instant) {
+        self.now = now;
+        self.requests.answered();
+        if let Phase::Serving = self.phase {
+            self.take_reply(reply);
+            self.advance();
+        }
+    }
+
+    /// Returns how many statements, taken by `next_request`, have no reply yet.
+    pub fn unanswered(&self) -> usize {
+        self.requests.unanswered()
+    }
+
+    /// Returns the bytes for the client.
+    pub fn output(&self) -> &[u8] {
+        self.output.unsent()
+    }
+
+    /// Is told that the first `count` bytes of the output were written.
+    pub fn sent(&mut self, count: usize, now: Instant) {
+        self.now = now;
+        self.output.sent(count);
+        self.advance();
+    }
+
+    /// Returns whether it is to be closed as soon as its output is sent.
+    pub fn is_closing(&self) -> bool {
+        matches!(self.phase, Phase::Closing)
+    }
+
+    /// Returns when `time_passed` has to be called at the latest.
+    pub fn deadline(&self) -> Option<Instant> {
+        match self.phase {
+            Phase::Startup(_) | Phase::Closing => self.limit,
+            Phase::Opening => None,
+            Phase::Serving => self.idle_limit(),
+        }
+    }
+
+    /// Is told the time, at its deadline or at any time before.
+    pub fn time_passed(&mut self, now: Instant) {
+        self.now = now;
+        if self.deadline().map_or(true, |deadline| now < deadline) {
+            return;
+        }
+        match self.phase {
+            Phase::Startup(_) => self.close(),
+            Phase::Closing => self.output.clear(),
+            Phase::Opening => {}
+            Phase::Serving => self.die(Report::fatal(
+                SqlState::IDLE_IN_TRANSACTION_TIMEOUT,
+                "terminating connection due to idle-in-transaction timeout",
+            )),
+        }
+    }
+
+    /// Ends the connection: at once if it is idle or if the program has ended, otherwise behind what it is doing.
+    pub fn end(&mut self, why: Ending, now: Instant) {
+        self.now = now;
+        match why {
+            Ending::ProgramEnded(text) => {
+                if !self.is_closing() {
+                    let message = "terminating connection because the database's program ended";
+                    self.die(Report::fatal(SqlState::ADMIN_SHUTDOWN, message).detail(text));
+                }
+            }
+            Ending::Shutdown => {
+                self.shutting_down = true;
+                self.advance();
+            }
+        }
+    }
+
+    /// Returns since when it holds an open transaction, if it does.
+    pub fn transaction_since(&self) -> Option<Instant> {
+        self.transaction.since()
+    }
+
+    /// Takes the facts for the metrics that came up since they were last taken.
+    pub fn take_events(&mut self) -> std::vec::Drain<'_, Event> {
+        self.events.drain(..)
+    }
+
+    /// Does all that can be done without waiting for the program or for the client.
+    fn advance(&mut self) {
+        while self.work.is_none() && self.output.len() < MOST_OUTPUT {
+            let goes_on = match self.phase {
+                Phase::Startup(_) => self.startup_packet(),
+                Phase::Opening | Phase::Closing => false,
+                Phase::Serving if self.query.is_some() => {
+                    self.next_statement();
+                    true
+                }
+                Phase::Serving if self.shutting_down && self.resting => false,
+                Phase::Serving => self.next_message(),
+            };
+            if !goes_on {
+                break;
+            }
+        }
+        let is_busy = self.work.is_some() || self.query.is_some() || self.is_closing();
+        if self.shutting_down && !is_busy {
+            self.die(Report::fatal(
+                SqlState::ADMIN_SHUTDOWN,
+                "terminating connection due to administrator command",
+            ));
+        } else if self.input_ended && !is_busy {
+            let is_waiting =
+                matches!(self.phase, Phase::Opening) || self.output.len() >= MOST_OUTPUT;
+            if !is_waiting {
+                self.close();
+            }
+        }
+    }
+
+    /// Serves the next message, if all of it is there. Returns whether it was.
+    fn next_message(&mut self) -> bool {
+        let input = std::mem::take(&mut self.input);
+        let goes_on = match frontend::raw(input.rest()) {
+            Frame::Incomplete => false,
+            Frame::BadLength => {
+                let message = "invalid message length";
+                self.die(Report::fatal(SqlState::PROTOCOL_VIOLATION, message));
+                false
+            }
+            Frame::Whole(raw, length) => {
+                let next = input.kind_behind(length);
+                self.serve_message(raw, next);
+                self.input = input.behind(length);
+                self.idle_since = self.now;
+                return true;
+            }
+        };
+        self.input = input;
+        goes_on
+    }
+
+    /// Serves a message. `next` is the kind of the one behind it, if all of that is there.
+    fn serve_message(&mut self, raw: Raw<'_>, next: Option<u8>) {
+        let message = match frontend::message(raw) {
+            Ok(message) => message,
+            Err(Fault::UnknownKind(kind)) => {
+                let text = format!("invalid frontend message type {}", kind);
+                return self.die(Report::fatal(SqlState::PROTOCOL_VIOLATION, text));
+            }
+            Err(Fault::Layout) => return self.refuse_layout(raw.kind),
+        };
+        match message {
+            Message::Terminate => return self.close(),
+            Message::Sync => return self.sync(),
+            _ if self.skipping => return,
+            _ => self.resting = false,
+        }
+        match message {
+            Message::Query(text) => self.begin_query(text),
+            Message::Parse(parse) => self.parse(&parse),
+            Message::Bind(bind) => self.bind(&bind),
+            Message::Describe(target) => self.describe(target),
+            Message::Execute { portal, limit } => {
+                self.execute_portal(portal, limit, next == Some(b'S'));
+            }
+            Message::Close(target) => self.close_target(target),
+            Message::FunctionCall => {
+                self.fail(Report::missing("a function call"), None);
+                self.skipping = false;
+                self.ready();
+            }
+            // Outside of a COPY these are skipped, as in PostgreSQL.
+            Message::Copy | Message::Flush | Message::Sync | Message::Terminate => {}
+        }
+    }
+
+    /// Refuses a message that is laid out wrongly inside a right length: the next one's place is known.
+    fn refuse_layout(&mut self, kind: u8) {
+        let report = Report::error(SqlState::PROTOCOL_VIOLATION, "invalid message format");
+        match kind {
+            _ if self.skipping => {}
+            b'Q' => self.refuse_query(report, ""),
+            _ => {
+                self.resting = false;
+                self.fail(report, None);
+            }
+        }
+    }
+
+    /// Tells the client that it may send the next statement.
+    fn ready(&mut self) {
+        let status = match self.transaction.block {
+            Block::None => Status::Idle,
+            Block::Open => Status::Block,
+            Block::Failed => Status::Failed,
+        };
+        backend::ready_for_query(self.output.buffer(), status);
+        self.resting = true;
+        self.idle_since = self.now;
+    }
+
+    /// Returns when a transaction has been idle for too long, if one is open and nothing runs.
+    fn idle_limit(&self) -> Option<Instant> {
+        if self.work.is_some() || self.query.is_some() || self.transaction.since().is_none() {
+            return None;
+        }
+        self.idle_since
+            .checked_add(self.variables.idle_in_transaction()?)
+    }
+
+    /// Tells the client of a failure, and gives up what it is doing. `text` is the text that the place is of.
+    fn fail(&mut self, report: Failure, text: Option<&str>) {
+        self.report(&report, text);
+        if report.severity == Severity::Fatal {
+            return self.close();
+        }
+        self.abort();
+        if self.query.take().is_some() {
+            self.transaction.several = false;
+            self.ready();
+        } else {
+            self.skipping = true;
+        }
+    }
+
+    fn report(&mut self, report: &Report, text: Option<&str>) {
+        let position = match (report.place, text) {
+            (Some(place), Some(text)) => {
+                let before = text.get(..place).unwrap_or(text);
+                Some(before.chars().count() + 1)
+            }
+            _ => None,
+        };
+        let out = self.output.buffer();
+        match report.severity {
+            Severity::Error | Severity::Fatal => {
+                backend::error_response(out, report, position);
+                self.events.push(Event::Refused(report.state));
+            }
+            Severity::Warning | Severity::Notice => {
+                let (warnings, notices) = self.variables.wanted_messages();
+                let wanted = if report.severity == Severity::Warning {
+                    warnings
+                } else {
+                    notices
+                };
+                if wanted {
+                    backend::notice_response(out, report, position);
+                }
+            }
+        }
+    }
+
+    /// Tells the client why the connection ends, and ends it.
+    fn die(&mut self, report: Failure) {
+        self.report(&report, None);
+        self.close();
+    }
+
+    /// Ends the connection as soon as its output is sent.
+    fn close(&mut self) {
+        if !self.is_closing() {
+            self.phase = Phase::Closing;
+            self.limit = self.now.checked_add(LINGER);
+            self.input = Input::default();
+            self.work = None;
+            self.query = None;
+            self.requests.drop_untaken();
+        }
+    }
+}

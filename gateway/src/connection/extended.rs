@@ -1,0 +1,461 @@
+//! The extended query: Parse, Bind, Describe, Execute, Close, Sync.
+
+use std::rc::Rc;
+
+use crate::connection::prepared::{Binding, Portal, Progress, Statement};
+use crate::connection::transaction::Block;
+use crate::connection::work::{
+    failed_block, AfterCommit, AfterDefinition, Completed, Subject, Tag, Target,
+};
+use crate::connection::Connection;
+use crate::rows::Definition;
+use crate::sqlstate::{Failure, Report, SqlState};
+use crate::statement::lexer::next_statement;
+use crate::statement::literal::not_utf8;
+use crate::statement::parameters::{self, Place};
+use crate::statement::{classify, Command, Verb};
+use crate::value::oid;
+use crate::wire::backend::{self, Column, Format};
+use crate::wire::frontend::{self, Bind, Parse};
+
+impl Connection {
+    /// Serves Sync: commits what a pipeline has reserved, and ends the skipping behind an error.
+    pub(super) fn sync(&mut self) {
+        self.skipping = false;
+        if self.transaction.block != Block::None {
+            return self.ready();
+        }
+        if self.transaction.dirty {
+            return self.commit(AfterCommit::Sync);
+        }
+        self.end_transaction(true);
+        self.ready();
+    }
+
+    /// Serves Parse.
+    pub(super) fn parse(&mut self, parse: &Parse<'_>) {
+        let text = match std::str::from_utf8(parse.text) {
+            Ok(text) => text,
+            Err(_) => return self.fail(not_utf8(parse.text), None),
+        };
+        let prepared = prepare(text, &parse.types).and_then(|statement| {
+            let leaves = statement
+                .command
+                .as_ref()
+                .map_or(true, Command::leaves_failed_block);
+            if self.transaction.block == Block::Failed && !leaves {
+                return Err(failed_block());
+            }
+            self.prepared.add_statement(parse.name, statement)
+        });
+        match prepared {
+            Ok(()) => backend::parse_complete(self.output.buffer()),
+            Err(report) => self.fail(report, Some(text)),
+        }
+    }
+
+    /// Serves Bind.
+    pub(super) fn bind(&mut self, bind: &Bind<'_>) {
+        let binding = match self.binding_of(bind) {
+            Ok(binding) => binding,
+            Err(report) => return self.fail(report, None),
+        };
+        if !binding.needs_definition() {
+            return self.bind_now(binding, None);
+        }
+        let table = binding.statement.table_name();
+        match table
+            .as_ref()
+            .map(|table| (table, self.definition(table).cloned()))
+        {
+            Some((table, None)) => {
+                let statement = Rc::clone(&binding.statement);
+                self.ask_definition(table, statement, AfterDefinition::Bind(binding));
+            }
+            known => {
+                let definition = known.and_then(|(_, definition)| definition);
+                self.bind_now(binding, definition.as_deref());
+            }
+        }
+    }
+
+    /// Binds, where the table's definition is known if it has to be.
+    pub(super) fn bind_now(&mut self, binding: Binding, definition: Option<&Definition>) {
+        let name = binding.portal.clone();
+        let bound = binding
+            .read(definition)
+            .and_then(|portal| self.prepared.add_portal(&name, portal));
+        match bound {
+            Ok(()) => backend::bind_complete(self.output.buffer()),
+            Err(report) => self.fail(report, None),
+        }
+    }
+
+    fn binding_of(&self, bind: &Bind<'_>) -> Result<Binding, Failure> {
+        let statement = self.prepared.statement(bind.statement)?;
+        if self.has_failed_for(statement) {
+            return Err(failed_block());
+        }
+        let count = bind.values.len();
+        if bind.formats.len() > 1 && bind.formats.len() != count {
+            return Err(Report::error(
+                SqlState::PROTOCOL_VIOLATION,
+                format!(
+                    "bind message has {} parameter formats but {} parameters",
+                    bind.formats.len(),
+                    count
+                ),
+            ));
+        }
+        if count != statement.types.len() {
+            return Err(Report::error(
+                SqlState::PROTOCOL_VIOLATION,
+                format!(
+                    "bind message supplies {} parameters, but prepared statement \"{}\" requires {}",
+                    count,
+                    bind.statement,
+                    statement.types.len()
+                ),
+            ));
+        }
+        let formats = formats(&bind.formats)?;
+        let format = |place: usize| match formats[..] {
+            [] => Format::Text,
+            [format] => format,
+            _ => formats[place],
+        };
+        let values = bind.values.iter().enumerate();
+        let values = values
+            .map(|(place, value)| (format(place), value.map(<[u8]>::to_vec)))
+            .collect();
+        Ok(Binding {
+            portal: bind.portal.to_owned(),
+            statement: Rc::clone(statement),
+            values,
+            formats: self::formats(&bind.result_formats)?,
+        })
+    }
+
+    /// Serves Describe.
+    pub(super) fn describe(&mut self, target: frontend::Target<'_>) {
+        match target {
+            frontend::Target::Portal(name) => self.describe_portal(name),
+            frontend::Target::Statement(name) => self.describe_statement(name),
+        }
+    }
+
+    fn describe_statement(&mut self, name: &str) {
+        let statement = match self.prepared.statement(name) {
+            Ok(statement) => Rc::clone(statement),
+            Err(report) => return self.fail(report, None),
+        };
+        if self.has_failed_for(&statement) {
+            return self.fail(failed_block(), None);
+        }
+        let table = if statement.is_described_by_table() {
+            statement.table_name()
+        } else {
+            None
+        };
+        match table {
+            Some(table) => {
+                let then = AfterDefinition::Describe(name.to_owned());
+                self.ask_definition(&table, statement, then);
+            }
+            None => self.describe_now(name),
+        }
+    }
+
+    /// Returns whether a failed block refuses to tell of the statement's rows.
+    fn has_failed_for(&self, statement: &Statement) -> bool {
+        self.transaction.block == Block::Failed
+            && !statement
+                .command
+                .as_ref()
+                .map_or(true, Command::leaves_failed_block)
+    }
+
+    /// Describes a prepared statement whose table's definition is known, if it needs that.
+    pub(super) fn describe_now(&mut self, name: &str) {
+        let statement = match self.prepared.statement(name) {
+            Ok(statement) => Rc::clone(statement),
+            Err(report) => return self.fail(report, None),
+        };
+        let definition = statement
+            .table_name()
+            .and_then(|table| self.definition(&table).cloned());
+        let types = statement.parameter_types(definition.as_deref());
+        let columns = match statement
+            .command
+            .as_ref()
+            .map(|command| self.columns(command))
+        {
+            Some(Err(report)) => return self.fail(report, Some(&statement.text)),
+            Some(Ok(columns)) => columns,
+            None => None,
+        };
+        let columns = match (statement.verb(), definition) {
+            (Some(Verb::Select), Some(definition)) => Some(definition.result_columns().into()),
+            (Some(Verb::Select), None) => {
+                let end = statement.text.len();
+                let report = Report::syntax(&statement.text, end, end).hint(Verb::Select.form());
+                return self.fail(report, Some(&statement.text));
+            }
+            _ => columns,
+        };
+        let out = self.output.buffer();
+        backend::parameter_description(out, &types);
+        match &columns {
+            Some(columns) => backend::row_description(out, columns, |_| Format::Text),
+            None => backend::no_data(out),
+        }
+        statement.described.replace(columns);
+    }
+
+    /// Describes a portal. The rows of a table are read ahead for it.
+    pub(super) fn describe_portal(&mut self, name: &str) {
+        let statement = match self.prepared.portal(name) {
+            Ok(portal) => Rc::clone(&portal.statement),
+            Err(report) => return self.fail(report, None),
+        };
+        if self.has_failed_for(&statement) {
+            return self.fail(failed_block(), None);
+        }
+        let is_ready = matches!(
+            self.prepared.portal(name),
+            Ok(Portal {
+                progress: Progress::Ready,
+                ..
+            })
+        );
+        if is_ready && statement.verb() == Some(Verb::Select) {
+            let target = Target::Describe {
+                portal: name.to_owned(),
+            };
+            return self.run_portal(name, target, false);
+        }
+        let columns = match statement
+            .command
+            .as_ref()
+            .map(|command| self.columns(command))
+        {
+            Some(Err(report)) => return self.fail(report, Some(&statement.text)),
+            Some(Ok(Some(columns))) => Some(columns),
+            _ => statement.described.borrow().clone(),
+        };
+        self.write_description(name, columns);
+    }
+
+    fn write_description(&mut self, name: &str, columns: Option<Rc<[Column]>>) {
+        let columns = match columns {
+            Some(columns) => columns,
+            None => return backend::no_data(self.output.buffer()),
+        };
+        let written = match self.prepared.portal(name) {
+            Ok(portal) => portal.check_formats(&columns).map(|()| {
+                portal
+                    .statement
+                    .described
+                    .replace(Some(Rc::clone(&columns)));
+                backend::row_description(self.output.buffer(), &columns, portal.format());
+            }),
+            Err(report) => Err(report),
+        };
+        if let Err(report) = written {
+            self.fail(report, None);
+        }
+    }
+
+    /// Takes the rows of a portal that were read ahead.
+    pub(super) fn described_portal(&mut self, name: &str, completed: Completed) {
+        let columns = completed
+            .rows
+            .as_ref()
+            .map(|rows| Rc::clone(rows.columns()));
+        if let (Ok(portal), Some(rows)) = (self.prepared.portal(name), completed.rows) {
+            portal.progress = Progress::Rows(rows, completed.tag);
+        }
+        self.write_description(name, columns);
+    }
+
+    /// Serves Execute. `last`: a Sync is behind it.
+    pub(super) fn execute_portal(&mut self, name: &str, limit: u32, last: bool) {
+        let portal = match self.prepared.portal(name) {
+            Ok(portal) => portal,
+            Err(report) => return self.fail(report, None),
+        };
+        match (&portal.progress, &portal.statement.command) {
+            (_, None) => backend::empty_query(self.output.buffer()),
+            (Progress::Rows(..), _) => self.give_rows(name, limit),
+            (Progress::Done, Some(_)) => {
+                let text = format!("portal \"{}\" cannot be run", name);
+                self.fail(
+                    Report::error(SqlState::NOT_IN_PREREQUISITE_STATE, text),
+                    None,
+                );
+            }
+            (Progress::Ready, Some(_)) => {
+                let target = Target::Execute {
+                    portal: name.to_owned(),
+                    limit,
+                };
+                self.run_portal(name, target, last);
+            }
+        }
+    }
+
+    /// Runs a portal that hasn't run.
+    fn run_portal(&mut self, name: &str, target: Target, last: bool) {
+        let (statement, values) = match self.prepared.portal(name) {
+            Ok(portal) => (Rc::clone(&portal.statement), Rc::clone(&portal.values)),
+            Err(report) => return self.fail(report, None),
+        };
+        match &statement.command {
+            Some(command) => {
+                let subject = Subject::Prepared(Rc::clone(&statement), values);
+                self.execute(command, target, subject, last);
+            }
+            None => backend::empty_query(self.output.buffer()),
+        }
+    }
+
+    /// Tells the client how the statement of a portal ended.
+    pub(super) fn complete_portal(&mut self, name: &str, limit: u32, completed: Completed) {
+        let portal = self.prepared.portal(name).ok();
+        match (completed.rows, completed.tag) {
+            (None, Tag::Plain(tag)) => {
+                if let Some(portal) = portal {
+                    portal.progress = Progress::Done;
+                }
+                backend::command_complete(self.output.buffer(), tag);
+            }
+            (None, Tag::Rows) => backend::command_complete_of(self.output.buffer(), "SELECT", 0),
+            (Some(rows), tag) => {
+                let mut changed = false;
+                if let Some(portal) = portal {
+                    changed = match &*portal.statement.described.borrow() {
+                        Some(columns) => columns != rows.columns(),
+                        None => false,
+                    };
+                    portal.progress = Progress::Rows(rows, tag);
+                }
+                if changed {
+                    let text = "cached plan must not change result type";
+                    let report = Report::error(SqlState::FEATURE_NOT_SUPPORTED, text);
+                    return self.fail(report, None);
+                }
+                self.give_rows(name, limit);
+            }
+        }
+    }
+
+    /// Gives the client the next rows of a portal.
+    fn give_rows(&mut self, name: &str, limit: u32) {
+        let given = match self.prepared.portal(name) {
+            Ok(portal) => give_rows(portal, limit, self.output.buffer()),
+            Err(report) => Err(report),
+        };
+        if let Err(report) = given {
+            self.fail(report, None);
+        }
+    }
+
+    /// Serves Close.
+    pub(super) fn close_target(&mut self, target: frontend::Target<'_>) {
+        match target {
+            frontend::Target::Statement(name) => {
+                self.prepared.remove_statement(name);
+            }
+            frontend::Target::Portal(name) => self.prepared.remove_portal(name),
+        }
+        backend::close_complete(self.output.buffer());
+    }
+}
+
+fn give_rows(portal: &mut Portal, limit: u32, out: &mut Vec<u8>) -> Result<(), Failure> {
+    let most = if limit == 0 {
+        usize::MAX
+    } else {
+        limit as usize
+    };
+    let progress = std::mem::replace(&mut portal.progress, Progress::Done);
+    let (mut rows, tag) = match progress {
+        Progress::Rows(rows, tag) => (rows, tag),
+        _ => return Ok(()),
+    };
+    portal.check_formats(rows.columns())?;
+    let count = rows.take_rows(most, portal.format(), out).map_err(|_| {
+        Report::error(
+            SqlState::INTERNAL_ERROR,
+            "a value is not of its column's type",
+        )
+    })?;
+    if count == most {
+        backend::portal_suspended(out);
+    } else {
+        match tag {
+            Tag::Rows => backend::command_complete_of(out, "SELECT", count),
+            Tag::Plain(tag) => backend::command_complete(out, tag),
+        }
+    }
+    portal.progress = Progress::Rows(rows, tag);
+    Ok(())
+}
+
+fn formats(codes: &[i16]) -> Result<Vec<Format>, Failure> {
+    codes
+        .iter()
+        .map(|code| match code {
+            0 => Ok(Format::Text),
+            1 => Ok(Format::Binary),
+            code => Err(Report::error(
+                SqlState::INVALID_PARAMETER_VALUE,
+                format!("unsupported format code: {}", code),
+            )),
+        })
+        .collect()
+}
+
+/// Reads the text of a prepared statement.
+fn prepare(text: &str, types: &[u32]) -> Result<Statement, Failure> {
+    let (mut at, mut tokens) = (0, Vec::new());
+    let command = if next_statement(text, &mut at, &mut tokens)? {
+        if next_statement(text, &mut at, &mut Vec::new())? {
+            return Err(Report::error(
+                SqlState::SYNTAX_ERROR,
+                "cannot insert multiple commands into a prepared statement",
+            ));
+        }
+        Some(classify(text, &tokens)?)
+    } else {
+        None
+    };
+    let places = match command {
+        Some(Command::Program { verb, .. }) => parameters::places(text, &tokens, verb),
+        _ => Vec::new(),
+    };
+    let mut types = types.to_vec();
+    if types.len() < places.len() {
+        types.resize(places.len(), oid::UNSPECIFIED);
+    }
+    let is_open = |(place, oid): (usize, &u32)| {
+        parameters::is_open(*oid)
+            && places
+                .get(place)
+                .map_or(true, |place| *place == Place::Unused)
+    };
+    if let Some(unused) = types.iter().enumerate().position(is_open) {
+        return Err(Report::error(
+            SqlState::INDETERMINATE_TYPE,
+            format!("could not determine data type of parameter ${}", unused + 1),
+        ));
+    }
+    Ok(Statement {
+        text: text.to_owned(),
+        tokens,
+        command,
+        types,
+        places,
+        described: Default::default(),
+    })
+}

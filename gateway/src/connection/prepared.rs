@@ -1,0 +1,337 @@
+//! Prepared statements and portals.
+
+use std::cell::RefCell;
+use std::collections::HashMap;
+use std::rc::Rc;
+
+use postgres_protocol::Oid;
+
+use crate::connection::work::Tag;
+use crate::rows::{Definition, ResultSet};
+use crate::sqlstate::{Failure, Report, SqlState};
+use crate::statement::lexer::Token;
+use crate::statement::parameters::{self, Place};
+use crate::statement::{line, literal, Command, Verb};
+use crate::value::{self, oid, Value};
+use crate::wire::backend::{Column, Format};
+
+/// The most prepared statements of a connection.
+const MOST_STATEMENTS: usize = 4_096;
+
+/// The most portals of a connection.
+const MOST_PORTALS: usize = 1_024;
+
+/// The most bytes of all texts of prepared statements, of all values of portals, and of all rows that wait in them.
+const MOST_BYTES: usize = 64 * 1024 * 1024;
+
+/// A prepared statement.
+#[derive(Debug)]
+pub struct Statement {
+    /// Its text.
+    pub text: String,
+    /// The tokens of the text.
+    pub tokens: Vec<Token>,
+    /// What it is. None: its text is empty.
+    pub command: Option<Command>,
+    /// The types of its parameters, as far as the client tells them.
+    pub types: Vec<Oid>,
+    /// What its parameters stand for.
+    pub places: Vec<Place>,
+    /// The columns that the client was told last.
+    pub described: RefCell<Option<Rc<[Column]>>>,
+}
+
+impl Statement {
+    /// Returns what the program does for it.
+    pub fn verb(&self) -> Option<Verb> {
+        match self.command {
+            Some(Command::Program { verb, .. }) => Some(verb),
+            _ => None,
+        }
+    }
+
+    /// Returns the name of its table and the place of that in its text.
+    pub fn table_and_place(&self) -> Option<(String, usize)> {
+        match self.command {
+            Some(Command::Program {
+                table: Some(table), ..
+            }) => {
+                let token = self.tokens.get(table)?;
+                Some((literal::name(&self.text, token), token.start))
+            }
+            _ => None,
+        }
+    }
+
+    /// Returns the name of its table, if the program can be asked for it.
+    pub fn table_name(&self) -> Option<String> {
+        self.table_and_place()
+            .map(|(name, _)| name)
+            .filter(|name| line::is_legal_name(name))
+    }
+
+    /// Returns what a parameter stands for, and its type as far as the client tells it.
+    fn parameter(&self, parameter: usize) -> (&Place, Oid) {
+        let place = self.places.get(parameter).unwrap_or(&Place::Unused);
+        (
+            place,
+            self.types
+                .get(parameter)
+                .copied()
+                .unwrap_or(oid::UNSPECIFIED),
+        )
+    }
+
+    /// Returns the types of its parameters.
+    pub fn parameter_types(&self, definition: Option<&Definition>) -> Vec<Oid> {
+        (0..self.types.len())
+            .map(|parameter| {
+                let (place, oid) = self.parameter(parameter);
+                parameters::parameter_type(place, oid, definition)
+            })
+            .collect()
+    }
+
+    /// Returns whether the types of its parameters, or of its columns, depend on its table's definition.
+    pub fn is_described_by_table(&self) -> bool {
+        self.verb() == Some(Verb::Select)
+            || (0..self.types.len()).any(|parameter| {
+                let (place, oid) = self.parameter(parameter);
+                parameters::needs_definition(place, oid, Format::Binary)
+            })
+    }
+}
+
+/// What a portal has come to.
+#[derive(Debug)]
+pub enum Progress {
+    /// It hasn't run.
+    Ready,
+    /// It has run, and rows may be left.
+    Rows(ResultSet, Tag),
+    /// It has run.
+    Done,
+}
+
+/// What a Bind gives, before its values are read.
+#[derive(Debug)]
+pub struct Binding {
+    /// The portal's name.
+    pub portal: String,
+    /// The portal's statement.
+    pub statement: Rc<Statement>,
+    /// The values of its parameters.
+    pub values: Vec<(Format, Option<Vec<u8>>)>,
+    /// The formats of its columns.
+    pub formats: Vec<Format>,
+}
+
+impl Binding {
+    /// Returns whether its table's definition has to be known before its values can be read.
+    pub fn needs_definition(&self) -> bool {
+        self.values
+            .iter()
+            .enumerate()
+            .any(|(parameter, (format, _))| {
+                let (place, oid) = self.statement.parameter(parameter);
+                parameters::needs_definition(place, oid, *format)
+            })
+    }
+
+    /// Reads its values.
+    ///
+    /// # Errors
+    ///
+    /// Fails if one is none of its type, or none that the program holds.
+    pub fn read(self, definition: Option<&Definition>) -> Result<Portal, Failure> {
+        let mut values = Vec::with_capacity(self.values.len());
+        for (parameter, (format, bytes)) in self.values.iter().enumerate() {
+            let (place, oid) = self.statement.parameter(parameter);
+            let oid = parameters::parameter_type(place, oid, definition);
+            values.push(value::parameter(
+                parameter + 1,
+                oid,
+                *format,
+                bytes.as_deref(),
+            )?);
+        }
+        Ok(Portal {
+            statement: self.statement,
+            values: values.into(),
+            formats: self.formats,
+            progress: Progress::Ready,
+        })
+    }
+}
+
+/// A portal.
+#[derive(Debug)]
+pub struct Portal {
+    /// Its statement.
+    pub statement: Rc<Statement>,
+    /// The values of its parameters.
+    pub values: Rc<[Value]>,
+    /// The formats of its columns.
+    pub formats: Vec<Format>,
+    /// What it has come to.
+    pub progress: Progress,
+}
+
+impl Portal {
+    /// Returns the format of a column.
+    pub fn format(&self) -> impl Fn(usize) -> Format + '_ {
+        move |place| match self.formats[..] {
+            [] => Format::Text,
+            [format] => format,
+            _ => self.formats.get(place).copied().unwrap_or(Format::Text),
+        }
+    }
+
+    /// Checks that a result has as many columns as the client gives formats for.
+    ///
+    /// # Errors
+    ///
+    /// Fails if it hasn't.
+    pub fn check_formats(&self, columns: &[Column]) -> Result<(), Failure> {
+        if self.formats.len() > 1 && self.formats.len() != columns.len() {
+            return Err(Report::error(
+                SqlState::PROTOCOL_VIOLATION,
+                format!(
+                    "bind message has {} result formats but query has {} columns",
+                    self.formats.len(),
+                    columns.len()
+                ),
+            ));
+        }
+        Ok(())
+    }
+
+    fn size(&self) -> usize {
+        let rows = match &self.progress {
+            Progress::Rows(rows, _) => rows.size(),
+            _ => 0,
+        };
+        rows + self.values.iter().map(Value::size).sum::<usize>()
+    }
+}
+
+/// The prepared statements and the portals of a connection.
+#[derive(Debug, Default)]
+pub struct Prepared {
+    statements: HashMap<String, Rc<Statement>>,
+    portals: HashMap<String, Portal>,
+    /// The bytes of all texts of statements.
+    text: usize,
+}
+
+fn too_many(what: &str) -> Failure {
+    Report::error(
+        SqlState::OUT_OF_MEMORY,
+        format!("too many {} in a connection", what),
+    )
+    .hint("Close what is no longer used.")
+}
+
+impl Prepared {
+    /// Returns a prepared statement.
+    ///
+    /// # Errors
+    ///
+    /// Fails if there is none of this name.
+    pub fn statement(&self, name: &str) -> Result<&Rc<Statement>, Failure> {
+        self.statements.get(name).ok_or_else(|| {
+            let text = if name.is_empty() {
+                "unnamed prepared statement does not exist".to_owned()
+            } else {
+                format!("prepared statement \"{}\" does not exist", name)
+            };
+            Report::error(SqlState::UNDEFINED_PREPARED_STATEMENT, text)
+        })
+    }
+
+    /// Adds a prepared statement. The one without a name takes the place of the one before.
+    ///
+    /// # Errors
+    ///
+    /// Fails if the name is taken, or if there are too many.
+    pub fn add_statement(&mut self, name: &str, statement: Statement) -> Result<(), Failure> {
+        if name.is_empty() {
+            self.remove_statement(name);
+        } else if self.statements.contains_key(name) {
+            return Err(Report::error(
+                SqlState::DUPLICATE_PREPARED_STATEMENT,
+                format!("prepared statement \"{}\" already exists", name),
+            ));
+        }
+        let size = name.len() + statement.text.len();
+        if self.statements.len() == MOST_STATEMENTS || self.text + size > MOST_BYTES {
+            return Err(too_many("prepared statements"));
+        }
+        self.text += size;
+        self.statements.insert(name.to_owned(), Rc::new(statement));
+        Ok(())
+    }
+
+    /// Removes a prepared statement, and returns whether there was one.
+    pub fn remove_statement(&mut self, name: &str) -> bool {
+        match self.statements.remove(name) {
+            Some(statement) => {
+                self.text -= name.len() + statement.text.len();
+                true
+            }
+            None => false,
+        }
+    }
+
+    /// Removes all prepared statements.
+    pub fn remove_statements(&mut self) {
+        self.statements.clear();
+        self.text = 0;
+    }
+
+    /// Returns a portal.
+    ///
+    /// # Errors
+    ///
+    /// Fails if there is none of this name.
+    pub fn portal(&mut self, name: &str) -> Result<&mut Portal, Failure> {
+        self.portals.get_mut(name).ok_or_else(|| {
+            let text = format!("portal \"{}\" does not exist", name);
+            Report::error(SqlState::UNDEFINED_PORTAL, text)
+        })
+    }
+
+    /// Adds a portal. The one without a name takes the place of the one before.
+    ///
+    /// # Errors
+    ///
+    /// Fails if the name is taken, or if there are too many.
+    pub fn add_portal(&mut self, name: &str, portal: Portal) -> Result<(), Failure> {
+        if name.is_empty() {
+            self.portals.remove(name);
+        } else if self.portals.contains_key(name) {
+            return Err(Report::error(
+                SqlState::DUPLICATE_PORTAL,
+                format!("cursor \"{}\" already exists", name),
+            ));
+        }
+        let used: usize = self.portals.values().map(Portal::size).sum();
+        if self.portals.len() == MOST_PORTALS || used + portal.size() > MOST_BYTES {
+            return Err(too_many("portals"));
+        }
+        self.portals.insert(name.to_owned(), portal);
+        Ok(())
+    }
+
+    /// Removes a portal.
+    pub fn remove_portal(&mut self, name: &str) {
+        self.portals.remove(name);
+    }
+
+    /// Removes all portals, because the transaction ends.
+    pub fn drop_portals(&mut self) {
+        if !self.portals.is_empty() {
+            self.portals.clear();
+        }
+    }
+}

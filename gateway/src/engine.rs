@@ -1,0 +1,402 @@
+//! The loop that moves bytes between clients and programs.
+//!
+//! In each turn it reads what is ready, writes all statements that came to their programs at once, and writes what
+//! each client got. It waits for nothing but the system's word that something is ready, and the next deadline.
+
+mod clients;
+mod deadlines;
+mod door;
+mod phases;
+mod start;
+
+use std::collections::VecDeque;
+use std::io::ErrorKind;
+use std::rc::Rc;
+use std::time::{Duration, Instant};
+
+use escrowd_pg::connection::{Connection, Opened, Request, Settings};
+use mio::event::Event;
+use mio::{Events, Interest, Poll, Token};
+use signal_hook_mio::v0_8::Signals;
+use tracing::{error, info};
+
+use crate::client::{Client, Session};
+use crate::failure::Failure;
+use crate::metrics::Metrics;
+use crate::program::{self, Holder, Program, OPENED};
+use clients::Clients;
+use door::Door;
+
+/// How many events one turn takes at most.
+const EVENTS: usize = 1024;
+
+/// How many clients may be without a session. While there are so many, no further one is accepted.
+const WITHOUT_SESSION: usize = 256;
+
+/// How long clients may take to finish their statements and to be told of an orderly end.
+const FAREWELL: Duration = Duration::from_secs(10);
+
+/// How long clients may take to be told of a fault.
+const SHORT_FAREWELL: Duration = Duration::from_secs(1);
+
+/// How long programs may take to close their stores.
+const CLOSING: Duration = Duration::from_secs(60);
+
+const SIGNALS: Token = Token(0);
+const LISTENER: Token = Token(1);
+const PROGRAMS: usize = 2;
+
+/// What the engine does.
+#[derive(Clone, Copy, Debug, PartialEq, Eq)]
+enum Phase {
+    /// Stores are being opened; there is no socket yet.
+    Opening,
+    /// Clients are served.
+    Serving,
+    /// Clients are told of the end, until then at the latest.
+    Leaving(Instant),
+    /// Programs close their stores, until then at the latest.
+    Closing(Instant),
+    /// All is done.
+    Finished,
+}
+
+/// A gateway with its programs and clients.
+pub struct Engine {
+    poll: Poll,
+    signals: Signals,
+    /// None: no client is accepted any more.
+    door: Option<Door>,
+    programs: Vec<Program>,
+    /// For each program, the clients that wait until a session is free.
+    waiting: Vec<VecDeque<usize>>,
+    clients: Clients,
+    /// The places of the clients that have something to do in this turn.
+    queue: Vec<usize>,
+    settings: Rc<Settings>,
+    metrics: Option<Metrics>,
+    phase: Phase,
+    /// Why it ends, if not for a signal.
+    failure: Option<Failure>,
+    /// No client's deadline is earlier. It may be one that has been put off since.
+    alarm: Option<Instant>,
+    process_id: i32,
+    buffer: Box<[u8]>,
+    now: Instant,
+}
+
+impl Engine {
+    /// Serves until a signal, or a fault that ends it. Returns the exit status.
+    pub fn run(mut self) -> u8 {
+        let mut events = Events::with_capacity(EVENTS);
+        let mut is_busy = true;
+        while self.phase != Phase::Finished {
+            let timeout = if is_busy {
+                Some(Duration::ZERO)
+            } else {
+                self.timeout()
+            };
+            match self.poll.poll(&mut events, timeout) {
+                Ok(()) => {}
+                Err(error) if error.kind() == ErrorKind::Interrupted => {}
+                Err(error) => {
+                    let failure = Failure::system("epoll")(error);
+                    error!("{failure}");
+                    return failure.status();
+                }
+            }
+            self.now = Instant::now();
+            for event in &events {
+                self.note(event);
+            }
+            is_busy = self.turn();
+        }
+        if let Some(metrics) = &self.metrics {
+            metrics.remove();
+        }
+        match self.failure {
+            None => {
+                info!("all stores are closed");
+                0
+            }
+            Some(failure) => failure.status(),
+        }
+    }
+
+    /// Notes what the system says is ready.
+    fn note(&mut self, event: &Event) {
+        let first_client = self.first_client();
+        match event.token() {
+            SIGNALS => self.take_signals(),
+            LISTENER => {
+                if let Some(door) = &mut self.door {
+                    door.is_ready();
+                }
+            }
+            Token(token) if token < first_client => {
+                let place = token - PROGRAMS;
+                let program = &mut self.programs[place / program::TOKENS];
+                program.is_ready(place % program::TOKENS, event);
+            }
+            Token(token) => {
+                let place = token - first_client;
+                if let Some(client) = self.clients.get_mut(place) {
+                    client.is_ready(event);
+                    enqueue(&mut self.queue, client, place);
+                }
+            }
+        }
+    }
+
+    /// Serves all that is ready. Returns whether there is more, for which no further word of the system comes.
+    fn turn(&mut self) -> bool {
+        let is_more = self.hand_out_replies();
+        let mut queue = std::mem::take(&mut self.queue);
+        for &place in &queue {
+            self.serve(place);
+        }
+        self.write_to_programs();
+        for place in queue.drain(..) {
+            self.finish(place);
+        }
+        if self.queue.is_empty() {
+            // The memory is used again.
+            self.queue = queue;
+        }
+        self.accept();
+        self.act_on_phase();
+        // Of clients that left, transactions are rolled back.
+        self.write_to_programs();
+        self.keep_deadlines();
+        is_more || !self.queue.is_empty()
+    }
+
+    /// Reads what the programs wrote, and gives each reply to the client that waits for it. Returns whether there is
+    /// more.
+    fn hand_out_replies(&mut self) -> bool {
+        let mut is_more = false;
+        for database in 0..self.programs.len() {
+            is_more |= self.programs[database].read(&mut self.buffer, self.now);
+            loop {
+                match self.hand_out_reply(database) {
+                    Ok(true) => {}
+                    Ok(false) => break,
+                    Err(failure) => {
+                        self.programs[database].abandon(self.now);
+                        self.fail(failure);
+                        break;
+                    }
+                }
+            }
+        }
+        is_more
+    }
+
+    /// Gives the next reply of a program to the client that waits for it. Returns whether there was one.
+    fn hand_out_reply(&mut self, database: usize) -> Result<bool, Failure> {
+        let program = &mut self.programs[database];
+        let reply = match program.next_reply()? {
+            Some(reply) => reply,
+            None => return Ok(false),
+        };
+        match reply.holder {
+            Holder::Client(place) => {
+                if let Some(metrics) = &self.metrics {
+                    metrics.answered(database, self.now.duration_since(reply.since));
+                }
+                if let Some(client) = self.clients.get_mut(place) {
+                    client.connection.replied(reply.lines, self.now);
+                    enqueue(&mut self.queue, client, place);
+                }
+            }
+            Holder::Gateway if reply.lines.ends_with(OPENED) => {
+                let session = reply.session;
+                program.opened(session, self.now);
+            }
+            Holder::Gateway => {
+                let how = format!(
+                    "answered {}",
+                    String::from_utf8_lossy(reply.lines).trim_end()
+                );
+                return Err(Failure::NotOpened {
+                    database: program.name().to_owned(),
+                    how,
+                });
+            }
+            Holder::Leaving | Holder::Nobody => {
+                while let Some(place) = self.waiting[database].pop_front() {
+                    if !self.give_session(place, database) {
+                        self.waiting[database].push_front(place);
+                        break;
+                    }
+                }
+            }
+        }
+        Ok(true)
+    }
+
+    /// Gives a free session to the client at `place`. Returns whether there was one.
+    fn give_session(&mut self, place: usize, database: usize) -> bool {
+        let client = match self.clients.get_mut(place) {
+            Some(client) => client,
+            None => return true,
+        };
+        match self.programs[database].take_session(Holder::Client(place)) {
+            None => false,
+            Some(number) => {
+                client.session = Some(Session { database, number });
+                client.connection.opened(Opened::Session, self.now);
+                enqueue(&mut self.queue, client, place);
+                true
+            }
+        }
+    }
+
+    /// Reads what the client at `place` sent, and queues its statements.
+    fn serve(&mut self, place: usize) {
+        let client = match self.clients.get_mut(place) {
+            Some(client) => client,
+            None => return,
+        };
+        client.read(&mut self.buffer, self.now);
+        self.forward(place);
+    }
+
+    /// Takes what the client at `place` asks for. Its session ends if that is all.
+    fn forward(&mut self, place: usize) {
+        while let Some(client) = self.clients.get_mut(place) {
+            if client.is_over() {
+                self.leave_session(place);
+                return;
+            }
+            match client.connection.next_request() {
+                None => return,
+                Some(Request::Open { database }) => self.open_session(place, database),
+                Some(Request::Statement(statement)) => {
+                    if let Some(session) = client.session {
+                        let program = &mut self.programs[session.database];
+                        program.ask(session.number, statement, self.now);
+                    }
+                }
+            }
+        }
+    }
+
+    /// Gives the client at `place` a session, or lets it wait for one that becomes free by itself, or refuses it.
+    fn open_session(&mut self, place: usize, database: usize) {
+        if let Some(client) = self.clients.get_mut(place) {
+            client.database = Some(database);
+        }
+        if self.give_session(place, database) {
+            return;
+        }
+        if self.programs[database].leaving() > self.waiting[database].len() {
+            self.waiting[database].push_back(place);
+        } else if let Some(client) = self.clients.get_mut(place) {
+            client.connection.opened(Opened::TooMany, self.now);
+        }
+    }
+
+    /// Gives back what the client at `place` has of its database.
+    fn leave_session(&mut self, place: usize) {
+        let client = match self.clients.get_mut(place) {
+            Some(client) => client,
+            None => return,
+        };
+        match (client.session.take(), client.database) {
+            (Some(session), _) => self.programs[session.database].leave(session.number, self.now),
+            (None, Some(database)) => self.waiting[database].retain(|&other| other != place),
+            (None, None) => {}
+        }
+    }
+
+    /// Writes what the client at `place` is to get, and closes its socket if that is all.
+    fn finish(&mut self, place: usize) {
+        let token = Token(self.first_client() + place);
+        let client = match self.clients.get_mut(place) {
+            Some(client) => client,
+            None => return,
+        };
+        client.is_queued = false;
+        client.write(self.poll.registry(), token, self.now);
+        let database = client.database;
+        for event in client.connection.take_events() {
+            if let Some(metrics) = &self.metrics {
+                metrics.count(database, event);
+            }
+        }
+        // What was sent made room, for input that waited in the connection too.
+        self.forward(place);
+        let client = match self.clients.get_mut(place) {
+            Some(client) => client,
+            None => return,
+        };
+        if client.is_done() {
+            self.clients.remove(place);
+            return;
+        }
+        if client.has_work() {
+            enqueue(&mut self.queue, client, place);
+        }
+        wake(&mut self.alarm, client.connection.deadline());
+    }
+
+    /// Accepts clients that arrived.
+    fn accept(&mut self) {
+        let first_client = self.first_client();
+        let door = match &mut self.door {
+            Some(door) if self.phase == Phase::Serving => door,
+            _ => return,
+        };
+        let sessions: usize = self.programs.iter().map(Program::clients).sum();
+        while self.clients.len() < sessions + WITHOUT_SESSION {
+            let mut socket = match door.accept(self.now) {
+                Some(socket) => socket,
+                None => return,
+            };
+            let place = self.clients.next_place();
+            let token = Token(first_client + place);
+            if self
+                .poll
+                .registry()
+                .register(&mut socket, token, Interest::READABLE)
+                .is_err()
+            {
+                // The system has no memory for it. The client sees that it is closed.
+                continue;
+            }
+            self.process_id = self.process_id.checked_add(1).unwrap_or(1);
+            let connection = Connection::new(Rc::clone(&self.settings), self.process_id, self.now);
+            let client = Client::new(socket, connection);
+            wake(&mut self.alarm, client.connection.deadline());
+            self.clients.insert(client);
+        }
+    }
+
+    /// Writes the statements that are queued.
+    fn write_to_programs(&mut self) {
+        for program in &mut self.programs {
+            program.write(self.now);
+        }
+    }
+
+    /// Returns the token of the client at place 0.
+    fn first_client(&self) -> usize {
+        PROGRAMS + self.programs.len() * program::TOKENS
+    }
+}
+
+/// Gives a client its place in the queue, unless it has one.
+fn enqueue(queue: &mut Vec<usize>, client: &mut Client, place: usize) {
+    if !client.is_queued {
+        client.is_queued = true;
+        queue.push(place);
+    }
+}
+
+/// Lets the alarm ring at `deadline`, if that is earlier.
+fn wake(alarm: &mut Option<Instant>, deadline: Option<Instant>) {
+    if let Some(deadline) = deadline {
+        *alarm = Some(alarm.map_or(deadline, |alarm| alarm.min(deadline)));
+    }
+}

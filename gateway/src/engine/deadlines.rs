@@ -1,0 +1,66 @@
+//! What is done by time.
+
+use std::time::{Duration, Instant};
+
+use super::door::Door;
+use super::{enqueue, wake, Engine, Phase};
+use crate::metrics::{Metrics, State};
+
+impl Engine {
+    /// Does what is due by time.
+    pub(super) fn keep_deadlines(&mut self) {
+        if matches!(self.alarm, Some(alarm) if alarm <= self.now) {
+            self.alarm = None;
+            for (place, client) in self.clients.iter_mut() {
+                match client.connection.deadline() {
+                    Some(deadline) if deadline <= self.now => {
+                        client.connection.time_passed(self.now);
+                        enqueue(&mut self.queue, client, place);
+                    }
+                    deadline => wake(&mut self.alarm, deadline),
+                }
+            }
+        }
+        if matches!(self.metrics_due(), Some(due) if due <= self.now) {
+            self.write_metrics();
+        }
+    }
+
+    /// Returns when the metrics are to be written next. They begin with the first client that may come.
+    fn metrics_due(&self) -> Option<Instant> {
+        match self.phase {
+            Phase::Opening => None,
+            _ => self.metrics.as_ref().map(Metrics::due),
+        }
+    }
+
+    /// Writes the metrics.
+    fn write_metrics(&mut self) {
+        let mut states: Vec<_> = self.programs.iter().map(State::of).collect();
+        for (_, client) in self.clients.iter() {
+            if let Some(session) = client.session {
+                states[session.database].add(client.connection.transaction_since());
+            }
+        }
+        if let Some(metrics) = &mut self.metrics {
+            metrics.write(&states, self.now);
+        }
+    }
+
+    /// Returns how long to wait for something to be ready.
+    pub(super) fn timeout(&self) -> Option<Duration> {
+        let phase = match self.phase {
+            Phase::Leaving(until) | Phase::Closing(until) => Some(until),
+            Phase::Opening | Phase::Serving | Phase::Finished => None,
+        };
+        let door = self.door.as_ref().and_then(Door::deadline);
+        let metrics = self.metrics_due();
+        let ends = self
+            .programs
+            .iter()
+            .map(|program| program.end_deadline(self.now));
+        let deadlines = [self.alarm, phase, door, metrics];
+        let next = deadlines.iter().copied().chain(ends).flatten().min()?;
+        Some(next.saturating_duration_since(self.now))
+    }
+}

@@ -1,0 +1,103 @@
+//! How the gateway is put together.
+
+use std::collections::VecDeque;
+use std::env;
+use std::io::{self, ErrorKind};
+use std::path::PathBuf;
+use std::rc::Rc;
+use std::time::{Duration, Instant};
+
+use escrowd_pg::connection::Settings;
+use mio::{Interest, Poll, Token};
+use signal_hook::consts::{SIGCHLD, SIGINT, SIGTERM};
+use signal_hook_mio::v0_8::Signals;
+
+use super::clients::Clients;
+use super::door::Door;
+use super::{Engine, Phase, PROGRAMS, SIGNALS};
+use crate::args::Args;
+use crate::failure::Failure;
+use crate::metrics::Metrics;
+use crate::program::{self, Program, SESSIONS};
+
+/// How many bytes one read takes at most: what a pipe holds.
+const BUFFER: usize = 64 * 1024;
+
+/// How long a client may take to begin.
+const STARTUP: Duration = Duration::from_secs(10);
+
+/// The version of PostgreSQL whose protocol and errors clients expect.
+const POSTGRESQL: &str = "15.0";
+
+impl Engine {
+    /// Makes the socket and starts the programs.
+    pub fn start(args: &Args) -> Result<Engine, Failure> {
+        let now = Instant::now();
+        let poll = Poll::new().map_err(Failure::system("epoll"))?;
+        let signals = watch_signals(&poll).map_err(Failure::system("signals"))?;
+        let door = Door::make(&args.listen, args.port, args.mode)?;
+        let path = program_path(args).map_err(Failure::system("the gateway's own path"))?;
+        let mut programs = Vec::with_capacity(args.databases.len());
+        for (place, database) in args.databases.iter().enumerate() {
+            let token = Token(PROGRAMS + place * program::TOKENS);
+            programs.push(Program::start(
+                &path,
+                database,
+                poll.registry(),
+                token,
+                now,
+            )?);
+        }
+        let names: Vec<_> = args
+            .databases
+            .iter()
+            .map(|database| database.name.clone())
+            .collect();
+        let metrics = args
+            .metrics
+            .as_ref()
+            .map(|path| Metrics::new(&names, path, now));
+        Ok(Engine {
+            poll,
+            signals,
+            door: Some(door),
+            waiting: programs.iter().map(|_| VecDeque::new()).collect(),
+            programs,
+            clients: Clients::default(),
+            queue: Vec::new(),
+            settings: Rc::new(Settings {
+                databases: names,
+                version: format!("{POSTGRESQL} (escrowd {})", env!("CARGO_PKG_VERSION")),
+                idle_in_transaction: args.idle_in_transaction(),
+                startup: STARTUP,
+                sessions: SESSIONS,
+            }),
+            metrics: metrics.transpose().map_err(|error| {
+                Failure::system("metrics")(io::Error::new(ErrorKind::Other, error))
+            })?,
+            phase: Phase::Opening,
+            failure: None,
+            alarm: None,
+            process_id: 0,
+            buffer: vec![0; BUFFER].into_boxed_slice(),
+            now,
+        })
+    }
+}
+
+/// Asks the system for the signals that end the gateway, and for those that tell of a program's end.
+fn watch_signals(poll: &Poll) -> io::Result<Signals> {
+    let mut signals = Signals::new([SIGTERM, SIGINT, SIGCHLD])?;
+    poll.registry()
+        .register(&mut signals, SIGNALS, Interest::READABLE)?;
+    Ok(signals)
+}
+
+/// Returns the path of the program that serves a database.
+fn program_path(args: &Args) -> io::Result<PathBuf> {
+    match (&args.program, env::var_os("ESCROWD")) {
+        (Some(path), _) => Ok(path.clone()),
+        (None, Some(path)) if !path.is_empty() => Ok(path.into()),
+        (None, _) => Ok(env::current_exe()?.with_file_name("escrowd")),
+    }
+}

@@ -1,0 +1,14 @@
+//! PostgreSQL's protocol in front of `escrowd serve`.
+//!
+//! The modules of this library have no input and output: bytes and replies go in, statements and bytes come out.
+#![forbid(unsafe_code)]
+#![warn(missing_docs)]
+
+pub mod connection;
+pub mod reply;
+pub mod rows;
+pub mod sqlstate;
+pub mod statement;
+pub mod value;
+pub mod variables;
+pub mod wire;

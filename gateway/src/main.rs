@@ -1,0 +1,41 @@
+//! PostgreSQL's protocol in front of `escrowd serve`.
+#![forbid(unsafe_code)]
+#![warn(missing_docs)]
+
+mod args;
+mod client;
+mod engine;
+mod failure;
+mod log;
+mod metrics;
+mod notify;
+mod program;
+mod socket;
+
+use std::process::ExitCode;
+
+use tracing::error;
+
+use args::Args;
+use engine::Engine;
+use log::Log;
+
+fn main() -> ExitCode {
+    let args = Args::read();
+    let log = match Log::start() {
+        Ok(log) => log,
+        Err(error) => {
+            eprintln!("escrowd-pg: its log cannot be started: {error}");
+            return ExitCode::FAILURE;
+        }
+    };
+    let status = match Engine::start(&args) {
+        Ok(engine) => engine.run(),
+        Err(failure) => {
+            error!("{failure}");
+            failure.status()
+        }
+    };
+    log.finish();
+    ExitCode::from(status)
+}

@@ -1,0 +1,513 @@
+//! A program that serves one database, and the pipes to it.
+
+mod replies;
+mod sessions;
+mod statements;
+
+use std::fs;
+use std::io::{self, ErrorKind, Read};
+use std::os::unix::fs::PermissionsExt;
+use std::path::Path;
+use std::process::{Child, Command, ExitStatus, Stdio};
+use std::time::{Duration, Instant};
+
+use mio::event::Event;
+use mio::unix::pipe::{Receiver, Sender};
+use mio::{Interest, Registry, Token};
+use tracing::{info, warn};
+
+pub use sessions::{Holder, Number, SESSIONS};
+
+use crate::args::Database;
+use crate::failure::Failure;
+use replies::{Replies, Wrong};
+use sessions::Sessions;
+use statements::Statements;
+
+/// The tokens of a program: one for each of its pipes.
+pub const TOKENS: usize = 3;
+
+/// What a program is asked at the start. It needs neither memory nor the store, and counts nowhere.
+const OPENING: &[u8] = b"SHOW STATISTICS";
+
+/// How the answer ends.
+pub const OPENED: &[u8] = b"\nOK statistics\n";
+
+/// How long the end of its output and its exit status may be apart.
+const END: Duration = Duration::from_secs(1);
+
+/// How often a pipe is read in a turn, at most. Then others have their turn.
+const READS: usize = 16;
+
+/// The longest line of its standard error that is passed on whole, in bytes.
+const ERROR_LINE: usize = 4096;
+
+/// Starts the program so that it ignores what a terminal, `timeout` or a service manager sends to all processes of a
+/// group. The gateway gets these signals too, and ends the program by the end of its input.
+const WITHOUT_KEYS: &str = r#"trap '' HUP INT QUIT TERM; exec "$@""#;
+
+/// A reply of the program.
+pub struct Reply<'a> {
+    /// The session that asked.
+    pub session: Number,
+    /// Who had the session that asked.
+    pub holder: Holder,
+    /// When it asked.
+    pub since: Instant,
+    /// The lines without prefixes, each with its line feed.
+    pub lines: &'a [u8],
+}
+
+/// A program that serves a database.
+pub struct Program {
+    database: Database,
+    child: Child,
+    input: Option<Sender>,
+    input_is_ready: bool,
+    output: Source,
+    errors: Source,
+    error_lines: ErrorLines,
+    statements: Statements,
+    replies: Replies,
+    sessions: Sessions,
+    started: Instant,
+    is_open: bool,
+    /// Whether its input ends as soon as it has taken all statements.
+    is_told_to_end: bool,
+    /// Whether its replies didn't fit.
+    is_abandoned: bool,
+    exit: Option<ExitStatus>,
+    ending_since: Option<Instant>,
+}
+
+impl Program {
+    /// Starts the program at `path` for a database, registers its pipes as `token` and the two behind it, and asks it
+    /// whether its store is open.
+    pub fn start(
+        path: &Path,
+        database: &Database,
+        registry: &Registry,
+        token: Token,
+        now: Instant,
+    ) -> Result<Program, Failure> {
+        let failed = |error| Failure::NotStarted {
+            database: database.name.clone(),
+            program: path.to_owned(),
+            error,
+        };
+        let mut child = spawn(path, database).map_err(failed)?;
+        let mut pipes = Pipes::of(&mut child).map_err(failed)?;
+        pipes.register(registry, token).map_err(failed)?;
+        let mut program = Program {
+            database: database.clone(),
+            child,
+            input: Some(pipes.input),
+            input_is_ready: true,
+            output: Source::new(pipes.output),
+            errors: Source::new(pipes.errors),
+            error_lines: ErrorLines::default(),
+            statements: Statements::new(),
+            replies: Replies::new(),
+            sessions: Sessions::new(),
+            started: now,
+            is_open: false,
+            is_told_to_end: false,
+            is_abandoned: false,
+            exit: None,
+            ending_since: None,
+        };
+        // The program writes nothing until it is asked, and reads nothing until its store is open.
+        if let Some(session) = program.sessions.take(Holder::Gateway) {
+            program.ask(session, OPENING, now);
+        }
+        Ok(program)
+    }
+
+    /// Notes what the system says of its pipe at this place, from 0.
+    pub fn is_ready(&mut self, pipe: usize, event: &Event) {
+        match pipe {
+            0 => self.input_is_ready = true,
+            1 => self.output.is_ready_by(event),
+            _ => self.errors.is_ready_by(event),
+        }
+    }
+
+    /// Returns whether its store is open.
+    pub fn is_open(&self) -> bool {
+        self.is_open
+    }
+
+    /// Gives a session to `holder`, if one is free.
+    pub fn take_session(&mut self, holder: Holder) -> Option<Number> {
+        self.sessions.take(holder)
+    }
+
+    /// Returns how many sessions have a client.
+    pub fn clients(&self) -> usize {
+        self.sessions.held()
+    }
+
+    /// Returns how many sessions become free without anybody's doing.
+    pub fn leaving(&self) -> usize {
+        self.sessions.leaving()
+    }
+
+    /// Queues a statement of a session.
+    pub fn ask(&mut self, session: Number, statement: &[u8], now: Instant) {
+        self.sessions.ask(session, now);
+        self.statements.push(session, statement);
+    }
+
+    /// Notes that the holder of a session left. What the session holds is rolled back; it is free when all of its
+    /// statements are answered.
+    pub fn leave(&mut self, session: Number, now: Instant) {
+        if self.sessions.is_used(session) {
+            self.ask(session, b"ROLLBACK", now);
+        }
+        self.sessions.leave(session);
+    }
+
+    /// Writes the queued statements, as far as the pipe takes them.
+    pub fn write(&mut self, now: Instant) {
+        if let (Some(input), true) = (&mut self.input, self.input_is_ready) {
+            match self.statements.write(input) {
+                Ok(all) => self.input_is_ready = all,
+                // It reads nothing more, so it ends.
+                Err(_) => {
+                    self.input = None;
+                    self.ending_since.get_or_insert(now);
+                }
+            }
+        }
+        if self.is_told_to_end && (self.statements.is_empty() || self.input.is_none()) {
+            self.input = None;
+        }
+    }
+
+    /// Reads what the program wrote. Returns whether there may be more at once.
+    pub fn read(&mut self, buffer: &mut [u8], now: Instant) -> bool {
+        let (replies, error_lines) = (&mut self.replies, &mut self.error_lines);
+        let name = &self.database.name;
+        self.errors
+            .read(buffer, |bytes| error_lines.push(bytes, name));
+        self.output.read(buffer, |bytes| replies.push(bytes));
+        if self.output.is_ended() {
+            self.ending_since.get_or_insert(now);
+        }
+        self.output.is_ready || self.errors.is_ready
+    }
+
+    /// Takes the next reply, if one is complete.
+    pub fn next_reply(&mut self) -> Result<Option<Reply<'_>>, Failure> {
+        if self.is_abandoned {
+            return Ok(None);
+        }
+        let database = &self.database.name;
+        let out_of_step = |wrong: Wrong| Failure::OutOfStep {
+            database: database.clone(),
+            line: wrong.line,
+            expected: wrong.expected,
+        };
+        let asked = match self.sessions.next() {
+            Some(asked) => asked,
+            None => {
+                return self
+                    .replies
+                    .check_unasked()
+                    .map_err(out_of_step)
+                    .map(|()| None)
+            }
+        };
+        let lines = match self.replies.take(asked.session).map_err(out_of_step)? {
+            Some(lines) => lines,
+            None => return Ok(None),
+        };
+        let holder = self.sessions.answered();
+        if holder == Holder::Leaving && self.sessions.unanswered(asked.session) == 0 {
+            // The last one is a ROLLBACK, which the program never refuses. Its session is free on that promise.
+            check_rolled_back(lines).map_err(out_of_step)?;
+        }
+        Ok(Some(Reply {
+            session: asked.session,
+            holder,
+            since: asked.since,
+            lines,
+        }))
+    }
+
+    /// Takes the answer to the gateway's own question. It comes when the store is open.
+    pub fn opened(&mut self, session: Number, now: Instant) {
+        self.sessions.leave(session);
+        self.is_open = true;
+        let name = &self.database.name;
+        let took = now.duration_since(self.started).as_millis();
+        match &self.database.store {
+            None => info!("{name}: open, in memory, after {took} ms"),
+            Some(path) => {
+                let path_text = path.display();
+                match fs::metadata(path) {
+                    Ok(found) => {
+                        let size = found.len();
+                        info!("{name}: the store {path_text} is open: {size} bytes, {took} ms")
+                    }
+                    Err(error) => info!("{name}: the store {path_text} is open ({error})"),
+                }
+            }
+        }
+    }
+
+    /// Asks it nothing more, and believes nothing that it writes. Its input ends where it is.
+    pub fn abandon(&mut self, now: Instant) {
+        self.input = None;
+        self.is_abandoned = true;
+        self.ending_since.get_or_insert(now);
+    }
+
+    /// Ends its input, as soon as it has taken all statements.
+    pub fn tell_to_end(&mut self) {
+        self.is_told_to_end = true;
+    }
+
+    /// Asks the system whether it has ended.
+    pub fn look_for_end(&mut self, now: Instant) {
+        if self.exit.is_none() {
+            if let Ok(Some(exit)) = self.child.try_wait() {
+                self.exit = Some(exit);
+                self.ending_since.get_or_insert(now);
+                // What it wrote last is still in the pipes.
+                self.output.is_ready = true;
+                self.errors.is_ready = true;
+            }
+        }
+    }
+
+    /// Returns when it counts as ended at the latest, once there are signs of that. None if that is past.
+    pub fn end_deadline(&self, now: Instant) -> Option<Instant> {
+        self.ending_since
+            .map(|since| since + END)
+            .filter(|&deadline| now < deadline)
+    }
+
+    /// Returns whether it serves no more: it has exited, or there have been signs of that for a second.
+    pub fn has_ended(&self, now: Instant) -> bool {
+        let is_read = self.output.is_ended() && self.errors.is_ended();
+        match (self.ending_since, self.exit) {
+            (None, _) => false,
+            (Some(_), Some(_)) if is_read => true,
+            (Some(since), _) => since + END <= now,
+        }
+    }
+
+    /// Returns whether it has exited, and all that it wrote was read.
+    pub fn has_exited(&self, now: Instant) -> bool {
+        self.exit.is_some() && self.has_ended(now)
+    }
+
+    /// Returns whether it ended without a fault.
+    pub fn ended_well(&self) -> bool {
+        self.exit.map_or(false, |exit| exit.success())
+    }
+
+    /// Describes how it ended, behind the word "program" and the name of its database.
+    pub fn how_it_ended(&self) -> String {
+        let mut text = match self.exit {
+            Some(exit) => format!("ended ({exit})"),
+            None => "closed its output or its input".to_owned(),
+        };
+        if let Some(line) = &self.error_lines.last {
+            text.push_str(": ");
+            text.push_str(line);
+        }
+        text
+    }
+
+    /// Returns the name of its database.
+    pub fn name(&self) -> &str {
+        &self.database.name
+    }
+}
+
+/// Checks the reply to the ROLLBACK of a session that its client left.
+fn check_rolled_back(lines: &[u8]) -> Result<(), Wrong> {
+    if lines.starts_with(b"OK rolled back ") {
+        return Ok(());
+    }
+    Err(Wrong {
+        line: String::from_utf8_lossy(lines).trim_end().to_owned(),
+        expected: "a ROLLBACK was to be answered".to_owned(),
+    })
+}
+
+/// Starts the program at `path` for a database.
+fn spawn(path: &Path, database: &Database) -> io::Result<Child> {
+    // The shell's own words for these would be harder to read.
+    let found = fs::metadata(path)?;
+    if !found.is_file() || found.permissions().mode() & 0o111 == 0 {
+        return Err(ErrorKind::PermissionDenied.into());
+    }
+    let mut command = Command::new("/bin/sh");
+    command
+        .args(["-c", WITHOUT_KEYS, "sh"])
+        .arg(path)
+        .arg("serve");
+    if let Some(store) = &database.store {
+        command.arg("--store").arg(store);
+    }
+    command
+        .stdin(Stdio::piped())
+        .stdout(Stdio::piped())
+        .stderr(Stdio::piped())
+        .spawn()
+}
+
+/// The ends of a program's pipes.
+struct Pipes {
+    input: Sender,
+    output: Receiver,
+    errors: Receiver,
+}
+
+impl Pipes {
+    /// Takes them of a child that was just started.
+    fn of(child: &mut Child) -> io::Result<Pipes> {
+        match (child.stdin.take(), child.stdout.take(), child.stderr.take()) {
+            (Some(input), Some(output), Some(errors)) => Ok(Pipes {
+                input: Sender::from(input),
+                output: Receiver::from(output),
+                errors: Receiver::from(errors),
+            }),
+            _ => Err(ErrorKind::BrokenPipe.into()),
+        }
+    }
+
+    /// Registers them as `token` and the two behind it.
+    fn register(&mut self, registry: &Registry, token: Token) -> io::Result<()> {
+        self.input.set_nonblocking(true)?;
+        self.output.set_nonblocking(true)?;
+        self.errors.set_nonblocking(true)?;
+        registry.register(&mut self.input, token, Interest::WRITABLE)?;
+        registry.register(&mut self.output, Token(token.0 + 1), Interest::READABLE)?;
+        registry.register(&mut self.errors, Token(token.0 + 2), Interest::READABLE)
+    }
+}
+
+/// A pipe that is read when it is ready.
+struct Source {
+    /// None: it has ended.
+    pipe: Option<Receiver>,
+    is_ready: bool,
+    /// Whether the other end is closed, so that the end of the pipe has to be read too.
+    is_closed: bool,
+}
+
+impl Source {
+    fn new(pipe: Receiver) -> Source {
+        Source {
+            pipe: Some(pipe),
+            is_ready: true,
+            is_closed: false,
+        }
+    }
+
+    fn is_ended(&self) -> bool {
+        self.pipe.is_none()
+    }
+
+    fn is_ready_by(&mut self, event: &Event) {
+        self.is_ready = true;
+        self.is_closed |= event.is_read_closed();
+    }
+
+    /// Reads what is there, and hands it to `take`. `is_ready` says then whether there may be more.
+    fn read(&mut self, buffer: &mut [u8], mut take: impl FnMut(&[u8])) {
+        let pipe = match &mut self.pipe {
+            Some(pipe) if self.is_ready => pipe,
+            _ => return,
+        };
+        for _ in 0..READS {
+            match pipe.read(buffer) {
+                Ok(0) => {
+                    self.pipe = None;
+                    self.is_ready = false;
+                    return;
+                }
+                Ok(count) => {
+                    take(&buffer[..count]);
+                    // A pipe that gave less than was asked for is empty: the system tells when it no longer is.
+                    if count < buffer.len() && !self.is_closed {
+                        self.is_ready = false;
+                        return;
+                    }
+                }
+                Err(error) if error.kind() == ErrorKind::WouldBlock => {
+                    self.is_ready = false;
+                    return;
+                }
+                Err(error) if error.kind() == ErrorKind::Interrupted => {}
+                Err(_) => {
+                    self.pipe = None;
+                    self.is_ready = false;
+                    return;
+                }
+            }
+        }
+    }
+}
+
+/// The lines of a program's standard error, which are passed on.
+#[derive(Default)]
+struct ErrorLines {
+    /// The beginning of the line that isn't complete.
+    line: Vec<u8>,
+    /// The last complete one.
+    last: Option<String>,
+}
+
+impl ErrorLines {
+    /// Passes on the lines of `bytes`, behind the name of the database.
+    fn push(&mut self, bytes: &[u8], database: &str) {
+        for &byte in bytes {
+            if byte != b'\n' {
+                self.line.push(byte);
+            }
+            if byte == b'\n' || self.line.len() == ERROR_LINE {
+                self.pass_on(database);
+            }
+        }
+    }
+
+    fn pass_on(&mut self, database: &str) {
+        let line = String::from_utf8_lossy(&self.line).into_owned();
+        self.line.clear();
+        if !line.is_empty() {
+            warn!("{database}: {line}");
+            self.last = Some(line);
+        }
+    }
+}
+
+#[cfg(test)]
+mod tests {
+    use super::*;
+
+    #[test]
+    fn lines_of_standard_error_are_bounded() {
+        let mut lines = ErrorLines::default();
+        lines.push(b"escrowd: the first\nescrowd: the sec", "shop");
+        assert_eq!(lines.last.as_deref(), Some("escrowd: the first"));
+        lines.push(b"ond\n\n", "shop");
+        assert_eq!(lines.last.as_deref(), Some("escrowd: the second"));
+        lines.push(&[b'x'; ERROR_LINE + 1], "shop");
+        assert_eq!(lines.last.as_ref().map(String::len), Some(ERROR_LINE));
+        assert_eq!(lines.line.len(), 1);
+    }
+
+    #[test]
+    fn a_session_is_free_only_behind_a_rollback() {
+        check_rolled_back(b"OK rolled back 0\n").unwrap();
+        assert_eq!(
+            check_rolled_back(b"ERR 12 line\n").unwrap_err().line,
+            "ERR 12 line"
+        );
+    }
+}

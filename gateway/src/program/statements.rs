@@ -1,0 +1,168 @@
+//! The statements on their way to a program.
+
+use std::io::{self, ErrorKind, Write};
+
+use super::sessions::{Number, SESSIONS};
+
+/// What the kernel takes from one write to a pipe whole or not at all (Linux's PIPE_BUF).
+const ATOMIC: usize = 4096;
+
+/// Statements that the pipe hasn't taken yet.
+///
+/// Each write has whole lines alone, and at most [`ATOMIC`] bytes. So a gateway that is killed leaves no part of a line
+/// in the pipe. The program would serve that part, and `WHERE id = 12` may be the beginning of `WHERE id = 123`.
+pub struct Statements {
+    prefixes: Vec<Vec<u8>>,
+    bytes: Vec<u8>,
+    written: usize,
+}
+
+impl Statements {
+    /// Returns an empty queue.
+    pub fn new() -> Statements {
+        let prefixes = (1..=SESSIONS).map(|number| format!("bank.{number}: ").into_bytes());
+        Statements {
+            prefixes: prefixes.collect(),
+            bytes: Vec::new(),
+            written: 0,
+        }
+    }
+
+    /// Adds a statement, which has no line feed.
+    pub fn push(&mut self, session: Number, statement: &[u8]) {
+        self.bytes
+            .extend_from_slice(&self.prefixes[session.place()]);
+        self.bytes.extend_from_slice(statement);
+        self.bytes.push(b'\n');
+    }
+
+    /// Returns whether the pipe has taken all.
+    pub fn is_empty(&self) -> bool {
+        self.bytes.is_empty()
+    }
+
+    /// Writes as much as `pipe` takes. Returns whether it took all.
+    ///
+    /// After an error other than that of a full pipe, the program reads nothing more.
+    pub fn write(&mut self, pipe: &mut impl Write) -> io::Result<bool> {
+        while self.written < self.bytes.len() {
+            match pipe.write(whole_lines(&self.bytes[self.written..])) {
+                Ok(count) => self.written += count,
+                Err(error) if error.kind() == ErrorKind::WouldBlock => return Ok(false),
+                Err(error) if error.kind() == ErrorKind::Interrupted => {}
+                Err(error) => return Err(error),
+            }
+        }
+        self.bytes.clear();
+        self.written = 0;
+        Ok(true)
+    }
+}
+
+/// Returns the lines at the front that one write takes whole.
+fn whole_lines(bytes: &[u8]) -> &[u8] {
+    if bytes.len() <= ATOMIC {
+        return bytes;
+    }
+    let end = bytes[..ATOMIC].iter().rposition(|&byte| byte == b'\n');
+    // A line that is longer than the limit would have to be cut; a connection makes none.
+    &bytes[..end.map_or(ATOMIC, |end| end + 1)]
+}
+
+#[cfg(test)]
+mod tests {
+    use super::super::sessions::{Holder, Sessions};
+    use super::*;
+
+    /// A pipe that takes each write whole, or refuses it.
+    struct Pipe {
+        writes: Vec<Vec<u8>>,
+        room: usize,
+    }
+
+    impl Write for Pipe {
+        fn write(&mut self, bytes: &[u8]) -> io::Result<usize> {
+            if bytes.len() > self.room {
+                return Err(ErrorKind::WouldBlock.into());
+            }
+            self.room -= bytes.len();
+            self.writes.push(bytes.to_vec());
+            Ok(bytes.len())
+        }
+
+        fn flush(&mut self) -> io::Result<()> {
+            Ok(())
+        }
+    }
+
+    fn numbers(count: usize) -> Vec<Number> {
+        let mut sessions = Sessions::new();
+        (0..count)
+            .map(|_| sessions.take(Holder::Gateway).unwrap())
+            .collect()
+    }
+
+    #[test]
+    fn statements_of_all_sessions_go_in_one_write() {
+        let numbers = numbers(SESSIONS);
+        let mut statements = Statements::new();
+        assert!(statements.is_empty());
+        statements.push(numbers[0], b"COMMIT");
+        statements.push(numbers[63], b"SHOW STATISTICS");
+        let mut pipe = Pipe {
+            writes: Vec::new(),
+            room: ATOMIC,
+        };
+        assert!(statements.write(&mut pipe).unwrap());
+        assert_eq!(
+            pipe.writes,
+            [b"bank.1: COMMIT\nbank.64: SHOW STATISTICS\n".to_vec()]
+        );
+        assert!(statements.is_empty());
+    }
+
+    #[test]
+    fn each_write_has_whole_lines_that_the_kernel_does_not_part() {
+        let numbers = numbers(SESSIONS);
+        let mut statements = Statements::new();
+        let longest = vec![b'x'; ATOMIC - b"bank.64: \n".len()];
+        let mut all = Vec::new();
+        for round in 0..300 {
+            let number = numbers[round % SESSIONS];
+            let text = &longest[..if round % 7 == 0 { longest.len() } else { round }];
+            statements.push(number, text);
+            all.extend_from_slice(format!("bank.{}: ", number.place() + 1).as_bytes());
+            all.extend_from_slice(text);
+            all.push(b'\n');
+        }
+        let mut pipe = Pipe {
+            writes: Vec::new(),
+            room: 3 * ATOMIC,
+        };
+        while !statements.write(&mut pipe).unwrap() {
+            assert!(!statements.is_empty());
+            pipe.room = 2 * ATOMIC;
+        }
+        for write in &pipe.writes {
+            assert!(write.len() <= ATOMIC && write.ends_with(b"\n") && write.starts_with(b"bank."));
+        }
+        assert_eq!(pipe.writes.concat(), all);
+    }
+
+    #[test]
+    fn a_broken_pipe_is_told() {
+        struct Broken;
+        impl Write for Broken {
+            fn write(&mut self, _: &[u8]) -> io::Result<usize> {
+                Err(ErrorKind::BrokenPipe.into())
+            }
+            fn flush(&mut self) -> io::Result<()> {
+                Ok(())
+            }
+        }
+        let mut statements = Statements::new();
+        statements.push(numbers(1)[0], b"COMMIT");
+        let error = statements.write(&mut Broken).unwrap_err();
+        assert_eq!(error.kind(), ErrorKind::BrokenPipe);
+    }
+}

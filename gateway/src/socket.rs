@@ -1,0 +1,315 @@
+//! The socket's file: how it is made, named and taken away.
+
+use std::fs::{self, DirBuilder, Permissions};
+use std::io::{self, ErrorKind};
+use std::os::unix::fs::{DirBuilderExt, FileTypeExt, MetadataExt, PermissionsExt};
+use std::os::unix::net::UnixListener;
+use std::path::{Path, PathBuf};
+
+use thiserror::Error;
+
+/// How often a name is tried that others give and take away at the same time.
+const ATTEMPTS: u32 = 100;
+
+/// Why the socket cannot be had.
+#[derive(Debug, Error)]
+pub enum SocketError {
+    /// A process accepts connections at this path.
+    #[error("another process answers at {}", .0.display())]
+    Answered(PathBuf),
+    /// The path has another kind of file.
+    #[error("{} exists and is no socket", .0.display())]
+    NoSocket(PathBuf),
+    /// The system refused it.
+    #[error("the socket {} cannot be made: {error}", path.display())]
+    System {
+        /// The path of the socket.
+        path: PathBuf,
+        /// What the system said.
+        error: io::Error,
+    },
+}
+
+/// A socket that listens. It is made in a private folder, so that nobody reaches it before it has its mode, and
+/// [`Socket::announce`] gives it its name.
+pub struct Socket {
+    path: PathBuf,
+    private: PrivateFolder,
+    identity: (u64, u64),
+    announced: bool,
+}
+
+impl Socket {
+    /// Makes the socket of this port, still without its name. It fails early if the name cannot be had.
+    pub fn bind(
+        folder: &Path,
+        port: u16,
+        mode: u32,
+    ) -> Result<(Socket, UnixListener), SocketError> {
+        let path = folder.join(format!(".s.PGSQL.{port}"));
+        let refused = |error| SocketError::System {
+            path: path.clone(),
+            error,
+        };
+        if name_is_taken(&path)? {
+            return Err(SocketError::Answered(path));
+        }
+        let private = PrivateFolder::make(folder).map_err(refused)?;
+        let place = private.socket();
+        let listener = UnixListener::bind(&place).map_err(refused)?;
+        fs::set_permissions(&place, Permissions::from_mode(mode)).map_err(refused)?;
+        listener.set_nonblocking(true).map_err(refused)?;
+        let identity = identity(&place).map_err(refused)?;
+        Ok((
+            Socket {
+                path,
+                private,
+                identity,
+                announced: false,
+            },
+            listener,
+        ))
+    }
+
+    /// Returns the path by which clients find it.
+    pub fn path(&self) -> &Path {
+        &self.path
+    }
+
+    /// Gives the socket its name, unless another process answers there. What a killed gateway left is taken away.
+    pub fn announce(&mut self) -> Result<(), SocketError> {
+        let refused = |error| SocketError::System {
+            path: self.path.clone(),
+            error,
+        };
+        for _ in 0..ATTEMPTS {
+            // A link never replaces a file, so that of two gateways only one has the name.
+            match fs::hard_link(self.private.socket(), &self.path) {
+                Ok(()) => {
+                    self.announced = true;
+                    self.private.remove();
+                    return Ok(());
+                }
+                Err(error) if error.kind() == ErrorKind::AlreadyExists => self.take_stale_away()?,
+                Err(error) => return Err(refused(error)),
+            }
+        }
+        Err(refused(ErrorKind::AlreadyExists.into()))
+    }
+
+    /// Frees the name, if nobody answers there.
+    fn take_stale_away(&self) -> Result<(), SocketError> {
+        if name_is_taken(&self.path)? {
+            return Err(SocketError::Answered(self.path.clone()));
+        }
+        // Another gateway may have taken the name meanwhile. So the file is moved to where nobody else looks, and
+        // judged there.
+        let aside = self.private.aside();
+        match fs::rename(&self.path, &aside) {
+            Ok(()) => {}
+            Err(error) if error.kind() == ErrorKind::NotFound => return Ok(()),
+            Err(error) => {
+                return Err(SocketError::System {
+                    path: self.path.clone(),
+                    error,
+                })
+            }
+        }
+        if name_is_taken(&aside)? {
+            // If this fails, yet another one has the name, and answers as well.
+            let _ = fs::hard_link(&aside, &self.path);
+            return Err(SocketError::Answered(self.path.clone()));
+        }
+        fs::remove_file(&aside).map_err(|error| SocketError::System {
+            path: self.path.clone(),
+            error,
+        })
+    }
+
+    /// Takes the name away, if it is still this socket's. Connections that are accepted stay.
+    pub fn withdraw(&mut self) {
+        if self.announced && matches!(identity(&self.path), Ok(found) if found == self.identity) {
+            // A file that stays is taken away by the next gateway.
+            let _ = fs::remove_file(&self.path);
+        }
+        self.announced = false;
+    }
+}
+
+impl Drop for Socket {
+    fn drop(&mut self) {
+        self.withdraw();
+    }
+}
+
+/// Returns whether a process accepts connections at `path`.
+fn name_is_taken(path: &Path) -> Result<bool, SocketError> {
+    match fs::symlink_metadata(path) {
+        Ok(found) if found.file_type().is_socket() => {}
+        Ok(_) => return Err(SocketError::NoSocket(path.to_owned())),
+        Err(error) if error.kind() == ErrorKind::NotFound => return Ok(false),
+        Err(error) => {
+            return Err(SocketError::System {
+                path: path.to_owned(),
+                error,
+            })
+        }
+    }
+    // The connection doesn't wait: a process that accepts nothing, with its queue full, answers too.
+    match mio::net::UnixStream::connect(path) {
+        Ok(_) => Ok(true),
+        Err(error) => match error.kind() {
+            ErrorKind::WouldBlock => Ok(true),
+            ErrorKind::ConnectionRefused | ErrorKind::NotFound => Ok(false),
+            _ => Err(SocketError::System {
+                path: path.to_owned(),
+                error,
+            }),
+        },
+    }
+}
+
+/// Returns what tells a file from all others.
+fn identity(path: &Path) -> io::Result<(u64, u64)> {
+    let found = fs::symlink_metadata(path)?;
+    Ok((found.dev(), found.ino()))
+}
+
+/// A folder that nobody else may enter.
+struct PrivateFolder {
+    path: PathBuf,
+}
+
+impl PrivateFolder {
+    /// Makes one in `folder`. Its path is as short as the socket's: the system allows some hundred bytes.
+    fn make(folder: &Path) -> io::Result<PrivateFolder> {
+        let mut taken = io::Error::from(ErrorKind::AlreadyExists);
+        for number in 0..ATTEMPTS {
+            let path = folder.join(format!(".{}.{}", std::process::id(), number));
+            match DirBuilder::new().mode(0o700).create(&path) {
+                Ok(()) => return Ok(PrivateFolder { path }),
+                Err(error) if error.kind() == ErrorKind::AlreadyExists => taken = error,
+                Err(error) => return Err(error),
+            }
+        }
+        Err(taken)
+    }
+
+    fn socket(&self) -> PathBuf {
+        self.path.join("s")
+    }
+
+    fn aside(&self) -> PathBuf {
+        self.path.join("t")
+    }
+
+    /// Takes the folder away. It is of no use any more, so nothing depends on whether that succeeds.
+    fn remove(&self) {
+        let _ = fs::remove_dir_all(&self.path);
+    }
+}
+
+impl Drop for PrivateFolder {
+    fn drop(&mut self) {
+        self.remove();
+    }
+}
+
+#[cfg(test)]
+mod tests {
+    use super::*;
+    use std::os::unix::net::UnixStream;
+
+    /// A folder that goes with its test.
+    struct Folder(PathBuf);
+
+    impl Folder {
+        fn new(name: &str) -> Folder {
+            let name = format!("escrowd-pg-{}-{}", std::process::id(), name);
+            let path = std::env::temp_dir().join(name);
+            fs::create_dir(&path).unwrap();
+            Folder(path)
+        }
+
+        fn entries(&self) -> usize {
+            fs::read_dir(&self.0).unwrap().count()
+        }
+    }
+
+    impl Drop for Folder {
+        fn drop(&mut self) {
+            let _ = fs::remove_dir_all(&self.0);
+        }
+    }
+
+    #[test]
+    fn a_socket_has_its_mode_and_answers() {
+        let folder = Folder::new("mode");
+        let (mut socket, listener) = Socket::bind(&folder.0, 5432, 0o640).unwrap();
+        let path = folder.0.join(".s.PGSQL.5432");
+        assert!(!path.exists());
+        socket.announce().unwrap();
+        assert_eq!(
+            fs::metadata(&path).unwrap().permissions().mode() & 0o7777,
+            0o640
+        );
+        let _client = UnixStream::connect(&path).unwrap();
+        listener.accept().unwrap();
+        assert_eq!(folder.entries(), 1);
+        drop(socket);
+        assert_eq!(folder.entries(), 0);
+    }
+
+    #[test]
+    fn a_stale_socket_is_taken_away() {
+        let folder = Folder::new("stale");
+        let path = folder.0.join(".s.PGSQL.1");
+        drop(UnixListener::bind(&path).unwrap());
+        assert!(path.exists());
+        let (mut socket, _listener) = Socket::bind(&folder.0, 1, 0o600).unwrap();
+        socket.announce().unwrap();
+        UnixStream::connect(&path).unwrap();
+        assert_eq!(folder.entries(), 1);
+    }
+
+    #[test]
+    fn a_socket_that_answers_is_not_taken() {
+        let folder = Folder::new("taken");
+        let path = folder.0.join(".s.PGSQL.2");
+        let (mut late, _late_listener) = Socket::bind(&folder.0, 2, 0o600).unwrap();
+        let other = UnixListener::bind(&path).unwrap();
+        assert!(matches!(
+            Socket::bind(&folder.0, 2, 0o600).map(|_| ()),
+            Err(SocketError::Answered(_))
+        ));
+        assert!(matches!(late.announce(), Err(SocketError::Answered(_))));
+        drop(late);
+        UnixStream::connect(&path).unwrap();
+        other.accept().unwrap();
+        assert_eq!(folder.entries(), 1);
+    }
+
+    #[test]
+    fn another_kind_of_file_stays() {
+        let folder = Folder::new("file");
+        let path = folder.0.join(".s.PGSQL.3");
+        fs::write(&path, "text").unwrap();
+        assert!(matches!(
+            Socket::bind(&folder.0, 3, 0o600).map(|_| ()),
+            Err(SocketError::NoSocket(_))
+        ));
+        assert_eq!(fs::read(&path).unwrap(), b"text");
+    }
+
+    #[test]
+    fn a_name_that_another_has_meanwhile_stays() {
+        let folder = Folder::new("other");
+        let path = folder.0.join(".s.PGSQL.4");
+        let (mut socket, _listener) = Socket::bind(&folder.0, 4, 0o600).unwrap();
+        socket.announce().unwrap();
+        fs::remove_file(&path).unwrap();
+        let _other = UnixListener::bind(&path).unwrap();
+        drop(socket);
+        UnixStream::connect(&path).unwrap();
+    }
+}

@@ -1,0 +1,269 @@
+//! Names and texts as they are meant, out of how they are written.
+
+use crate::sqlstate::{Failure, Report, SqlState};
+use crate::statement::lexer::{Token, TokenKind};
+
+/// The most bytes of a name, as in PostgreSQL. Longer ones are cut.
+pub const LONGEST_NAME: usize = 63;
+
+/// Returns a name as PostgreSQL means it: in lower case unless it is in quotes, and cut to 63 bytes.
+pub fn name(text: &str, token: &Token) -> String {
+    let written = token.text(text);
+    let mut name = if token.kind == TokenKind::QuotedName {
+        written[1..written.len() - 1].replace("\"\"", "\"")
+    } else {
+        written.to_ascii_lowercase()
+    };
+    if name.len() > LONGEST_NAME {
+        let mut end = LONGEST_NAME;
+        while !name.is_char_boundary(end) {
+            end -= 1;
+        }
+        name.truncate(end);
+    }
+    name
+}
+
+/// Returns the text that a text token means.
+///
+/// # Errors
+///
+/// Fails if an escape of `E'..'` is none, or stands for no character.
+pub fn text_value(text: &str, token: &Token) -> Result<String, Failure> {
+    let written = token.text(text);
+    match token.kind {
+        TokenKind::EscapedText => {
+            unescape(&written[2..written.len() - 1]).map_err(|report| report.at(token.start))
+        }
+        _ => Ok(written[1..written.len() - 1].replace("''", "'")),
+    }
+}
+
+fn unescape(written: &str) -> Result<String, Failure> {
+    let mut value = Vec::with_capacity(written.len());
+    let mut rest = written.bytes().peekable();
+    let mut surrogate = None;
+    while let Some(byte) = rest.next() {
+        if byte == b'\'' {
+            // The second of the two quotes that mean one.
+            rest.next();
+        }
+        if byte != b'\\' {
+            if surrogate.is_some() {
+                return Err(bad_surrogate());
+            }
+            value.push(byte);
+            continue;
+        }
+        let unit = match rest.next() {
+            Some(b'u') => hexadecimal(&mut rest, 4, 4)?,
+            Some(b'U') => hexadecimal(&mut rest, 8, 8)?,
+            other => {
+                if surrogate.is_some() {
+                    return Err(bad_surrogate());
+                }
+                value.push(escaped_byte(other, &mut rest)?);
+                continue;
+            }
+        };
+        let code = match (surrogate.take(), unit) {
+            (None, 0xd800..=0xdbff) => {
+                surrogate = Some(unit);
+                continue;
+            }
+            (Some(high), 0xdc00..=0xdfff) => 0x10000 + ((high - 0xd800) << 10) + (unit - 0xdc00),
+            (Some(_), _) | (None, 0xdc00..=0xdfff) => return Err(bad_surrogate()),
+            (None, unit) => unit,
+        };
+        let character = char::from_u32(code).filter(|&character| character != '\0');
+        let character = character
+            .ok_or_else(|| Report::error(SqlState::SYNTAX_ERROR, "invalid Unicode escape value"))?;
+        value.extend_from_slice(character.encode_utf8(&mut [0; 4]).as_bytes());
+    }
+    if surrogate.is_some() {
+        return Err(bad_surrogate());
+    }
+    String::from_utf8(value).map_err(|error| not_utf8(error.as_bytes()))
+}
+
+fn escaped_byte(
+    escape: Option<u8>,
+    rest: &mut std::iter::Peekable<std::str::Bytes<'_>>,
+) -> Result<u8, Failure> {
+    Ok(match escape {
+        Some(b'b') => 0x08,
+        Some(b'f') => 0x0c,
+        Some(b'n') => b'\n',
+        Some(b'r') => b'\r',
+        Some(b't') => b'\t',
+        Some(b'v') => 0x0b,
+        Some(b'x') if rest.peek().map_or(false, u8::is_ascii_hexdigit) => {
+            hexadecimal(rest, 1, 2)? as u8
+        }
+        Some(first @ b'0'..=b'7') => {
+            let mut number = u32::from(first - b'0');
+            for _ in 0..2 {
+                match rest.peek() {
+                    Some(&digit @ b'0'..=b'7') => {
+                        number = number * 8 + u32::from(digit - b'0');
+                        rest.next();
+                    }
+                    _ => break,
+                }
+            }
+            number as u8
+        }
+        Some(other) => other,
+        None => b'\\',
+    })
+}
+
+fn hexadecimal(
+    rest: &mut std::iter::Peekable<std::str::Bytes<'_>>,
+    least: usize,
+    most: usize,
+) -> Result<u32, Failure> {
+    let mut number = 0;
+    for count in 0..most {
+        match rest
+            .peek()
+            .and_then(|&digit| char::from(digit).to_digit(16))
+        {
+            Some(digit) => {
+                number = number << 4 | digit;
+                rest.next();
+            }
+            None if count >= least => break,
+            None => {
+                return Err(Report::error(
+                    SqlState::CHARACTER_NOT_IN_REPERTOIRE,
+                    "invalid Unicode escape",
+                )
+                .hint("Unicode escapes must be \\uXXXX or \\UXXXXXXXX."));
+            }
+        }
+    }
+    Ok(number)
+}
+
+fn bad_surrogate() -> Failure {
+    Report::error(SqlState::SYNTAX_ERROR, "invalid Unicode surrogate pair")
+}
+
+/// Makes the report of bytes that are no UTF-8.
+pub fn not_utf8(bytes: &[u8]) -> Failure {
+    let start = std::str::from_utf8(bytes).map_or_else(|error| error.valid_up_to(), str::len);
+    let wrong: Vec<String> = bytes[start..]
+        .iter()
+        .take(3)
+        .map(|byte| format!("0x{:02x}", byte))
+        .collect();
+    Report::error(
+        SqlState::CHARACTER_NOT_IN_REPERTOIRE,
+        format!(
+            "invalid byte sequence for encoding \"UTF8\": {}",
+            wrong.join(" ")
+        ),
+    )
+}
+
+/// Appends a text as a literal of the program: in quotes, with each quote twice.
+///
+/// # Errors
+///
+/// Fails if it has a control character, which the program doesn't keep.
+pub fn append_text(out: &mut Vec<u8>, value: &str) -> Result<(), Failure> {
+    out.push(b'\'');
+    for byte in value.bytes() {
+        if byte < 0x20 || byte == 0x7f {
+            return Err(Report::error(
+                SqlState::CHARACTER_NOT_IN_REPERTOIRE,
+                format!("a text has the control character 0x{:02x}", byte),
+            )
+            .detail("Texts are kept without control characters (0 to 31 and 127)."));
+        }
+        if byte == b'\'' {
+            out.push(b'\'');
+        }
+        out.push(byte);
+    }
+    out.push(b'\'');
+    Ok(())
+}
+
+#[cfg(test)]
+mod tests {
+    use super::*;
+    use crate::statement::lexer::next_statement;
+
+    fn first(text: &str) -> Token {
+        let (mut at, mut tokens) = (0, Vec::new());
+        next_statement(text, &mut at, &mut tokens).unwrap();
+        tokens[0]
+    }
+
+    fn value(text: &str) -> Result<String, Failure> {
+        text_value(text, &first(text))
+    }
+
+    #[test]
+    fn names_are_folded_unless_quoted_and_cut_to_63_bytes() {
+        let name = |text: &str| name(text, &first(text));
+        assert_eq!(name("Account"), "account");
+        assert_eq!(name("\"Account \"\"x\"\"\""), "Account \"x\"");
+        assert_eq!(name(&"a".repeat(70)), "a".repeat(63));
+        assert_eq!(
+            name(&format!("\"{}\"", "\u{e4}".repeat(40))),
+            "\u{e4}".repeat(31)
+        );
+    }
+
+    #[test]
+    fn reads_texts_and_escapes_as_postgresql_does() {
+        assert_eq!(value("'it''s \\n'").unwrap(), "it's \\n");
+        assert_eq!(
+            value("E'it''s \\'x\\' \\\\ \\t\\x41\\102\\q'").unwrap(),
+            "it's 'x' \\ \tABq"
+        );
+        assert_eq!(
+            value("E'\\u00e4\\U0001F600\\ud83d\\ude00'").unwrap(),
+            "\u{e4}\u{1f600}\u{1f600}"
+        );
+        assert_eq!(value("e'\\xc3\\xa4'").unwrap(), "\u{e4}");
+    }
+
+    #[test]
+    fn refuses_escapes_that_stand_for_nothing() {
+        assert_eq!(
+            value("E'\\ud83d'").unwrap_err().state,
+            SqlState::SYNTAX_ERROR
+        );
+        assert_eq!(
+            value("E'\\ud83dx'").unwrap_err().state,
+            SqlState::SYNTAX_ERROR
+        );
+        assert_eq!(
+            value("E'\\u00'").unwrap_err().state,
+            SqlState::CHARACTER_NOT_IN_REPERTOIRE
+        );
+        let report = value("E'\\xff'").unwrap_err();
+        assert_eq!(report.state, SqlState::CHARACTER_NOT_IN_REPERTOIRE);
+        assert_eq!(
+            report.message,
+            "invalid byte sequence for encoding \"UTF8\": 0xff"
+        );
+    }
+
+    #[test]
+    fn writes_texts_for_the_program() {
+        let mut out = Vec::new();
+        append_text(&mut out, "it's \u{e4} | \\").unwrap();
+        assert_eq!(out, "'it''s \u{e4} | \\'".as_bytes());
+        for control in ["a\nb", "\0", "\u{7f}", "\t"] {
+            assert_eq!(
+                append_text(&mut Vec::new(), control).unwrap_err().state,
+                SqlState::CHARACTER_NOT_IN_REPERTOIRE
+            );
+        }
+    }
+}

@@ -1,0 +1,21 @@
+# Completion for bash.
+_escrowd_pg() {
+    local word=${COMP_WORDS[COMP_CWORD]} before=${COMP_WORDS[COMP_CWORD - 1]}
+    COMPREPLY=()
+    case $before in
+        --listen)
+            compopt -o filenames
+            mapfile -t COMPREPLY < <(compgen -d -- "$word")
+            ;;
+        --program | --metrics)
+            compopt -o filenames
+            mapfile -t COMPREPLY < <(compgen -f -- "$word")
+            ;;
+        --database | --port | --mode | --idle-in-transaction-timeout) ;;
+        *)
+            mapfile -t COMPREPLY < <(compgen -W "--listen --port --mode --database --program
+                --idle-in-transaction-timeout --metrics --help --version" -- "$word")
+            ;;
+    esac
+}
+complete -F _escrowd_pg escrowd-pg
