@@ -1,6 +1,5 @@
 """The built programs that tools/scenarios and tools/test-program start."""
 import os
-import subprocess
 from typing import List, Sequence
 
 TOP = os.path.dirname(os.path.dirname(os.path.dirname(os.path.abspath(__file__))))
@@ -20,9 +19,3 @@ def programs(asked: Sequence[str]) -> List[str]:
         if not os.access(path, os.X_OK):
             raise Missing(f"{os.path.relpath(path)} isn't built: `rt run -- --help` in crates/escrowd builds the program, and so does the gate")
     return paths
-
-
-def has_mode(path: str, mode: str) -> bool:
-    """Whether a program has a mode: it then serves nothing, and ends with status 0."""
-    silent = subprocess.DEVNULL
-    return subprocess.run([path, mode], stdin=silent, stdout=silent, stderr=silent, check=False).returncode == 0

@@ -2,7 +2,7 @@
 from typing import Iterator, List, NamedTuple, Optional, Sequence
 
 from process import Case, Input, Output, Word
-from texts import DATABASES, FOLDER_INPUT, NOT_UTF8, READ, Reason, Texts
+from texts import BAD_MODE, CLOSED_INPUT, DATABASES, FOLDER_INPUT, MODES, NOT_UTF8, READ, Reason, unanswered, unprinted
 
 SCRIPT = "bank.1: COMMIT\nbank2.1: COMMIT\nbank3.1: COMMIT\n"
 ONE_OF_THREE = "bank.1> OK committed 0\nscript> ERR 12 line\nscript> ERR 12 line\n"
@@ -114,13 +114,13 @@ BAD_NUMBERS = ["0", "17", "x", "", "-1", "1.0", " 2", "256", "184467440737095516
 EMPTY_PATH = "escrowd: the store of bank, ``, can't be opened: a path may not be empty, nor be `:memory:`, nor begin with `file:`\n"
 
 
-def bad_cases(texts: Texts) -> Iterator[Case]:
+def bad_cases() -> Iterator[Case]:
     """Command lines that are refused."""
     for words, line in BAD:
         yield Case("bad words", words, SCRIPT, first_line=line, status=2, reads=False, files=())
     for word in ("walk", "FREE", ""):
-        yield Case("bad mode", (word,), SCRIPT, errors=texts.bad_mode, status=2, reads=False)
-    for mode in texts.modes:
+        yield Case("bad mode", (word,), SCRIPT, errors=BAD_MODE, status=2, reads=False)
+    for mode in MODES:
         for number in BAD_NUMBERS:
             yield Case("bad number", (mode, f"--databases={number}"), SCRIPT, errors=DATABASES, status=2, reads=False, files=())
     yield Case("no UTF-8", ("run", b"\xff"), SCRIPT, errors=NOT_UTF8, status=2, reads=False)
@@ -128,16 +128,16 @@ def bad_cases(texts: Texts) -> Iterator[Case]:
         yield Case("empty path", ("run", *path), SCRIPT, errors=EMPTY_PATH, status=3, reads=False, files=())
 
 
-def help_cases(texts: Texts) -> Iterator[Case]:
+def help_cases() -> Iterator[Case]:
     """Help reads nothing. Standard output takes its first bytes alone."""
     for words in (("--help",), ("-h",), ("run", "--help")):
-        yield Case("help", words, SCRIPT, HELP, texts.unprinted(Reason.LARGE), status=int(texts.has_serve), reads=False, room=len(HELP))
+        yield Case("help", words, SCRIPT, HELP, unprinted(Reason.LARGE), status=1, reads=False, room=len(HELP))
 
 
-def unread_cases(texts: Texts) -> Iterator[Case]:
+def unread_cases() -> Iterator[Case]:
     """Standard input that can't be read, where standard error takes the text or doesn't. What had come whole is answered before."""
-    for mode in texts.modes:
-        for kind, text in ((Input.FAILING, READ), (Input.CLOSED, texts.closed_input), (Input.FOLDER, FOLDER_INPUT)):
+    for mode in MODES:
+        for kind, text in ((Input.FAILING, READ), (Input.CLOSED, CLOSED_INPUT), (Input.FOLDER, FOLDER_INPUT)):
             yield Case("unread", (mode,), errors=text, status=1, stdin=kind)
             yield Case("unread, over a full device", (mode,), status=1, stdin=kind, stderr=Output.FULL)
             yield Case("unread, and nowhere to say so", (mode,), status=1, stdin=kind, stderr=Output.CLOSED)
@@ -145,15 +145,15 @@ def unread_cases(texts: Texts) -> Iterator[Case]:
     yield Case("unread behind a phase", ("free",), f"{ONE}@join\nbank.2: ROLLBACK\n", COMMITTED, READ, status=1, stdin=Input.FAILING)
 
 
-def unwritten_cases(texts: Texts) -> Iterator[Case]:
+def unwritten_cases() -> Iterator[Case]:
     """Standard output that doesn't take the replies: none of them, or a part. Where there are none it isn't looked at."""
-    for mode in texts.modes:
+    for mode in MODES:
         for kind, reason in ((Output.FULL, Reason.FULL), (Output.CLOSED, Reason.CLOSED), (Output.BROKEN, Reason.BROKEN)):
-            yield Case("unwritten", (mode,), "bank.1: COMMIT", errors=texts.unwritten(reason), status=1, stdout=kind)
+            yield Case("unwritten", (mode,), "bank.1: COMMIT", errors=unanswered(reason), status=1, stdout=kind)
             yield Case("unwritten, and nowhere to say so", (mode,), "bank.1: COMMIT", status=1, stdout=kind, stderr=Output.CLOSED)
             yield Case("no replies", (mode,), "-- nothing is answered\n", stdout=kind, reads=True)
         for room in (0, 1, 12, 22):
-            yield Case("unwritten from a byte on", (mode,), ONE, COMMITTED[:room], texts.unwritten(Reason.LARGE), status=1, room=room)
+            yield Case("unwritten from a byte on", (mode,), ONE, COMMITTED[:room], unanswered(Reason.LARGE), status=1, room=room)
         yield Case("written to the last byte", (mode,), ONE, COMMITTED, room=23, reads=True)
 
 
@@ -173,8 +173,8 @@ TYPED = [
 ]
 
 
-def cases(texts: Texts) -> List[Case]:
+def cases() -> List[Case]:
     """All runs of command lines and streams."""
-    typed = [Case("typed", (mode,), *both, stdin=Input.TERMINAL) for mode in texts.modes for both in TYPED]
-    wrong = [*bad_cases(texts), *unread_cases(texts), *unwritten_cases(texts), *refused_in_silence()]
-    return [*SERVED, *map(good_case, GOOD), *help_cases(texts), *typed, *wrong]
+    typed = [Case("typed", (mode,), *both, stdin=Input.TERMINAL) for mode in MODES for both in TYPED]
+    wrong = [*bad_cases(), *unread_cases(), *unwritten_cases(), *refused_in_silence()]
+    return [*SERVED, *map(good_case, GOOD), *help_cases(), *typed, *wrong]

@@ -54,10 +54,9 @@ class Output(enum.Enum):
 
 
 class Program(NamedTuple):
-    """A program to test: its path, whether it has the mode `serve`, and whether nobody is to run it."""
+    """A program to test: its path, and whether nobody is to run it."""
 
     path: str
-    has_serve: bool
     is_nobody: bool = False
 
     def command(self, words: Sequence[Word], shell: str) -> List[Word]:

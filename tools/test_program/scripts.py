@@ -20,7 +20,7 @@ NEEDED = ("sh", "readlink", "dirname", "sed", "nproc", "find", "python3")
 
 def names_no_program(_program: Program, folder: str) -> None:
     """ESCROWD names a program that isn't there."""
-    check(Program(f"{TOP}/escrowd", True), Case("", ("run",), errors=NAMES_NONE, status=1, reads=False, variables={**os.environ, "ESCROWD": "nope"}), folder)
+    check(Program(f"{TOP}/escrowd"), Case("", ("run",), errors=NAMES_NONE, status=1, reads=False, variables={**os.environ, "ESCROWD": "nope"}), folder)
 
 
 def has_no_kit(_program: Program, folder: str) -> None:
@@ -31,14 +31,14 @@ def has_no_kit(_program: Program, folder: str) -> None:
     os.mkdir(f"{folder}/crates")
     shutil.copy(f"{TOP}/crates.txt", folder)
     shutil.copy(f"{TOP}/escrowd", folder)
-    check(Program(f"{folder}/escrowd", True), Case("", ("run",), errors=NOT_BUILT, status=1, reads=False, variables={"PATH": f"{folder}/bin"}), folder)
+    check(Program(f"{folder}/escrowd"), Case("", ("run",), errors=NOT_BUILT, status=1, reads=False, variables={"PATH": f"{folder}/bin"}), folder)
 
 
 def dumps_no_store(program: Program, folder: str) -> None:
     """A file that is no database is told apart from a database that is no store; an empty file is a store without tables."""
     import sqlite3
 
-    dump = Program(f"{TOP}/tools/dump", True)
+    dump = Program(f"{TOP}/tools/dump")
     Write("letter.txt", "this is no database, but a letter of some length\n").take(program, folder)
     Write("empty.db", "").take(program, folder)
     with contextlib.closing(sqlite3.connect(f"{folder}/other.db")) as other, other:

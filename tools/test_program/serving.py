@@ -2,7 +2,7 @@
 from lines import COMMITTED, ONE, SCRIPT, Good, good_case
 from longest import MOST_BYTES
 from process import Case, Input, Output, Program, Stage, compare
-from texts import Reason, Texts
+from texts import BAD_MODE, Reason, unprinted
 
 VERSION = "escrowd 1.1\n"
 TOO_MANY = """escrowd: unexpected argument '{}' found
@@ -23,16 +23,14 @@ For more information, try '--help'.
 """
 # A line that is longer than a whole script of `run` may be.
 DASHES = "-" * (MOST_BYTES - len("bank.1: COMMIT\n@join\n") + 1)
-TEXTS = Texts(has_serve=True)
-
 SERVING_CASES = [
     Case("version", ("--version",), SCRIPT, VERSION, reads=False),
     Case("version", ("-V",), SCRIPT, VERSION, reads=False),
     Case("version", ("run", "-V"), SCRIPT, VERSION, reads=False),
-    Case("version unwritten", ("--version",), errors=TEXTS.unprinted(Reason.FULL), status=1, stdout=Output.FULL),
-    Case("help unwritten", ("--help",), errors=TEXTS.unprinted(Reason.FULL), status=1, stdout=Output.FULL),
-    Case("help unwritten", ("--help",), errors=TEXTS.unprinted(Reason.CLOSED), status=1, stdout=Output.CLOSED),
-    Case("bad mode", ("SERVE",), SCRIPT, errors=TEXTS.bad_mode, status=2, reads=False),
+    Case("version unwritten", ("--version",), errors=unprinted(Reason.FULL), status=1, stdout=Output.FULL),
+    Case("help unwritten", ("--help",), errors=unprinted(Reason.FULL), status=1, stdout=Output.FULL),
+    Case("help unwritten", ("--help",), errors=unprinted(Reason.CLOSED), status=1, stdout=Output.CLOSED),
+    Case("bad mode", ("SERVE",), SCRIPT, errors=BAD_MODE, status=2, reads=False),
     Case("a word too many", ("run", "bank.script"), SCRIPT, errors=TOO_MANY.format("bank.script"), status=2, reads=False),
     Case("a word too many", ("serve", "run"), SCRIPT, errors=TOO_MANY.format("run"), status=2, reads=False),
     Case("a word too many", ("serve", "1"), SCRIPT, errors=TOO_MANY.format("1"), status=2, reads=False),

@@ -5,7 +5,7 @@ import stat
 from typing import NamedTuple, Sequence, Tuple, Union
 
 from process import NOBODY, Case, Input, Output, Program, Stage, Word, check, compare, expect
-from texts import Texts
+from texts import MODES
 
 # A script and its replies.
 Talk = Tuple[str, str]
@@ -129,7 +129,7 @@ class Refuse(NamedTuple):
 
     def take(self, program: Program, at: str) -> None:
         errors = f"escrowd: the store of bank, `{self.path}`, can't be opened: {self.cause}\n"
-        for mode in Texts(program.has_serve).modes:
+        for mode in MODES:
             check(program, Case("", (mode, "--store", self.path), "bank.1: COMMIT\n", errors=errors, status=3, reads=False), at)
 
 

@@ -6,7 +6,7 @@ from typing import List
 
 from process import Case, Input, Output
 from steps import Copy, Folder, Hold, Link, Meanwhile, Mode, Patch, Pipe, Refuse, Rename, Rights, Run, Same, Serve, Stand, Step, Story, Talk, Write
-from texts import FOREIGN, NO_FILE, READ, Reason, Texts
+from texts import CLOSED_INPUT, FOREIGN, LOST_LINK, MISSING_FOLDER, MODES, NO_FILE, READ, Reason, unanswered
 
 TOP = os.path.dirname(os.path.dirname(os.path.dirname(os.path.abspath(__file__))))
 
@@ -52,7 +52,7 @@ def store(name: str, mode: str = "run") -> List[str]:
     return [mode, "--store", f"stores/{name}"]
 
 
-def paths(texts: Texts) -> Story:
+def paths() -> Story:
     """A path that doesn't exist is made, and an empty file is a store without tables. At the end each is one file. Where no store is opened, nothing is
     read, nothing written, and nothing made."""
     return Story("paths", [
@@ -76,7 +76,7 @@ def paths(texts: Texts) -> Story:
         Refuse(":memory:", WORD),
         Refuse("file:bank.db", WORD),
         Refuse("stores/folder.db", NO_FILE),
-        Refuse("stores/nowhere/bank.db", texts.no_folder),
+        Refuse("stores/nowhere/bank.db", MISSING_FOLDER),
         Refuse("stores/note.db/bank.db", NO_FOLDER),
         Refuse("stores/note.db", FOREIGN),
         Refuse("stores/byte.db", FOREIGN),
@@ -128,7 +128,7 @@ STORES_OF_OTHERS = Story("stores of others", [
     Stand("stores", ["newer", "newer.db", "other", "other.db"]),
 ])
 
-def names(texts: Texts) -> Story:
+def names() -> Story:
     """A file of several names is refused, under each of them, and so are pipes, devices, and links that lead nowhere. A link that leads to a store opens it:
     its log stands beside the store, and not beside the link."""
     return Story("names of a file", [
@@ -144,7 +144,7 @@ def names(texts: Texts) -> Story:
         Stand("stores", ["bank.db", "link.db"]),
         Serve(BANK, SHOWN),
         Link("stores/gone.db", "stores/lost.db", True),
-        Refuse("stores/lost.db", texts.lost_link),
+        Refuse("stores/lost.db", LOST_LINK),
         Pipe("stores/pipe.db"),
         Refuse("stores/pipe.db", NO_FILE),
         Refuse("/dev/null", NO_FILE),
@@ -297,7 +297,7 @@ SUPERUSER = Story("superuser", [
 ])
 
 
-def one_file_at_rest(texts: Texts) -> Story:
+def one_file_at_rest() -> Story:
     """A store that was closed opens alone: a copy of its one file has its rows. A fault closes the store too."""
     return Story("one file at rest", [
         Folder("stores"),
@@ -305,30 +305,30 @@ def one_file_at_rest(texts: Texts) -> Story:
         Stand("stores", ["bank.db"]),
         Copy("stores/bank.db", "stores/copy.db"),
         Serve(store("copy.db"), AS_MADE),
-        Run(Case("", BANK, ADD[0], errors=texts.unwritten(Reason.FULL), status=1, stdout=Output.FULL)),
+        Run(Case("", BANK, ADD[0], errors=unanswered(Reason.FULL), status=1, stdout=Output.FULL)),
         Stand("stores", ["bank.db", "copy.db"]),
     ])
 
 
-def closed_streams(texts: Texts) -> Story:
+def closed_streams() -> Story:
     """Where a standard stream is closed, no file of a store comes in its place: the store stays as it was."""
     return Story("closed streams", [
         Folder("stores"),
         Serve(BANK, MADE),
-        Run(Case("", BANK, stdin=Input.CLOSED, errors=texts.closed_input, status=1)),
-        Run(Case("", BANK, "bank.1: ROLLBACK\n", stdout=Output.CLOSED, errors=texts.unwritten(Reason.CLOSED), status=1)),
+        Run(Case("", BANK, stdin=Input.CLOSED, errors=CLOSED_INPUT, status=1)),
+        Run(Case("", BANK, "bank.1: ROLLBACK\n", stdout=Output.CLOSED, errors=unanswered(Reason.CLOSED), status=1)),
         Run(Case("", BANK, "bank.1: COMIT\n", "bank.1> ERR 11 syntax column 2\n", stderr=Output.CLOSED, reads=True)),
         Stand("stores", ["bank.db"]),
         Serve(BANK, AS_MADE),
     ])
 
 
-def stopped(texts: Texts) -> Story:
+def stopped() -> Story:
     """Where sessions at the same time aren't served to the end, what they committed is in two files a store. The next run finds it, whatever its mode, and
     leaves one file."""
     # What it leaves is committed but for a reservation, and it isn't served to its end.
     cut_off = Run(Case("", FREE_TWO, f"{MADE[0]}@join\nbank2.1: COMMIT\n", MADE[1], READ, status=1, stdin=Input.FAILING))
-    unwritten = Run(Case("", FREE_TWO, ADD[0], errors=texts.unwritten(Reason.FULL), status=1, stdout=Output.FULL))
+    unwritten = Run(Case("", FREE_TWO, ADD[0], errors=unanswered(Reason.FULL), status=1, stdout=Output.FULL))
     return Story("stopped", [
         Folder("stores"),
         cut_off,
@@ -361,18 +361,18 @@ def unclosed(mode: str) -> Story:
     ])
 
 
-def unclosed_and_unwritten(texts: Texts) -> Story:
+def unclosed_and_unwritten() -> Story:
     """Behind a fault a store that can't be closed is reported too, and the status stays 1."""
-    errors = texts.unwritten(Reason.FULL) + UNCLOSED
+    errors = unanswered(Reason.FULL) + UNCLOSED
     return Story("unclosed and unwritten", [
         Folder("stores"),
         Meanwhile(BANK, NOTHING, [Write("stores/bank.db-wal", "")], (COMMIT[0], ""), errors, 1, Output.FULL),
     ])
 
 
-def stories(texts: Texts) -> List[Story]:
+def stories() -> List[Story]:
     """All stories."""
-    by_mode = [story(mode) for story in (copied_while_open, in_use, unclosed) for mode in texts.modes]
-    by_modes = [two_modes(*modes) for modes in itertools.permutations(texts.modes, 2)]
-    return [paths(texts), SEVERAL_DATABASES, STORES_OF_OTHERS, names(texts), MOVED_WITH_ITS_LOG, MOVED_WHILE_OPEN, KILLED, MIGRATIONS, WITHOUT_RIGHTS, *by_mode, *by_modes,
-            one_file_at_rest(texts), closed_streams(texts), stopped(texts), unclosed_and_unwritten(texts)]
+    by_mode = [story(mode) for story in (copied_while_open, in_use, unclosed) for mode in MODES]
+    by_modes = [two_modes(*modes) for modes in itertools.permutations(MODES, 2)]
+    return [paths(), SEVERAL_DATABASES, STORES_OF_OTHERS, names(), MOVED_WITH_ITS_LOG, MOVED_WHILE_OPEN, KILLED, MIGRATIONS, WITHOUT_RIGHTS, *by_mode, *by_modes,
+            one_file_at_rest(), closed_streams(), stopped(), unclosed_and_unwritten()]

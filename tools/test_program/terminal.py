@@ -40,7 +40,7 @@ def expect_drawn(shown: str, lines: Sequence[str]) -> None:
 
 def draws(program: Program, folder: str) -> None:
     """`free` draws how far a phase is, and erases it; `run` draws nothing."""
-    head = [rf"phase 1: \d+ of {STATEMENTS} statements"] if program.has_serve else []
+    head = [rf"phase 1: \d+ of {STATEMENTS} statements"]
     expect_drawn(sent(program, "free", 2, ASKED, folder, XTERM), [*head, IDLE, BUSY])
     compare("what `run` sent", "", sent(program, "run", 2, ASKED[:260_000], folder, XTERM))
 

@@ -1,6 +1,7 @@
-"""Texts of the program that more than one table has, and those that depend on whether it has the mode `serve`."""
+"""The modes of the program, and its texts that more than one table has."""
 import enum
-from typing import NamedTuple, Tuple
+
+MODES = ("run", "free", "serve")
 
 READ = "escrowd: the script can't be read: Input/output error (os error 5)\n"
 FOLDER_INPUT = "escrowd: the script can't be read: standard input is a folder\n"
@@ -8,6 +9,10 @@ TOO_LONG = "escrowd: the script can't be read: it is longer than 16777216 bytes\
 NOT_UTF8 = "escrowd: the arguments have to be UTF-8\n"
 NO_FILE = "it is no plain file, or it has several names"
 FOREIGN = "it is no store of escrowd's: something else is in it, or it was damaged"
+CLOSED_INPUT = "escrowd: the script can't be read: standard input is closed or isn't open for reading\n"
+BAD_MODE = "escrowd: the mode has to be `run`, `free` or `serve`\n"
+MISSING_FOLDER = "its folder doesn't exist"
+LOST_LINK = "it is a link to a file that doesn't exist"
 DATABASES = "escrowd: --databases has to be a number from 1 to 16\n"
 
 
@@ -20,41 +25,11 @@ class Reason(enum.Enum):
     CLOSED = "standard output is closed or isn't open for writing"
 
 
-class Texts(NamedTuple):
-    """The modes and the texts of a program."""
+def unanswered(reason: Reason) -> str:
+    """What is said if a reply can't be written."""
+    return f"escrowd: a reply can't be written: {reason.value}\n"
 
-    has_serve: bool
 
-    @property
-    def modes(self) -> Tuple[str, ...]:
-        """The modes."""
-        return ("run", "free", "serve") if self.has_serve else ("run", "free")
-
-    @property
-    def bad_mode(self) -> str:
-        """What is said of another mode."""
-        return f"escrowd: the mode has to be {'`run`, `free` or `serve`' if self.has_serve else '`run` or `free`'}\n"
-
-    @property
-    def closed_input(self) -> str:
-        """What is said of standard input that is closed."""
-        more = " or isn't open for reading" if self.has_serve else ""
-        return f"escrowd: the script can't be read: standard input is closed{more}\n"
-
-    @property
-    def no_folder(self) -> str:
-        """Why a store isn't opened whose folder isn't there."""
-        return "its folder doesn't exist" if self.has_serve else "No such file or directory (os error 2)"
-
-    @property
-    def lost_link(self) -> str:
-        """Why a store isn't opened at a link that leads nowhere."""
-        return "it is a link to a file that doesn't exist" if self.has_serve else NO_FILE
-
-    def unwritten(self, reason: Reason) -> str:
-        """What is said where a reply can't be written."""
-        return f"escrowd: a reply can't be written{f': {reason.value}' if self.has_serve else ''}\n"
-
-    def unprinted(self, reason: Reason) -> str:
-        """What is said where a text that was asked for can't be written."""
-        return f"escrowd: the text can't be written: {reason.value}\n" if self.has_serve else ""
+def unprinted(reason: Reason) -> str:
+    """What is said if a text that was asked for can't be written."""
+    return f"escrowd: the text can't be written: {reason.value}\n"
