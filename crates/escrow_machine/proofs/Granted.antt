@@ -1,6 +1,7 @@
 -- What the grant rule gives: with the new reservation, each choice of the open ones meets the checks.
 use Rattle.std.specs.Prelude.{◌≡◌, ℤ, List, None}
 use Rattle.std.specs.List.{AllByRecursion}
+use Rattle.std.proofs.Common.{refl, subst}
 use Rattle.std.proofs.lemmas.List.Elements.{recursion_from_All, All-from_recursion}
 use Rattle.escrow_checks.specs.declared.check.Check.{Check}
 use Rattle.escrow_checks.specs.Form.{changed, all_changed}
@@ -20,14 +21,25 @@ granted_meets checks amounts changes reservations chosen granted choice =
     let Met : List (List ℤ) → Type 0 = λ c. Meets check (all_changed (changed amounts changes) c) in
     all_choices Met reservations (recursion_from_All Met (sublists reservations) (all_has Always checks always check h)) chosen choice)
 
--- and so does a new one with fewer open ones, which breaks nothing either
+-- and so does a new one of other amounts with other open ones, each choice of which comes to what some choice came to:
+-- it breaks nothing either
+pub moved_grant : (checks : List Check) (amounts moved changes : List ℤ) (reservations left : List (List ℤ)) → broken checks amounts changes reservations ≡ None
+    → ((chosen : List (List ℤ)) → IsChoice left chosen
+    → (whole : List (List ℤ)) × IsChoice reservations whole × (all_changed (changed amounts changes) whole ≡ all_changed (changed moved changes) chosen))
+    → broken checks moved changes left ≡ None
+moved_grant checks amounts moved changes reservations left granted choices =
+    let Always : Check → Type 0 = λ check. AlwaysMeets check (changed moved changes) left in
+    (granted_where_all_always_met checks moved changes left).1
+    (All-from_recursion Always checks (has_all Always checks (λ check h.
+    let Met : List (List ℤ) → Type 0 = λ c. Meets check (all_changed (changed moved changes) c) in
+    All-from_recursion Met (sublists left) (choices_all Met left (λ chosen choice.
+    let was = choices chosen choice in
+    subst (λ (zs : List ℤ). Meets check zs) was.2
+    (all_has (λ k. Meets k (all_changed (changed amounts changes) was.0)) checks
+    (granted_meets checks amounts changes reservations was.0 granted was.1) check h))))))
+
+-- so it is with fewer open ones
 pub fewer_grant : (checks : List Check) (amounts changes : List ℤ) (reservations fewer : List (List ℤ)) → broken checks amounts changes reservations ≡ None
     → ((chosen : List (List ℤ)) → IsChoice fewer chosen → IsChoice reservations chosen) → broken checks amounts changes fewer ≡ None
 fewer_grant checks amounts changes reservations fewer granted choices =
-    let Always : Check → Type 0 = λ check. AlwaysMeets check (changed amounts changes) fewer in
-    (granted_where_all_always_met checks amounts changes fewer).1
-    (All-from_recursion Always checks (has_all Always checks (λ check h.
-    let Met : List (List ℤ) → Type 0 = λ c. Meets check (all_changed (changed amounts changes) c) in
-    All-from_recursion Met (sublists fewer) (choices_all Met fewer (λ chosen choice.
-    all_has (λ k. Meets k (all_changed (changed amounts changes) chosen)) checks
-    (granted_meets checks amounts changes reservations chosen granted (choices chosen choice)) check h)))))
+    moved_grant checks amounts amounts changes reservations fewer granted (λ chosen choice. (chosen, choices chosen choice, refl))

@@ -1,5 +1,5 @@
 -- Going back to a savepoint: at once, and what would be granted before it.
-use Rattle.std.specs.Prelude.{◌≡◌, ℕ, ℤ, ◌<◌, ◌==◌, Bool, false, not, is_none, nat_le, option_map, unwrap_or, Option, Some, None, List, [], ◌∷◌, length, map, filter}
+use Rattle.std.specs.Prelude.{◌≡◌, ℕ, ℤ, ◌<◌, ◌≤◌, ◌==◌, Bool, false, not, is_none, nat_le, option_map, unwrap_or, Option, Some, None, List, [], ◌∷◌, length, map, filter}
 use Rattle.std.specs.List.{AllByRecursion}
 use Rattle.std.proofs.Common.{refl, sym, ap, ap₂, ◌∙◌, subst, arith}
 use Rattle.std.proofs.lemmas.Bool.{and_right, not_from_false, false_from_ne_true, leb-true}
@@ -8,6 +8,7 @@ use Rattle.escrow_num.specs.declared.refusal.Refusal.TheVariants as refusal
 use Rattle.escrow_num.specs.declared.reservation.Reservation.{Reservation}
 use Rattle.escrow_num.specs.declared.reservation.Savepoint.{Savepoint}
 use Rattle.escrow_num.specs.declared.row.Row.{Row}
+use Rattle.escrow_num.specs.declared.value.RowName.{RowName}
 use Rattle.escrow_num.specs.declared.value.Value.{Value}
 use Rattle.escrow_num.specs.Refusal.{refuse_if, first_refusal}
 use Rattle.escrow_num.specs.Reservation.{deltas}
@@ -29,7 +30,7 @@ use Rattle.escrow_machine.specs.Asked.{plan_of, plan_refusal_of, row_name, reser
 use Rattle.escrow_machine.specs.Laws.{BackAtOnceChangesNothing, BackRefusesNothing}
 use Rattle.escrow_machine.specs.Accepted.{IsAccepted}
 use Rattle.escrow_machine.specs.State.{State, open_in}
-use Rattle.escrow_schema.specs.Rows.{changes_to}
+use Rattle.escrow_schema.specs.Rows.{row_named, changes_to}
 use Rattle.escrow_machine.specs.Step.{step}
 use Rattle.escrow_machine.specs.Transition.{transition_of, after_savepoint, after_rollback_to, update_refusals, update_reply}
 use Rattle.escrow_machine.specs.Valid.{IsValid, IsReservationIn}
@@ -101,58 +102,73 @@ none_applies : (refusals : List (Option Refusal)) → AllByRecursion (λ o. o �
 none_applies [] all = refl
 none_applies (o ∷ rest) all = ap (λ (x : Option Refusal). first_refusal (x ∷ rest)) all.0 ∙ none_applies rest all.1
 
--- a state with some of the open reservations, and whichever savepoints
-abbrev fewer : State → (Reservation → Bool) → List Savepoint → State
-fewer s keep savepoints = record s { reservations = filter keep s.reservations; savepoints = savepoints }
+-- a state with other rows, reservations and savepoints, but with the same catalog and the same next id
+abbrev pub beside : State → List Row → List Reservation → List Savepoint → State
+beside s rows reservations savepoints = record s { rows = rows; reservations = reservations; savepoints = savepoints }
 
--- a reservation that breaks nothing beside all open ones breaks nothing beside some of them
-fewer_break : (keep : Reservation → Bool) (reservations : List Reservation) (table : TableDef) (row : Row) (changes : List ℤ)
-    → broken table.checks row.amounts changes (map (changes_to row) reservations) ≡ None
-    → broken table.checks row.amounts changes (map (changes_to row) (filter keep reservations)) ≡ None
-fewer_break keep reservations table row changes safe =
-    fewer_grant table.checks row.amounts changes (map (changes_to row) reservations) (map (changes_to row) (filter keep reservations)) safe
-    (λ chosen choice.
-    let from = choice_of_image (changes_to row) (filter keep reservations) chosen choice in
-    subst (IsChoice (map (changes_to row) reservations)) from.2
-    (choice_map (changes_to row) reservations from.0 (choice_filter keep reservations from.0 from.1)))
+-- the row of a name is there, and changes of it break nothing of a table's checks beside reservations
+abbrev pub BreaksNone : TableDef → RowName → List ℤ → List Row → List Reservation → Type 0
+BreaksNone table name changes rows reservations =
+    (row : Row) × (row_named rows name ≡ Some row) × (broken table.checks row.amounts changes (map (changes_to row) reservations) ≡ None)
 
--- so what is accepted beside all is accepted beside some
-late_beside : (s : State) (keep : Reservation → Bool) (savepoints : List Savepoint) (session : ℕ) (text : UpdateText) (key : Value) (changes : List (Option ℤ))
+-- what is accepted in a state is accepted beside other rows and reservations, of which the session has no more, where
+-- changes that broke nothing break nothing still
+late_beside : (s : State) (rows : List Row) (reservations : List Reservation) (savepoints : List Savepoint) (session : ℕ) (text : UpdateText) (key : Value) (changes : List (Option ℤ))
+    → length (own session reservations) ≤ length (own session s.reservations)
+    → ((table : TableDef) (name : RowName) → BreaksNone table name (deltas changes) s.rows s.reservations → BreaksNone table name (deltas changes) rows reservations)
     → plan_of s text ≡ Some (plan.Reserve key changes) → IsAccepted s session (statement.Update text)
-    → AllByRecursion (λ o. o ≡ None) (update_refusals (fewer s keep savepoints) session text.table (plan.Reserve key changes))
-late_beside s keep savepoints session text key changes is accepted =
+    → AllByRecursion (λ o. o ≡ None) (update_refusals (beside s rows reservations savepoints) session text.table (plan.Reserve key changes))
+late_beside s rows reservations savepoints session text key changes fewer still is accepted =
     let stands = reserve_stands s session text key changes is accepted in
     let name = row_name text.table key in
-    let left = fewer s keep savepoints in
-    let unbroken : violation_of left (reservation_from s session name changes) ≡ None =
-    rw (stands.named, stands.found) (fewer_break keep s.reservations stands.table stands.row (deltas changes) stands.safe) in (
-      rw stands.found refl,
+    let t : State = beside s rows reservations savepoints in
+    let found = still stands.table name (stands.row, stands.found, stands.safe) in
+    let unbroken : violation_of t (reservation_from s session name changes) ≡ None = rw (stands.named, found.1) found.2 in (
+      rw found.1 refl,
       (
-        unrefused session (open_in left) (record { room = fewer_own stands.free.room; more_ids = stands.free.more_ids }),
+        unrefused session (open_in t) (record { room = le_lt fewer stands.free.room; more_ids = stands.free.more_ids }),
         (ap (option_map refusal.Check) unbroken, tt),
       ),
     )
   where
-    fewer_own : length (own session s.reservations) < MAX_RESERVATIONS → length (own session (filter keep s.reservations)) < MAX_RESERVATIONS
-    fewer_own room = let few = length-filter_filter (λ (r : Reservation). r.session == session) keep s.reservations in omega arith
+    le_lt : length (own session reservations) ≤ length (own session s.reservations) → length (own session s.reservations) < MAX_RESERVATIONS
+        → length (own session reservations) < MAX_RESERVATIONS
+    le_lt few room = omega arith
 
-accepted_beside : (s : State) (keep : Reservation → Bool) (savepoints : List Savepoint) (session : ℕ) (text : UpdateText) (key : Value) (changes : List (Option ℤ))
-    → plan_of s text ≡ Some (plan.Reserve key changes) → IsAccepted s session (statement.Update text) → IsAccepted (fewer s keep savepoints) session (statement.Update text)
+pub accepted_beside : (s : State) (rows : List Row) (reservations : List Reservation) (savepoints : List Savepoint) (session : ℕ) (text : UpdateText) (key : Value) (changes : List (Option ℤ))
+    → length (own session reservations) ≤ length (own session s.reservations)
+    → ((table : TableDef) (name : RowName) → BreaksNone table name (deltas changes) s.rows s.reservations → BreaksNone table name (deltas changes) rows reservations)
+    → plan_of s text ≡ Some (plan.Reserve key changes) → IsAccepted s session (statement.Update text)
+    → IsAccepted (beside s rows reservations savepoints) session (statement.Update text)
 unfolding transition_of
-accepted_beside s keep savepoints session text key changes is accepted =
-    let t : State = fewer s keep savepoints in
+accepted_beside s rows reservations savepoints session text key changes fewer still is accepted =
+    let t : State = beside s rows reservations savepoints in
     let unknown = refuse_if (is_none (table_named s.catalog text.table)) refusal.NoSuchTable in
     let before = unwrap_or (option_map (update_refusals s session text.table) (plan_of s text)) [] in
-    let beside = unwrap_or (option_map (update_refusals t session text.table) (plan_of s text)) [] in
+    let later = unwrap_or (option_map (update_refusals t session text.table) (plan_of s text)) [] in
     let known = passed unknown (plan_refusal_of s text ∷ before) accepted in
     let planned = passed (plan_refusal_of s text) before known.others in
-    let late : AllByRecursion (λ o. o ≡ None) beside =
+    let late : AllByRecursion (λ o. o ≡ None) later =
     subst (λ (o : Option Plan). AllByRecursion (λ r. r ≡ None) (unwrap_or (option_map (update_refusals t session text.table) o) [])) (sym is)
-    (late_beside s keep savepoints session text key changes is accepted) in
-    none_applies (unknown ∷ plan_refusal_of s text ∷ beside) (known.first, (planned.first, late))
+    (late_beside s rows reservations savepoints session text key changes fewer still is accepted) in
+    none_applies (unknown ∷ plan_refusal_of s text ∷ later) (known.first, (planned.first, late))
+
+-- a reservation that breaks nothing beside all open ones breaks nothing beside some of them
+fewer_break : (keep : Reservation → Bool) (s : State) (table : TableDef) (name : RowName) (changes : List ℤ)
+    → BreaksNone table name changes s.rows s.reservations → BreaksNone table name changes s.rows (filter keep s.reservations)
+fewer_break keep s table name changes stands =
+    let row = stands.0 in (
+      row,
+      stands.1,
+      fewer_grant table.checks row.amounts changes (map (changes_to row) s.reservations) (map (changes_to row) (filter keep s.reservations)) stands.2
+          (λ chosen choice.
+          let from = choice_of_image (changes_to row) (filter keep s.reservations) chosen choice in
+          subst (IsChoice (map (changes_to row) s.reservations)) from.2
+          (choice_map (changes_to row) s.reservations from.0 (choice_filter keep s.reservations from.0 from.1))),
+    )
 
 -- the reply to a reservation that is accepted
-reserved_reply : (s : State) (session : ℕ) (text : UpdateText) (key : Value) (changes : List (Option ℤ)) → plan_of s text ≡ Some (plan.Reserve key changes)
+pub reserved_reply : (s : State) (session : ℕ) (text : UpdateText) (key : Value) (changes : List (Option ℤ)) → plan_of s text ≡ Some (plan.Reserve key changes)
     → (transition_of s session (statement.Update text)).reply ≡ reply.Reserved s.next_id
 unfolding transition_of
 reserved_reply s session text key changes is = ap (λ (o : Option Plan). unwrap_or (option_map (update_reply s) o) reply.Updated) is
@@ -164,12 +180,16 @@ accepted_reply s session text accepted =
     ap (λ (o : Option Refusal). let answered : Reply × State = unwrap_or (option_map (λ (r : Refusal). (reply.Refused r, s)) o) (transition.reply, transition.next) in answered.0) accepted
 
 granted_beside : (s : State) (keep : Reservation → Bool) (savepoints : List Savepoint) (session : ℕ) (text : UpdateText) (id : ℕ)
-    → (step s session (statement.Update text)).0 ≡ reply.Reserved id → (step (fewer s keep savepoints) session (statement.Update text)).0 ≡ reply.Reserved id
+    → (step s session (statement.Update text)).0 ≡ reply.Reserved id
+    → (step (beside s s.rows (filter keep s.reservations) savepoints) session (statement.Update text)).0 ≡ reply.Reserved id
 granted_beside s keep savepoints session text id granted =
-    let t : State = fewer s keep savepoints in
+    let left : List Reservation = filter keep s.reservations in
+    let t : State = beside s s.rows left savepoints in
     let none = granted_none s session text id granted in
     let is = granted_plan s session text id none.1 in
-    accepted_reply t session text (accepted_beside s keep savepoints session text is.0 is.1 is.2 none.0)
+    accepted_reply t session text
+    (accepted_beside s s.rows left savepoints session text is.0 is.1 (length-filter_filter (λ (r : Reservation). r.session == session) keep s.reservations)
+    (λ table name. fewer_break keep s table name (deltas is.1)) is.2 none.0)
     ∙ reserved_reply t session text is.0 is.1 is.2
     ∙ sym (reserved_reply s session text is.0 is.1 is.2)
     ∙ none.1

@@ -19,7 +19,7 @@ use Rattle.escrow_machine.proofs.Filters.{filters_commute, filter_within}
 use Rattle.escrow_machine.proofs.ValidEnds.{commit_valid, rollback_valid}
 
 -- a session's own stay when another's go
-own_stay : (a b : ℕ) (reservations : List Reservation) → ¬ (a ≡ b) → own b (others a reservations) ≡ own b reservations
+pub own_stay : (a b : ℕ) (reservations : List Reservation) → ¬ (a ≡ b) → own b (others a reservations) ≡ own b reservations
 own_stay a b reservations differ =
     filter_within (λ (r : Reservation). r.session == b) (λ (r : Reservation). not (r.session == a)) reservations
     (λ r t. ap not (false_from_ne_true (r.session == a) (λ u. differ (sym (eqb-true r.session a u) ∙ eqb-true r.session b t))))

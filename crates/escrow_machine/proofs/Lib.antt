@@ -13,8 +13,10 @@ pub mod LawsChanges
 pub mod LawsDecide
 pub mod LawsEnds
 pub mod LawsGrants
+pub mod LawsHeld
 pub mod LawsIds
 pub mod LawsMemory
+pub mod LawsPass
 pub mod LawsPromised
 pub mod LawsRows
 pub mod LawsSavepoints

@@ -1,7 +1,7 @@
 -- Savepoints in their order: one more put among them, and those up to one of them.
 use Rattle.std.specs.Prelude.{◌≡◌, ◌⊎◌, ◌+◌, ◌<◌, ◌≤◌, ℕ, Bool, true, false, ◌==◌, ◌&&◌, not, nat_lt, nat_le, cond, List, [], ◌∷◌, filter, length, bytes_eq, IsTrue}
-use Rattle.std.proofs.Common.{inl, inr, ap, ◌∙◌, subst, refl, arith}
-use Rattle.std.proofs.lemmas.Bool.{cond_both, and_from, and_cases, and_parts, or_left, or_right, or_cases, not_from_false, not-true, lt-ltb, ltb-true, ltb-false, le-leb, leb-true, eqb-true, eq-eqb, cases_lt}
+use Rattle.std.proofs.Common.{inl, inr, sym, ap, ◌∙◌, subst, refl, arith}
+use Rattle.std.proofs.lemmas.Bool.{cond_both, cond-true, cond-false, and_from, and_cases, and_parts, or_left, or_right, or_cases, not_from_false, not-true, lt-ltb, ltb-true, ltb-false, le-leb, leb-true, eqb-true, eq-eqb, cases_lt}
 use Rattle.escrow_num.specs.declared.reservation.Savepoint.{Savepoint}
 use Rattle.escrow_num.specs.Ascending.{IsAscending}
 use Rattle.escrow_num.proofs.Ascending.{ascending_filter}
@@ -10,6 +10,7 @@ use Rattle.escrow_num.proofs.Put.{put, has_put, length_kept, length-filter_put}
 use Rattle.escrow_journal.specs.declared.journal.TheConstants.Journal.{MAX_SAVEPOINTS}
 use Rattle.escrow_journal.specs.Reservations.{own_savepoints, other_savepoints, savepoint_before}
 use Rattle.escrow_journal.specs.Savepoints.{is_named, without_savepoint, put_savepoint, through}
+use Rattle.escrow_machine.proofs.Filters.{filters_commute}
 use Rattle.escrow_machine.proofs.Lengths.{length-filter_filter}
 
 -- THE ORDER
@@ -37,11 +38,11 @@ before_parts a b before =
           })
     ]
 
-before_session : (a b : Savepoint) → a.session < b.session → IsTrue (savepoint_before a b)
+pub before_session : (a b : Savepoint) → a.session < b.session → IsTrue (savepoint_before a b)
 before_session a b lower =
     or_left (nat_lt a.session b.session) ((a.session == b.session) && nat_le a.id b.id && not (bytes_eq a.name b.name)) (lt-ltb a.session b.session lower)
 
-before_made : (a b : Savepoint) → IsEarlier a b → IsTrue (savepoint_before a b)
+pub before_made : (a b : Savepoint) → IsEarlier a b → IsTrue (savepoint_before a b)
 before_made a b e =
     let made : Bool = (a.session == b.session) && nat_le a.id b.id in
     let other : Bool = not (bytes_eq a.name b.name) in
@@ -68,28 +69,30 @@ put_is p (q ∷ rest) = ap (λ zs. cond (nat_lt p.session q.session) (p ∷ q �
 pub has_put_savepoint : (p : Savepoint) (savepoints : List Savepoint) (q : Savepoint) → Has (put_savepoint p savepoints) q → (p ≡ q) ⊎ Has savepoints q
 has_put_savepoint p savepoints q h = has_put session_before p savepoints q (subst (λ zs. Has zs q) (put_is p savepoints) h)
 
--- it stands behind those of its session, and stays in order where it was made after each of them
-pub put_ascending : (p : Savepoint) (savepoints : List Savepoint) → ((q : Savepoint) → Has savepoints q → q.session ≡ p.session → IsEarlier q p)
-    → IsAscending savepoint_before savepoints → IsAscending savepoint_before (put_savepoint p savepoints)
-put_ascending p [] last h = (tt, tt)
-put_ascending p (q ∷ rest) last h =
-    let from : (q : Savepoint) → Savepoint → Type 0 = λ a b. IsTrue (savepoint_before a b) in
-    let front : nat_lt p.session q.session ≡ true → IsAscending savepoint_before (p ∷ q ∷ rest) = λ t.
-    let lower : p.session < q.session = ltb-true p.session q.session t in
+-- it stands behind those of its session, and they stay in an order by sessions in which each of those is before it
+pub put_ascending : (before : Savepoint → Savepoint → Bool)
+    → ((a b : Savepoint) → a.session < b.session → IsTrue (before a b)) → ((a b : Savepoint) → IsTrue (before a b) → a.session ≤ b.session)
+    → (p : Savepoint) (savepoints : List Savepoint) → ((q : Savepoint) → Has savepoints q → q.session ≡ p.session → IsTrue (before q p))
+    → IsAscending before savepoints → IsAscending before (put_savepoint p savepoints)
+put_ascending before lower rise p [] last h = (tt, tt)
+put_ascending before lower rise p (q ∷ rest) last h =
+    let from : (q : Savepoint) → Savepoint → Type 0 = λ a b. IsTrue (before a b) in
+    let front : nat_lt p.session q.session ≡ true → IsAscending before (p ∷ q ∷ rest) = λ t.
+    let first : p.session < q.session = ltb-true p.session q.session t in
     let each : (r : Savepoint) → Has rest r → from p r = λ r k.
-    let risen : q.session ≤ r.session = sessions_rise q r (all_has (from q) rest h.0 r k) in
-    before_session p r (omega arith) in
-    ((before_session p q lower, has_all (from p) rest each), h) in
-    let behind : nat_lt p.session q.session ≡ false → IsAscending savepoint_before (q ∷ put_savepoint p rest) = λ f.
+    let risen : q.session ≤ r.session = rise q r (all_has (from q) rest h.0 r k) in
+    lower p r (omega arith) in
+    ((lower p q first, has_all (from p) rest each), h) in
+    let behind : nat_lt p.session q.session ≡ false → IsAscending before (q ∷ put_savepoint p rest) = λ f.
     let up_to : q.session ≤ p.session = ltb-false p.session q.session f in
     let first : from q p = elim (cases_lt q.session p.session) [
-      | inl lower ↦ before_session q p lower
-      | inr le ↦ before_made q p (last q (inl refl) (omega arith))
+      | inl earlier ↦ lower q p earlier
+      | inr le ↦ last q (inl refl) (omega arith)
     ] in
     let each : (r : Savepoint) → Has (put_savepoint p rest) r → from q r = λ r k.
     elim (has_put_savepoint p rest r k) [ inl e ↦ subst (from q) e first | inr l ↦ all_has (from q) rest h.0 r l ] in
-    (has_all (from q) (put_savepoint p rest) each, put_ascending p rest (λ r k. last r (inr k)) h.1) in
-    cond_both (nat_lt p.session q.session) (p ∷ q ∷ rest) (q ∷ put_savepoint p rest) (IsAscending savepoint_before) front behind
+    (has_all (from q) (put_savepoint p rest) each, put_ascending before lower rise p rest (λ r k. last r (inr k)) h.1) in
+    cond_both (nat_lt p.session q.session) (p ∷ q ∷ rest) (q ∷ put_savepoint p rest) (IsAscending before) front behind
 
 -- a session's are one more, or as many as before
 pub few_put : (p : Savepoint) (savepoints : List Savepoint) (session : ℕ) → length (own_savepoints session savepoints) ≤ MAX_SAVEPOINTS
@@ -129,16 +132,16 @@ has_through session name (p ∷ rest) q h =
     (λ _. named) (λ _. other) h
 
 -- in the same order
-pub through_ascending : (session : ℕ) (name : List ℕ) (savepoints : List Savepoint)
-    → IsAscending savepoint_before savepoints → IsAscending savepoint_before (through session name savepoints)
-through_ascending session name [] h = tt
-through_ascending session name (p ∷ rest) h =
-    let After : Savepoint → Type 0 = λ q. IsTrue (savepoint_before p q) in
+pub through_ascending : (before : Savepoint → Savepoint → Bool) (session : ℕ) (name : List ℕ) (savepoints : List Savepoint)
+    → IsAscending before savepoints → IsAscending before (through session name savepoints)
+through_ascending before session name [] h = tt
+through_ascending before session name (p ∷ rest) h =
+    let After : Savepoint → Type 0 = λ q. IsTrue (before p q) in
     let other : Savepoint → Bool = λ r. not (r.session == session) in
     let each : (q : Savepoint) → Has rest q → After q = all_has After rest h.0 in
-    cond_both (is_named session name p) (p ∷ other_savepoints session rest) (p ∷ through session name rest) (IsAscending savepoint_before)
-    (λ _. (has_all After (other_savepoints session rest) (λ q k. each q (has_filter other rest q k).0), ascending_filter savepoint_before other rest h.1))
-    (λ _. (has_all After (through session name rest) (λ q k. each q (has_through session name rest q k)), through_ascending session name rest h.1))
+    cond_both (is_named session name p) (p ∷ other_savepoints session rest) (p ∷ through session name rest) (IsAscending before)
+    (λ _. (has_all After (other_savepoints session rest) (λ q k. each q (has_filter other rest q k).0), ascending_filter before other rest h.1))
+    (λ _. (has_all After (through session name rest) (λ q k. each q (has_through session name rest q k)), through_ascending before session name rest h.1))
 
 -- and no more of them
 pub length-filter_through : (kept : Savepoint → Bool) (session : ℕ) (name : List ℕ) (savepoints : List Savepoint)
@@ -152,3 +155,77 @@ length-filter_through kept session name (p ∷ rest) =
     let before = length_kept (kept p) p (filter kept (through session name rest)) in
     cond_both (is_named session name p) (p ∷ other_savepoints session rest) (p ∷ through session name rest) (λ zs. length (filter kept zs) ≤ length (filter kept (p ∷ rest)))
     (λ _. omega arith) (λ _. omega arith)
+
+-- BY SESSION
+
+-- a savepoint is of a session up to that of another
+abbrev pub session_up_to : Savepoint → Savepoint → Bool
+session_up_to a b = nat_le a.session b.session
+
+-- savepoints in order are in order of session
+pub by_session : (savepoints : List Savepoint) → IsAscending savepoint_before savepoints → IsAscending session_up_to savepoints
+by_session [] h = tt
+by_session (p ∷ rest) h = (
+  has_all (λ q. IsTrue (session_up_to p q)) rest
+      (λ q k. le-leb p.session q.session (sessions_rise p q (all_has (λ r. IsTrue (savepoint_before p r)) rest h.0 q k))),
+  by_session rest h.1,
+)
+
+-- and stay so where one is put among them
+pub put_by_session : (p : Savepoint) (savepoints : List Savepoint) → IsAscending session_up_to savepoints → IsAscending session_up_to (put_savepoint p savepoints)
+put_by_session p savepoints h =
+    put_ascending session_up_to (λ a b lower. le-leb a.session b.session (omega arith)) (λ a b t. leb-true a.session b.session t) p savepoints
+    (λ q _ same. le-leb q.session p.session (omega arith)) h
+
+-- one is put in front of those of later sessions
+put_first : (p : Savepoint) (savepoints : List Savepoint) → ((q : Savepoint) → Has savepoints q → p.session < q.session) → put_savepoint p savepoints ≡ p ∷ savepoints
+put_first p [] later = refl
+put_first p (q ∷ rest) later =
+    cond-true (nat_lt p.session q.session) (p ∷ q ∷ rest) (q ∷ put_savepoint p rest) (lt-ltb p.session q.session (later q (inl refl)))
+
+-- and behind one of no later session, if that is kept
+put_behind : (b : Bool) (p q : Savepoint) (left : List Savepoint) → nat_lt p.session q.session ≡ false
+    → cond b (q ∷ put_savepoint p left) (put_savepoint p left) ≡ put_savepoint p (cond b (q ∷ left) left)
+put_behind true p q left f = sym (cond-false (nat_lt p.session q.session) (p ∷ q ∷ left) (q ∷ put_savepoint p left) f)
+put_behind false p q left f = refl
+
+-- so a test that keeps it keeps of the others the same before and after
+pub put_kept : (keep : Savepoint → Bool) (p : Savepoint) (savepoints : List Savepoint) → keep p ≡ true → IsAscending session_up_to savepoints
+    → filter keep (put_savepoint p savepoints) ≡ put_savepoint p (filter keep savepoints)
+put_kept keep p [] kept h = cond-true (keep p) (p ∷ []) [] kept
+put_kept keep p (q ∷ rest) kept h =
+    let all : List Savepoint = q ∷ rest in
+    cond_both (nat_lt p.session q.session) (p ∷ all) (q ∷ put_savepoint p rest) (λ zs. filter keep zs ≡ put_savepoint p (filter keep all))
+    (λ t. cond-true (keep p) (p ∷ filter keep all) (filter keep all) kept ∙ sym (put_first p (filter keep all) (λ r k. later t r (has_filter keep all r k).0)))
+    (λ f. ap (λ (zs : List Savepoint). cond (keep q) (q ∷ zs) zs) (put_kept keep p rest kept h.1) ∙ put_behind (keep q) p q (filter keep rest) f)
+  where
+    later : nat_lt p.session q.session ≡ true → (r : Savepoint) → Has (q ∷ rest) r → p.session < r.session
+    later t r (inl e) = subst (λ (x : Savepoint). p.session < x.session) e (ltb-true p.session q.session t)
+    later t r (inr k) =
+        let first : p.session < q.session = ltb-true p.session q.session t in
+        let risen : q.session ≤ r.session = leb-true q.session r.session (all_has (λ x. IsTrue (session_up_to q x)) rest h.0 r k) in
+        omega arith
+
+-- those up to one of a name are kept alike by a test that keeps each of that name
+pub through_kept : (keep : Savepoint → Bool) (session : ℕ) (name : List ℕ) (savepoints : List Savepoint) → ((p : Savepoint) → is_named session name p ≡ true → keep p ≡ true)
+    → filter keep (through session name savepoints) ≡ through session name (filter keep savepoints)
+through_kept keep session name [] kept = refl
+through_kept keep session name (p ∷ rest) kept =
+    let named : Bool = is_named session name p in
+    let others : List Savepoint = other_savepoints session rest in
+    let back : List Savepoint = through session name rest in
+    let left : List Savepoint = filter keep rest in
+    let later : filter keep back ≡ through session name left = through_kept keep session name rest kept in
+    let stays : keep p ≡ true → filter keep (cond named (p ∷ others) (p ∷ back)) ≡ through session name (p ∷ left) = λ t.
+    cond_both named (p ∷ others) (p ∷ back) (λ zs. filter keep zs ≡ through session name (p ∷ left))
+    (λ here. cond-true (keep p) (p ∷ filter keep others) (filter keep others) t
+    ∙ ap (λ (zs : List Savepoint). p ∷ zs) (filters_commute keep (λ (q : Savepoint). not (q.session == session)) rest)
+    ∙ sym (cond-true named (p ∷ other_savepoints session left) (p ∷ through session name left) here))
+    (λ away. cond-true (keep p) (p ∷ filter keep back) (filter keep back) t
+    ∙ ap (λ (zs : List Savepoint). p ∷ zs) later
+    ∙ sym (cond-false named (p ∷ other_savepoints session left) (p ∷ through session name left) away)) in
+    let goes : keep p ≡ false → filter keep (cond named (p ∷ others) (p ∷ back)) ≡ through session name left = λ f.
+    cond_both named (p ∷ others) (p ∷ back) (λ zs. filter keep zs ≡ through session name left)
+    (λ here. let t : keep p ≡ true = kept p here in absurd (cc))
+    (λ _. cond-false (keep p) (p ∷ filter keep back) (filter keep back) f ∙ later) in
+    cond_both (keep p) (p ∷ left) left (λ zs. filter keep (cond named (p ∷ others) (p ∷ back)) ≡ through session name zs) stays goes

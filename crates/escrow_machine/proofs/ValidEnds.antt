@@ -91,7 +91,7 @@ returned_orderly s p orderly =
     let left : List Savepoint = through p.session p.name s.savepoints in
     kept_orderly s.catalog s.reservations s.savepoints left s.next_id (λ r. not (is_after p r)) orderly
     (has_all In left (λ q h. all_has In s.savepoints orderly.savepoints_in q (has_through p.session p.name s.savepoints q h)))
-    (through_ascending p.session p.name s.savepoints orderly.savepoint_order)
+    (through_ascending savepoint_before p.session p.name s.savepoints orderly.savepoint_order)
     (λ k. le_trans (length-filter_through (λ (q : Savepoint). q.session == k) p.session p.name s.savepoints) (orderly.few_savepoints k))
 
 returned_valid : (s : State) (p : Savepoint) → IsValid s → IsValid (returned_to s p)

@@ -12,7 +12,7 @@ use Rattle.escrow_machine.specs.State.{State}
 use Rattle.escrow_machine.specs.Transition.{after_savepoint}
 use Rattle.escrow_machine.specs.Valid.{IsOrderly, IsSavepointIn, IsValid}
 use Rattle.escrow_machine.proofs.Lengths.{length-filter_filter}
-use Rattle.escrow_machine.proofs.Savepoints.{IsEarlier, has_put_savepoint, put_ascending, few_put, other_name}
+use Rattle.escrow_machine.proofs.Savepoints.{IsEarlier, before_session, before_made, sessions_rise, has_put_savepoint, put_ascending, few_put, other_name}
 
 -- SAVEPOINT keeps what is in order, where there is room for one more
 pub savepoint_orderly : (s : State) (session : ℕ) (name : List ℕ) → IsOrderly s.catalog s.reservations s.savepoints s.next_id → IsSession session
@@ -35,7 +35,7 @@ savepoint_orderly s session name orderly of_session room =
       few_reservations = orderly.few_reservations;
       savepoints_in = has_all In (put_savepoint new left) (λ q h.
           elim (has_put_savepoint new left q h) [ inl e ↦ subst In e new_in | inr k ↦ each_in q (has_filter other s.savepoints q k).0 ]);
-      savepoint_order = put_ascending new left last (ascending_filter savepoint_before other s.savepoints orderly.savepoint_order);
+      savepoint_order = put_ascending savepoint_before before_session sessions_rise new left (λ q h same. before_made q new (last q h same)) (ascending_filter savepoint_before other s.savepoints orderly.savepoint_order);
       few_savepoints = λ k. few_put new left k (le_trans (length-filter_filter (λ (p : Savepoint). p.session == k) other s.savepoints) (orderly.few_savepoints k)) room;
       first_id = orderly.first_id;
       last_id = orderly.last_id;

@@ -1,5 +1,5 @@
 -- Believed: the statements of the laws in src/laws.rt.
-use Rattle.std.specs.Prelude.{◌≡◌, ◌↔◌, ℕ, nat_lt, ℤ, ◌+◌, ◌<◌, ◌≤◌, ◌+ℤ◌, ◌≤ℤ◌, Bool, false, Option, Some, None, IsSome, IsSomeAnd, List, [], ◌∷◌, ◌++◌, length, map, take, slice_get, Contains, IsTrue}
+use Rattle.std.specs.Prelude.{◌≡◌, ◌↔◌, ℕ, nat_lt, ℤ, ◌+◌, ◌<◌, ◌≤◌, ◌+ℤ◌, ◌≤ℤ◌, Bool, true, false, Option, Some, None, IsSome, IsSomeAnd, List, [], ◌∷◌, ◌++◌, length, map, take, slice_get, Contains, IsTrue}
 use Rattle.std.specs.List.{AllByRecursion, AllZip}
 use Rattle.escrow_num.specs.declared.refusal.Violation.{Violation}
 use Rattle.escrow_num.specs.declared.refusal.Refusal.{Refusal}
@@ -52,6 +52,7 @@ use Rattle.escrow_machine.specs.Event.{HasSession}
 use Rattle.escrow_machine.specs.Reply.{failure_of, holds_memory, is_refused}
 use Rattle.escrow_journal.specs.Reservations.{own, others, own_savepoints}
 use Rattle.escrow_journal.specs.Savepoints.{savepoint_of, without_savepoint}
+use Rattle.escrow_machine.specs.Held.{passes, Waiting, IsHeldRun, Outcome, events_of, answers_by, ended_by}
 use Rattle.escrow_machine.specs.Journal.{entry_of}
 use Rattle.escrow_machine.specs.Altered.{table_altered}
 use Rattle.escrow_machine.specs.Asked.{new_row, plan_of, row_name, named_by, reservation_of, heading_of}
@@ -432,6 +433,20 @@ SettledStaysValid = (s : State) (plan : List (ℕ × End)) (n : ℕ) → IsValid
 -- two plans that end the same sessions' transactions alike leave equal states, whatever their order
 abbrev pub SettledInAnyOrder : Type 0
 SettledInAnyOrder = (s : State) (plan other : List (ℕ × End)) → ((session : ℕ) → end_of plan session ≡ end_of other session) → settled plan s ≡ settled other s
+
+-- COMMITS THAT ARE HELD BACK
+
+-- in a valid state what may be served while another session's COMMIT is held back is answered alike behind
+-- that COMMIT, and both orders lead to one state
+abbrev pub PassesCommits : Type 0
+PassesCommits = (s : State) (session other : ℕ) (asked : Statement) → IsValid s → ¬ (session ≡ other) → passes s other asked ≡ true
+    → step (step s session statement.Commit).1 other asked ≡ ((step s other asked).0, (step (step s other asked).1 session statement.Commit).1)
+
+-- from a valid state, whatever becomes of the COMMITs that are held back, the replies and the state are those
+-- of a run in the order in which all was asked
+abbrev pub HeldCommitsMayComeLast : Type 0
+HeldCommitsMayComeLast = (s : State) (waiting : List Waiting) (now : State) (outcome : Outcome)
+    → IsValid s → IsHeldRun s waiting now → IsRun s (events_of waiting) (answers_by outcome waiting) (ended_by outcome waiting now)
 
 -- THE GRANT RULE
 

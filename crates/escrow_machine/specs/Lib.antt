@@ -3,6 +3,7 @@ pub mod Altered
 pub mod Asked
 pub mod Bounds
 pub mod Event
+pub mod Held
 pub mod Journal
 pub mod Laws
 pub mod Promised

@@ -1,7 +1,7 @@
 //! Laws of the machine: facts about its definitions, each the contract of a function that does
 //! nothing. They say of its steps what O'Neil's escrow method (1986) promises of transactions.
 
-ghost use Rattle.escrow_machine.specs.Laws.{StepKeepsValid, RunKeepsValid, CommittedRowsMeetChecks, CommittedValuesFit, EveryRunIsSafe, RefusedChangesNothing, MachineNeverFails, EarlyRefusalsStand, CommitIsNeverRefused, RollbackIsNeverRefused, QueriesSeeCommitsAlone, ReservedTakesTheNextId, IdsNeverFall, IdsAreUsedOnce, IdsTellTheOrder, TransactionsCommute, AnyOrderOfEnds, SettledIsTheRun, SettledStaysValid, SettledInAnyOrder, DropsOneTable, AltersOneTable, DeletesOneRow, PlainUpdatesKeepAmounts, ReservationsKeepRows, SelectsShowRows, ShowsTheTable, QueriesIgnoreWhatIsOpen, QueriesIgnoreWhoAsks, ShownStays, ShowsTheJournal, BoundsAreReached, SavepointsStandAsMade, BackDropsWhatCameAfter, BackAtOnceChangesNothing, BackLeavesWhatWas, BackRefusesNothing, GrantedInEveryChoice, OwnIncrementNotSpent, RefusedByAChoice, BoundsDecideGrants};
+ghost use Rattle.escrow_machine.specs.Laws.{StepKeepsValid, RunKeepsValid, CommittedRowsMeetChecks, CommittedValuesFit, EveryRunIsSafe, RefusedChangesNothing, MachineNeverFails, EarlyRefusalsStand, CommitIsNeverRefused, RollbackIsNeverRefused, QueriesSeeCommitsAlone, ReservedTakesTheNextId, IdsNeverFall, IdsAreUsedOnce, IdsTellTheOrder, TransactionsCommute, AnyOrderOfEnds, SettledIsTheRun, SettledStaysValid, SettledInAnyOrder, PassesCommits, HeldCommitsMayComeLast, DropsOneTable, AltersOneTable, DeletesOneRow, PlainUpdatesKeepAmounts, ReservationsKeepRows, SelectsShowRows, ShowsTheTable, QueriesIgnoreWhatIsOpen, QueriesIgnoreWhoAsks, ShownStays, ShowsTheJournal, BoundsAreReached, SavepointsStandAsMade, BackDropsWhatCameAfter, BackAtOnceChangesNothing, BackLeavesWhatWas, BackRefusesNothing, GrantedInEveryChoice, OwnIncrementNotSpent, RefusedByAChoice, BoundsDecideGrants};
 
 /// Whatever a session asks in a valid state, the state after it is valid: whichever of the open
 /// reservations are applied, each row meets each check of its table.
@@ -200,6 +200,19 @@ pub fn settled_stays_valid()
 /// What a plan leaves hangs on which sessions' transactions it ends, and how, and not on its order.
 pub fn settled_in_any_order()
     ensures { SettledInAnyOrder }
+{}
+
+/// In a valid state what may be served while another session's COMMIT is held back passes that COMMIT.
+/// It is answered alike behind it, and both orders lead to one state. A grant stays a grant, since the
+/// bounds counted that COMMIT among what may come.
+pub fn passes_commits()
+    ensures { PassesCommits }
+{}
+
+/// From a valid state COMMITs that are held back may come last, and some of them may fail then. The
+/// replies and the state are those of a run in the order in which all was asked.
+pub fn held_commits_may_come_last()
+    ensures { HeldCommitsMayComeLast }
 {}
 
 /// In a valid state each committed row meets each check of its table.
