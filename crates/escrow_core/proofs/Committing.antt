@@ -1,6 +1,5 @@
 -- COMMIT: the store is asked where its session holds a reservation, and else its transaction just ends.
-use Rattle.std.specs.Prelude.{◌≡◌, ℕ, ℤ, Result, Ok, Err, IfErr, true, false, nat_lt, ◌==◌, Option, Some, None, option_map, List, [], ◌∷◌, length}
-use Rattle.std.specs.Result.{IsErrAnd}
+use Rattle.std.specs.Prelude.{◌≡◌, ℕ, ℤ, true, false, nat_lt, ◌==◌, Option, Some, None, option_map, List, [], ◌∷◌, length}
 use Rattle.std.proofs.Common.{refl, sym, ap, ap₂, subst, ◌∙◌, arith}
 use Rattle.std.proofs.lemmas.Bool.Decides.{nat_tests}
 use Rattle.std.proofs.lemmas.List.{length-map, nil_from_length}
@@ -8,23 +7,17 @@ use Rattle.sqlite_trees.specs.declared.store.Store.{Ghosts}
 use Rattle.escrow_num.specs.declared.reservation.Reservation.{Reservation}
 use Rattle.escrow_num.specs.declared.row.Row.{Row}
 use Rattle.escrow_statement.specs.declared.statement.Statement.TheVariants as statement
-use Rattle.escrow_num.specs.declared.failure.Failure.{Failure}
-use Rattle.escrow_num.specs.declared.failure.Failure.TheVariants as failure
-use Rattle.escrow_num.specs.declared.refusal.Refusal.TheVariants as refusal
 use Rattle.escrow_num.specs.declared.session.End.TheVariants as end
 use Rattle.escrow_num.specs.declared.value.RowName.{RowName}
 use Rattle.escrow_bounds.specs.Ended.{AreEnded}
 use Rattle.escrow_bounds.specs.Kept.{Kept}
 use Rattle.escrow_bounds.specs.Places.{Places, place_at}
-use Rattle.escrow_journal.specs.Reservations.{own, others}
-use Rattle.escrow_tables.specs.Calls.{AreGiven, Writes}
+use Rattle.escrow_journal.specs.Reservations.{own}
+use Rattle.escrow_tables.specs.Calls.{AreGiven}
 use Rattle.escrow_tables.specs.Committed.{Committed}
-use Rattle.escrow_num.specs.Refusal.{refusal_for}
 use Rattle.escrow_journal.specs.Open.{Open, ended}
 use Rattle.escrow_machine.specs.declared.reply.Reply.{Reply}
 use Rattle.escrow_machine.specs.declared.reply.Reply.TheVariants as reply
-use Rattle.sqlite.specs.Held.{state}
-use Rattle.sqlite.specs.State.{HasCleanDisk}
 use Rattle.escrow_schema.specs.Catalog.{table_named}
 use Rattle.escrow_schema.specs.Column.{reservables}
 use Rattle.escrow_schema.specs.declared.table.TableDef.{TableDef}
@@ -32,22 +25,22 @@ use Rattle.escrow_bounds.specs.Held.{of_row}
 use Rattle.escrow_bounds.proofs.Ending.{length-after_all}
 use Rattle.escrow_machine.proofs.Safe.{some_weaker}
 use Rattle.escrow_reserved.specs.declared.recent.ReadRow.{ReadRow}
-use Rattle.escrow_reserved.specs.Placed.{amounts_named, AreOfTables, HaveAmounts}
+use Rattle.escrow_reserved.specs.Placed.{amounts_named, HaveAmounts}
 use Rattle.escrow_reserved.specs.Read.{committed_by, IsKnown, IsRead}
-use Rattle.escrow_core.specs.Inside.{seen_of, Holds, Keeps}
+use Rattle.escrow_core.specs.Inside.{seen_of, Holds}
 use Rattle.escrow_reserved.specs.Reserved.{AreAmounts, ArePlaced, Reserved}
 use Rattle.escrow_core.specs.Serves.{Serves}
 use Rattle.escrow_machine.specs.Accepted.{PassesEarly}
 use Rattle.escrow_machine.specs.State.{State}
 use Rattle.escrow_schema.specs.Rows.{applied}
-use Rattle.escrow_machine.specs.Step.{step, StepOrRefusal}
+use Rattle.escrow_machine.specs.Step.{StepOrRefusal}
 use Rattle.escrow_machine.specs.Transition.{transition_of, after_commit, after_rollback}
 use Rattle.escrow_machine.specs.Valid.{IsOrderly, IsValid}
 use Rattle.escrow_machine.proofs.Applying.{applied_none}
 use Rattle.escrow_core.proofs.Served.{commit_serves}
-use Rattle.escrow_reserved.proofs.Places.{committed_amounts, commits_amounts, ended_tables, rollbacks_amounts}
-use Rattle.escrow_core.proofs.Serving.{apart_keeps, fails, refused, served_apart, still_clean, wrote, write_failed, wrote_keeps}
-use Rattle.escrow_machine.proofs.ValidEnds.{commit_orderly, commit_valid, rollback_orderly, rollback_valid}
+use Rattle.escrow_reserved.proofs.Places.{committed_amounts, ended_tables, rollbacks_amounts}
+use Rattle.escrow_core.proofs.Serving.{apart_keeps, served_apart}
+use Rattle.escrow_machine.proofs.ValidEnds.{rollback_orderly, rollback_valid}
 
 -- a list that isn't empty has items, and one that is has none
 pub holds_some : (all mine : List Reservation) → all ≡ mine → false ≡ (length all == 0) → nat_lt 0 (length mine) ≡ true
@@ -61,14 +54,9 @@ abbrev done : ℕ → Open → Reply
 done session o = reply.Committed (length (own session o.reservations))
 
 -- COMMIT is refused nothing early
-passes : (s : State) (session : ℕ) → PassesEarly s session statement.Commit
+pub passes : (s : State) (session : ℕ) → PassesEarly s session statement.Commit
 unfolding transition_of
 passes s session = refl
-
--- its step
-commit_step : (s : State) (session : ℕ) → step s session statement.Commit ≡ (reply.Committed (length (own session s.reservations)), after_commit s session)
-unfolding transition_of
-commit_step s session = refl
 
 -- where its session holds none, no row changes
 changes_none : (s : State) (session : ℕ) → own session s.reservations ≡ [] → after_commit s session ≡ after_rollback s session
@@ -77,13 +65,13 @@ changes_none s session none =
     ap (λ (rows : List Row). record (after_rollback s session) { rows = rows }) same
 
 -- what was read of a row, when reservations are committed
-known_after : (catalog : List TableDef) (reservations : List Reservation) (recent : Option ReadRow) → IsKnown catalog recent → IsKnown catalog (option_map (committed_by reservations) recent)
+pub known_after : (catalog : List TableDef) (reservations : List Reservation) (recent : Option ReadRow) → IsKnown catalog recent → IsKnown catalog (option_map (committed_by reservations) recent)
 known_after catalog reservations None known = tt
 known_after catalog reservations (Some r) known =
     some_weaker (λ (t : TableDef). length r.amounts ≡ length (reservables t.columns)) (λ (t : TableDef). length (committed_by reservations r).amounts ≡ length (reservables t.columns)) (table_named catalog r.name.table)
     (λ t many. length-after_all end.Commit r.amounts (of_row r.name reservations) ∙ many) known
 
-read_after : (s : State) (session : ℕ) (recent : Option ReadRow) → IsValid s → IsRead s.rows recent → IsRead (applied s.rows (own session s.reservations)) (option_map (committed_by (own session s.reservations)) recent)
+pub read_after : (s : State) (session : ℕ) (recent : Option ReadRow) → IsValid s → IsRead s.rows recent → IsRead (applied s.rows (own session s.reservations)) (option_map (committed_by (own session s.reservations)) recent)
 read_after s session None valid read = tt
 read_after s session (Some r) valid read = committed_amounts s session r.name r.amounts valid read
 
@@ -120,55 +108,6 @@ module _ {S : Type 0} (g : Ghosts S) (session : ℕ) (t : Committed S) (o : Open
       let s : State = (seen_of t o).state in
       dropped_holds g t o (ended session o) (own session o.reservations) old after recent holds is are placed (rollback_orderly s session holds.keeps.kept.orderly) (rollback_valid s session)
 
-  module _ (new : Committed S) where
-    -- the store agreed: the changes are written, and the transaction is over
-    pub committed : nat_lt 0 (length (own session o.reservations)) ≡ true → Writes g t new true t.catalog (applied t.rows (own session o.reservations))
-        → Serves g session statement.Commit (seen_of t o) (done session o) (seen_of new (ended session o))
-    committed holds writes =
-        let s : State = (seen_of t o).state in
-        wrote g session statement.Commit t new o (ended session o) (done session o) (after_commit s session) holds (passes s session) refl writes (λ _. commit_step s session) refl
-
-    pub committed_keeps : (old places : Places) → Keeps g (seen_of t o) old → Writes g t new true t.catalog (applied t.rows (own session o.reservations))
-        → AreEnded end.Commit (own session o.reservations) old places → ArePlaced (others session o.reservations) places → Keeps g (seen_of new (ended session o)) places
-    committed_keeps old places keeps writes are placed =
-        let s : State = (seen_of t o).state in
-        record {
-          kept = wrote_keeps g session statement.Commit t new o (ended session o) (after_commit s session) keeps.kept writes refl (commit_orderly s session keeps.kept.orderly) (λ valid _. commit_valid s session valid);
-          placed = placed;
-          of_tables = subst (λ c. AreOfTables c places) (sym (writes.done_catalog refl)) (ended_tables end.Commit (own session o.reservations) s.catalog old places are keeps.of_tables);
-          amounts = λ clean.
-              let was = still_clean _ _ _ writes.survives clean in
-              let valid : IsValid s = record { orderly = keeps.kept.orderly; safe_rows = keeps.kept.safe_rows was } in
-              subst (λ rs. HaveAmounts rs places) (sym (writes.done_rows refl clean)) (commits_amounts s session old places valid are (keeps.amounts was));
-        }
-
-    -- what was read of a row has what is committed
-    pub committed_known : (recent : Option ReadRow) → IsKnown t.catalog recent → Writes g t new true t.catalog (applied t.rows (own session o.reservations))
-        → IsKnown new.catalog (option_map (committed_by (own session o.reservations)) recent)
-    committed_known recent known writes =
-        subst (λ c. IsKnown c (option_map (committed_by (own session o.reservations)) recent)) (sym (writes.done_catalog refl)) (known_after t.catalog (own session o.reservations) recent known)
-
-    pub committed_read : (old : Places) (recent : Option ReadRow) → Keeps g (seen_of t o) old → (HasCleanDisk (state g t.store) → IsRead t.rows recent)
-        → Writes g t new true t.catalog (applied t.rows (own session o.reservations)) → HasCleanDisk (state g new.store) → IsRead new.rows (option_map (committed_by (own session o.reservations)) recent)
-    committed_read old recent keeps read writes clean =
-        let s : State = (seen_of t o).state in
-        let was = still_clean _ _ _ writes.survives clean in
-        let valid : IsValid s = record { orderly = keeps.kept.orderly; safe_rows = keeps.kept.safe_rows was } in
-        subst (λ rs. IsRead rs (option_map (committed_by (own session o.reservations)) recent)) (sym (writes.done_rows refl clean)) (read_after s session recent valid (read was))
-
-    -- the store refused: the transaction goes on
-    pub not_committed : (f : Failure) → nat_lt 0 (length (own session o.reservations)) ≡ true → Writes g t new false t.catalog (applied t.rows (own session o.reservations))
-        → Serves g session statement.Commit (seen_of t o) (reply.Refused (refusal_for f)) (seen_of new o)
-    not_committed f holds writes =
-        let s : State = (seen_of t o).state in
-        write_failed g session statement.Commit t new o f (done session o) (after_commit s session) holds (passes s session) holds writes (λ _. commit_step s session)
-
-  -- memory was refused, before the store was asked
-  pub commit_wants : nat_lt 0 (length (own session o.reservations)) ≡ true → Serves g session statement.Commit (seen_of t o) (reply.Refused (refusal_for failure.Memory)) (seen_of t o)
-  commit_wants holds =
-      let s : State = (seen_of t o).state in
-      refused g session statement.Commit (seen_of t o) refusal.Memory (fails s session statement.Commit failure.Memory (passes s session) holds)
-
 -- the amounts that the places have of the rows of reservations are those of the rows
 given_one : (rows : List Row) (places : Places) (row : RowName) (amounts : List ℤ) → HaveAmounts rows places → (o : Option Kept) → place_at places row ≡ o
     → option_map (λ (place : Kept). place.amounts) o ≡ Some amounts → amounts_named rows row ≡ Some amounts
@@ -187,8 +126,3 @@ given rows places (r ∷ reservations) (amounts ∷ before) have are =
 pub as_many : (places : Places) (reservations : List Reservation) (before : List (List ℤ)) → AreAmounts places reservations before → length before ≡ length reservations
 as_many places reservations before are =
     sym (length-map before Some) ∙ sym (ap length are) ∙ length-map reservations (λ (r : Reservation). option_map (λ (place : Kept). place.amounts) (place_at places r.row))
-
--- what `?` handed on as a failure, failed so
-pub failed_so : {T : Type 0} (result : Result T Failure) (f : Failure) (P : Failure → Type 0) → IsErrAnd result (λ e. e ≡ f) → P f → IfErr result P
-failed_so (Ok x) f P is holds = absurd is
-failed_so (Err e) f P is holds = subst P (sym is) holds

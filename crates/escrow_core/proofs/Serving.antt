@@ -94,7 +94,7 @@ succeeds : (answer : Reply) → is_refused answer ≡ false → failure_of answe
 succeeds (reply.Refused r) accepted = absurd (cc)
 succeeds _ accepted = refl
 
-no_write : (r : Refusal) → ¬ (IsTrue (tells_write (reply.Refused r)))
+pub no_write : (r : Refusal) → ¬ (IsTrue (tells_write (reply.Refused r)))
 no_write r e = false≢true e
 
 pub survives_itself : (s : Store) (P : Trees → Type 0) → Survives s s P
@@ -119,6 +119,11 @@ read_keeps g t new o places keeps reads = record {
 -- what it holds where the row that was read last is forgotten
 pub forgotten : {S : Type 0} (g : Ghosts S) (d : Seen S) (places : Places) (recent : Option ReadRow) → recent ≡ None → Keeps g d places → Holds g d places recent
 forgotten g d places recent none keeps = rw none (record { keeps = keeps; known = tt; read = λ _. tt })
+
+-- a write that failed leaves the state
+pub unwritten_same : {S : Type 0} (g : Ghosts S) (t new : Committed S) (o : Open) (catalog : List TableDef) (rows : List Row) → Writes g t new false catalog rows → (seen_of new o).state ≡ (seen_of t o).state
+unwritten_same g t new o catalog rows writes =
+    ap₂ (λ (c : List TableDef) (rs : List Row). record (seen_of t o).state { catalog = c; rows = rs }) (writes.kept_catalog refl) (writes.kept_rows refl)
 
 -- and where a write failed since
 pub unwritten_holds : {S : Type 0} (g : Ghosts S) (t new : Committed S) (o : Open) (places : Places) (catalog : List TableDef) (rows : List Row) (recent : Option ReadRow) → Keeps g (seen_of t o) places

@@ -1,4 +1,6 @@
 pub mod Altering
+pub mod Beside
+pub mod Ends
 pub mod Inside
 pub mod Seen
 pub mod Serves

@@ -1,4 +1,5 @@
 mod Counting
+pub mod Ends
 pub mod Journals
 pub mod Places
 pub mod ShownBounds

@@ -1,3 +1,4 @@
+pub mod Ends
 pub mod Placed
 pub mod Read
 pub mod Reserved

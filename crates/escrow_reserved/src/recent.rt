@@ -1,13 +1,16 @@
 //! The amounts of the row that was read last.
 
-ghost use Rattle.std.specs.Prelude.{◌≡◌};
+ghost use Rattle.std.specs.Prelude.{◌≡◌, map};
 ghost use Rattle.std.specs.List.{AllByRecursion};
+ghost use Rattle.escrow_bounds.specs.Held.{of_row};
+ghost use Rattle.escrow_bounds.specs.Moved.{amounts_after_all};
 ghost use Rattle.escrow_reserved.specs.Read.{committed_by};
 ghost use Rattle.escrow_machine.specs.Walked.{IsShort};
 
 use escrow_bounds::commit_amounts;
-use escrow_num::{Amount, Reservation, RowName, Seq};
+use escrow_num::{Amount, End, Reservation, RowName, Seq};
 use std::marker::Model;
+use std::slice;
 
 /// A row as it was read: its name and its amounts.
 #[derive(Debug)]
@@ -30,17 +33,27 @@ impl Drop for ReadRow {
 
 impl ReadRow {
     /// The row when reservations are committed: its amounts have what those that are of it change.
-    fn after(self, reservations: &[Reservation]) -> Self
-        requires { AllByRecursion IsShort reservations.now }
-        ensures { result ≡ committed_by reservations.now self }
+    fn after(self, reservations: &[&Reservation]) -> Self
+        requires { AllByRecursion IsShort (map (λ r. r.now) reservations.now) }
+        ensures { result ≡ committed_by (map (λ r. r.now) reservations.now) self }
     {
         let ReadRow { name, amounts } = self;
         let mut amounts = amounts.into_vec();
-        commit_amounts(&mut amounts, &name, reservations);
+        commit_each(&mut amounts, &name, reservations);
         ReadRow {
             name,
             amounts: Seq::from_vec(amounts),
         }
+    }
+}
+
+/// Adds to the amounts of a row what reservations of it change, one after another.
+fn commit_each(amounts: &mut [Amount], name: &RowName, reservations: &[&Reservation])
+    requires { AllByRecursion IsShort (map (λ r. r.now) reservations.now) }
+    ensures { amounts.new ≡ amounts_after_all End.Commit amounts.old (of_row name.now (map (λ r. r.now) reservations.now)) }
+{
+    for r in reservations {
+        commit_amounts(amounts, name, slice::from_ref(*r));
     }
 }
 
@@ -88,9 +101,9 @@ impl Recent {
 
     /// Adds what committed reservations change to the amounts, if they are of the row. Each changes at
     /// most 10 columns. Takes no memory.
-    pub fn commit(&mut self, reservations: &[Reservation])
-        requires { AllByRecursion IsShort reservations.now }
-        ensures { self.new ≡ option_map (committed_by reservations.now) self.old }
+    pub fn commit(&mut self, reservations: &[&Reservation])
+        requires { AllByRecursion IsShort (map (λ r. r.now) reservations.now) }
+        ensures { self.new ≡ option_map (committed_by (map (λ r. r.now) reservations.now)) self.old }
     {
         if let Some(row) = self.row.take() {
             self.row = Some(row.after(reservations));

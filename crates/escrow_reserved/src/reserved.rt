@@ -1,4 +1,4 @@
-ghost use Rattle.std.specs.Prelude.{◌≡◌, ℕ, ℤ, true, Option, Some, None, is_some, List, length, map, option_map};
+ghost use Rattle.std.specs.Prelude.{◌≡◌, ◌++◌, ℕ, ℤ, true, Option, Some, None, OnOk, is_some, List, length, map, option_map};
 ghost use Rattle.std.specs.List.{AllByRecursion};
 ghost use Rattle.escrow_num.specs.declared.reservation.Reservation.{Reservation as Held};
 ghost use Rattle.escrow_num.specs.declared.session.End.TheVariants.{Rollback};
@@ -15,7 +15,7 @@ ghost use Rattle.escrow_machine.specs.Walked.{IsShort};
 use crate::violation::first_violation;
 use escrow_bounds::{Addition, Bounds, deltas};
 use escrow_checks::Check;
-use escrow_num::{Amount, Changes, End, Name, Refusal, RowName, Session};
+use escrow_num::{Amount, Changes, End, Name, Refusal, Reservation, RowName, Session};
 use escrow_txn::TxnTable;
 use std::alloc::{AllocError, Global};
 use std::marker::Model;
@@ -49,7 +49,7 @@ impl Model for Reserved {
 }
 
 impl Reserved {
-    ghost use Rattle.std.specs.Prelude.{◌⊎◌, ◌<◌, ◌≤◌, IfOk, IfErr, IfSome, IsSome, OnOk, OnErr, Err, bytes_eq};
+    ghost use Rattle.std.specs.Prelude.{◌⊎◌, ◌+◌, ◌<◌, ◌≤◌, IfOk, IfErr, IfSome, IsSome, OnErr, Err, bytes_eq, flat_map};
     ghost use Rattle.std.specs.List.{list_any};
     ghost use Rattle.escrow_num.specs.Order.{same_row};
     ghost use Rattle.escrow_num.specs.Reservation.{deltas};
@@ -61,6 +61,7 @@ impl Reserved {
     ghost use Rattle.escrow_bounds.specs.Kept.{Kept};
     ghost use Rattle.escrow_bounds.specs.Places.{Becomes};
     ghost use Rattle.escrow_journal.specs.Open.{ended, grant_refusal, granted, released, saved, savepoint_refusal};
+    ghost use Rattle.escrow_reserved.specs.Ends.{AreAllEnded, all_ended};
     ghost use Rattle.escrow_reserved.specs.Reserved.{AreAmounts, AreCounted, ArePlaced, Releases, nothing, reason_against, reason_by};
 
     /// Makes one in which nothing is open; the next id is 1. Out of memory is the only error.
@@ -113,13 +114,35 @@ impl Reserved {
         self.bounds.has_place_in(table)
     }
 
-    /// Returns the committed amounts of the row of each reservation that a session holds, in order of
-    /// grant. Want of memory is the only error. Each of these reservations changes at most 10 columns.
-    pub fn amounts_of(&self, alloc: Global, session: Session) -> Result<Vec<&[Amount]>, AllocError>
-        ensures amounts { IfOk result (λ all. AreAmounts self.now.places (own session self.now.txns.reservations) (map (λ amounts. amounts.now) all.items)) }
-        ensures short { OnOk result (AllByRecursion IsShort (own session self.now.txns.reservations)) }
+    /// Returns the open reservations of the sessions of a plan, session by session, each in order of
+    /// grant. Want of memory is the only error. The row of each has a place, and each changes at most 10
+    /// columns.
+    pub fn all_of(
+        &self,
+        alloc: Global,
+        plan: &[(Session, End)],
+    ) -> Result<Vec<&Reservation>, AllocError>
+        ensures all { IfOk result (λ all. map (λ r. r.now) all.items ≡ flat_map (λ entry. own entry.0 self.now.txns.reservations) plan.now) }
+        ensures placed { IfOk result (λ all. AllByRecursion (λ r. IsSome (place_at self.now.places r.row)) (map (λ r. r.now) all.items)) }
+        ensures short { IfOk result (λ all. AllByRecursion IsShort (map (λ r. r.now) all.items)) }
     {
-        let reservations = self.txns.journal(session).all();
+        let mut all = Vec::new(alloc);
+        for (session, _) in plan {
+            push_all(&mut all, self.txns.journal(*session).all())?;
+        }
+        Ok(all)
+    }
+
+    /// Returns the committed amounts of the row of each reservation, in their order. Want of memory is
+    /// the only error.
+    pub fn amounts_of(
+        &self,
+        alloc: Global,
+        reservations: &[&Reservation],
+    ) -> Result<Vec<&[Amount]>, AllocError>
+        requires { AllByRecursion (λ r. IsSome (place_at self.now.places r.row)) (map (λ r. r.now) reservations.now) }
+        ensures { IfOk result (λ all. AreAmounts self.now.places (map (λ r. r.now) reservations.now) (map (λ amounts. amounts.now) all.items)) }
+    {
         let mut all = Vec::with_capacity(alloc, reservations.len())?;
         for r in reservations {
             all.push(self.amounts_at(&r.row))?;
@@ -297,6 +320,22 @@ impl Reserved {
         count
     }
 
+    /// Ends the transactions of the sessions of a plan, one after another, and returns how many
+    /// reservations they held. A session that is named again has nothing left to end. Takes no memory.
+    pub fn end_all(&mut self, plan: &[(Session, End)]) -> u32
+        requires { length self.old.txns.reservations ≤ MAX_OPEN }
+        ensures count { result + length self.new.txns.reservations ≡ length self.old.txns.reservations }
+        ensures txns { self.new.txns ≡ all_ended plan.now self.old.txns }
+        ensures places { AreAllEnded plan.now self.old.txns self.old.places self.new.places }
+        ensures placed { ArePlaced self.old.txns.reservations self.old.places → ArePlaced self.new.txns.reservations self.new.places }
+    {
+        let mut count = 0;
+        for (session, end) in plan {
+            count += self.end(*session, *end);
+        }
+        count
+    }
+
     /// Takes a session back to its savepoint of a name, and returns how many reservations were dropped.
     /// Returns `None` exactly where there is no such savepoint, and then nothing changes. Takes no memory.
     pub fn cut(&mut self, session: Session, name: Name) -> Option<u32>
@@ -370,6 +409,19 @@ impl Reserved {
         self.txns.clear();
         self.bounds.clear();
     }
+}
+
+/// Adds references to reservations behind others.
+fn push_all<'a>(
+    all: &mut Vec<&'a Reservation>,
+    reservations: &'a [Reservation],
+) -> Result<(), AllocError>
+    ensures { OnOk result (map (λ r. r.now) all.new.items ≡ map (λ r. r.now) all.old.items ++ reservations.now) }
+{
+    for r in reservations {
+        all.push(r)?;
+    }
+    Ok(())
 }
 
 /// Counts the reservations of a session no more that came after its savepoint of a name, if there is one.

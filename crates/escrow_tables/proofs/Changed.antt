@@ -1,8 +1,9 @@
 -- Changes added to amounts, column by column, and amounts replaced.
-use Rattle.std.proofs.Common.{◌≡◌, ℕ, ℤ, zero, suc, Option, None, Some, unwrap_or, pos, ◌+◌, ◌-◌, ◌<◌, ◌≤◌, ◌+ℤ◌, List, [], ◌∷◌, ◌++◌, map, length, min, take, drop, get_or, set, refl, ap, sym, ◌∙◌, subst, subst₂, true, false, arith, add-one, inl, inr}
+use Rattle.std.proofs.Common.{◌≡◌, ℕ, ℤ, zero, suc, Bool, Option, None, Some, unwrap_or, pos, ◌+◌, ◌-◌, ◌<◌, ◌≤◌, ◌+ℤ◌, ◌||◌, List, [], ◌∷◌, ◌++◌, map, length, min, take, drop, get_or, set, refl, ap, sym, ◌∙◌, subst, subst₂, true, false, arith, add-one, inl, inr}
+use Rattle.std.specs.Borrow.{Bor}
 use Rattle.std.specs.List.{list_any}
 use Rattle.std.proofs.lemmas.Bool.{cases_Bool, false_from_ne_true, false≢true}
-use Rattle.std.proofs.lemmas.List.{length-drop, length-map, length-take-le, map_more, take_all, take_more, take-map, get_or-map, length_push}
+use Rattle.std.proofs.lemmas.List.{length-drop, length-map, length-take-le, drop-map, map_more, take_all, take_more, take-map, get_or-map, length_push}
 use Rattle.escrow_num.specs.declared.reservation.Reservation.{Reservation}
 use Rattle.escrow_num.specs.declared.value.RowName.{RowName}
 use Rattle.escrow_num.specs.Order.{same_row}
@@ -11,6 +12,38 @@ use Rattle.escrow_num.proofs.Orders.{row_same, same_row_itself}
 use Rattle.escrow_checks.specs.Form.{changed, all_changed}
 use Rattle.escrow_schema.specs.Rows.{replaced}
 use Rattle.escrow_tables.specs.Puts.{changed_by}
+
+-- what references to reservations lead to
+abbrev pub read : List (Bor Reservation) → List Reservation
+read reservations = map (λ (r : Bor Reservation). r.now) reservations
+
+pub length-read : (reservations : List (Bor Reservation)) → length (read reservations) ≡ length reservations
+length-read reservations = length-map reservations (λ (r : Bor Reservation). r.now)
+
+-- the one at a place
+pub read_at : (reservations : List (Bor Reservation)) (i : ℕ) (r : Bor Reservation) → i < length reservations → r ≡ get_or reservations i r
+    → (i < length (read reservations)) × (r.now ≡ get_or (read reservations) i r.now)
+read_at reservations i r below at = (
+  omega (arith, length-read reservations, below),
+  ap (λ (q : Bor Reservation). q.now) at ∙ sym (get_or-map (λ (q : Bor Reservation). q.now) reservations i r r.now below),
+)
+
+-- those before a place, one of which is of the row of a name or none, and those from it on
+any_read : (p : Reservation → Bool) (reservations : List (Bor Reservation)) → list_any (λ (r : Bor Reservation). p r.now) reservations ≡ list_any p (read reservations)
+any_read p [] = refl
+any_read p (r ∷ reservations) = ap (λ (b : Bool). p r.now || b) (any_read p reservations)
+
+pub named_read : (name : RowName) (reservations : List (Bor Reservation)) (i : ℕ)
+    → list_any (λ (r : Bor Reservation). same_row r.now.row name) (take i reservations) ≡ list_any (λ (r : Reservation). same_row r.row name) (take i (read reservations))
+named_read name reservations i =
+    any_read (λ (r : Reservation). same_row r.row name) (take i reservations)
+    ∙ ap (list_any (λ (r : Reservation). same_row r.row name)) (sym (take-map (λ (r : Bor Reservation). r.now) i reservations))
+
+read_from : (reservations : List (Bor Reservation)) (i : ℕ) → read (take (length reservations - i) (drop i reservations)) ≡ take (length (read reservations) - i) (drop i (read reservations))
+read_from reservations i =
+    sym (take-map (λ (r : Bor Reservation). r.now) (length reservations - i) (drop i reservations))
+    ∙ ap (take (length reservations - i)) (sym (drop-map (λ (r : Bor Reservation). r.now) i reservations))
+    ∙ ap (λ (n : ℕ). take (n - i) (drop i (read reservations))) (sym (length-read reservations))
 
 -- no changes change nothing
 pub changed_nil : (amounts : List ℤ) → changed amounts [] ≡ amounts
@@ -86,10 +119,12 @@ changed_later name before (r ∷ reservations) (suc i) none = elim (cases_Bool (
       changed_later name before reservations i later ∙ sym (ap (λ (zs : List ℤ). all_changed zs (map (changes_at name) reservations)) same))
 ]
 
-pub changed_from : (name : RowName) (before : List ℤ) (reservations : List Reservation) (i : ℕ) → list_any (λ r. same_row r.row name) (take i reservations) ≡ false
-    → changed_by (take (length reservations - i) (drop i reservations)) name before ≡ changed_by reservations name before
+pub changed_from : (name : RowName) (before : List ℤ) (reservations : List (Bor Reservation)) (i : ℕ) → list_any (λ r. same_row r.row name) (take i (read reservations)) ≡ false
+    → changed_by (read (take (length reservations - i) (drop i reservations))) name before ≡ changed_by (read reservations) name before
 changed_from name before reservations i none =
-    ap (λ rs. changed_by rs name before) (take_all (length reservations - i) (drop i reservations) (omega (arith, length-drop i reservations))) ∙ changed_later name before reservations i none
+    let all = read reservations in
+    ap (λ rs. changed_by rs name before) (read_from reservations i ∙ take_all (length all - i) (drop i all) (omega (arith, length-drop i all)))
+    ∙ changed_later name before all i none
 
 -- one more item replaced, or kept
 replaced_push : {A : Type 0} (news : List (Option A)) (new : Option A) (xs : List A) (x : A) → length news ≡ length xs

@@ -28,12 +28,12 @@ impl<S: Alter> Tables<S> {
     pub fn apply(
         &mut self,
         alloc: Global,
-        reservations: &[Reservation],
+        reservations: &[&Reservation],
         before: &[&[Amount]],
     ) -> Result<(), Failure>
         requires many { length before.now ≡ length reservations.now }
-        requires given { HasCleanDisk (state S.Store self.old.store) → AreGiven self.old.rows reservations.now (map (λ amounts. amounts.now) before.now) }
-        ensures { Writes S.Store self.old self.new (is_ok result) self.old.catalog (applied self.old.rows reservations.now) }
+        requires given { HasCleanDisk (state S.Store self.old.store) → AreGiven self.old.rows (map (λ r. r.now) reservations.now) (map (λ amounts. amounts.now) before.now) }
+        ensures { Writes S.Store self.old self.new (is_ok result) self.old.catalog (applied self.old.rows (map (λ r. r.now) reservations.now)) }
     {
         let news = news_by(alloc, &self.tables, reservations, before)?;
         self.store.put_amounts(alloc, news.as_slice())?;
@@ -47,12 +47,13 @@ impl<S: Alter> Tables<S> {
 fn news_by<'a>(
     alloc: Global,
     tables: &'a [CountedTable],
-    reservations: &'a [Reservation],
+    reservations: &'a [&Reservation],
     before: &[&[Amount]],
 ) -> Result<Vec<NewAmounts<'a>>, Failure>
     requires { length before.now ≡ length reservations.now }
-    ensures puts { IfOk result (λ news. ArePuts (stored_of tables.now) reservations.now news.items) }
-    ensures told { IfOk result (λ news. (rows : List Row) → AreGiven rows reservations.now (map (λ amounts. amounts.now) before.now) → AllByRecursion (TellsPut rows reservations.now) news.items) }
+    ensures puts { IfOk result (λ news. ArePuts (stored_of tables.now) (map (λ r. r.now) reservations.now) news.items) }
+    ensures told { IfOk result (λ news. (rows : List Row) → AreGiven rows (map (λ r. r.now) reservations.now) (map (λ amounts. amounts.now) before.now)
+        → AllByRecursion (TellsPut rows (map (λ r. r.now) reservations.now)) news.items) }
 {
     let mut news = Vec::new(alloc);
     for (i, r) in reservations.iter().enumerate() {
@@ -71,11 +72,11 @@ fn new_of<'a>(
     tables: &'a [CountedTable],
     name: &'a RowName,
     before: &[Amount],
-    reservations: &[Reservation],
+    reservations: &[&Reservation],
 ) -> Result<NewAmounts<'a>, Failure>
     ensures stands { IfOk result (λ new. Stands (stored_of tables.now) new.table.now) }
     ensures row { IfOk result (λ new. row_put new ≡ name.now) }
-    ensures amounts { IfOk result (λ new. replaced new.amounts before.now ≡ changed_by reservations.now name.now before.now) }
+    ensures amounts { IfOk result (λ new. replaced new.amounts before.now ≡ changed_by (map (λ r. r.now) reservations.now) name.now before.now) }
 {
     let Some(counted) = find_by_name(tables, name.table) else {
         return Err(Failure::Store);
@@ -88,8 +89,8 @@ fn new_of<'a>(
 }
 
 /// Whether one of the reservations is of the row of a name.
-fn is_named(reservations: &[Reservation], row: &RowName) -> bool
-    ensures { result ≡ list_any (λ r. same_row r.row row.now) reservations.now }
+fn is_named(reservations: &[&Reservation], row: &RowName) -> bool
+    ensures { result ≡ list_any (λ r. same_row r.now.row row.now) reservations.now }
 {
     reservations.iter().any(|r| r.row.is_same(row))
 }
@@ -99,9 +100,9 @@ fn new_amounts(
     alloc: Global,
     name: &RowName,
     before: &[Amount],
-    reservations: &[Reservation],
+    reservations: &[&Reservation],
 ) -> Result<Changes, Failure>
-    ensures { IfOk result (λ news. replaced news before.now ≡ changed_by reservations.now name.now before.now) }
+    ensures { IfOk result (λ news. replaced news before.now ≡ changed_by (map (λ r. r.now) reservations.now) name.now before.now) }
 {
     let mut after = copied(alloc, before)?;
     for r in reservations {

@@ -58,6 +58,18 @@ impl<S: Alter> Tables<S> {
         self.store.stands(&self.tables[place].stored, &name.key)
     }
 
+    /// Whether the store still answers: once a fault has shut it, it doesn't. Looks for the row of a name.
+    /// Takes no memory of its own.
+    pub fn answers(&mut self, name: &RowName) -> bool
+        ensures reads { Reads S.Store self.old self.new }
+        ensures open { HasCleanDisk (state S.Store self.new.store) → IsTrue result → IsTrue (state S.Store self.new.store).is_open }
+    {
+        match self.place(name.table) {
+            Some(place) => self.stands(place, name).is_ok(),
+            None => false,
+        }
+    }
+
     /// The values of each committed row of the table of a name, which stands at a place: in column order, the
     /// rows in order of key.
     pub fn all_values(

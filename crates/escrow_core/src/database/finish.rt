@@ -49,10 +49,8 @@ impl<S: Alter> Database<S> {
         }
     }
 
-    /// Applies the open reservations of a session to the committed rows, in one write, and ends its
-    /// transaction once the store has agreed. Answers how many there were. No row is read: the places of the
-    /// rows have their amounts. Each reservation was granted over every choice of the open ones, so no check is tested
-    /// here. Where there are none the store isn't asked.
+    /// Ends a session's transaction by COMMIT, in one write ([`Database::commit_all`]). Answers how many reservations
+    /// it held. Where there are none the store isn't asked.
     fn apply(&mut self, alloc: Global, session: Session) -> Result<u32, Failure>
         ensures done { IfOk result (λ count. Serves S.Store session Statement.Commit self.old (Reply.Committed count) self.new) }
         ensures failed { IfErr result (λ f. Serves S.Store session Statement.Commit self.old (Reply.Refused (refusal_for f)) self.new) }
@@ -61,23 +59,10 @@ impl<S: Alter> Database<S> {
         ensures held { OnErr result (0 < length (own session self.old.state.reservations)) }
         ensures stays { HasCleanDisk (state S.Store self.new.store) → OnOk result (IsTrue (state S.Store self.old.store).is_open → IsTrue (state S.Store self.new.store).is_open) }
     {
-        let reservations = self.reserved.txns().journal(session).all();
-        if reservations.is_empty() {
+        if self.reserved.txns().journal(session).all().is_empty() {
             return Ok(self.reserved.end(session, End::Rollback));
         }
-        let amounts = self.reserved.amounts_of(alloc, session)?;
-        let written = self.tables.apply(alloc, reservations, &amounts);
-        drop(amounts);
-        match written {
-            Ok(()) => {
-                self.recent.commit(reservations);
-                Ok(self.reserved.end(session, End::Commit))
-            }
-            Err(failure) => {
-                self.recent.forget();
-                Err(failure)
-            }
-        }
+        self.commit_all(alloc, &[(session, End::Commit)])
     }
 
     /// ROLLBACK: drops the open reservations and the savepoints of a session. Answers how many

@@ -1,7 +1,9 @@
-ghost use Rattle.std.specs.Prelude.{◌≡◌, ◌+◌, ◌<◌, ◌++◌, ◌∷◌, []};
+ghost use Rattle.std.specs.Prelude.{◌≡◌, ◌+◌, ◌<◌, ◌≤◌, ◌++◌, ◌∷◌, [], List, length};
+ghost use Rattle.std.specs.List.{AllByRecursion};
 ghost use Rattle.std.specs.Vec.{vec_len, vec_capacity};
 
 use crate::database::Database;
+use crate::database::held::Held;
 use escrow_machine::{Event, Reply};
 use escrow_num::Refusal;
 use sqlite::Alter;
@@ -11,7 +13,9 @@ impl<S: Alter> Database<S> {
     ghost use Rattle.std.specs.Prelude.{◌≡◌, IfOk, OnErr};
     ghost use Rattle.sqlite.specs.Held.{state};
     ghost use Rattle.sqlite.specs.State.{HasCleanDisk};
+    ghost use Rattle.escrow_machine.specs.State.{State};
     ghost use Rattle.escrow_machine.specs.Step.{IsServed, IsRun};
+    ghost use Rattle.escrow_core.specs.Beside.{IsBatch};
 
     /// Serves events, one after another, and answers their replies. Room for the replies is taken
     /// first: where it is refused, nothing was served.
@@ -21,11 +25,49 @@ impl<S: Alter> Database<S> {
         ensures refused { OnErr result (self.new ≡ self.old) }
     {
         let mut replies = Vec::with_capacity(alloc, events.len())?;
-        for event in events {
-            let reply = self.serve(alloc, event);
-            keep(&mut replies, reply);
-        }
+        self.run_into(alloc, events, &mut replies);
         Ok(replies)
+    }
+
+    /// Serves events, one after another, and adds their replies to others, for which there is room. COMMITs
+    /// are held back while further events are served that they commute with, and are then written together.
+    pub fn run_into(&mut self, alloc: Global, events: &[Event], replies: &mut Vec<Reply>)
+        requires room { vec_len replies.old + length events.now ≤ vec_capacity replies.old }
+        ensures served { (answers : List Reply) × (length answers ≡ length events.now) × (replies.new.items ≡ replies.old.items ++ answers) × (HasCleanDisk (state S.Store self.new.store) → IsRun self.old.state events.now answers self.new.state) }
+        ensures clean { HasCleanDisk (state S.Store self.new.store) → HasCleanDisk (state S.Store self.old.store) }
+        ensures capacity { vec_capacity replies.new ≡ vec_capacity replies.old }
+    {
+        let mut held = Held::new();
+        for event in events {
+            self.serve_next(alloc, event, &mut held, replies);
+        }
+        self.settle_all(alloc, held.plan(), held.places(), replies);
+    }
+
+    /// Serves the next event, before the COMMITs that are held back are written or behind them.
+    fn serve_next(
+        &mut self,
+        alloc: Global,
+        event: &Event,
+        held: &mut Held,
+        replies: &mut Vec<Reply>,
+    )
+        requires room { vec_len replies.old < vec_capacity replies.old }
+        requires places { AllByRecursion (λ place. place < vec_len replies.old) held.old.places }
+        ensures batch { (s : State) → (events : List Event) → (before : List Reply) → IsBatch (HasCleanDisk (state S.Store self.old.store)) s events before replies.old.items held.old self.old.state → IsBatch (HasCleanDisk (state S.Store self.new.store)) s (events ++ event.now ∷ []) before replies.new.items held.new self.new.state }
+        ensures clean { HasCleanDisk (state S.Store self.new.store) → HasCleanDisk (state S.Store self.old.store) }
+        ensures len { vec_len replies.new ≡ vec_len replies.old + 1 }
+        ensures capacity { vec_capacity replies.new ≡ vec_capacity replies.old }
+    {
+        match self.serve_beside(alloc, event, held, replies.len()) {
+            Some(reply) => keep(replies, reply),
+            None => {
+                self.settle_all(alloc, held.plan(), held.places(), replies);
+                held.clear();
+                let reply = self.serve(alloc, event);
+                keep(replies, reply);
+            }
+        }
     }
 
     /// Serves one event.

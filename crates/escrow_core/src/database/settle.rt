@@ -1,4 +1,4 @@
-ghost use Rattle.std.specs.Prelude.{◌≡◌, ◌+◌, ◌≤◌};
+ghost use Rattle.std.specs.Prelude.{◌≡◌, ◌+◌, ◌<◌, ◌≤◌, length};
 ghost use Rattle.escrow_checks.specs.declared.spread.TheConstants.Spread.{MAX_OPEN};
 ghost use Rattle.escrow_machine.specs.Walked.{counted_end};
 
@@ -12,13 +12,14 @@ impl<S: Alter> Database<S> {
     ghost use Rattle.std.specs.Prelude.{IfOk, IfErr, IsTrue, OnOk};
     ghost use Rattle.sqlite.specs.Held.{state};
     ghost use Rattle.sqlite.specs.State.{HasCleanDisk, Survives};
+    ghost use Rattle.escrow_core.specs.Ends.{IsGroup, Settles};
     ghost use Rattle.escrow_machine.specs.Settle.{settled, AreCounts, IsStop};
     ghost use Rattle.escrow_core.specs.Serves.{AreAfterEnds};
 
     /// Ends the transactions of sessions, in the order of a plan. A session that is named again has
     /// nothing left to end: its first entry decides. Stops at the first COMMIT that fails, for want of
     /// memory or refused by the store: what stands before it in the plan is done, and its session and
-    /// those after it are untouched.
+    /// those after it are untouched. COMMITs that follow each other are written together.
     pub fn settle(&mut self, alloc: Global, plan: &[(Session, End)]) -> Result<Settled, Stop>
         ensures ok { HasCleanDisk (state S.Store self.new.store) → OnOk result (self.new.state ≡ settled plan.now self.old.state) }
         ensures counts { IfOk result (λ done. AreCounts plan.now self.old.state.reservations done) }
@@ -27,6 +28,59 @@ impl<S: Alter> Database<S> {
         // A crash leaves what it might have left before, or what some first entries of the plan make; and the
         // limit of steps stays.
         ensures crash { Survives (state S.Store self.old.store) (state S.Store self.new.store) (λ trees. IsTrue (state S.Store self.old.store).is_open → AreAfterEnds plan.now self.old.state trees) }
+    {
+        // That there are few enough reservations to be counted is told with the next id.
+        let _ = self.next_id();
+        let mut settled = Settled {
+            committed: 0,
+            released: 0,
+        };
+        let mut place = 0;
+        while place < plan.len() {
+            let rest = &plan[place..];
+            let part = &rest[..self.part_len(rest)];
+            match self.settle_part(alloc, part) {
+                Ok(done) => add_all(&mut settled, done),
+                Err(stop) => {
+                    return Err(Stop {
+                        place: place + stop.place,
+                        cause: stop.cause,
+                    });
+                }
+            }
+            place += part.len();
+        }
+        Ok(settled)
+    }
+
+    /// Settles a part of a plan: by one write where it has several entries, which then are COMMITs; and entry by entry
+    /// where it has one, or where that write fails, so that the plan stops at the first COMMIT that fails by itself.
+    fn settle_part(&mut self, alloc: Global, part: &[(Session, End)]) -> Result<Settled, Stop>
+        requires { 1 < length part.now → IsGroup self.old.state.reservations part.now }
+        ensures { Settles S.Store part.now self.old result self.new }
+    {
+        if part.len() > 1 {
+            match self.commit_all(alloc, part) {
+                Ok(committed) => {
+                    return Ok(Settled {
+                        committed,
+                        released: 0,
+                    });
+                }
+                Err(cause) => {
+                    // Where a fault has shut the store, the first COMMIT fails too.
+                    if !self.store_answers(part[0].0) {
+                        return Err(Stop { place: 0, cause });
+                    }
+                }
+            }
+        }
+        self.settle_each(alloc, part)
+    }
+
+    /// Settles a plan entry by entry.
+    fn settle_each(&mut self, alloc: Global, plan: &[(Session, End)]) -> Result<Settled, Stop>
+        ensures { Settles S.Store plan.now self.old result self.new }
     {
         // That there are few enough reservations to be counted is told with the next id.
         let _ = self.next_id();
@@ -53,4 +107,14 @@ fn add(done: &mut Settled, end: End, count: u32)
         End::Commit => done.committed += count,
         End::Rollback => done.released += count,
     }
+}
+
+/// Counts the reservations that a part of a plan ended.
+fn add_all(settled: &mut Settled, done: Settled)
+    requires { settled.old.committed + settled.old.released + done.committed + done.released ≤ MAX_OPEN }
+    ensures committed { settled.new.committed ≡ settled.old.committed + done.committed }
+    ensures released { settled.new.released ≡ settled.old.released + done.released }
+{
+    settled.committed += done.committed;
+    settled.released += done.released;
 }

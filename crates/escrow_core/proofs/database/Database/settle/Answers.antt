@@ -1,49 +1,60 @@
-use Rattle.std.proofs.Common.{◌≤◌, length, drop, arith}
+use Rattle.std.proofs.Common.{◌+◌, ◌-◌, ◌≤◌, arith, drop, length, refl, take}
 use Rattle.sqlite.specs.Held.{state}
-use Rattle.escrow_machine.proofs.Settling.{counts_end, counts_fit, counts_next, ends_all, ends_next, stops}
-use Rattle.escrow_core.proofs.Ending.{ends_survive}
+use Rattle.escrow_machine.proofs.Settling.{counts_end, ends_all}
+use Rattle.escrow_core.proofs.Parts.{IsPart, part_counts, part_done, part_fits, part_of, part_stops, part_survives, part_within}
 use Rattle.escrow_core.proofs.Serving.{still_clean}
 use Rattle.escrow_core.proofs.database.Database.settle.Goals as goal
 
-pub add-requires : goal.add-requires
-add-requires g c =
+pub add_all-requires : goal.add_all-requires
+add_all-requires g c =
     let plan = c.args.plan.now in
-    let entry = c.index-plan-place.result in
+    let s = c.args.self.now.state in
     let so_far = c.loop-place in
-    counts_fit c.args.self.now.state plan (drop so_far.place plan) so_far.self.state.reservations so_far.settled entry.0 c.in-Ok.count c.next_id.ensures.kept.orderly so_far.invariant.counts c.in-Ok.ensures.count
+    let i = so_far.place in
+    let part = take c.part_len.result (take (length plan - i) (drop i plan)) in
+    let done = c.in-Ok.done in
+    let next =
+    part_counts plan s.reservations i part so_far.self.state.reservations c.settle_part.new.self.state.reservations so_far.settled done
+    (record { committed = so_far.settled.committed + done.committed; released = so_far.settled.released + done.released })
+    (part_of plan i c.part_len.result c.part_len.ensures.within) c.in-Ok.ensures.counts c.in-Ok.ensures.left refl refl so_far.invariant.counts in
+    let fits = part_fits s plan (drop (i + length part) plan) c.settle_part.new.self.state.reservations _ c.next_id.ensures.kept.orderly next in
+    omega (arith, fits)
 
 pub returns-in-Err-clause-stop : goal.returns-in-Err-clause-stop
 returns-in-Err-clause-stop g c = λ clean.
+    let plan = c.args.plan.now in
     let so_far = c.loop-place in
-    let before = so_far.invariant.ended (still_clean _ _ _ c.finish.ensures.crash clean) in
-    stops c.args.plan.now (record { place = so_far.place; cause = c.in-Err.cause }) c.index-plan-place.result c.args.self.now.state so_far.self.state c.finish.new.self.state
-    c.loop-place-test.true c.index-plan-place.is before c.in-Err.ensures.failed c.in-Err.ensures.commit c.in-Err.ensures.held
+    let i = so_far.place in
+    part_stops plan i (take c.part_len.result (take (length plan - i) (drop i plan))) c.in-Err.stop.cause c.in-Err.stop c.args.self.now.state so_far.self.state c.settle_part.new.self.state
+    (part_of plan i c.part_len.result c.part_len.ensures.within) (so_far.invariant.ended (still_clean _ _ _ c.settle_part.ensures.crash clean)) c.in-Err.ensures.within (c.in-Err.ensures.stop clean)
 
 pub returns-in-Err-clause-crash : goal.returns-in-Err-clause-crash
 returns-in-Err-clause-crash g c =
+    let plan = c.args.plan.now in
     let so_far = c.loop-place in
-    ends_survive (state g.S.Store c.args.self.now.store) (state g.S.Store so_far.self.store) (state g.S.Store c.finish.new.self.store) c.args.plan.now so_far.place c.index-plan-place.result
-    c.args.self.now.state so_far.self.state c.loop-place-test.true c.index-plan-place.is so_far.invariant.ended so_far.invariant.stays so_far.invariant.crash c.finish.ensures.crash
+    let i = so_far.place in
+    part_survives (state g.S.Store c.args.self.now.store) (state g.S.Store so_far.self.store) (state g.S.Store c.settle_part.new.self.store) plan i (take c.part_len.result (take (length plan - i) (drop i plan)))
+    c.args.self.now.state so_far.self.state (part_of plan i c.part_len.result c.part_len.ensures.within) so_far.invariant.ended so_far.invariant.stays so_far.invariant.crash c.settle_part.ensures.crash
 
 pub loop-place-preserved : goal.loop-place-preserved
 loop-place-preserved g c =
     let plan = c.args.plan.now in
     let s = c.args.self.now.state in
-    let entry = c.index-plan-place.result in
     let so_far = c.loop-place in
-    let new = c.finish.new.self.state in
+    let i = so_far.place in
+    let part = take c.part_len.result (take (length plan - i) (drop i plan)) in
+    let p : IsPart plan i part = part_of plan i c.part_len.result c.part_len.ensures.within in
+    let new = c.settle_part.new.self in
     record {
-      stays = λ clean was_open.
-          c.in-Ok.ensures.stays clean (so_far.invariant.stays (still_clean _ _ _ c.finish.ensures.crash clean) was_open);
+      within = part_within plan i part p so_far.invariant.within;
+      ended = λ clean. part_done plan i part s so_far.self.state new.state p (so_far.invariant.ended (still_clean _ _ _ c.settle_part.ensures.crash clean)) (c.in-Ok.ensures.ok clean);
+      stays = λ clean was_open. c.in-Ok.ensures.stays clean (so_far.invariant.stays (still_clean _ _ _ c.settle_part.ensures.crash clean) was_open);
       crash =
-          ends_survive (state g.S.Store c.args.self.now.store) (state g.S.Store so_far.self.store) (state g.S.Store c.finish.new.self.store) plan so_far.place entry s so_far.self.state
-          c.loop-place-test.true c.index-plan-place.is so_far.invariant.ended so_far.invariant.stays so_far.invariant.crash c.finish.ensures.crash;
-      ended = λ clean.
-          ends_next plan so_far.place entry s so_far.self.state new c.loop-place-test.true c.index-plan-place.is
-          (so_far.invariant.ended (still_clean _ _ _ c.finish.ensures.crash clean)) (c.in-Ok.ensures.done clean);
-      counts = rw c.add.ensures
-          (counts_next plan s.reservations so_far.place entry so_far.self.state.reservations new.reservations so_far.settled c.in-Ok.count
-          c.loop-place-test.true c.index-plan-place.is c.in-Ok.ensures.count c.in-Ok.ensures.left so_far.invariant.counts);
+          part_survives (state g.S.Store c.args.self.now.store) (state g.S.Store so_far.self.store) (state g.S.Store new.store) plan i part s so_far.self.state p so_far.invariant.ended so_far.invariant.stays
+          so_far.invariant.crash c.settle_part.ensures.crash;
+      counts =
+          part_counts plan s.reservations i part so_far.self.state.reservations new.state.reservations so_far.settled c.in-Ok.done c.add_all.new.settled p c.in-Ok.ensures.counts c.in-Ok.ensures.left
+          c.add_all.ensures.committed c.add_all.ensures.released so_far.invariant.counts;
     }
 
 pub returns-clause-ok : goal.returns-clause-ok

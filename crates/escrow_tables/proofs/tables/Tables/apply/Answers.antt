@@ -8,6 +8,7 @@ use Rattle.escrow_rows.specs.Changes.{PutsAmounts}
 use Rattle.escrow_rows.specs.View.{rows_in}
 use Rattle.escrow_tables.specs.Calls.{Writes}
 use Rattle.escrow_tables.specs.Inside.{Keeps, catalog_of, stored_of}
+use Rattle.escrow_tables.proofs.Changed.{read}
 use Rattle.escrow_tables.proofs.Committing.{commits, keeps_committed}
 use Rattle.escrow_tables.proofs.Writing.{seen}
 use Rattle.escrow_tables.proofs.tables.Tables.apply.Given as given
@@ -18,7 +19,7 @@ use Rattle.escrow_tables.proofs.tables.Tables.apply.Goals.{After-put_amounts}
 written : (g : given.Over) (c : After-put_amounts g) (is_done : Bool) (later : Held g.row.S.Denot) → is_ok c.put_amounts.result ≡ is_done
     → (is_done ≡ true → later ≡ c.put_amounts.new.self) → (is_done ≡ false → later ≡ c.self.inside.last.value)
     → Writes g.S.Store (seen g.S.Store c.self.inside.store c.self.inside.last.value c.self.inside.tables.items) (seen g.S.Store c.put_amounts.new.self later c.self.inside.tables.items) is_done
-    (catalog_of c.self.inside.tables.items) (applied (rows_in (stored_of c.self.inside.tables.items) (state g.S.Store c.self.inside.last.value).now) c.args.reservations.now)
+    (catalog_of c.self.inside.tables.items) (applied (rows_in (stored_of c.self.inside.tables.items) (state g.S.Store c.self.inside.last.value).now) (read c.args.reservations.now))
     × Keeps (state g.S.Store c.put_amounts.new.self) (state g.S.Store later) c.self.inside.tables.items
 written g c is_done later ok if_done if_not =
     let old = c.self.inside in
@@ -27,9 +28,9 @@ written g c is_done later ok if_done if_not =
     let made = rw (c.deref.ensures.value, ← c.as_slice.ensures.value) at c.in_ok-news.ensures in
     let given = rw (← c.self.view_is) at c.requires.given in
     let it = subst (λ b. Transacts (state g.S.Store old.store) (state g.S.Store new) b (PutsAmounts news)) ok c.put_amounts.ensures in (
-      commits g.S.Store old.store new old.last.value later old.tables.items c.args.reservations.now news is_done c.self.invariant
+      commits g.S.Store old.store new old.last.value later old.tables.items (read c.args.reservations.now) news is_done c.self.invariant
           made.puts (λ clean. made.told _ (given clean)) it if_done if_not,
-      keeps_committed g.S.Store old.store new old.last.value later old.tables.items c.args.reservations.now news is_done c.self.invariant
+      keeps_committed g.S.Store old.store new old.last.value later old.tables.items (read c.args.reservations.now) news is_done c.self.invariant
           made.puts (λ clean. made.told _ (given clean)) it if_done if_not,
     )
 

@@ -1,0 +1,61 @@
+use Rattle.std.proofs.Common.{◌+◌, ◌-◌, ◌<◌, ◌≤◌, refl, arith, drop, length, take, sym, ap, ◌∙◌}
+use Rattle.std.proofs.lemmas.List.{drop-drop, length-drop, take_rest}
+use Rattle.std.proofs.lemmas.Option.{slice_get_within, slice_get_read}
+use Rattle.std.proofs.lemmas.Bool.{ltb-true}
+use Rattle.sqlite.specs.Held.{state}
+use Rattle.sqlite.specs.State.{HasCleanDisk}
+use Rattle.escrow_num.specs.declared.session.End.TheVariants as end
+use Rattle.escrow_machine.proofs.Settling.{settled_is_the_run}
+use Rattle.escrow_core.proofs.HeldSettling.{settling_ends, settling_stops}
+use Rattle.escrow_core.proofs.Serving.{still_clean}
+use Rattle.escrow_core.proofs.database.Database.settle_all.Goals as goal
+
+pub returns-in_default-get-clause-settled : goal.returns-in_default-get-clause-settled
+returns-in_default-get-clause-settled g c =
+    let plan = c.args.plan.now in
+    let places = c.args.places.now in
+    let at = c.loop-stop in
+    let place = c.in-Err.stop.place in
+    settling_ends (HasCleanDisk (state g.S.Store at.self.store)) (HasCleanDisk (state g.S.Store c.settle.new.self.store)) plan places c.args.self.now.state c.args.replies.now.items
+    (drop at.done plan) (drop at.done places) at.self.state at.replies.items c.settle.new.self.state at.invariant.so_far (still_clean _ _ _ c.settle.ensures.crash)
+    (λ clean.
+    let stop = rw (take_rest plan at.done) at (c.in-Err.ensures.stop clean) in
+    let within = slice_get_within (drop at.done plan) place (stop.session, end.Commit) stop.entry in
+    let none = rw (take_rest places at.done) at c.in_default-get.ensures.lookup in
+    let as_long = length-drop at.done plan ∙ ap (λ n. n - at.done) c.requires.pairs ∙ sym (length-drop at.done places) in
+    let past : length (drop at.done places) ≤ place = none.3 in
+    absurd (omega (arith, within, as_long, past)))
+
+pub loop-stop-preserved : goal.loop-stop-preserved
+loop-stop-preserved g c =
+    let plan = c.args.plan.now in
+    let places = c.args.places.now in
+    let at = c.loop-stop in
+    let place = c.in-Err.stop.place in
+    let rest = drop at.done plan in
+    let left = drop at.done places in
+    let some = rw (take_rest places at.done) at c.in-Some.ensures.lookup in
+    let below : place < length left = ltb-true place (length left) (sym some.0) in
+    let found = slice_get_read left (length left) place c.in-Some.place.now refl below some.1 in
+    let fewer = length-drop at.done places in
+    record {
+      within = omega (arith, below, fewer, c.requires.pairs, at.invariant.within);
+      len = c.refuse.ensures.len ∙ at.invariant.len;
+      capacity = c.refuse.ensures.capacity ∙ at.invariant.capacity;
+      clean = λ h. at.invariant.clean (still_clean _ _ _ c.settle.ensures.crash h);
+      so_far = rw (← drop-drop (place + 1) at.done plan, ← drop-drop (place + 1) at.done places, c.refuse.ensures.items)
+          (settling_stops (HasCleanDisk (state g.S.Store at.self.store)) (HasCleanDisk (state g.S.Store c.settle.new.self.store)) plan places c.args.self.now.state c.args.replies.now.items
+          rest left at.self.state at.replies.items place c.in-Some.place.now c.in-Err.stop.cause c.settle.new.self.state at.invariant.so_far (still_clean _ _ _ c.settle.ensures.crash)
+          (length-drop at.done plan ∙ ap (λ n. n - at.done) c.requires.pairs ∙ sym (length-drop at.done places))
+          found
+          (λ clean. let stop = rw (take_rest plan at.done) at (c.in-Err.ensures.stop clean) in ((stop.session, end.Commit), stop.entry, stop.done ∙ settled_is_the_run at.self.state (take place rest))));
+    }
+
+pub returns-clause-settled : goal.returns-clause-settled
+returns-clause-settled g c =
+    let plan = c.args.plan.now in
+    let places = c.args.places.now in
+    let at = c.loop-stop in
+    settling_ends (HasCleanDisk (state g.S.Store at.self.store)) (HasCleanDisk (state g.S.Store c.settle.new.self.store)) plan places c.args.self.now.state c.args.replies.now.items
+    (drop at.done plan) (drop at.done places) at.self.state at.replies.items c.settle.new.self.state at.invariant.so_far (still_clean _ _ _ c.settle.ensures.crash)
+    (λ clean. rw (take_rest plan at.done) at (c.in_default.ensures.ok clean) ∙ settled_is_the_run at.self.state (drop at.done plan))

@@ -1,0 +1,18 @@
+use Rattle.std.proofs.Common.{◌≡◌, drop, take}
+use Rattle.std.specs.Prelude.{IsTrue}
+use Rattle.sqlite.specs.Held.{state}
+use Rattle.sqlite.specs.State.{HasCleanDisk, Survives}
+use Rattle.escrow_machine.specs.Settle.{after_ends}
+use Rattle.escrow_machine.proofs.Settling.{CountsSoFar}
+use Rattle.escrow_core.specs.Ends.{left_after}
+use Rattle.escrow_core.specs.Serves.{AreAfterEnds}
+use Rattle.escrow_core.proofs.database.Database.settle_each.Given as goal
+
+abbrev pub invariant-loop-place : goal.invariant-loop-place
+invariant-loop-place g l = record {
+  ended : HasCleanDisk (state g.S.Store l.self.store) → l.self.state ≡ after_ends l.initial.self.state (take l.place l.plan);
+  left : l.self.state.reservations ≡ left_after (take l.place l.plan) l.initial.self.state.reservations;
+  stays : HasCleanDisk (state g.S.Store l.self.store) → IsTrue (state g.S.Store l.initial.self.store).is_open → IsTrue (state g.S.Store l.self.store).is_open;
+  crash : Survives (state g.S.Store l.initial.self.store) (state g.S.Store l.self.store) (λ trees. IsTrue (state g.S.Store l.initial.self.store).is_open → AreAfterEnds l.plan l.initial.self.state trees);
+  counts : CountsSoFar l.plan l.initial.self.state.reservations (drop l.place l.plan) l.self.state.reservations l.settled;
+}

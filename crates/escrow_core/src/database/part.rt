@@ -1,0 +1,54 @@
+ghost use Rattle.std.specs.Prelude.{◌≡◌, ◌==◌};
+ghost use Rattle.std.specs.List.{list_any};
+
+use crate::database::Database;
+use escrow_num::{End, Session};
+use sqlite::Alter;
+
+/// The most reservations that are written together. To gather those of each row takes time in the square of their
+/// number.
+const MAX_TOGETHER: usize = 1024;
+
+impl<S: Alter> Database<S> {
+    ghost use Rattle.std.specs.Prelude.{◌<◌, ◌≤◌, length, take};
+    ghost use Rattle.escrow_core.specs.Ends.{AreCommits, IsGroup};
+
+    /// How many first entries of a plan, which has some, are settled together: those that can be written at once,
+    /// or one.
+    pub(crate) fn part_len(&self, plan: &[(Session, End)]) -> usize
+        requires { 0 < length plan.now }
+        ensures some { 0 < result }
+        ensures within { result ≤ length plan.now }
+        ensures run { 1 < result → IsGroup self.now.state.reservations (take result plan.now) }
+    {
+        let (first, _) = plan[0];
+        if self.reserved.txns().journal(first).all().is_empty() {
+            return 1;
+        }
+        self.run_len(plan).max(1)
+    }
+
+    /// How many first entries of a plan are COMMITs of sessions that are named once. They don't hold too many
+    /// reservations to be written together.
+    fn run_len(&self, plan: &[(Session, End)]) -> usize
+        ensures within { result ≤ length plan.now }
+        ensures commits { AreCommits (take result plan.now) }
+    {
+        let mut held: usize = 0;
+        for (i, (session, end)) in plan.iter().enumerate() {
+            held = held.saturating_add(self.reserved.txns().journal(*session).all().len());
+            match end {
+                End::Commit if held <= MAX_TOGETHER && !is_named(&plan[..i], *session) => {}
+                _ => return i,
+            }
+        }
+        plan.len()
+    }
+}
+
+/// Whether a plan names a session.
+fn is_named(plan: &[(Session, End)], session: Session) -> bool
+    ensures { result ≡ list_any (λ entry. entry.0 == session) plan.now }
+{
+    plan.iter().any(|(named, _)| named.get() == session.get())
+}
