@@ -32,7 +32,9 @@ pub fn push_short(lines: &mut Vec<u8>, database: &str, session: Session, reply: 
     requires short { holds_memory reply.now ≡ false }
     requires front { length database.now ≤ MAX_FRONT }
     requires room { vec_len lines.old + MAX_SHORT ≤ vec_capacity lines.old }
-    ensures { lines.new.items ≡ lines.old.items ++ rendered database.now session reply.now }
+    ensures text { lines.new.items ≡ lines.old.items ++ rendered database.now session reply.now }
+    ensures len { vec_len lines.new ≤ vec_len lines.old + MAX_SHORT }
+    ensures capacity { vec_capacity lines.old ≤ vec_capacity lines.new }
 {
     let Ok(()) = push_answer(lines, database, session, reply) else {
         unreachable!();
@@ -56,7 +58,9 @@ pub fn push_short_line(lines: &mut Vec<u8>, prefix: &str, reply: &Reply)
     requires short { holds_memory reply.now ≡ false }
     requires front { length prefix.now ≤ MAX_FRONT }
     requires room { vec_len lines.old + MAX_SHORT ≤ vec_capacity lines.old }
-    ensures { lines.new.items ≡ lines.old.items ++ with_prefix prefix.now (reply_lines reply.now) }
+    ensures text { lines.new.items ≡ lines.old.items ++ with_prefix prefix.now (reply_lines reply.now) }
+    ensures len { vec_len lines.new ≤ vec_len lines.old + MAX_SHORT }
+    ensures capacity { vec_capacity lines.old ≤ vec_capacity lines.new }
 {
     let Ok(()) = push_line(lines, prefix, reply) else {
         unreachable!();

@@ -211,6 +211,14 @@ in_hand_taken found reads unread rest line kept is_false moved has =
     let none : nat_lt (position_or_len is_feed unread) (length unread) ≡ false = sym moved.is_found ∙ is_false in
     and_false (nat_lt 0 reads) (rw none at has)
 
+and_right : (a b : Bool) → (a && b) ≡ true → b ≡ true
+and_right true b e = e
+and_right false b e = cc
+
+pub found_in_hand : (found : Bool) (reads : ℕ) (unread rest line kept : List ℕ) → Moves found unread rest line kept → has_line reads unread ≡ true → found ≡ has_line reads unread
+found_in_hand found reads unread rest line kept moved has =
+    moved.is_found ∙ and_right (nat_lt 0 reads) (nat_lt (position_or_len is_feed unread) (length unread)) has ∙ sym has
+
 -- behind a script's end there is no line
 pub takes_none : (kept unread : List ℕ) (remaining : Option (List ℕ)) → HasEnded unread remaining → TakesLine false (left unread remaining) (left unread remaining) kept
 takes_none kept unread None over = tt

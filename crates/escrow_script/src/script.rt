@@ -1,4 +1,4 @@
-ghost use Rattle.std.specs.Prelude.{◌≡◌, ◌≢◌, ◌≤◌, ◌<◌, ◌+◌, ◌++◌, [], length, take, true, false, vec_len, IfOk, IfErr, OnOk};
+ghost use Rattle.std.specs.Prelude.{◌≡◌, ◌≢◌, ◌≤◌, ◌<◌, ◌+◌, ◌++◌, [], Option, List, ℕ, length, take, true, false, vec_len, IfOk, IfErr, OnOk, OnErr};
 ghost use Rattle.std.specs.List.{position_or_len};
 ghost use Rattle.std.specs.Io.KnownBytes.{Consumes, IsAtEnd};
 ghost use Rattle.escrow_script.specs.Script.{is_feed};
@@ -114,12 +114,36 @@ impl Script {
         Err(ServeFault::Read(self.limit.fault()))
     }
 
+    /// Takes the next line if it is in hand, without a read, and returns whether it was.
+    ///
+    /// # Errors
+    ///
+    /// Memory is short. No byte is taken then, nor where no line is in hand.
+    pub fn take_ready(&mut self) -> Result<bool, AllocError>
+        ensures taken { IfOk result (λ found. found ≡ true → (rem : Option (List ℕ)) →
+            TakesLine true (left self.old.unread rem) (left self.new.unread rem) self.new.line.items) }
+        ensures stays { IfOk result (λ found. found ≡ false → self.new.unread ≡ self.old.unread) }
+        ensures refused { OnErr result (self.new.unread ≡ self.old.unread) }
+        ensures in_hand { IfOk result (λ found. found ≡ has_line self.old.reads_left self.old.unread) }
+        ensures fewer { IfOk result (λ found. found ≡ true → length self.new.unread < length self.old.unread) }
+        ensures bytes { self.new.bytes_left ≡ self.old.bytes_left }
+        ensures reads { self.new.reads_left ≡ self.old.reads_left }
+        ensures ended { self.new.has_ended ≡ self.old.has_ended }
+    {
+        if !self.has_line() {
+            return Ok(false);
+        }
+        self.line.clear();
+        self.take_front()
+    }
+
     /// Moves the unread bytes up to a line feed into the line, and answers whether there was one.
     fn take_front(&mut self) -> Result<bool, AllocError>
         ensures moved { IfOk result (λ found. Moves found self.old.unread self.new.unread self.old.line.items self.new.line.items) }
         ensures less { IfOk result (λ found. vec_len self.new.line + length self.new.unread ≤ vec_len self.old.line + length self.old.unread) }
         ensures fewer { IfOk result (λ found. found ≡ true →
             vec_len self.new.line + length self.new.unread < vec_len self.old.line + length self.old.unread) }
+        ensures refused { OnErr result (self.new.unread ≡ self.old.unread) }
         ensures bytes { self.new.bytes_left ≡ self.old.bytes_left }
         ensures reads { self.new.reads_left ≡ self.old.reads_left }
         ensures ended { self.new.has_ended ≡ self.old.has_ended }

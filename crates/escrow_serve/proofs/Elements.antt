@@ -1,5 +1,5 @@
 -- What holds of each element of a list, as one is set, or as they are passed in turn.
-use Rattle.std.proofs.Common.{◌≡◌, ℕ, zero, suc, ◌+◌, ◌<◌, List, [], ◌∷◌, length, take, get_or, Some, arith, sym, subst}
+use Rattle.std.proofs.Common.{◌≡◌, ◌≢◌, ℕ, zero, suc, ◌+◌, ◌<◌, List, [], ◌∷◌, ◌++◌, length, map, take, get_or, Some, arith, refl, sym, ap, ap₂, subst}
 use Rattle.std.specs.Prelude.{slice_get, slice_set}
 use Rattle.std.specs.List.{AllByRecursion}
 
@@ -25,3 +25,47 @@ pub all_more : {A : Type 0} (P : A → Type 0) (xs : List A) (n : ℕ) (x : A) �
 all_more P xs n x within is holds all =
     let next : suc n ≡ n + 1 = omega arith in
     subst (λ (k : ℕ). AllByRecursion P (take k xs)) next (all_next P xs n x within is holds all)
+
+-- what holds of each of some and of one more behind them holds of all
+pub all_push : {A : Type 0} (P : A → Type 0) (xs : List A) (x : A) → AllByRecursion P xs → P x → AllByRecursion P (xs ++ x ∷ [])
+all_push P [] x all holds = (holds, tt)
+all_push P (y ∷ xs) x all holds = (all.0, all_push P xs x all.1 holds)
+
+-- AN ELEMENT AT A PLACE
+
+pub get_set_same : {A : Type 0} (xs : List A) (place : ℕ) (x : A) → place < length xs → slice_get (slice_set xs place x) place ≡ Some x
+get_set_same [] place x within = absurd (omega arith)
+get_set_same (y ∷ xs) zero x within = refl
+get_set_same (y ∷ xs) (suc place) x within = get_set_same xs place x (omega arith)
+
+pub get_set_other : {A : Type 0} (xs : List A) (place other : ℕ) (x : A) → other ≢ place → slice_get (slice_set xs place x) other ≡ slice_get xs other
+get_set_other [] place other x apart = refl
+get_set_other (y ∷ xs) zero zero x apart = absurd (apart refl)
+get_set_other (y ∷ xs) zero (suc other) x apart = refl
+get_set_other (y ∷ xs) (suc place) zero x apart = refl
+get_set_other (y ∷ xs) (suc place) (suc other) x apart = get_set_other xs place other x (λ same. apart (ap suc same))
+
+-- an element that is set again stays
+pub set_same : {A : Type 0} (xs : List A) (place : ℕ) (x : A) → slice_get xs place ≡ Some x → slice_set xs place x ≡ xs
+set_same {A} [] place x found = refl
+set_same {A} (y ∷ xs) zero x found = let same : x ≡ y = cc in ap (λ (z : A). z ∷ xs) same
+set_same {A} (y ∷ xs) (suc place) x found = ap (λ (zs : List A). y ∷ zs) (set_same xs place x found)
+
+pub get_within : {A : Type 0} (xs : List A) (place : ℕ) → place < length xs → (x : A) × (slice_get xs place ≡ Some x)
+get_within [] place within = absurd (omega arith)
+get_within (x ∷ xs) zero within = (x, refl)
+get_within (x ∷ xs) (suc place) within = get_within xs place (omega arith)
+
+-- of which element an image is
+pub get_image : {A B : Type 0} (f : A → B) (xs : List A) (place : ℕ) (y : B) → slice_get (map f xs) place ≡ Some y → (x : A) × (slice_get xs place ≡ Some x) × (f x ≡ y)
+get_image f [] place y found = cc
+get_image f (x ∷ xs) zero y found = (x, refl, cc)
+get_image f (x ∷ xs) (suc place) y found = get_image f xs place y found
+
+-- lists whose elements are the same are
+pub same_elements : {A : Type 0} (xs ys : List A) → length xs ≡ length ys → ((place : ℕ) (x y : A) → slice_get xs place ≡ Some x → slice_get ys place ≡ Some y → x ≡ y) → xs ≡ ys
+same_elements {A} [] [] count same = refl
+same_elements {A} [] (y ∷ ys) count same = absurd (omega (arith, count))
+same_elements {A} (x ∷ xs) [] count same = absurd (omega (arith, count))
+same_elements {A} (x ∷ xs) (y ∷ ys) count same =
+    ap₂ (λ (z : A) (zs : List A). z ∷ zs) (same zero x y refl refl) (same_elements xs ys (omega (arith, count)) (λ place. same (suc place)))

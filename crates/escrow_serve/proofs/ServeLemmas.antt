@@ -4,7 +4,7 @@ use Rattle.std.specs.Prelude.{◌==◌, slice_get, slice_index_or, slice_set, op
 use Rattle.std.specs.Io.KnownBytes.{Appends, IsAtEnd}
 use Rattle.std.proofs.lemmas.Bool.{cases_Bool}
 use Rattle.std.proofs.lemmas.Fmt.{length-decimal-le}
-use Rattle.std.proofs.lemmas.List.{append-nil, take-append-drop, length-append, length-map, map-set}
+use Rattle.std.proofs.lemmas.List.{append-nil, nil_from_length, take-append-drop, length-append, length-map, map-set}
 use Rattle.std.proofs.lemmas.Option.{slice_get-get_or, slice_get-map, IfSome_then}
 use Rattle.sqlite_trees.specs.declared.store.Store.{Ghosts}
 use Rattle.escrow_num.specs.declared.failure.Failure.{Failure}
@@ -15,40 +15,27 @@ use Rattle.escrow_machine.specs.State.{State}
 use Rattle.escrow_script.specs.declared.fault.ServeFault.{ServeFault}
 use Rattle.escrow_machine.specs.Step as machine
 use Rattle.escrow_machine.specs.declared.event.Event.TheVariants as event
-use Rattle.escrow_script.specs.declared.line.Line.{Line}
-use Rattle.escrow_script.specs.declared.line.Line.TheVariants as line
-use Rattle.escrow_script.specs.Reading.{seen}
 use Rattle.escrow_script.specs.Line.{Reading, nothing, join, restart, statement, database_name, Reads, lines_of}
 use Rattle.escrow_reply.specs.Text.{rendered_whole}
 use Rattle.escrow_reply.specs.declared.short.TheConstants.{MAX_FRONT}
 use Rattle.escrow_script.specs.Written.{Leaves}
-use Rattle.escrow_serve.specs.Output.{Sitting, begun, state_in, states_of, HaveCleanDisks, ServesBytes, ServesLines, WritesLines, ServesAll, ServesWhole, StopsWithin}
+use Rattle.escrow_serve.specs.Output.{Sitting, begun, state_in, states_of, HaveCleanDisks, ServesLines, WritesLines, ServesAll, ServesWhole, StopsWithin}
 use Rattle.escrow_script.proofs.LineLemmas.{names_one, restarts_one}
-use Rattle.escrow_script.proofs.TakenLemmas.{kept_line, Rests, rests_at_start, next_of, within_limit}
+use Rattle.escrow_script.proofs.TakenLemmas.{Rests, rests_at_start, within_limit}
 use Rattle.escrow_script.proofs.WrittenLemmas.{appends_more, appends_none}
 use Rattle.escrow_serve.specs.declared.totals.Totals.{Totals}
-use Rattle.escrow_serve.specs.Totals.{no_totals, totals_after, AllSit, TextServed, LineServed}
+use Rattle.escrow_serve.specs.Batch.{TakesLines}
+use Rattle.escrow_serve.specs.Totals.{no_totals, totals_after, AllSit, TextServed, LineServed, LinesServed}
+use Rattle.escrow_serve.proofs.LinesLemmas.{kept_count, nexts_of, serves_behind, serves_kept}
 use Rattle.escrow_serve.proofs.TotalsLemmas.{all_begun, all_states, line_of_none, line_of_statement, line_of_restart}
 use Rattle.escrow_script.specs.declared.limits.Limit.{Limit}
 use Rattle.escrow_script.specs.declared.limits.Limit.TheVariants as limit
 use Rattle.escrow_script.specs.declared.limits.TheConstants.{MAX_DATABASES, MAX_LINE, MAX_SCRIPT}
-use Rattle.escrow_script.specs.Script.{most_bytes, TakesLine, Spends, left}
+use Rattle.escrow_script.specs.Script.{most_bytes, HasEnded, TakesLine, Spends, left}
 
 -- databases, as contracts show them
 abbrev pub Databases : Type 0 → Type 0
 Databases S = List (Seen S)
-
-serves_kept : (sittings new : List Sitting) (line kept out : List ℕ) → kept ≡ take (MAX_LINE + 1) line → ServesBytes sittings kept out new → ServesBytes sittings line out new
-serves_kept sittings new line kept out e serves = (serves.0, kept_line (length sittings) line kept serves.0 e serves.1, serves.2)
-
--- one line more is served
-serves_more : (sittings mid new : List Sitting) (served : List (List ℕ)) (line out first : List ℕ) → ServesLines sittings served out mid
-    → ServesBytes mid line first new → ServesLines sittings (served ++ line ∷ []) (out ++ first) new
-serves_more sittings mid new [] line out first h step =
-    let here : ServesBytes sittings line first new = subst (λ (m : List Sitting). ServesBytes m line first new) h.1 step in
-    (first, [], new, here, (refl, refl), ap (λ (o : List ℕ). o ++ first) h.0 ∙ sym (append-nil first))
-serves_more sittings mid new (l ∷ ls) line out first h step =
-    (h.0, h.1 ++ first, h.2, h.3, serves_more h.2 mid new ls line h.1 first h.4 step, ap (λ (o : List ℕ). o ++ first) h.5 ∙ append_assoc h.0 h.1 first)
 
 -- How a script stands: some of its lines were served, and left such states and totals; what they write was
 -- written but for what is gathered; and there were no more of them than the bytes that were spent.
@@ -99,27 +86,25 @@ stood_begun states totals script bytes unread gathered left_bytes are_none none_
   rests = subst (λ (u : List ℕ). Rests [] script (left u script)) (sym none_unread) (rests_at_start script);
 }
 
--- A line's turn: the bytes that were kept of it, the databases and their totals before and after it, and
--- what it writes where their stores can be used after it.
+-- A turn of lines: the bytes that were kept of each, the databases and their totals before and after it, and
+-- what they write where their stores can be used after it.
 pub record Turn {S : Type 0} (g : Ghosts S) (mid new : Databases S) (totals counted : List Totals) (rest new_rest : Option (List ℕ)) (first : List ℕ) (budget less : ℕ) : Type 0 where
-  pub kept : List ℕ
-  pub short : length kept ≤ MAX_LINE + 1
-  pub taken : TakesLine true rest new_rest kept
-  pub step : HaveCleanDisks g new → LineServed (states_of mid) totals kept first (states_of new) counted
+  pub lines : List (List ℕ)
+  pub taken : TakesLines lines rest new_rest
+  pub step : HaveCleanDisks g new → LinesServed (states_of mid) totals lines first (states_of new) counted
   pub clean : HaveCleanDisks g new → HaveCleanDisks g mid
-  pub spent : less < budget
+  pub spent : length lines + less ≤ budget
 
-pub turn_of : {S : Type 0} (g : Ghosts S) (found : Bool) (kept line first : List ℕ) (mid new : Databases S) (totals counted : List Totals) (rest new_rest : Option (List ℕ)) (budget less : ℕ)
-    → found ≡ true → line ≡ kept → length line ≤ MAX_LINE + 1 → TakesLine found rest new_rest kept → (found ≡ true → less < budget)
-    → (HaveCleanDisks g new → LineServed (states_of mid) totals line first (states_of new) counted) → (HaveCleanDisks g new → HaveCleanDisks g mid)
+pub turn_of : {S : Type 0} (g : Ghosts S) (found : Bool) (kept first : List ℕ) (lines : List (List ℕ)) (mid new : Databases S) (totals counted : List Totals) (rest mid_rest new_rest : Option (List ℕ))
+    (budget between less : ℕ) → found ≡ true → length kept ≤ MAX_LINE + 1 → TakesLine found rest mid_rest kept → (found ≡ true → between < budget) → TakesLines lines mid_rest new_rest
+    → length lines + less ≤ between → (HaveCleanDisks g new → LinesServed (states_of mid) totals (kept ∷ lines) first (states_of new) counted) → (HaveCleanDisks g new → HaveCleanDisks g mid)
     → Turn g mid new totals counted rest new_rest first budget less
-turn_of g found kept line first mid new totals counted rest new_rest budget less is_true is_line short taken spent step clean = record {
-  kept = kept;
-  short = subst (λ (k : List ℕ). length k ≤ MAX_LINE + 1) is_line short;
-  taken = subst (λ (f : Bool). TakesLine f rest new_rest kept) is_true taken;
-  step = λ used. subst (λ (k : List ℕ). LineServed (states_of mid) totals k first (states_of new) counted) is_line (step used);
+turn_of g found kept first lines mid new totals counted rest mid_rest new_rest budget between less is_true short taken spent more fewer step clean = record {
+  lines = kept ∷ lines;
+  taken = (mid_rest, short, subst (λ (f : Bool). TakesLine f rest mid_rest kept) is_true taken, more);
+  step = step;
   clean = clean;
-  spent = spent is_true;
+  spent = omega (arith, spent is_true, fewer);
 }
 
 -- How a script stands in databases: as their states tell, where their stores can be used.
@@ -134,23 +119,23 @@ stands_begun g databases totals script bytes unread gathered left_bytes are_none
     let are : totals ≡ replicate (length (states_of databases)) no_totals = are_none ∙ ap (λ (n : ℕ). replicate n no_totals) (sym (length-map databases state_in)) in
     record { stood = λ _. stood_begun (states_of databases) totals script bytes unread gathered left_bytes are none_unread none_gathered all; clean = λ used. used }
 
--- one line more is served, and what it writes is gathered
-turn_stood : (states mid new : List State) (totals counted : List Totals) (script rest new_rest old_bytes new_bytes : Option (List ℕ)) (kept gathered first : List ℕ) (budget less : ℕ)
-    → length kept ≤ MAX_LINE + 1 → TakesLine true rest new_rest kept → LineServed mid totals kept first new counted → less < budget
+-- lines are served that were taken one after another, and what they write is gathered
+pub turn_stood : (states mid new : List State) (totals counted : List Totals) (script rest new_rest old_bytes new_bytes : Option (List ℕ)) (lines : List (List ℕ)) (gathered first : List ℕ) (budget less : ℕ)
+    → TakesLines lines rest new_rest → LinesServed mid totals lines first new counted → length lines + less ≤ budget
     → Stood states mid totals script rest old_bytes new_bytes gathered budget → Stood states new counted script new_rest old_bytes new_bytes (gathered ++ first) less
-turn_stood states mid new totals counted script rest new_rest old_bytes new_bytes kept gathered first budget less short taken step spent stood =
-    let next = next_of script rest new_rest kept stood.served short taken stood.rests in
+turn_stood states mid new totals counted script rest new_rest old_bytes new_bytes lines gathered first budget less taken step spent stood =
+    let next = nexts_of script rest new_rest lines stood.served taken stood.rests in
     let served = step stood.sittings (length stood.served) stood.sit (omega (arith, stood.few, spent)) in
-    let here = serves_kept stood.sittings served.0 next.line kept first next.is_kept served.1 in
-    let whole = serves_more (map begun states) stood.sittings served.0 stood.served next.line (stood.written ++ gathered) first stood.serves here in
-    let one_more : length stood.served + 1 ≡ length (stood.served ++ next.line ∷ []) = sym (length-append stood.served (next.line ∷ [])) in
+    let here = serves_kept stood.sittings served.0 next.lines lines first next.are_kept served.1 in
+    let whole = serves_behind (map begun states) stood.sittings served.0 stood.served next.lines (stood.written ++ gathered) first stood.serves here in
+    let count : length stood.served + length lines ≡ length (stood.served ++ next.lines) = omega (arith, length-append stood.served next.lines, kept_count next.lines lines next.are_kept) in
     record {
-      served = stood.served ++ next.line ∷ [];
+      served = stood.served ++ next.lines;
       written = stood.written;
       sittings = served.0;
-      serves = subst (λ (o : List ℕ). ServesLines (map begun states) (stood.served ++ next.line ∷ []) o served.0) (append_assoc stood.written gathered first) whole;
-      sit = subst (λ (n : ℕ). AllSit new counted served.0 n) one_more served.2;
-      few = omega (arith, stood.few, spent, one_more);
+      serves = subst (λ (o : List ℕ). ServesLines (map begun states) (stood.served ++ next.lines) o served.0) (append_assoc stood.written gathered first) whole;
+      sit = subst (λ (n : ℕ). AllSit new counted served.0 n) count served.2;
+      few = omega (arith, stood.few, spent, count);
       appends = stood.appends;
       rests = next.rests;
     }
@@ -163,7 +148,7 @@ turn_served g old mid new totals counted script rest new_rest old_bytes new_byte
     subst (λ (b : Option (List ℕ)). Stands g old new counted script new_rest old_bytes b all less) (sym is_now)
     (subst (λ (a : List ℕ). Stands g old new counted script new_rest old_bytes new_bytes a less) (sym whole)
     (record {
-      stood = λ used. turn_stood (states_of old) (states_of mid) (states_of new) totals counted script rest new_rest old_bytes new_bytes turn.kept gathered first budget less turn.short turn.taken
+      stood = λ used. turn_stood (states_of old) (states_of mid) (states_of new) totals counted script rest new_rest old_bytes new_bytes turn.lines gathered first budget less turn.taken
           (turn.step used) turn.spent (stands.stood (turn.clean used));
       clean = λ used. stands.clean (turn.clean used);
     }))
@@ -264,6 +249,13 @@ finished states new totals (Some bytes) rest remaining old_bytes new_bytes found
     let none = subst (λ (f : Bool). TakesLine f rest (left unread remaining) kept) is_false taken in
     stood_at_end states new totals bytes rest (left unread remaining) remaining old_bytes new_bytes kept most now budget stood none spends at_end
 
+-- where the reader is at its end, and lines in hand were taken, nothing is left
+pub still_ended : (old new : Bool) (unread rest : List ℕ) (remaining : Option (List ℕ)) (count : ℕ) → new ≡ old → count + length rest ≤ length unread → (old ≡ true → HasEnded unread remaining)
+    → new ≡ true → HasEnded rest remaining
+still_ended old new unread rest remaining count same fewer ended is_true =
+    let over = ended (sym same ∙ is_true) in
+    (nil_from_length rest (omega (arith, fewer, ap length over.0)), over.1)
+
 -- a limit is below what a total counts
 pub most_bytes_fit : (l : Limit) → most_bytes l ≤ 2 ^ 64 - 1
 most_bytes_fit limit.Script = lit≤ tt
@@ -293,12 +285,9 @@ pub reads_states : {S : Type 0} (databases : Databases S) (bytes : List ℕ) (re
 reads_states databases bytes reading reads = subst (λ (n : ℕ). Reads n bytes reading) (sym (length-map databases state_in)) reads
 
 -- where a line asks nothing, nothing is written
-pub nothing_served : (states : List State) (totals : List Totals) (bytes out : List ℕ) (found : Line) → Reads (length states) bytes (seen found) → (found ≡ line.Nothing) ⊎ (found ≡ line.Join)
-    → out ≡ [] → LineServed states totals bytes out states totals
-nothing_served states totals bytes out found reads (inl is) none =
-    line_of_none states totals bytes out nothing (subst (λ (f : Line). Reads (length states) bytes (seen f)) is reads) (λ sittings. (none, refl))
-nothing_served states totals bytes out found reads (inr is) none =
-    line_of_none states totals bytes out join (subst (λ (f : Line). Reads (length states) bytes (seen f)) is reads) (λ sittings. (none, refl))
+pub nothing_served : (states : List State) (totals : List Totals) (bytes : List ℕ) → Reads (length states) bytes nothing ⊎ Reads (length states) bytes join → LineServed states totals bytes [] states totals
+nothing_served states totals bytes (inl reads) = line_of_none states totals bytes [] nothing reads (λ sittings. (refl, refl))
+nothing_served states totals bytes (inr reads) = line_of_none states totals bytes [] join reads (λ sittings. (refl, refl))
 
 -- the state of one database, and those after it changes
 state_at : {S : Type 0} (databases : Databases S) (place : ℕ) (database : Seen S) → slice_get databases place ≡ Some database

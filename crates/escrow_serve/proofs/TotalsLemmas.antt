@@ -23,20 +23,7 @@ use Rattle.escrow_serve.specs.declared.totals.Totals.{Totals}
 use Rattle.escrow_script.specs.Line.{Reading, restart, statement, database_name, Reads}
 use Rattle.escrow_serve.specs.Output.{Sitting, begun, replies_to, answered_after, Answers, PrintsText, ServesLine}
 use Rattle.escrow_serve.specs.Totals.{no_totals, totals_after, AreTotals, Sits, AllSit, TextServed, LineServed}
-
--- AN ELEMENT THAT WAS SET
-
-get_set_same : {A : Type 0} (xs : List A) (place : ℕ) (x : A) → place < length xs → slice_get (slice_set xs place x) place ≡ Some x
-get_set_same [] place x within = absurd (omega arith)
-get_set_same (y ∷ xs) zero x within = refl
-get_set_same (y ∷ xs) (suc place) x within = get_set_same xs place x (omega arith)
-
-get_set_other : {A : Type 0} (xs : List A) (place other : ℕ) (x : A) → other ≢ place → slice_get (slice_set xs place x) other ≡ slice_get xs other
-get_set_other [] place other x apart = refl
-get_set_other (y ∷ xs) zero zero x apart = absurd (apart refl)
-get_set_other (y ∷ xs) zero (suc other) x apart = refl
-get_set_other (y ∷ xs) (suc place) zero x apart = refl
-get_set_other (y ∷ xs) (suc place) (suc other) x apart = get_set_other xs place other x (λ same. apart (ap suc same))
+use Rattle.escrow_serve.proofs.Elements.{get_set_same, get_set_other, get_within, set_same}
 
 -- WHAT A SESSION WAS ANSWERED
 
@@ -250,3 +237,12 @@ line_of_restart states totals place bytes name answer old new own counted reads 
       rw at.found (after, (answer, new, restarted, ap (λ (n : List ℕ). rendered_whole n answer) is_name, refl), refl),
       sits_set states totals sittings most place new counted after all sits,
     ))
+
+-- a statement's line that leaves its state
+pub line_unchanged : (states : List State) (totals : List Totals) (place session : ℕ) (bytes text name out : List ℕ) (own counted : Totals)
+    → Reads (length states) bytes (statement place session text) → place < length states → slice_get totals place ≡ Some own → name ≡ database_name place
+    → ((kept : State) → TextServed name kept own session text out kept counted) → LineServed states totals bytes out states (slice_set totals place counted)
+line_unchanged states totals place session bytes text name out own counted reads within has is_name served =
+    let at = get_within states place within in
+    subst (λ (after : List State). LineServed states totals bytes out after (slice_set totals place counted)) (set_same states place at.0 at.1)
+    (line_of_statement states totals place session bytes text name out at.0 at.0 own counted reads at.1 has is_name (served at.0))

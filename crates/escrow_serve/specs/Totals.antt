@@ -7,7 +7,7 @@ use Rattle.escrow_machine.specs.State.{State}
 use Rattle.escrow_stats.specs.Tally.{tally_of}
 use Rattle.escrow_serve.specs.declared.totals.TheConstants.{SESSIONS}
 use Rattle.escrow_serve.specs.declared.totals.Totals.{Totals}
-use Rattle.escrow_serve.specs.Output.{Sitting, PrintsText, ServesBytes, replies_to}
+use Rattle.escrow_serve.specs.Output.{Sitting, PrintsText, ServesBytes, ServesLines, replies_to}
 
 -- the totals of nothing
 abbrev pub no_totals : Totals
@@ -46,3 +46,9 @@ abbrev pub LineServed : List State → List Totals → List ℕ → List ℕ →
 LineServed states totals bytes out new_states new_totals =
     (sittings : List Sitting) (most : ℕ) → AllSit states totals sittings most → most < 2 ^ 64 - 1
     → (after : List Sitting) × ServesBytes sittings bytes out after × AllSit new_states new_totals after (most + 1)
+
+-- what lines write and leave of all databases, one after another
+abbrev pub LinesServed : List State → List Totals → List (List ℕ) → List ℕ → List State → List Totals → Type 0
+LinesServed states totals lines out new_states new_totals =
+    (sittings : List Sitting) (most : ℕ) → AllSit states totals sittings most → most + length lines ≤ 2 ^ 64 - 1
+    → (after : List Sitting) × ServesLines sittings lines out after × AllSit new_states new_totals after (most + length lines)

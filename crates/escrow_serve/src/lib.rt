@@ -5,7 +5,12 @@
 //! lines that come until their reader ends have none that is met.
 #![tactic(auto)]
 
+mod alone;
+mod batch;
+mod part;
 mod serve;
+mod task;
 mod totals;
+mod waiting;
 
 pub use serve::{serve_lines, serve_script};

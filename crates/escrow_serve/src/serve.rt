@@ -1,39 +1,35 @@
-ghost use Rattle.std.specs.Prelude.{◌≡◌, ◌≤◌, ◌<◌, ◌+◌, ◌⊎◌, ◌++◌, [], List, ℕ, true, false, length, take, drop, vec_len, vec_capacity, OnOk, OnErr, IfOk, IfErr, IfSome, MatchOption};
+ghost use Rattle.std.specs.Prelude.{◌≡◌, ◌≤◌, ◌<◌, ◌+◌, ◌*◌, ◌++◌, ◌∷◌, [], Option, List, ℕ, true, false, length, take, drop, vec_len, vec_capacity, OnOk, IfOk, IfErr, IfSome};
 ghost use Rattle.std.specs.Io.KnownBytes.{Appends, IsAtEnd};
 ghost use Rattle.std.specs.List.{AllByRecursion};
-ghost use Rattle.sqlite.specs.Held.{state};
-ghost use Rattle.escrow_sql.specs.Parser.{Asks};
-ghost use Rattle.sqlite.specs.State.{HasCleanDisk};
-ghost use Rattle.escrow_machine.specs.Reply.{holds_memory};
-ghost use Rattle.escrow_machine.specs.Step.{IsServed};
-ghost use Rattle.escrow_reply.specs.Text.{rendered};
 ghost use Rattle.escrow_script.specs.Script.{left, has_line, most_bytes, HasEnded, Spends, TakesLine};
 ghost use Rattle.escrow_script.specs.Written.{Leaves};
-ghost use Rattle.escrow_stats.specs.Text.{rendered_totals};
+ghost use Rattle.escrow_script.specs.declared.limits.TheConstants.{MAX_LINE};
+ghost use Rattle.escrow_serve.specs.Batch.{Gathers, GathersLines, HasRoom, TakesLines};
 ghost use Rattle.escrow_serve.specs.Left.{LeavesItsRows};
-ghost use Rattle.escrow_serve.specs.Output.{states_of, Answers, HaveCleanDisks, ServesAll, ServesWhole, StopsWithin};
-ghost use Rattle.escrow_serve.specs.Totals.{totals_after, LineServed, TextServed};
+ghost use Rattle.escrow_serve.specs.Output.{states_of, HaveCleanDisks, ServesAll, ServesWhole, StopsWithin};
+ghost use Rattle.escrow_serve.specs.Totals.{LinesServed};
 
+use crate::alone::serve_task;
+use crate::batch::Batch;
+use crate::task::{Task, read_task};
 use crate::totals::{Totals, totals_of};
-use escrow_core::{Database, Event, Reply};
-use escrow_num::{Refusal, Session};
-use escrow_reply::{
-    MAX_FRONT, MAX_SHORT, is_short, push_short, push_short_line, push_short_whole, render,
-};
+use escrow_core::Database;
+use escrow_reply::MAX_SHORT;
 use escrow_script::{
-    Limit, Line, MAX_DATABASES, MOST_GATHERED, Script, ServeFault, classify, database_name,
-    fault_refusal, gather, out_of_memory, write_gathered,
+    Limit, MAX_DATABASES, MOST_GATHERED, Script, ServeFault, out_of_memory, write_gathered,
 };
-use escrow_sql::{Request, parse};
-use escrow_stats::Tally;
 use sqlite::Alter;
-use std::alloc::{AllocError, Global};
+use std::alloc::Global;
 use std::io::{Read, Write};
 
-/// Serves a script: reads its lines in order, and serves each in the database that it names. Replies
-/// are gathered while the next line is in hand, and written before the reader is asked for more, so
-/// that whoever waits for a reply has it. There are 1 to 16 databases. SHOW STATISTICS shows what its
-/// session was answered in this call, since the last restart of its database.
+/// How many lines wait at most to be served together.
+const MOST_WAITING: usize = 256;
+
+/// Serves a script: reads its lines in order, and serves each in the database that it names. Lines in hand are
+/// served together, so that their COMMITs can share a write. Replies are gathered while the next line is in hand,
+/// and written before the reader is asked for more, so that whoever waits for a reply has it. There are 1 to 16
+/// databases. SHOW STATISTICS shows what its session was answered in this call, since the last restart of its
+/// database.
 ///
 /// After a fault the lines served so far stand in the databases, and all of their replies were written,
 /// unless the writer failed: then a prefix of them. A line is served only once there is room for a short reply,
@@ -119,9 +115,17 @@ fn serve_from<S: Alter, R: Read, W: Write>(
 {
     let mut script = Script::up_to(alloc, limit)?;
     let mut totals = totals_of(alloc, databases.len())?;
+    let mut batch = Batch::new(alloc, databases.len())?;
     let mut replies = Vec::new(alloc);
     while take_line(&mut script, reader, writer, &mut replies)? {
-        serve_line(alloc, databases, &mut totals, script.line(), &mut replies);
+        serve_in_hand(
+            alloc,
+            databases,
+            &mut totals,
+            &mut script,
+            &mut batch,
+            &mut replies,
+        );
         if replies.len() >= MOST_GATHERED || !script.has_line() {
             write_gathered(writer, &mut replies)?;
         }
@@ -172,166 +176,83 @@ fn take_line<R: Read, W: Write>(
     }
 }
 
-/// Serves one line, and gathers the lines of its reply, of which there may be none. There is room for a short one.
-fn serve_line<S: Alter>(
+/// Serves the line that was taken last, and those in hand behind it that may be served together with it, and gathers
+/// the lines of their replies. There is room for a short reply to the first.
+fn serve_in_hand<S: Alter>(
     alloc: Global,
     databases: &mut Vec<Database<S>>,
     totals: &mut Vec<Totals>,
-    line: &[u8],
+    script: &mut Script,
+    batch: &mut Batch,
     replies: &mut Vec<u8>,
 )
     requires few { vec_len databases.old ≤ MAX_DATABASES }
     requires each { vec_len totals.old ≡ vec_len databases.old }
+    requires empty { Gathers (vec_len databases.old) batch.old.waiting.items batch.old.parts.items [] }
     requires room { vec_len replies.old + MAX_SHORT ≤ vec_capacity replies.old }
-    ensures served { (out : List ℕ) × (replies.new.items ≡ replies.old.items ++ out) × (HaveCleanDisks S.Store databases.new.items →
-        LineServed (states_of databases.old.items) totals.old.items line.now out (states_of databases.new.items) totals.new.items) }
+    ensures served { (lines : List (List ℕ)) × (out : List ℕ)
+        × ((rem : Option (List ℕ)) → TakesLines lines (left script.old.unread rem) (left script.new.unread rem))
+        × (length lines + length script.new.unread ≤ length script.old.unread)
+        × (replies.new.items ≡ replies.old.items ++ out) × (HaveCleanDisks S.Store databases.new.items →
+        LinesServed (states_of databases.old.items) totals.old.items (script.old.line.items ∷ lines) out (states_of databases.new.items) totals.new.items) }
+    ensures short { length script.old.line.items ≤ MAX_LINE + 1 }
+    ensures empty { Gathers (vec_len databases.new) batch.new.waiting.items batch.new.parts.items [] }
+    ensures bytes { script.new.bytes_left ≡ script.old.bytes_left }
+    ensures ended { script.new.has_ended ≡ script.old.has_ended }
     ensures len { vec_len databases.new ≡ vec_len databases.old }
     ensures each { vec_len totals.new ≡ vec_len totals.old }
     ensures clean { HaveCleanDisks S.Store databases.new.items → HaveCleanDisks S.Store databases.old.items }
 {
-    match classify(databases.len(), line) {
-        Line::Nothing | Line::Join => {}
-        Line::NoLine => push_short_line(replies, "script> ", &Reply::Refused(Refusal::Line)),
-        Line::Restart { database } => {
-            let reply = restart(alloc, &mut databases[database], &mut totals[database]);
-            push_short_whole(replies, database_name(database), &reply);
-        }
-        Line::Statement {
-            database,
-            session,
-            text,
-        } => {
-            let name = database_name(database);
-            let totals = &mut totals[database];
-            serve_text(
-                alloc,
-                name,
-                &mut databases[database],
-                totals,
-                session,
-                text,
-                replies,
-            );
-        }
+    let alone = gather_lines(alloc, databases.len(), script, batch, replies);
+    batch.serve(alloc, databases, totals, replies);
+    if let Some(task) = alone {
+        serve_task(alloc, databases, totals, task, replies);
     }
 }
 
-/// Restarts a database, and answers its reply.
-fn restart<S: Alter>(alloc: Global, database: &mut Database<S>, totals: &mut Totals) -> Reply
-    ensures served { HasCleanDisk (state S.Store database.new.store) → IsServed database.old.state Event.Restart result database.new.state }
-    ensures totals { totals.new ≡ totals_after result totals.old }
-    ensures short { holds_memory result ≡ false }
-    ensures clean { HasCleanDisk (state S.Store database.new.store) → HasCleanDisk (state S.Store database.old.store) }
-{
-    let outcome = database.restart(alloc);
-    if outcome.is_ok() {
-        *totals = Totals::new();
-    }
-    Reply::to_restart(outcome)
-}
-
-/// Serves the text of a statement, and gathers the lines of its reply. There is room for a short one.
-fn serve_text<S: Alter>(
+/// Lets the line that was taken last wait, and those in hand behind it, up to the first that may not: it is taken too,
+/// and what it asks is returned. There is room for a short reply to each.
+fn gather_lines(
     alloc: Global,
-    name: &str,
-    database: &mut Database<S>,
-    totals: &mut Totals,
-    session: Session,
-    text: &str,
+    databases: usize,
+    script: &mut Script,
+    batch: &mut Batch,
     replies: &mut Vec<u8>,
-)
-    requires front { length name.now ≤ MAX_FRONT }
+) -> Option<Task>
+    requires few { databases ≤ MAX_DATABASES }
+    requires empty { Gathers databases batch.old.waiting.items batch.old.parts.items [] }
     requires room { vec_len replies.old + MAX_SHORT ≤ vec_capacity replies.old }
-    ensures served { (out : List ℕ) × (replies.new.items ≡ replies.old.items ++ out) × (HasCleanDisk (state S.Store database.new.store) →
-        TextServed name.now database.old.state totals.old session text.now out database.new.state totals.new) }
-    ensures clean { HasCleanDisk (state S.Store database.new.store) → HasCleanDisk (state S.Store database.old.store) }
+    ensures gathered { GathersLines databases script.old.line.items script.old.unread script.new.unread batch.new.waiting.items batch.new.parts.items result }
+    ensures room { HasRoom result (vec_len batch.new.waiting) (vec_len replies.new) (vec_capacity replies.new) }
+    ensures same { replies.new.items ≡ replies.old.items }
+    ensures bytes { script.new.bytes_left ≡ script.old.bytes_left }
+    ensures ended { script.new.has_ended ≡ script.old.has_ended }
 {
-    match answer(alloc, database, session, text) {
-        Some(reply) => {
-            let given = give(alloc, name, session, reply, replies);
-            totals.count(session, &given);
-        }
-        None => match gather_totals(alloc, name, session, totals.of(session), replies) {
-            Ok(()) => {}
-            Err(_) => {
-                let refused = Reply::Refused(Refusal::Memory);
-                push_short(replies, name, session, &refused);
-                totals.count(session, &refused);
-            }
-        },
+    let mut alone = batch.admit(read_task(alloc, databases, script.line()));
+    while alone.is_none() && take_next(script, batch.len(), replies) {
+        alone = batch.admit(read_task(alloc, databases, script.line()));
     }
+    alone
 }
 
-/// Gathers the lines of a reply, and answers the reply that was given: a query is refused where its lines can't be
-/// had for want of memory. There is room for any other reply.
-fn give(alloc: Global, name: &str, session: Session, reply: Reply, replies: &mut Vec<u8>) -> Reply
-    requires front { length name.now ≤ MAX_FRONT }
-    requires room { vec_len replies.old + MAX_SHORT ≤ vec_capacity replies.old }
-    ensures gathered { replies.new.items ≡ replies.old.items ++ rendered name.now session result }
-    ensures given { (result ≡ reply) ⊎ ((holds_memory reply ≡ true) × (result ≡ Reply.Refused Refusal.Memory)) }
+/// Takes the next line if it is in hand, with room for a short reply to it and to each that waits, and returns whether
+/// it was taken.
+fn take_next(script: &mut Script, waiting: usize, replies: &mut Vec<u8>) -> bool
+    ensures taken { result ≡ true → (rem : Option (List ℕ)) →
+        TakesLine true (left script.old.unread rem) (left script.new.unread rem) script.new.line.items }
+    ensures fewer { result ≡ true → length script.new.unread < length script.old.unread }
+    ensures stays { result ≡ false → script.new.unread ≡ script.old.unread }
+    ensures room { result ≡ true → vec_len replies.new + MAX_SHORT * (waiting + 1) ≤ vec_capacity replies.new }
+    ensures capacity { vec_capacity replies.old ≤ vec_capacity replies.new }
+    ensures same { replies.new.items ≡ replies.old.items }
+    ensures bytes { script.new.bytes_left ≡ script.old.bytes_left }
+    ensures ended { script.new.has_ended ≡ script.old.has_ended }
 {
-    if is_short(&reply) {
-        push_short(replies, name, session, &reply);
-        return reply;
+    if waiting >= MOST_WAITING || !script.has_line() {
+        return false;
     }
-    match gather_shown(alloc, name, session, &reply, replies) {
-        Ok(()) => reply,
-        Err(_) => {
-            let refused = Reply::Refused(Refusal::Memory);
-            push_short(replies, name, session, &refused);
-            refused
-        }
+    if replies.reserve(MAX_SHORT * (waiting + 1)).is_err() {
+        return false;
     }
-}
-
-/// Gathers the lines of a reply, for which memory is taken. Where it is refused, there is as much room as before.
-fn gather_shown(
-    alloc: Global,
-    name: &str,
-    session: Session,
-    reply: &Reply,
-    replies: &mut Vec<u8>,
-) -> Result<(), AllocError>
-    ensures ok { OnOk result (replies.new.items ≡ replies.old.items ++ rendered name.now session reply.now) }
-    ensures err { OnErr result (replies.new.items ≡ replies.old.items) }
-    ensures room { OnErr result (vec_capacity replies.old ≤ vec_capacity replies.new) }
-{
-    let lines = render(alloc, name, session, reply)?;
-    gather(replies, lines)
-}
-
-/// Gathers the lines of totals, for which memory is taken. Where it is refused, there is as much room as before.
-fn gather_totals(
-    alloc: Global,
-    name: &str,
-    session: Session,
-    totals: Tally,
-    replies: &mut Vec<u8>,
-) -> Result<(), AllocError>
-    ensures ok { OnOk result (replies.new.items ≡ replies.old.items ++ rendered_totals name.now session totals) }
-    ensures err { OnErr result (replies.new.items ≡ replies.old.items) }
-    ensures room { OnErr result (vec_capacity replies.old ≤ vec_capacity replies.new) }
-{
-    let lines = totals.render(alloc, name, session)?;
-    gather(replies, lines)
-}
-
-/// The reply to a text, or `None` where it asks for totals, which no database has. A text that is no
-/// statement is refused, and changes nothing.
-fn answer<S: Alter>(
-    alloc: Global,
-    database: &mut Database<S>,
-    session: Session,
-    text: &str,
-) -> Option<Reply>
-    ensures served { HasCleanDisk (state S.Store database.new.store) → MatchOption result
-        (Asks text.now Request.Statistics × (database.new.state ≡ database.old.state))
-        (λ reply. Answers database.old.state session text.now reply database.new.state) }
-    ensures clean { HasCleanDisk (state S.Store database.new.store) → HasCleanDisk (state S.Store database.old.store) }
-{
-    match parse(alloc, text) {
-        Ok(Request::Statement(statement)) => Some(database.step(alloc, session, &statement)),
-        Ok(Request::Statistics) => None,
-        Err(fault) => Some(Reply::Refused(fault_refusal(fault))),
-    }
+    matches!(script.take_ready(), Ok(true))
 }

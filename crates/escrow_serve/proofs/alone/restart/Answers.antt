@@ -3,7 +3,7 @@ use Rattle.escrow_core.proofs.Serving.{still_clean}
 use Rattle.escrow_machine.specs.declared.reply.Reply.{Reply}
 use Rattle.escrow_machine.specs.Reply.{holds_memory}
 use Rattle.escrow_serve.proofs.ServeLemmas.{restart_short}
-use Rattle.escrow_serve.proofs.serve.restart.Goals as goal
+use Rattle.escrow_serve.proofs.alone.restart.Goals as goal
 
 pub returns-clause-clean : goal.returns-clause-clean
 returns-clause-clean g c = λ clean. still_clean _ _ _ c.restart-outcome.ensures.crash clean

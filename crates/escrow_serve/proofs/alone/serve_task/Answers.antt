@@ -1,0 +1,172 @@
+use Rattle.std.proofs.Common.{◌≡◌, ◌≤◌, ℕ, List, [], length, Some, arith, rules, ap, refl, subst, ◌∙◌, sym, vec_len}
+use Rattle.std.specs.Prelude.{slice_get}
+use Rattle.std.proofs.lemmas.List.{append-nil, length-map}
+use Rattle.std.proofs.lemmas.Option.{slice_get-get_or, slice_get_read}
+use Rattle.sqlite.specs.Held.{state}
+use Rattle.sqlite.specs.State.{HasCleanDisk}
+use Rattle.escrow_reply.specs.Text.{rendered_whole}
+use Rattle.escrow_reply.specs.declared.short.TheConstants.{MAX_FRONT}
+use Rattle.escrow_script.specs.Line.{Reads, no_line, statement}
+use Rattle.escrow_script.specs.Written.{no_line_text}
+use Rattle.escrow_script.proofs.LineLemmas.{names_one, restarts_one}
+use Rattle.escrow_serve.specs.Output.{state_in, states_of}
+use Rattle.escrow_serve.specs.Task.{IsTask}
+use Rattle.escrow_serve.specs.declared.task.Task.{Task}
+use Rattle.escrow_serve.specs.declared.task.Task.TheVariants as task
+use Rattle.escrow_serve.proofs.Elements.{all_after, all_before}
+use Rattle.escrow_serve.proofs.GiveLemmas.{refused_line}
+use Rattle.escrow_serve.proofs.ServeLemmas.{name_short, nothing_served, restarts_place, serves_place}
+use Rattle.escrow_serve.proofs.TotalsLemmas.{line_of_none, line_unchanged}
+use Rattle.escrow_serve.proofs.alone.serve_task.Goals as goal
+
+-- what a task is among so many databases
+among : (databases others : ℕ) (bytes : List ℕ) (asked is : Task) → databases ≡ others → asked ≡ is → IsTask databases bytes asked → IsTask others bytes is
+among databases others bytes asked is same found holds = subst (λ (n : ℕ). IsTask n bytes is) same (subst (λ (t : Task). IsTask databases bytes t) found holds)
+
+pub push_short_whole-requires-clause-front : goal.push_short_whole-requires-clause-front
+push_short_whole-requires-clause-front g c =
+    let databases = c.args.databases.now in
+    let place = c.in-Restart.database in
+    let asked = c.requires.asked in
+    let within = restarts_one (vec_len databases) asked.0 place (among (vec_len databases) (vec_len databases) asked.0 c.args.task (task.Restart place) refl c.in-Restart.is asked.1) in
+    subst (λ (name : List ℕ). length name ≤ MAX_FRONT) (sym c.database_name.ensures) (name_short place (omega (arith, within, c.requires.few)))
+
+pub give_short-requires-clause-front : goal.give_short-requires-clause-front
+give_short-requires-clause-front g c =
+    let databases = c.args.databases.now in
+    let place = c.in-Refuse.database in
+    let asked = c.requires.asked in
+    let is = among (vec_len databases) (vec_len databases) asked.0 c.args.task (task.Refuse place c.in-Refuse.session c.in-Refuse.refusal) refl c.in-Refuse.is asked.1 in
+    let within = names_one (vec_len databases) asked.0 place c.in-Refuse.session is.0 is.2 in
+    subst (λ (name : List ℕ). length name ≤ MAX_FRONT) (sym c.database_name-name.ensures) (name_short place (omega (arith, within, c.requires.few)))
+
+pub serve_statement-requires-clause-front : goal.serve_statement-requires-clause-front
+serve_statement-requires-clause-front g c =
+    let databases = c.args.databases.now in
+    let place = c.in-Statement.database in
+    let asked = c.requires.asked in
+    let is = among (vec_len databases) (vec_len databases) asked.0 c.args.task (task.Statement place c.in-Statement.session c.in-Statement.statement) refl c.in-Statement.is asked.1 in
+    let within = names_one (vec_len databases) asked.0 place c.in-Statement.session is.0 is.1 in
+    subst (λ (name : List ℕ). length name ≤ MAX_FRONT) (sym c.database_name-name-in-Statement.ensures) (name_short place (omega (arith, within, c.requires.few)))
+
+pub show_totals-requires-clause-front : goal.show_totals-requires-clause-front
+show_totals-requires-clause-front g c =
+    let databases = c.args.databases.now in
+    let place = c.in-Statistics.database in
+    let asked = c.requires.asked in
+    let is = among (vec_len databases) (vec_len databases) asked.0 c.args.task (task.Statistics place c.in-Statistics.session) refl c.in-Statistics.is asked.1 in
+    let within = names_one (vec_len databases) asked.0 place c.in-Statistics.session is.0 is.1 in
+    subst (λ (name : List ℕ). length name ≤ MAX_FRONT) (sym c.database_name-name-in-Statistics.ensures) (name_short place (omega (arith, within, c.requires.few)))
+
+pub returns-in-Nothing-clause-served : goal.returns-in-Nothing-clause-served
+returns-in-Nothing-clause-served g c =
+    let databases = c.args.databases.now in (
+      [],
+      sym (append-nil c.args.replies.now.items),
+      λ used bytes is. nothing_served (states_of databases.items) c.args.totals.now.items bytes
+          (among (vec_len databases) (length (states_of databases.items)) bytes c.args.task task.Nothing (databases.ok.0 ∙ sym (length-map databases.items state_in)) c.in-Nothing.is is),
+    )
+
+pub returns-in-NoLine-clause-served : goal.returns-in-NoLine-clause-served
+returns-in-NoLine-clause-served g c =
+    let databases = c.args.databases.now in (
+      no_line_text,
+      c.push_short_line.ensures.text,
+      λ used bytes is. line_of_none (states_of databases.items) c.args.totals.now.items bytes no_line_text no_line
+          (among (vec_len databases) (length (states_of databases.items)) bytes c.args.task task.NoLine (databases.ok.0 ∙ sym (length-map databases.items state_in)) c.in-NoLine.is is)
+          (λ sittings. (refl, refl)),
+    )
+
+pub returns-in-Restart-clause-served : goal.returns-in-Restart-clause-served
+returns-in-Restart-clause-served g c =
+    let databases = c.args.databases.now in
+    let each : length c.args.totals.now.items ≡ length databases.items = search rules in
+    let place = c.in-Restart.database in
+    let after = c.restart-reply.new.database in (
+      rendered_whole c.database_name.result.now c.restart-reply.result,
+      c.push_short_whole.ensures,
+      λ used bytes is.
+          let reads = among (vec_len databases) (length databases.items) bytes c.args.task (task.Restart place) databases.ok.0 c.in-Restart.is is in
+          let clean = all_after (λ d. HasCleanDisk (state g.S.Store d.store)) databases.items place after (restarts_one (length databases.items) bytes place reads) used in
+          restarts_place databases.items c.args.totals.now.items place bytes c.database_name.result.now c.restart-reply.result c.index_mut.result.now after
+          c.index_mut-in-Restart.result.now c.restart-reply.new.totals reads c.index_mut.ensures.value c.index_mut-in-Restart.ensures.value each c.database_name.ensures
+          (c.restart-reply.ensures.served clean) c.restart-reply.ensures.totals,
+    )
+
+pub returns-in-Restart-clause-clean : goal.returns-in-Restart-clause-clean
+returns-in-Restart-clause-clean g c = λ used.
+    let databases = c.args.databases.now in
+    let place = c.in-Restart.database in
+    let asked = c.requires.asked in
+    let within = restarts_one (length databases.items) asked.0 place (among (vec_len databases) (length databases.items) asked.0 c.args.task (task.Restart place) databases.ok.0 c.in-Restart.is asked.1) in
+    let old = c.index_mut.result.now in
+    let found : slice_get databases.items place ≡ Some old = slice_get-get_or databases.items place old within ∙ ap Some (sym c.index_mut.ensures.value) in
+    let after = c.restart-reply.new.database in
+    let before = c.restart-reply.ensures.clean (all_after (λ d. HasCleanDisk (state g.S.Store d.store)) databases.items place after within used) in
+    all_before (λ d. HasCleanDisk (state g.S.Store d.store)) databases.items place old after found before used
+
+pub returns-in-Refuse-clause-served : goal.returns-in-Refuse-clause-served
+returns-in-Refuse-clause-served g c =
+    let databases = c.args.databases.now in
+    let totals = c.args.totals.now in
+    let place = c.in-Refuse.database in
+    let refused = task.Refuse place c.in-Refuse.session c.in-Refuse.refusal in
+    let given = c.give_short.ensures.given in (
+      given.0,
+      given.1,
+      λ used bytes is. refused_line (vec_len databases) (states_of databases.items) totals.items place c.in-Refuse.session c.in-Refuse.refusal bytes c.database_name-name.result.now given.0
+          c.index_mut-in-Refuse.result.now c.give_short.new.totals (databases.ok.0 ∙ sym (length-map databases.items state_in)) (sym totals.ok.0 ∙ c.requires.each) c.index_mut-in-Refuse.ensures.value
+          c.database_name-name.ensures given.2 (among (vec_len databases) (vec_len databases) bytes c.args.task refused refl c.in-Refuse.is is),
+    )
+
+pub returns-in-Statement-clause-served : goal.returns-in-Statement-clause-served
+returns-in-Statement-clause-served g c =
+    let databases = c.args.databases.now in
+    let each : length c.args.totals.now.items ≡ length databases.items = search rules in
+    let place = c.in-Statement.database in
+    let session = c.in-Statement.session in
+    let asked = task.Statement place session c.in-Statement.statement in
+    let after = c.serve_statement.new.database in
+    let served = c.serve_statement.ensures.served in (
+      served.0,
+      served.1,
+      λ used bytes is.
+          let reads = among (vec_len databases) (length databases.items) bytes c.args.task asked databases.ok.0 c.in-Statement.is is in
+          let clean = all_after (λ d. HasCleanDisk (state g.S.Store d.store)) databases.items place after (names_one (length databases.items) bytes place session reads.0 reads.1) used in
+          serves_place databases.items c.args.totals.now.items place session bytes reads.0 c.database_name-name-in-Statement.result.now served.0
+          c.index_mut-in-Statement.result.now after c.index_mut-totals.result.now c.serve_statement.new.totals reads.1 c.index_mut-in-Statement.ensures.value c.index_mut-totals.ensures.value each
+          c.database_name-name-in-Statement.ensures (served.2 clean reads.0 reads.2),
+    )
+
+pub returns-in-Statement-clause-clean : goal.returns-in-Statement-clause-clean
+returns-in-Statement-clause-clean g c = λ used.
+    let databases = c.args.databases.now in
+    let place = c.in-Statement.database in
+    let session = c.in-Statement.session in
+    let asked = c.requires.asked in
+    let reads = among (vec_len databases) (length databases.items) asked.0 c.args.task (task.Statement place session c.in-Statement.statement) databases.ok.0 c.in-Statement.is asked.1 in
+    let within = names_one (length databases.items) asked.0 place session reads.0 reads.1 in
+    let old = c.index_mut-in-Statement.result.now in
+    let found : slice_get databases.items place ≡ Some old = slice_get-get_or databases.items place old within ∙ ap Some (sym c.index_mut-in-Statement.ensures.value) in
+    let after = c.serve_statement.new.database in
+    let before = c.serve_statement.ensures.clean (all_after (λ d. HasCleanDisk (state g.S.Store d.store)) databases.items place after within used) in
+    all_before (λ d. HasCleanDisk (state g.S.Store d.store)) databases.items place old after found before used
+
+pub returns-in-Statistics-clause-served : goal.returns-in-Statistics-clause-served
+returns-in-Statistics-clause-served g c =
+    let databases = c.args.databases.now in
+    let totals = c.args.totals.now in
+    let place = c.in-Statistics.database in
+    let session = c.in-Statistics.session in
+    let count = databases.ok.0 ∙ sym (length-map databases.items state_in) in
+    let served = c.show_totals.ensures.served in (
+      served.0,
+      served.1,
+      λ used bytes is.
+          let reads = among (vec_len databases) (vec_len databases) bytes c.args.task (task.Statistics place session) refl c.in-Statistics.is is in
+          let within = names_one (vec_len databases) bytes place session reads.0 reads.1 in
+          line_unchanged (states_of databases.items) totals.items place session bytes reads.0 c.database_name-name-in-Statistics.result.now served.0 c.index_mut-in-Statistics.result.now c.show_totals.new.totals
+          (subst (λ (n : ℕ). Reads n bytes (statement place session reads.0)) count reads.1) (omega (arith, within, count))
+          (slice_get_read totals.items (vec_len databases) place c.index_mut-in-Statistics.result.now (sym (sym totals.ok.0 ∙ c.requires.each)) within c.index_mut-in-Statistics.ensures.value)
+          c.database_name-name-in-Statistics.ensures (λ kept. served.2 kept reads.0 reads.2),
+    )

@@ -1,0 +1,30 @@
+use Rattle.std.proofs.Common.{◌++◌, ℕ, List, ap, subst, sym, ◌∙◌, append_assoc}
+use Rattle.escrow_serve.specs.Batch.{Gathers}
+use Rattle.escrow_serve.specs.Output.{states_of}
+use Rattle.escrow_serve.specs.Task.{IsTask}
+use Rattle.escrow_serve.proofs.GatherLemmas.{hand_and_one}
+use Rattle.escrow_serve.proofs.serve.serve_in_hand.Goals as goal
+
+pub serve-requires-clause-gathered : goal.serve-requires-clause-gathered
+serve-requires-clause-gathered g c =
+    let so_far = c.gather_lines-alone.ensures.gathered in
+    let batch = c.gather_lines-alone.new.batch in
+    (so_far.items, subst (λ (n : ℕ). Gathers n batch.waiting.items batch.parts.items so_far.items) c.len.ensures so_far.gathers)
+
+pub returns-in-Some-clause-served : goal.returns-in-Some-clause-served
+returns-in-Some-clause-served g c =
+    let so_far = c.in-Some.ensures.gathered in
+    let batch = c.gather_lines-alone.new.batch in
+    let gathers = subst (λ (n : ℕ). Gathers n batch.waiting.items batch.parts.items so_far.items) c.len.ensures so_far.gathers in
+    let first = c.serve.ensures.served in
+    let one = c.serve_task.ensures.served in
+    let count = c.len.ensures ∙ sym c.serve.ensures.len in (
+      so_far.lines,
+      first.0 ++ one.0,
+      so_far.taken,
+      so_far.fewer,
+      one.1 ∙ ap (λ (l : List ℕ). l ++ one.0) (first.1 ∙ ap (λ (l : List ℕ). l ++ first.0) c.gather_lines-alone.ensures.same) ∙ append_assoc c.args.replies.now.items first.0 one.0,
+      λ used. hand_and_one c.len.result c.args.script.now.line.items c.args.script.now.unread c.gather_lines-alone.new.script.unread batch.waiting.items batch.parts.items c.in-Some.task
+          (states_of c.args.databases.now.items) (states_of c.serve.new.databases.items) (states_of c.serve_task.new.databases.items) c.args.totals.now.items c.serve.new.totals.items c.serve_task.new.totals.items
+          first.0 one.0 so_far (first.2 so_far.items gathers (c.serve_task.ensures.clean used)) (λ bytes is. one.2 used bytes (subst (λ (n : ℕ). IsTask n bytes c.in-Some.task) count is)),
+    )

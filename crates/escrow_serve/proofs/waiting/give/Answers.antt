@@ -1,0 +1,99 @@
+use Rattle.std.proofs.Common.{◌≤◌, ◌<◌, ℕ, List, [], arith, sym, ap, subst, ◌∙◌, length, vec_len}
+use Rattle.std.specs.Prelude.{slice_set}
+use Rattle.std.proofs.lemmas.List.{append-nil}
+use Rattle.std.proofs.lemmas.Option.{slice_get_read}
+use Rattle.escrow_reply.specs.declared.short.TheConstants.{MAX_FRONT}
+use Rattle.escrow_script.specs.Written.{no_line_text}
+use Rattle.escrow_serve.specs.Batch.{IsWithin}
+use Rattle.escrow_serve.specs.declared.waiting.Waiting.{Waiting}
+use Rattle.escrow_serve.proofs.GiveLemmas.{Gives, gives_nothing, gives_no_line, gives_refused, gives_asked, gives_none}
+use Rattle.escrow_serve.proofs.RunLemmas.{asked_still}
+use Rattle.escrow_serve.proofs.ServeLemmas.{name_short}
+use Rattle.escrow_serve.proofs.waiting.give.Goals as goal
+
+pub give_short-requires-clause-front : goal.give_short-requires-clause-front
+give_short-requires-clause-front c =
+    let place = c.in-Refused.database in
+    let within : place < vec_len c.args.parts.now = subst (λ (w : Waiting). IsWithin (vec_len c.args.parts.now) w) c.in-Refused.is c.requires.within in
+    subst (λ (name : List ℕ). length name ≤ MAX_FRONT) (sym c.database_name.ensures) (name_short place (omega (arith, within, c.requires.few)))
+
+pub give_short-requires-in-Some-clause-front : goal.give_short-requires-in-Some-clause-front
+give_short-requires-in-Some-clause-front c =
+    let place = c.in-Asked.database in
+    let within : place < vec_len c.args.parts.now = subst (λ (w : Waiting). IsWithin (vec_len c.args.parts.now) w) c.in-Asked.is c.requires.within in
+    subst (λ (name : List ℕ). length name ≤ MAX_FRONT) (sym c.database_name-in-Some.ensures) (name_short place (omega (arith, within, c.requires.few)))
+
+pub returns-in-Nothing-clause-given : goal.returns-in-Nothing-clause-given
+returns-in-Nothing-clause-given c =
+    let parts = c.args.parts.now in
+    let totals = c.args.totals.now.items in (
+      [],
+      sym (append-nil c.args.replies.now.items),
+      subst (λ (w : Waiting). Gives (vec_len parts) w totals [] totals parts.items parts.items) (sym c.in-Nothing.is) (gives_nothing (vec_len parts) totals parts.items parts.ok.0),
+    )
+
+pub returns-in-NoLine-clause-given : goal.returns-in-NoLine-clause-given
+returns-in-NoLine-clause-given c =
+    let parts = c.args.parts.now in
+    let totals = c.args.totals.now.items in (
+      no_line_text,
+      c.push_short_line.ensures.text,
+      subst (λ (w : Waiting). Gives (vec_len parts) w totals no_line_text totals parts.items parts.items) (sym c.in-NoLine.is) (gives_no_line (vec_len parts) totals parts.items parts.ok.0),
+    )
+
+pub returns-in-Refused-clause-given : goal.returns-in-Refused-clause-given
+returns-in-Refused-clause-given c =
+    let parts = c.args.parts.now in
+    let totals = c.args.totals.now in
+    let place = c.in-Refused.database in
+    let given = c.give_short.ensures.given in
+    let counted = c.give_short.new.totals in (
+      given.0,
+      given.1,
+      subst (λ (w : Waiting). Gives (vec_len parts) w totals.items given.0 (slice_set totals.items place counted) parts.items parts.items) (sym c.in-Refused.is)
+          (gives_refused (vec_len parts) totals.items parts.items place c.in-Refused.session c.in-Refused.refusal c.database_name.result.now given.0 c.index_mut.result.now counted
+          parts.ok.0 (sym totals.ok.0 ∙ c.requires.each) c.index_mut.ensures.value c.database_name.ensures given.2),
+    )
+
+pub returns-in-Some-clause-given : goal.returns-in-Some-clause-given
+returns-in-Some-clause-given c =
+    let parts = c.args.parts.now in
+    let totals = c.args.totals.now in
+    let place = c.in-Asked.database in
+    let given = c.give_short-in-Some.ensures.given in
+    let counted = c.give_short-in-Some.new.totals in
+    let left = c.next.new.self in (
+      given.0,
+      given.1,
+      subst (λ (w : Waiting). Gives (vec_len parts) w totals.items given.0 (slice_set totals.items place counted) parts.items (slice_set parts.items place left)) (sym c.in-Asked.is)
+          (gives_asked (vec_len parts) totals.items parts.items place c.in-Asked.session c.database_name-in-Some.result.now given.0 c.index_mut-in-Some.result.now counted c.index_mut-in-Asked.result.now left
+          c.in-Some.reply parts.ok.0 (sym totals.ok.0 ∙ c.requires.each) c.index_mut-in-Some.ensures.value c.index_mut-in-Asked.ensures.value c.in-Some.ensures.some c.database_name-in-Some.ensures given.2),
+    )
+
+pub returns-in-Some-clause-asked : goal.returns-in-Some-clause-asked
+returns-in-Some-clause-asked c = λ items.
+    let parts = c.args.parts.now in
+    let place = c.in-Asked.database in
+    let within : place < vec_len parts = subst (λ (w : Waiting). IsWithin (vec_len parts) w) c.in-Asked.is c.requires.within in
+    asked_still parts.items items place c.index_mut-in-Asked.result.now c.next.new.self (slice_get_read parts.items (vec_len parts) place c.index_mut-in-Asked.result.now parts.ok.0 within c.index_mut-in-Asked.ensures.value)
+    (ap (λ v. v.items) c.in-Some.ensures.events)
+
+pub returns-in-None-clause-given : goal.returns-in-None-clause-given
+returns-in-None-clause-given c =
+    let parts = c.args.parts.now in
+    let totals = c.args.totals.now.items in
+    let place = c.in-Asked.database in
+    let lefts = slice_set parts.items place c.next.new.self in (
+      [],
+      sym (append-nil c.args.replies.now.items),
+      subst (λ (w : Waiting). Gives (vec_len parts) w totals [] totals parts.items lefts) (sym c.in-Asked.is)
+          (gives_none (vec_len parts) totals totals parts.items lefts place c.in-Asked.session [] c.index_mut-in-Asked.result.now parts.ok.0 c.index_mut-in-Asked.ensures.value c.in-None.ensures.none),
+    )
+
+pub returns-in-None-clause-asked : goal.returns-in-None-clause-asked
+returns-in-None-clause-asked c = λ items.
+    let parts = c.args.parts.now in
+    let place = c.in-Asked.database in
+    let within : place < vec_len parts = subst (λ (w : Waiting). IsWithin (vec_len parts) w) c.in-Asked.is c.requires.within in
+    asked_still parts.items items place c.index_mut-in-Asked.result.now c.next.new.self (slice_get_read parts.items (vec_len parts) place c.index_mut-in-Asked.result.now parts.ok.0 within c.index_mut-in-Asked.ensures.value)
+    (ap (λ v. v.items) c.in-None.ensures.events)

@@ -1,0 +1,119 @@
+-- Helps: lines that wait to be served together.
+use Rattle.std.specs.Prelude.{◌≡◌, ◌≤◌, ◌<◌, ℕ, ◌+◌, ◌*◌, ◌==◌, if◌then◌else◌, true, Option, Some, None, List, [], ◌∷◌, ◌++◌, length, map, reverse, slice_get}
+use Rattle.std.specs.List.{AllByRecursion}
+use Rattle.sqlite.specs.Held.{state}
+use Rattle.sqlite.specs.State.{HasCleanDisk}
+use Rattle.sqlite_trees.specs.declared.store.Store.{Ghosts}
+use Rattle.escrow_core.specs.Seen.{Seen}
+use Rattle.escrow_machine.specs.declared.event.Event.{Event}
+use Rattle.escrow_machine.specs.declared.event.Event.TheVariants as event
+use Rattle.escrow_machine.specs.State.{State}
+use Rattle.escrow_machine.specs.Step.{IsRun}
+use Rattle.escrow_reply.specs.declared.short.TheConstants.{MAX_SHORT}
+use Rattle.escrow_script.specs.Script.{TakesLine, left}
+use Rattle.escrow_script.specs.declared.limits.TheConstants.{MAX_LINE}
+use Rattle.escrow_serve.specs.Task.{IsTask}
+use Rattle.escrow_serve.specs.declared.task.Task.{Task}
+use Rattle.escrow_serve.specs.declared.task.Task.TheVariants as task
+use Rattle.escrow_serve.specs.declared.waiting.Waiting.{Waiting}
+use Rattle.escrow_serve.specs.declared.waiting.Waiting.TheVariants as waiting
+use Rattle.escrow_serve.specs.declared.part.Part.{Part}
+
+-- a line that waits: its bytes, and what it asks
+pub record Item : Type 0 where
+  pub bytes : List ℕ
+  pub task : Task
+
+-- a line behind others
+abbrev pub behind : List Item → List ℕ → Task → List Item
+behind items bytes asked = items ++ record { bytes = bytes; task = asked } ∷ []
+
+-- what is kept of a task that waits
+abbrev pub waiting_of : Task → Waiting
+waiting_of task.NoLine = waiting.NoLine
+waiting_of (task.Refuse place session refusal) = waiting.Refused place session refusal
+waiting_of (task.Statement place session asked) = waiting.Asked place session
+waiting_of _ = waiting.Nothing
+
+-- the event that a task asks of the database at a place, if it asks one
+abbrev pub event_at : ℕ → Task → List Event
+event_at place (task.Statement other session asked) = if other == place then event.Statement session asked ∷ [] else []
+event_at place _ = []
+
+-- the events that lines ask of the database at a place, in order
+abbrev pub events_at : ℕ → List Item → List Event
+events_at place [] = []
+events_at place (item ∷ items) = event_at place item.task ++ events_at place items
+
+-- a task may wait: it is neither a restart, nor asks for totals
+abbrev pub MayWait : Task → Type 0
+MayWait (task.Restart place) = ⊥
+MayWait (task.Statistics place session) = ⊥
+MayWait _ = Unit {0}
+
+-- a line asks its task, which may wait
+abbrev pub IsItem : ℕ → Item → Type 0
+IsItem databases item = IsTask databases item.bytes item.task × MayWait item.task
+
+-- each part has the events that lines ask of its database
+abbrev pub AreAsked : List Part → List Item → Type 0
+AreAsked parts items = (place : ℕ) (part : Part) → slice_get parts place ≡ Some part → part.events.items ≡ events_at place items
+
+-- lines wait in a batch
+pub record Gathers (databases : ℕ) (held : List Waiting) (parts : List Part) (items : List Item) : Type 0 where
+  pub count : length parts ≡ databases
+  pub are : AllByRecursion (IsItem databases) items
+  pub waits : held ≡ map (λ item. waiting_of item.task) items
+  pub asked : AreAsked parts items
+
+-- what waits is of a database that exists
+abbrev pub IsWithin : ℕ → Waiting → Type 0
+IsWithin databases (waiting.Refused place session refusal) = place < databases
+IsWithin databases (waiting.Asked place session) = place < databases
+IsWithin databases _ = Unit {0}
+
+-- a part was run: its database served its events, and none is left
+abbrev pub HasRun : {S : Type 0} → Ghosts S → Seen S → Part → Seen S → Part → Type 0
+HasRun g old part new after =
+    (after.events.items ≡ [])
+    × (HasCleanDisk (state g new.store) → IsRun old.state part.events.items (reverse after.answers.items) new.state)
+
+-- each part was run
+abbrev pub HaveRun : {S : Type 0} → Ghosts S → List (Seen S) → List Part → List (Seen S) → List Part → Type 0
+HaveRun {S} g olds parts news afters =
+    (place : ℕ) (old new : Seen S) (part after : Part) → slice_get olds place ≡ Some old → slice_get news place ≡ Some new
+    → slice_get parts place ≡ Some part → slice_get afters place ≡ Some after → HasRun g old part new after
+
+-- the replies that parts have left, from the last one on, answer what lines ask from these states on
+pub record Runs (states new : List State) (items : List Item) (parts : List Part) : Type 0 where
+  pub count : length new ≡ length states
+  pub parted : length parts ≡ length states
+  pub each : (place : ℕ) (before after : State) (part : Part) → slice_get states place ≡ Some before → slice_get new place ≡ Some after
+      → slice_get parts place ≡ Some part → IsRun before (events_at place items) (reverse part.answers.items) after
+
+-- lines were taken, one after another, of each as many bytes as are kept
+abbrev pub TakesLines : List (List ℕ) → Option (List ℕ) → Option (List ℕ) → Type 0
+TakesLines [] bytes rest = rest ≡ bytes
+TakesLines (kept ∷ more) bytes rest = (mid : Option (List ℕ)) × (length kept ≤ MAX_LINE + 1) × TakesLine true bytes mid kept × TakesLines more mid rest
+
+-- the line that was taken last and may not wait, if there is one
+abbrev pub IsLast : ℕ → Option Task → List (List ℕ) → Type 0
+IsLast databases None last = last ≡ []
+IsLast databases (Some asked) last = (bytes : List ℕ) × (last ≡ bytes ∷ []) × IsTask databases bytes asked
+
+-- behind a line that was taken, lines in hand were taken: they wait in a batch, but for the last one where it may not
+pub record GathersLines (databases : ℕ) (first unread rest : List ℕ) (waits : List Waiting) (parts : List Part) (alone : Option Task) : Type 0 where
+  pub short : length first ≤ MAX_LINE + 1
+  pub items : List Item
+  pub lines : List (List ℕ)
+  pub last : List (List ℕ)
+  pub gathers : Gathers databases waits parts items
+  pub whole : first ∷ lines ≡ map (λ item. item.bytes) items ++ last
+  pub is_last : IsLast databases alone last
+  pub taken : (rem : Option (List ℕ)) → TakesLines lines (left unread rem) (left rest rem)
+  pub fewer : length lines + length rest ≤ length unread
+
+-- there is room for a short reply to each line that waits, and to the one that may not
+abbrev pub HasRoom : Option Task → ℕ → ℕ → ℕ → Type 0
+HasRoom None waits len capacity = len + MAX_SHORT * waits ≤ capacity
+HasRoom (Some asked) waits len capacity = len + MAX_SHORT * (waits + 1) ≤ capacity
