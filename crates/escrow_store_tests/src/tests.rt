@@ -3,5 +3,6 @@
 mod crashes;
 mod databases;
 mod opened;
+mod plans;
 mod refusals;
 mod rows;

@@ -1,6 +1,6 @@
 //! Ends of transactions that one call decides, and a restart, by the calls of a database that no script makes.
 use super::free::databases;
-use escrow_core::{Database, Event, Failure, Settled, Stop};
+use escrow_core::{Database, Event, Failure, Reply, Settled, Stop};
 use escrow_memory::BlockStore;
 use escrow_num::{End, Session};
 use escrow_reply::render_lines;
@@ -70,6 +70,55 @@ const TAKEN_LEFT: [Served; 1] = [(
 
 const NONE_LEFT: [Served; 1] = [(9, "SHOW JOURNAL", "OK reservations 0\n")];
 
+/// COMMITs with other statements between them, behind [`THREE_OPEN`], and their replies where the store does what it is
+/// asked.
+const DONE: [Served; 6] = [
+    (1, "COMMIT", "OK committed 1\n"),
+    (
+        4,
+        "UPDATE ACCOUNT SET BALANCE = BALANCE + 5 WHERE ID = 1",
+        "OK reserved 4\n",
+    ),
+    (2, "COMMIT", "OK committed 1\n"),
+    (5, "ROLLBACK", "OK rolled back 0\n"),
+    (4, "COMMIT", "OK committed 1\n"),
+    (3, "COMMIT", "OK committed 1\n"),
+];
+
+/// The replies to the same where the store refuses each COMMIT.
+const REFUSED: [Served; 6] = [
+    (1, "COMMIT", "ERR 60 store\n"),
+    (
+        4,
+        "UPDATE ACCOUNT SET BALANCE = BALANCE + 5 WHERE ID = 1",
+        "OK reserved 4\n",
+    ),
+    (2, "COMMIT", "ERR 60 store\n"),
+    (5, "ROLLBACK", "OK rolled back 0\n"),
+    (4, "COMMIT", "ERR 60 store\n"),
+    (3, "COMMIT", "ERR 60 store\n"),
+];
+
+/// What is open behind COMMITs that were refused. They can be asked again.
+const ASKED_AGAIN: [Served; 5] = [
+    (
+        9,
+        "SHOW JOURNAL",
+        "1 session 1 ACCOUNT 1 BALANCE -30\n2 session 2 ACCOUNT 1 BALANCE +7\n3 session 3 ACCOUNT 1 BALANCE -20\n4 session 4 ACCOUNT 1 BALANCE +5\nOK reservations 4\n",
+    ),
+    (1, "COMMIT", "OK committed 1\n"),
+    (2, "COMMIT", "OK committed 1\n"),
+    (3, "COMMIT", "OK committed 1\n"),
+    (4, "COMMIT", "OK committed 1\n"),
+];
+
+/// The rows behind all COMMITs.
+const ALL_APPLIED: [Served; 1] = [(
+    9,
+    "SELECT * FROM ACCOUNT",
+    "ID | BALANCE\n1 | 62\nOK rows 1\n",
+)];
+
 const BACK: (u8, End) = (1, End::Rollback);
 
 const SECOND: (u8, End) = (2, End::Commit);
@@ -86,8 +135,12 @@ const ORDERS: [[(u8, End); 3]; 6] = [
     [THIRD, SECOND, BACK],
 ];
 
-/// Serves statements by one call, and compares their replies.
-fn serve<R: Abort + AllocGlobal>(rt: &R, database: &mut Database<BlockStore>, cases: &[Served]) {
+/// Serves statements by one call.
+fn replies_to<R: Abort + AllocGlobal>(
+    rt: &R,
+    database: &mut Database<BlockStore>,
+    cases: &[Served],
+) -> Vec<Reply> {
     let mut events = Vec::new(rt.alloc());
     for (number, text, _) in cases {
         let session = Session::new(*number).expect(rt, "a session");
@@ -103,10 +156,21 @@ fn serve<R: Abort + AllocGlobal>(rt: &R, database: &mut Database<BlockStore>, ca
         rt.panic("memory")
     };
     assert_eq!(rt; replies.len(), cases.len());
+    replies
+}
+
+/// Compares replies to statements with those that are wanted.
+fn compare<R: Abort + AllocGlobal>(rt: &R, replies: &[Reply], cases: &[Served]) {
     for (reply, (_, text, wanted)) in replies.iter().zip(cases) {
         let lines = render_lines(rt.alloc(), "", reply).expect(rt, "memory");
         assert_eq!(rt; lines.as_slice(), wanted.as_bytes(), "{text}");
     }
+}
+
+/// Serves statements by one call, and compares their replies.
+fn serve<R: Abort + AllocGlobal>(rt: &R, database: &mut Database<BlockStore>, cases: &[Served]) {
+    let replies = replies_to(rt, database, cases);
+    compare(rt, &replies, cases);
 }
 
 /// Settles a plan, each end within so many steps of the store.
@@ -180,4 +244,32 @@ fn settle_stops(rt: HostRuntime) {
         assert_eq!(rt; database.next_id(), Some(1));
         serve(&rt, database, &NONE_LEFT);
     }
+}
+
+/// One call is given four COMMITs with other statements between them. If each statement may take few steps of the store,
+/// all four are refused, and the others are served as ever; with steps enough all four are done. COMMITs that were
+/// refused have changed nothing, and can be asked again.
+#[test]
+fn commits_stop(rt: HostRuntime) {
+    let mut stops = 0u64;
+    for limit in 1..1000u64 {
+        for database in &mut databases(&rt, 1) {
+            serve(&rt, database, &THREE_OPEN);
+            database.set_step_limit(Some(limit));
+            let replies = replies_to(&rt, database, &DONE);
+            database.set_step_limit(None);
+            if matches!(replies.first(), Some(Reply::Refused(_))) {
+                compare(&rt, &replies, &REFUSED);
+                serve(&rt, database, &ASKED_AGAIN);
+                stops = limit;
+            } else {
+                compare(&rt, &replies, &DONE);
+            }
+            serve(&rt, database, &ALL_APPLIED);
+        }
+        if stops < limit {
+            break;
+        }
+    }
+    assert!(rt; 0 < stops && stops < 999);
 }

@@ -1,23 +1,11 @@
 //! Stores over files in memory that stop at each of their calls in turn. The store that is opened next shows what was
 //! shown before the stopped statement, or after it.
-use super::databases::{Asked, Bank, Disks, OverFiles, ask, file_with};
-use super::opened::{ACCOUNT, BEFORE, KNOWN};
+use super::databases::{Bank, Disks, OverFiles, ask, ask_at_once, file_with};
+use super::plans::{ALTERED, COMMITTED, INSERTED, LARGE, MADE, MIGRATED, Plan, TOGETHER};
 use sqlite_disk::{Crash, Fuse, Memory};
 use std::alloc::{AllocError, Global};
 use std::process::Abort;
 use std::test::Fail;
-
-/// A store, the statements that it serves, and the queries that show its rows.
-struct Plan {
-    /// Statements of SQL that fill the store. If there are none, the files are empty at first.
-    filled_by: &'static [&'static str],
-    /// Numbers of frames at which the log is copied into the database file. Each is tried.
-    frames: &'static [usize],
-    /// The statements of session 1, and the reply to each.
-    asked: Asked,
-    /// Queries that show the rows.
-    queries: &'static [&'static str],
-}
 
 /// A plan over a database file, and what its queries show.
 #[derive(Drop)]
@@ -66,6 +54,11 @@ fn find<R: Abort + AllocGlobal, B: Bank>(
         assert_eq!(rt; got.as_str(), *reply, "{statement}");
         found.push(shown(rt, &mut bank, plan.queries, false)?)?;
     }
+    for (number, statement, reply) in plan.at_once {
+        let got = ask(rt, &mut bank, *number, statement)?;
+        assert_eq!(rt; got.as_str(), *reply, "{statement}");
+        found.push(shown(rt, &mut bank, plan.queries, false)?)?;
+    }
     Ok(found)
 }
 
@@ -91,8 +84,13 @@ fn serve<R: Abort + AllocGlobal, B: Bank>(
         }
         assert_eq!(rt; got.as_str(), *reply);
     }
+    let served = asked.len().saturating_add(1);
+    let at_once = trial.plan.at_once;
+    if let Some(place) = ask_at_once(rt, &mut bank, at_once)? {
+        return Ok((served.saturating_add(place), false, bank.stop()));
+    }
     let (is_closed, disks) = bank.close(&[]);
-    Ok((asked.len().saturating_add(1), is_closed, disks))
+    Ok((served.saturating_add(at_once.len()), is_closed, disks))
 }
 
 /// What a crash leaves of each file: all that was written, or only what was synced.
@@ -158,7 +156,8 @@ fn check_left<R: Abort + AllocGlobal, B: Bank>(
     Ok(())
 }
 
-/// Opens files, and tests that they show what is shown at a place or at the next one.
+/// Opens files, and tests that they show what is shown at a place or at the next one; or at any later one, if the
+/// place is among the statements that are given at once.
 fn check<R: Abort + AllocGlobal, B: Bank>(
     rt: &R,
     trial: &Trial<'_>,
@@ -169,7 +168,12 @@ fn check<R: Abort + AllocGlobal, B: Bank>(
     let opened: Option<(B, bool)> = B::open(rt.alloc(), disks, trial.frames, true).ok();
     let (mut bank, migrated) = opened.expect(rt, "a store");
     let shown = shown(rt, &mut bank, trial.plan.queries, migrated)?;
-    for found in trial.found.iter().skip(place).take(2) {
+    let places = if place <= trial.plan.asked.len() {
+        2
+    } else {
+        trial.found.len()
+    };
+    for found in trial.found.iter().skip(place).take(places) {
         if found.as_str() == shown.as_str() {
             return Ok(());
         }
@@ -229,90 +233,15 @@ fn stop_at_each<R: Abort + AllocGlobal, B: Bank>(rt: &R, plan: &Plan) -> Result<
     Ok(())
 }
 
-/// The log is copied at each commit, or when the store is closed.
-const COPIED: &[usize] = &[1, 1000];
-
-/// The query of the account.
-const SHOW_ACCOUNT: &str = "SELECT * FROM ACCOUNT";
-
-/// The account after its INSERT.
-const FULL: &str = "bank.1> ID | BALANCE\nbank.1> 1 | 100\nbank.1> OK rows 1\n";
-
-/// A store that is made.
-const MADE: Plan = Plan {
-    filled_by: &[],
-    frames: COPIED,
-    asked: &[],
-    queries: &[SHOW_ACCOUNT],
-};
-
-/// A table and an account.
-const INSERTED: Plan = Plan {
-    filled_by: &[KNOWN],
-    frames: COPIED,
-    asked: &[
-        (
-            "CREATE TABLE ACCOUNT (ID INTEGER PRIMARY KEY, BALANCE INTEGER RESERVABLE CONSTRAINT MINIMUM_BALANCE CHECK (BALANCE >= 50))",
-            "bank.1> OK created ACCOUNT\n",
-        ),
-        (
-            "INSERT INTO ACCOUNT VALUES (1, 100)",
-            "bank.1> OK inserted\n",
-        ),
-        (SHOW_ACCOUNT, FULL),
-    ],
-    queries: &[SHOW_ACCOUNT],
-};
-
-/// A reservation, its COMMIT, and a DELETE.
-const COMMITTED: Plan = Plan {
-    filled_by: &[ACCOUNT],
-    frames: COPIED,
-    asked: &[
-        (
-            "UPDATE ACCOUNT SET BALANCE = BALANCE - 30 WHERE ID = 1",
-            "bank.1> OK reserved 1\n",
-        ),
-        ("COMMIT", "bank.1> OK committed 1\n"),
-        (
-            SHOW_ACCOUNT,
-            "bank.1> ID | BALANCE\nbank.1> 1 | 70\nbank.1> OK rows 1\n",
-        ),
-        ("DELETE FROM ACCOUNT WHERE ID = 1", "bank.1> OK deleted\n"),
-    ],
-    queries: &[SHOW_ACCOUNT],
-};
-
 /// Whichever call of the log or of the database file is the last one, the store has the rows from before the stopped
-/// statement, or from after it.
+/// statement, or from after it; if COMMITs are given at once, those after the first ones of them.
 #[test]
 fn stopped_at_each_call(rt: HostRuntime) -> Result<(), Fail> {
-    for plan in [&MADE, &INSERTED, &COMMITTED] {
+    for plan in [&MADE, &INSERTED, &COMMITTED, &TOGETHER] {
         stop_at_each::<_, OverFiles>(&rt, plan)?;
     }
     Ok(())
 }
-
-/// An account whose table is altered twice.
-const ALTERED: Plan = Plan {
-    filled_by: &[ACCOUNT],
-    frames: COPIED,
-    asked: &[
-        (
-            "ALTER TABLE ACCOUNT ADD CONSTRAINT CAP CHECK (BALANCE <= 100)",
-            "bank.1> OK altered ACCOUNT\n",
-        ),
-        (
-            "ALTER TABLE ACCOUNT DROP CONSTRAINT MINIMUM_BALANCE",
-            "bank.1> OK altered ACCOUNT\n",
-        ),
-        (
-            "SHOW TABLE ACCOUNT",
-            "bank.1> CREATE TABLE ACCOUNT (ID NUMBER(15) PRIMARY KEY, BALANCE NUMBER(15) RESERVABLE, CONSTRAINT CAP CHECK (BALANCE <= 100))\nbank.1> OK table\n",
-        ),
-    ],
-    queries: &["SHOW TABLE ACCOUNT", SHOW_ACCOUNT],
-};
 
 /// A stopped ALTER TABLE leaves the table as it was or as it makes it, and leaves its row.
 #[test]
@@ -320,94 +249,12 @@ fn alter_stopped_at_each_call(rt: HostRuntime) -> Result<(), Fail> {
     stop_at_each::<_, OverFiles>(&rt, &ALTERED)
 }
 
-/// An account in a store of the format before.
-const MIGRATED: Plan = Plan {
-    filled_by: &[ACCOUNT, BEFORE],
-    frames: COPIED,
-    asked: &[(SHOW_ACCOUNT, FULL)],
-    queries: &[SHOW_ACCOUNT],
-};
-
 /// A stopped migration leaves the store in the format before or in the known one. Once `migrate` has returned, the
 /// format is the known one.
 #[test]
 fn a_migration_stops_at_each_call(rt: HostRuntime) -> Result<(), Fail> {
     stop_at_each::<_, OverFiles>(&rt, &MIGRATED)
 }
-
-/// A text with a key of 255 bytes, which ends in a digit.
-macro_rules! with_key {
-    ($before:literal, $digit:literal, $behind:literal) => {
-        with_key!(
-            $before,
-            $digit,
-            $behind,
-            "AAAAAAAAAAAAAAAAAAAAAAAAAAAAAAAAAAAAAAAAAAAAAAAAAA"
-        )
-    };
-    ($before:literal, $digit:literal, $behind:literal, $fifty:literal) => {
-        concat!(
-            $before, "K105", $fifty, $fifty, $fifty, $fifty, $fifty, $digit, $behind
-        )
-    };
-}
-
-/// Two tables of 10 and 12 rows, which almost fill a page of cells. Rows with keys of 255 bytes divide it, and a COMMIT
-/// changes several pages.
-const LARGE: Plan = Plan {
-    filled_by: &[
-        "INSERT INTO TAB VALUES (1, 'A', 'CREATE TABLE A (ID NUMBER(15) PRIMARY KEY, N NUMBER(15) RESERVABLE, CONSTRAINT LEAST CHECK (N >= 0))')",
-        "INSERT INTO TAB VALUES (2, 'B', 'CREATE TABLE B (CODE VARCHAR2(255) PRIMARY KEY, N NUMBER(15) RESERVABLE, C NUMBER(15), D NUMBER(15))')",
-        "CREATE TABLE NUMBERS (I INTEGER PRIMARY KEY)",
-        "INSERT INTO NUMBERS VALUES (0), (1), (2), (3), (4), (5), (6), (7), (8), (9)",
-        "INSERT INTO CELL SELECT 1, I, 1, I FROM NUMBERS",
-        "INSERT INTO CELL SELECT 1, I, 2, I + 100 FROM NUMBERS",
-        "CREATE TABLE KEYS (K TEXT)",
-        "INSERT INTO KEYS SELECT 'K' || (I + 100) FROM NUMBERS",
-        with_key!("INSERT INTO KEYS VALUES ('", "0", "')"),
-        with_key!("INSERT INTO KEYS VALUES ('", "1", "')"),
-        "INSERT INTO CELL SELECT 2, K, 1, K FROM KEYS",
-        "INSERT INTO CELL SELECT 2, K, 2, 1 FROM KEYS",
-        "INSERT INTO CELL SELECT 2, K, 3, 2 FROM KEYS",
-        "INSERT INTO CELL SELECT 2, K, 4, 3 FROM KEYS",
-        "DROP TABLE KEYS",
-        "DROP TABLE NUMBERS",
-    ],
-    frames: &[1000],
-    asked: &[
-        (
-            "SELECT * FROM B WHERE CODE = 'K109'",
-            "bank.1> CODE | N | C | D\nbank.1> 'K109' | 1 | 2 | 3\nbank.1> OK rows 1\n",
-        ),
-        (
-            with_key!("INSERT INTO B VALUES ('", "2", "', 1, 2, 3)"),
-            "bank.1> OK inserted\n",
-        ),
-        (
-            with_key!("INSERT INTO B VALUES ('", "3", "', 1, 2, 3)"),
-            "bank.1> OK inserted\n",
-        ),
-        (
-            "UPDATE A SET N = N - 30 WHERE ID = 0",
-            "bank.1> OK reserved 1\n",
-        ),
-        (
-            "UPDATE B SET N = N + 5 WHERE CODE = 'K109'",
-            "bank.1> OK reserved 2\n",
-        ),
-        (
-            with_key!("UPDATE B SET N = N + 5 WHERE CODE = '", "3", "'"),
-            "bank.1> OK reserved 3\n",
-        ),
-        ("COMMIT", "bank.1> OK committed 3\n"),
-        (
-            "SELECT * FROM A WHERE ID = 0",
-            "bank.1> ID | N\nbank.1> 0 | 70\nbank.1> OK rows 1\n",
-        ),
-        ("DELETE FROM B WHERE CODE = 'K109'", "bank.1> OK deleted\n"),
-    ],
-    queries: &["SELECT * FROM A", "SELECT * FROM B"],
-};
 
 /// The same holds where statements divide pages, and where a COMMIT changes several.
 #[test]

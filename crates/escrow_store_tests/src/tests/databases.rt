@@ -1,6 +1,6 @@
 //! Databases over files in memory that stop after so many calls. No function here has a clause, so the proof of a test
 //! does not carry the state of each call.
-use escrow_core::Database;
+use escrow_core::{Database, Event};
 use escrow_machine::Reply;
 use escrow_num::{Refusal, Session};
 use escrow_reply::render;
@@ -8,7 +8,7 @@ use escrow_sql::{Request, Statement, parse};
 use escrow_tables::{Opened, StoreFault, Tables, migrate, open_store};
 use sqlite::{Alter, Connection, FileStore, Files, Options};
 use sqlite_disk::{Disk, Fuse, Memory};
-use std::alloc::{AllocFailed, Global};
+use std::alloc::{AllocError, AllocFailed, Global};
 use std::io;
 use std::process::Abort;
 use std::test::Fail;
@@ -18,6 +18,9 @@ type Store = FileStore<Fuse<Memory>>;
 
 /// Statements of one session, each with its reply.
 pub(super) type Asked = &'static [(&'static str, &'static str)];
+
+/// Statements that a database is given at once, each with the number of its session and its reply.
+pub(super) type AskedAtOnce = &'static [(u8, &'static str, &'static str)];
 
 /// The log and the database file of a store.
 #[derive(Drop)]
@@ -72,6 +75,9 @@ pub(super) trait Bank: Drop {
     /// Serves a statement of a session.
     fn step(&mut self, alloc: Global, session: Session, statement: &Statement) -> Reply;
 
+    /// Serves statements of sessions by one call.
+    fn run(&mut self, alloc: Global, events: &[Event]) -> Result<Vec<Reply>, AllocError>;
+
     /// Limits the steps of SQLite that a statement may take.
     fn limit(&mut self, steps: Option<u64>);
 
@@ -114,6 +120,10 @@ impl Bank for OverFiles {
 
     fn step(&mut self, alloc: Global, session: Session, statement: &Statement) -> Reply {
         self.database.step(alloc, session, statement)
+    }
+
+    fn run(&mut self, alloc: Global, events: &[Event]) -> Result<Vec<Reply>, AllocError> {
+        self.database.run(alloc, events)
     }
 
     fn limit(&mut self, steps: Option<u64>) {
@@ -264,9 +274,40 @@ pub(super) fn ask<R: Abort + AllocGlobal, B: Bank>(
     let session = Session::new(number).expect(rt, "a session");
     let statement = statement(alloc, text).expect(rt, "a statement");
     let reply = bank.step(alloc, session, &statement);
-    let lines = render(alloc, "bank", session, &reply)?;
+    printed(alloc, session, &reply)
+}
+
+/// A reply to a session, as it is printed.
+fn printed(alloc: Global, session: Session, reply: &Reply) -> Result<String, Fail> {
+    let lines = render(alloc, "bank", session, reply)?;
     let text = str::from_utf8(lines.as_slice())?;
     Ok(String::from_str(alloc, text)?)
+}
+
+/// Asks statements of sessions at once, and compares the replies up to the first statement that the store refuses.
+/// Returns the place of that one.
+pub(super) fn ask_at_once<R: Abort + AllocGlobal, B: Bank>(
+    rt: &R,
+    bank: &mut B,
+    asked: AskedAtOnce,
+) -> Result<Option<usize>, Fail> {
+    let alloc = rt.alloc();
+    let mut events = Vec::new(alloc);
+    for (number, text, _) in asked {
+        let session = Session::new(*number).expect(rt, "a session");
+        let statement = statement(alloc, text).expect(rt, "a statement");
+        events.push(Event::Statement { session, statement })?;
+    }
+    let replies = bank.run(alloc, events.as_slice())?;
+    for (place, (reply, (number, text, wanted))) in replies.iter().zip(asked).enumerate() {
+        if matches!(reply, Reply::Refused(Refusal::Store)) {
+            return Ok(Some(place));
+        }
+        let session = Session::new(*number).expect(rt, "a session");
+        let got = printed(alloc, session, reply)?;
+        assert_eq!(rt; got.as_str(), *wanted, "{text}");
+    }
+    Ok(None)
 }
 
 /// Asks statements of a session, one after another, and compares the replies.
