@@ -1,8 +1,7 @@
-"""A PostgreSQL server for bench/peers/sessions.
+"""A PostgreSQL server for bench/peers/sessions and bench/peers/durable.
 
-Its rows are locked by the transactions that change them. It listens at a socket in the file system alone, and waits for no disk: `fsync`,
-`synchronous_commit` and `full_page_writes` are off. The program's amount is a column, and its floor stands in WHERE. The rows that are changed
-stand on pages of their own, half of which is free for their versions.
+Its rows are locked by the transactions that change them. It listens at a socket in the file system alone. The program's amount is a column, and its
+floor stands in WHERE. The rows that are changed stand on pages of their own, half of which is free for their versions.
 """
 import glob
 import os
@@ -15,6 +14,8 @@ import subprocess
 import tempfile
 import time
 
+from runs import Run
+
 START = 1_000_000_000
 # Where the rows that are changed stand: more than a page's rows from each other.
 APART = 200
@@ -22,8 +23,11 @@ TABLE = f"""
 CREATE TABLE hot (id integer PRIMARY KEY, amount bigint NOT NULL) WITH (fillfactor = 50);
 INSERT INTO hot SELECT id, {START} FROM generate_series(0, {64 * APART - 1}) id;
 VACUUM ANALYZE hot;
+CHECKPOINT;
 """
-OPTIONS = {"listen_addresses": "", "fsync": "off", "synchronous_commit": "off", "full_page_writes": "off"}
+# Where it waits for no disk, and where what it answers has been synced.
+IN_MEMORY = {"fsync": "off", "synchronous_commit": "off", "full_page_writes": "off"}
+DURABLE = {"fsync": "on", "synchronous_commit": "on", "full_page_writes": "on"}
 
 
 def found(name):
@@ -39,8 +43,11 @@ def lacks():
 class Server:
     """A server in a folder of its own, as long as it is in hand. It refuses to run as root, so that root runs it as `nobody`."""
 
+    def __init__(self, where=None, keeps=IN_MEMORY):
+        self.where, self.keeps = where, keeps
+
     def __enter__(self):
-        self.folder = tempfile.TemporaryDirectory()
+        self.folder = tempfile.TemporaryDirectory(dir=self.where)
         who = {}
         if os.geteuid() == 0:
             nobody = pwd.getpwnam("nobody")
@@ -49,7 +56,7 @@ class Server:
         self.data = f"{self.folder.name}/data"
         words = [found("initdb"), "--no-sync", "--auth=trust", "--username=bench", "--encoding=UTF8", "--no-locale", f"--pgdata={self.data}"]
         subprocess.run(words, cwd=self.folder.name, stdout=subprocess.DEVNULL, check=True, **who)
-        options = OPTIONS | {"unix_socket_directories": self.folder.name}
+        options = self.keeps | {"listen_addresses": "", "unix_socket_directories": self.folder.name}
         words = [found("postgres"), "-D", self.data, *(word for name, value in options.items() for word in ("-c", f"{name}={value}"))]
         with open(f"{self.folder.name}/log", "w") as log:
             self.process = subprocess.Popen(words, cwd=self.folder.name, stdout=log, stderr=log, **who)
@@ -89,9 +96,9 @@ class Server:
                 ticks += sum(map(int, numbers[11:13]))
         return ticks / os.sysconf("SC_CLK_TCK")
 
-    def transactions(self, own, clients, count, in_block):
-        """Has clients make so many transactions each, of one UPDATE, and answers the seconds of all by the clock, and the processor seconds
-        of the server and of the clients. An UPDATE that isn't in a block of BEGIN and COMMIT is a transaction by itself."""
+    def transactions(self, own, clients, limit, in_block):
+        """Has clients make transactions of one UPDATE by pgbench, each so many or for so long, and looks at the rows behind it. An UPDATE that
+        isn't in a block of BEGIN and COMMIT is a transaction by itself."""
         self.ask("DROP TABLE IF EXISTS hot;" + TABLE)
         key = f"{APART} * :client_id" if own else "0"
         update = "UPDATE hot SET amount = amount - 1 WHERE id = :id AND amount - 1 >= 0;"
@@ -100,17 +107,18 @@ class Server:
             script.write("".join(f"{line}\n" for line in lines))
             script.flush()
             words = [found("pgbench"), "-h", self.folder.name, "-U", "bench", "-n", "-M", "prepared", "-f", script.name]
-            words += ["-c", str(clients), "-j", str(min(clients, os.cpu_count())), "-t", str(count), "postgres"]
+            words += ["-c", str(clients), "-j", str(min(clients, os.cpu_count())), *limit, "postgres"]
             server, client = self.spent(), spent_by_children()
             said = subprocess.run(words, capture_output=True, text=True, check=True).stdout
             client = spent_by_children() - client
             time.sleep(0.1)
             server = self.spent() - server
+        count = int(re.search(r"transactions actually processed: (\d+)", said)[1])
         rate = float(re.search(r"tps = ([\d.]+) \(without initial connection time\)", said)[1])
         taken = self.ask(f"SELECT sum({START} - amount), count(*) FROM hot WHERE amount <> {START}")
-        if taken != f"{clients * count}|{clients if own else 1}":
-            raise SystemExit(f"postgres: {taken} taken, and not {clients * count}")
-        return clients * count / rate, server, client
+        if taken != f"{count}|{clients if own else 1}":
+            raise SystemExit(f"postgres: {taken} taken, and not {count}")
+        return Run(count, count / rate, server, client)
 
 
 def spent_by_children():

@@ -13,6 +13,13 @@ import sys
 import tempfile
 import time
 
+sys.dont_write_bytecode = True
+from runs import Run
+
+START = 1_000_000_000
+# Where it keeps nothing, and where what it answers has been synced.
+IN_MEMORY = ["--appendonly", "no"]
+DURABLE = ["--appendonly", "yes", "--appendfsync", "always"]
 RESERVE = """
 for i = 2, #KEYS do
   local n, change = redis.call('HMGET', KEYS[i], 'amount', 'falls', 'rises', 'floor', 'ceiling'), tonumber(ARGV[i - 1])
@@ -36,12 +43,15 @@ return #held / 2
 
 
 class Server:
-    """A redis server in a folder of its own that keeps nothing, as long as it is in hand."""
+    """A redis server in a folder of its own, as long as it is in hand."""
+
+    def __init__(self, where=None, keeps=IN_MEMORY):
+        self.where, self.keeps = where, keeps
 
     def __enter__(self):
-        self.folder = tempfile.TemporaryDirectory()
+        self.folder = tempfile.TemporaryDirectory(dir=self.where)
         path = f"{self.folder.name}/socket"
-        options = ["--port", "0", "--unixsocket", path, "--save", "", "--appendonly", "no", "--dir", self.folder.name]
+        options = ["--port", "0", "--unixsocket", path, "--save", "", *self.keeps, "--dir", self.folder.name]
         self.process = subprocess.Popen(["redis-server", *options], stdout=subprocess.DEVNULL)
         self.socket = socket.socket(socket.AF_UNIX)
         while self.socket.connect_ex(path):
@@ -74,6 +84,32 @@ class Server:
     def spent(self):
         """The server's processor time."""
         return sum(float(line.split(b":")[1]) for line in self.ask(["INFO", "cpu"]) if re.match(rb"used_cpu_(user|sys):", line))
+
+    def transactions(self, load, own, clients, limit, way, is_plain=False):
+        """Has clients make transactions by clients.c, each so many or for so long, and looks at the amounts behind it. A plain one is a DECR."""
+        self.send([command(["FLUSHALL"])], 1)
+        fields = f"amount {START} falls 0 rises 0 floor 0 ceiling 900000000000000".split()
+        for number in range(1, clients + 1):
+            key = f"n:{number}:0"
+            self.send([command(["SET", key, str(START)] if is_plain else ["HSET", key, *fields])], 1)
+        before = self.spent()
+        words = [load, f"{self.folder.name}/socket", str(clients), str(limit), str(way), "own" if own else "shared"]
+        words += [] if is_plain else [self.reserve, self.end]
+        count, wall, client = subprocess.run(words, stdout=subprocess.PIPE, text=True, check=True).stdout.split()
+        run = Run(int(count), float(wall), self.spent() - before, float(client))
+        taken = [self.taken(f"n:{number}:0", is_plain) for number in range(1, clients + 1)]
+        if sum(taken) != run.made or sum(map(bool, taken)) != (clients if own else 1):
+            sys.exit(f"redis: {taken} taken, and not {count}")
+        return run
+
+    def taken(self, key, is_plain):
+        """How much a number lacks, of which nothing may be pending."""
+        if is_plain:
+            return START - int(self.ask(["GET", key])[1])
+        amount, falls = (int(self.ask(["HGET", key, field])[1]) for field in ("amount", "falls"))
+        if falls:
+            sys.exit(f"redis: {falls} of {key} are pending")
+        return START - amount
 
     def command(self, line):
         """The commands of a script's line."""
