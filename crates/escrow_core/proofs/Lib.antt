@@ -21,5 +21,6 @@ pub mod Restarting
 pub mod Served
 pub mod Serving
 pub mod Shown
+pub mod Surviving
 pub mod Together
 pub mod Updating

@@ -14,9 +14,9 @@ use sqlite::Alter;
 use std::alloc::Global;
 
 impl<S: Alter> Database<S> {
-    ghost use Rattle.std.specs.Prelude.{IfSome, IfNone};
+    ghost use Rattle.std.specs.Prelude.{IfSome, IfNone, ⊤};
     ghost use Rattle.sqlite.specs.Held.{state};
-    ghost use Rattle.sqlite.specs.State.{HasCleanDisk};
+    ghost use Rattle.sqlite.specs.State.{HasCleanDisk, Survives};
     ghost use Rattle.escrow_journal.specs.Reservations.{own};
     ghost use Rattle.escrow_machine.specs.Held.{IsServedBeside, holds};
     ghost use Rattle.escrow_core.specs.Seen.{IsKept};
@@ -33,7 +33,7 @@ impl<S: Alter> Database<S> {
     ) -> Option<Reply>
         ensures joins { IfSome result (λ reply. Joins (HasCleanDisk (state S.Store self.new.store)) event.now place held.old self.old.state reply held.new self.new.state) }
         ensures refused { IfNone result ((self.new.state ≡ self.old.state) × (held.new ≡ held.old)) }
-        ensures clean { HasCleanDisk (state S.Store self.new.store) → HasCleanDisk (state S.Store self.old.store) }
+        ensures survives { Survives (state S.Store self.old.store) (state S.Store self.new.store) (λ _. ⊤) }
     {
         let Event::Statement { session, statement } = event else {
             return None;
@@ -69,7 +69,7 @@ impl<S: Alter> Database<S> {
         requires { statement.now ≡ Statement.Commit → holds self.old.state session ≡ false }
         ensures beside { HasCleanDisk (state S.Store self.new.store) → IfSome result (λ reply. IsServedBeside session statement.now reply self.old.state self.new.state) }
         ensures refused { IfNone result (self.new.state ≡ self.old.state) }
-        ensures clean { HasCleanDisk (state S.Store self.new.store) → HasCleanDisk (state S.Store self.old.store) }
+        ensures survives { Survives (state S.Store self.old.store) (state S.Store self.new.store) (λ _. ⊤) }
     {
         if !may_pass(statement) {
             return None;
@@ -92,7 +92,7 @@ impl<S: Alter> Database<S> {
         requires pairs { length plan.now ≡ length places.now }
         requires places { AllByRecursion (λ place. place < vec_len replies.old) places.now }
         ensures settled { AreSettled (HasCleanDisk (state S.Store self.new.store)) plan.now places.now self.old.state replies.old.items self.new.state replies.new.items }
-        ensures clean { HasCleanDisk (state S.Store self.new.store) → HasCleanDisk (state S.Store self.old.store) }
+        ensures survives { Survives (state S.Store self.old.store) (state S.Store self.new.store) (λ _. ⊤) }
         ensures len { vec_len replies.new ≡ vec_len replies.old }
         ensures capacity { vec_capacity replies.new ≡ vec_capacity replies.old }
     {

@@ -10,12 +10,15 @@ use sqlite::Alter;
 use std::alloc::{AllocError, Global};
 
 impl<S: Alter> Database<S> {
-    ghost use Rattle.std.specs.Prelude.{◌≡◌, IfOk, OnErr};
+    ghost use Rattle.std.specs.Prelude.{◌≡◌, IfOk, OnErr, ⊤};
     ghost use Rattle.sqlite.specs.Held.{state};
-    ghost use Rattle.sqlite.specs.State.{HasCleanDisk};
+    ghost use Rattle.sqlite.specs.State.{HasCleanDisk, Survives};
+    ghost use Rattle.sqlite_trees.specs.Tree.{Trees};
+    ghost use Rattle.escrow_rows.specs.Answers.{IsUsable};
     ghost use Rattle.escrow_machine.specs.State.{State};
     ghost use Rattle.escrow_machine.specs.Step.{IsServed, IsRun};
     ghost use Rattle.escrow_core.specs.Beside.{IsBatch};
+    ghost use Rattle.escrow_core.specs.Serves.{AreHeldOf};
 
     /// Serves events, one after another, and answers their replies. Room for the replies is taken
     /// first: where it is refused, nothing was served.
@@ -36,12 +39,19 @@ impl<S: Alter> Database<S> {
         ensures served { (answers : List Reply) × (length answers ≡ length events.now) × (replies.new.items ≡ replies.old.items ++ answers) × (HasCleanDisk (state S.Store self.new.store) → IsRun self.old.state events.now answers self.new.state) }
         ensures clean { HasCleanDisk (state S.Store self.new.store) → HasCleanDisk (state S.Store self.old.store) }
         ensures capacity { vec_capacity replies.new ≡ vec_capacity replies.old }
+
+        // Where the store can be used, a crash leaves just the tables and rows after the events. Only a fault shuts
+        // the store, and the limit of steps stays.
+        ensures left { IsUsable (state S.Store self.new.store) → (trees : Trees) → (state S.Store self.new.store).may_leave trees → AreHeldOf self.new.state trees }
+        ensures survives { Survives (state S.Store self.old.store) (state S.Store self.new.store) (λ _. ⊤) }
     {
         let mut held = Held::new();
         for event in events {
             self.serve_next(alloc, event, &mut held, replies);
         }
         self.settle_all(alloc, held.plan(), held.places(), replies);
+        // What a crash leaves is told with the next id.
+        let _ = self.next_id();
     }
 
     /// Serves the next event, before the COMMITs that are held back are written or behind them.
@@ -55,7 +65,7 @@ impl<S: Alter> Database<S> {
         requires room { vec_len replies.old < vec_capacity replies.old }
         requires places { AllByRecursion (λ place. place < vec_len replies.old) held.old.places }
         ensures batch { (s : State) → (events : List Event) → (before : List Reply) → IsBatch (HasCleanDisk (state S.Store self.old.store)) s events before replies.old.items held.old self.old.state → IsBatch (HasCleanDisk (state S.Store self.new.store)) s (events ++ event.now ∷ []) before replies.new.items held.new self.new.state }
-        ensures clean { HasCleanDisk (state S.Store self.new.store) → HasCleanDisk (state S.Store self.old.store) }
+        ensures survives { Survives (state S.Store self.old.store) (state S.Store self.new.store) (λ _. ⊤) }
         ensures len { vec_len replies.new ≡ vec_len replies.old + 1 }
         ensures capacity { vec_capacity replies.new ≡ vec_capacity replies.old }
     {
@@ -73,7 +83,7 @@ impl<S: Alter> Database<S> {
     /// Serves one event.
     fn serve(&mut self, alloc: Global, event: &Event) -> Reply
         ensures served { HasCleanDisk (state S.Store self.new.store) → IsServed self.old.state event.now result self.new.state }
-        ensures clean { HasCleanDisk (state S.Store self.new.store) → HasCleanDisk (state S.Store self.old.store) }
+        ensures survives { Survives (state S.Store self.old.store) (state S.Store self.new.store) (λ _. ⊤) }
     {
         match event {
             Event::Statement { session, statement } => self.step(alloc, *session, statement),

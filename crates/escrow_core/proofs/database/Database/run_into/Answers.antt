@@ -3,6 +3,8 @@ use Rattle.std.proofs.lemmas.List.{take_all, take_more}
 use Rattle.sqlite.specs.Held.{state}
 use Rattle.sqlite.specs.State.{HasCleanDisk}
 use Rattle.escrow_core.proofs.Batches.{batch_ends, batch_places, nothing_served, nothing_waits}
+use Rattle.escrow_core.proofs.Serving.{still_clean, survives_itself}
+use Rattle.escrow_core.proofs.Surviving.{survives_both}
 use Rattle.escrow_core.proofs.database.Database.run_into.Goals as goal
 
 pub loop-event-init : goal.loop-event-init
@@ -13,7 +15,7 @@ loop-event-init g c =
     record {
       as_many = omega arith;
       capacity = refl;
-      clean = λ h. h;
+      survives = survives_itself (state g.S.Store c.args.self.now.store) _;
       batch = rw c.new-held.ensures (nothing_waits sure s [] before before s (nothing_served sure s before));
     }
 
@@ -30,7 +32,7 @@ loop-event-preserved g c =
     record {
       as_many = omega (arith, c.serve_next.ensures.len, c.loop-event.invariant.as_many);
       capacity = c.serve_next.ensures.capacity ∙ c.loop-event.invariant.capacity;
-      clean = λ h. c.loop-event.invariant.clean (c.serve_next.ensures.clean h);
+      survives = survives_both _ _ _ _ _ c.loop-event.invariant.survives c.serve_next.ensures.survives;
       batch = rw (take_more events i c.event-item.result c.loop-event-test.true, ← c.event-item.is)
           (c.serve_next.ensures.batch c.args.self.now.state (take i events) c.args.replies.now.items c.loop-event.invariant.batch);
     }
@@ -50,5 +52,11 @@ returns-clause-served g c =
     let settled = rw (c.plan.ensures, c.places.ensures.value) at c.settle_all.ensures.settled in
     let served =
     batch_ends (HasCleanDisk (state g.S.Store at.self.store)) (HasCleanDisk (state g.S.Store new.self.store)) c.args.self.now.state events c.args.replies.now.items at.replies.items at.held at.self.state
-    new.self.state new.replies.items (rw all at at.invariant.batch) c.settle_all.ensures.clean settled in
+    new.self.state new.replies.items (rw all at at.invariant.batch) (still_clean _ _ _ c.settle_all.ensures.survives) settled in
     (served.answers, served.as_many, served.is_replies, served.ran)
+
+pub returns-clause-clean : goal.returns-clause-clean
+returns-clause-clean g c = still_clean _ _ _ (survives_both _ _ _ _ _ c.loop-event.invariant.survives c.settle_all.ensures.survives)
+
+pub returns-clause-survives : goal.returns-clause-survives
+returns-clause-survives g c = survives_both _ _ _ _ _ c.loop-event.invariant.survives c.settle_all.ensures.survives

@@ -8,6 +8,7 @@ use Rattle.escrow_num.specs.declared.session.End.TheVariants as end
 use Rattle.escrow_machine.proofs.Settling.{settled_is_the_run}
 use Rattle.escrow_core.proofs.HeldSettling.{settling_ends, settling_stops}
 use Rattle.escrow_core.proofs.Serving.{still_clean}
+use Rattle.escrow_core.proofs.Surviving.{survives_both}
 use Rattle.escrow_core.proofs.database.Database.settle_all.Goals as goal
 
 pub returns-in_default-get-clause-settled : goal.returns-in_default-get-clause-settled
@@ -42,7 +43,7 @@ loop-stop-preserved g c =
       within = omega (arith, below, fewer, c.requires.pairs, at.invariant.within);
       len = c.refuse.ensures.len ∙ at.invariant.len;
       capacity = c.refuse.ensures.capacity ∙ at.invariant.capacity;
-      clean = λ h. at.invariant.clean (still_clean _ _ _ c.settle.ensures.crash h);
+      survives = survives_both _ _ _ _ _ at.invariant.survives c.settle.ensures.crash;
       so_far = rw (← drop-drop (place + 1) at.done plan, ← drop-drop (place + 1) at.done places, c.refuse.ensures.items)
           (settling_stops (HasCleanDisk (state g.S.Store at.self.store)) (HasCleanDisk (state g.S.Store c.settle.new.self.store)) plan places c.args.self.now.state c.args.replies.now.items
           rest left at.self.state at.replies.items place c.in-Some.place.now c.in-Err.stop.cause c.settle.new.self.state at.invariant.so_far (still_clean _ _ _ c.settle.ensures.crash)
@@ -59,3 +60,9 @@ returns-clause-settled g c =
     settling_ends (HasCleanDisk (state g.S.Store at.self.store)) (HasCleanDisk (state g.S.Store c.settle.new.self.store)) plan places c.args.self.now.state c.args.replies.now.items
     (drop at.done plan) (drop at.done places) at.self.state at.replies.items c.settle.new.self.state at.invariant.so_far (still_clean _ _ _ c.settle.ensures.crash)
     (λ clean. rw (take_rest plan at.done) at (c.in_default.ensures.ok clean) ∙ settled_is_the_run at.self.state (drop at.done plan))
+
+pub returns-in_default-get-clause-survives : goal.returns-in_default-get-clause-survives
+returns-in_default-get-clause-survives g c = survives_both _ _ _ _ _ c.loop-stop.invariant.survives c.settle.ensures.crash
+
+pub returns-clause-survives : goal.returns-clause-survives
+returns-clause-survives g c = survives_both _ _ _ _ _ c.loop-stop.invariant.survives c.settle.ensures.crash
