@@ -11,3 +11,4 @@ pub mod Laws
 pub mod Moved
 pub mod Places
 pub mod Recounting
+pub mod Verdict

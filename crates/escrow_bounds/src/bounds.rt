@@ -14,6 +14,7 @@ ghost use Rattle.escrow_bounds.specs.Ended.{AreEnded};
 ghost use Rattle.escrow_bounds.specs.Held.{CountsAll, AllCount};
 ghost use Rattle.escrow_bounds.specs.Kept.{Kept, checks_of};
 ghost use Rattle.escrow_bounds.specs.Places.{place_at, OthersStay, Becomes};
+ghost use Rattle.escrow_bounds.specs.Verdict.{verdict_of};
 ghost use Rattle.escrow_bounds.specs.declared.tracked.Tracked.{Tracked};
 
 mod addition;
@@ -21,6 +22,7 @@ mod altered;
 
 use crate::changes::deltas;
 use crate::place::Place;
+use crate::verdict::Verdict;
 pub use addition::Addition;
 use escrow_checks::Check;
 use escrow_num::{Amount, End, Name, Reservation, RowName, Violation, Wide};
@@ -119,6 +121,17 @@ impl Bounds {
         self.places.get_index_of(row)
     }
 
+    /// Drops the place of a row if it has one that counts nothing.
+    pub fn release(&mut self, row: &RowName)
+        ensures empty { is_counting (place_at self.old row.now) ≡ false → place_at self.new row.now ≡ None }
+        ensures counting { is_counting (place_at self.old row.now) ≡ true → self.new ≡ self.old }
+        ensures others { OthersStay row.now self.old self.new }
+    {
+        if let Some(index) = self.find(row) {
+            self.release_at(index);
+        }
+    }
+
     /// Drops the place at an index where it counts nothing.
     pub fn release_at(&mut self, index: usize)
         ensures empty { (row : RowName) → IsAt self.old row index → is_counting (place_at self.old row) ≡ false → place_at self.new row ≡ None }
@@ -206,6 +219,17 @@ impl Bounds {
         self.place(row).inf_sup(column)
     }
 
+    /// The grant rule: whether changes of a row that has a place are granted, over every choice of the
+    /// reservations that the place counts with these changes; if not, the first check, in the table's
+    /// order, that they can break, and its low side before its high side.
+    pub fn verdict(&self, row: &RowName, changes: &[Amount]) -> Verdict
+        requires { IsSome (place_at self.now row.now) }
+        ensures { (place : Kept) (reservations : List (List ℤ)) → place_at self.now row.now ≡ Some place → Counts place reservations
+            → result ≡ verdict_of (broken (checks_of place.checks) place.amounts changes.now reservations) }
+    {
+        Verdict::of(self.place(row).verdict(changes))
+    }
+
     /// The grant rule: what changes of the row whose place stands at an index would break of the first
     /// check, in the table's order, that they can break, over every choice of the reservations that the
     /// place counts which holds them. `None` where they are granted.
@@ -239,6 +263,20 @@ impl Bounds {
     {
         let (_, place) = self.places.pair_mut(index);
         place.take_in(changes);
+    }
+
+    /// Counts a reservation of a row no more, since its transaction has ended: one that the row's place
+    /// counts, which stays. A commit moves its changes into the committed amounts, as
+    /// [`Bounds::remove_at`] does.
+    pub fn remove(&mut self, row: &RowName, changes: &[Amount], end: End)
+        requires { (place : Kept) × (before after : List (List ℤ))
+            × (place_at self.old row.now ≡ Some place) × Counts place (before ++ changes.now ∷ after) }
+        ensures gives { Becomes (GivesBack end changes.now) (place_at self.old row.now) (place_at self.new row.now) }
+        ensures others { OthersStay row.now self.old self.new }
+    {
+        if let Some(index) = self.find(row) {
+            self.remove_at(index, changes, end);
+        }
     }
 
     /// Counts a reservation no more, since its transaction has ended: one that the place at an index counts,

@@ -30,6 +30,10 @@ pub record IsLog (log : Log) : Type 0 where
   pub savepoints_own : AllByRecursion (λ p. p.session ≡ log.session) log.savepoints
   pub few_savepoints : length log.savepoints ≤ MAX_SAVEPOINTS
 
+-- a journal has as many reservations as it may have
+abbrev pub is_full : Log → Bool
+is_full log = nat_le MAX_RESERVATIONS (length log.reservations)
+
 -- a journal has as many savepoints of other names as it may have
 abbrev pub is_full_beside : List ℕ → Log → Bool
 is_full_beside name log = nat_le MAX_SAVEPOINTS (length (without_savepoint log.session name log.savepoints))

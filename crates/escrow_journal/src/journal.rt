@@ -1,7 +1,7 @@
 use crate::lists::{count_others, first_from, make_room, place_of_name};
 use escrow_num::{Name, Refusal, Reservation, Savepoint, Session};
 use smallvec::SmallVec;
-use std::alloc::{AllocFailed, Global};
+use std::alloc::Global;
 use std::marker::Model;
 use std::mem;
 
@@ -37,13 +37,12 @@ impl Model for Journal {
 }
 
 impl Journal {
-    ghost use Rattle.std.specs.Prelude.{◌≡◌, ◌⊎◌, ◌<◌, IsTrue, IfErr, IsOk, IsSome, IsErrOf, OnOk, OnErr, Err, length, option_copied, option_map};
+    ghost use Rattle.std.specs.Prelude.{◌≡◌, ◌⊎◌, IsTrue, IfErr, IsOk, IsSome, IsErrOf, OnOk, OnErr, Err, length, option_copied, option_map};
     ghost use Rattle.std.specs.List.{AllByRecursion};
     ghost use Rattle.escrow_journal.specs.Inside.{IsLeft};
-    ghost use Rattle.escrow_journal.specs.Log.{IsLog, empty_log, is_full_beside, pushed, marked, later, cut_log};
+    ghost use Rattle.escrow_journal.specs.Log.{IsLog, empty_log, is_full, is_full_beside, pushed, marked, later, cut_log};
     ghost use Rattle.escrow_journal.specs.Reservations.{reservation_before};
     ghost use Rattle.escrow_journal.specs.Savepoints.{savepoint_of};
-    ghost use Rattle.escrow_journal.specs.declared.journal.TheConstants.Journal.{MAX_RESERVATIONS};
 
     /// The most open reservations of a session.
     pub const MAX_RESERVATIONS: usize = 256;
@@ -84,18 +83,22 @@ impl Journal {
         self.savepoints.as_slice()
     }
 
-    /// Adds a reservation of the session, with an id above those that the journal holds, where it
-    /// holds fewer than [`Journal::MAX_RESERVATIONS`]. Want of memory is the only error, which hands the
-    /// reservation back, and then the journal stays.
-    pub fn push(&mut self, r: Reservation) -> Result<(), AllocFailed<Reservation>>
+    /// Adds a reservation of the session, whose id is above those that the journal holds. Refused for
+    /// their number exactly where it holds [`Journal::MAX_RESERVATIONS`], however little memory there is;
+    /// otherwise want of memory is the only error. Where it is refused the journal stays.
+    pub fn push(&mut self, r: Reservation) -> Result<(), Refusal>
         requires own { r.session ≡ self.old.session }
         requires above { AllByRecursion (λ earlier. IsTrue (reservation_before earlier r)) self.old.reservations }
-        requires room { length self.old.reservations < MAX_RESERVATIONS }
         ensures pushed { OnOk result (self.new ≡ pushed r self.old) }
         ensures unchanged { OnErr result (self.new ≡ self.old) }
-        ensures returned { IfErr result (λ failed. failed.value ≡ r) }
+        ensures refused { IsTrue (is_full self.old) → result ≡ Err Refusal.TooManyReservations }
+        ensures only { IfErr result (λ e. (e ≡ Refusal.TooManyReservations) ⊎ (e ≡ Refusal.Memory)) }
+        ensures room { IsErrOf result Refusal.TooManyReservations → IsTrue (is_full self.old) }
         ensures valid { IsLog self.new }
     {
+        if self.reservations.len() >= Self::MAX_RESERVATIONS {
+            return Err(Refusal::TooManyReservations);
+        }
         self.reservations.push(r)?;
         Ok(())
     }

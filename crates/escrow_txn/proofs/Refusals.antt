@@ -1,10 +1,11 @@
 -- The refusals of the table and those of a journal.
-use Rattle.std.specs.Prelude.{◌≡◌, ◌⊎◌, ℕ, ◌<◌, Bool, true, false, nat_le, List, length, Some, None, Result, Ok, Err, IfErr, IfSome, IsErrOf, IsTrue}
-use Rattle.std.proofs.Common.{inl, inr, refl, ap, sym, subst}
+use Rattle.std.specs.Prelude.{◌≡◌, ◌⊎◌, ℕ, ◌<◌, Bool, true, false, nat_le, List, length, Option, Some, None, Result, Ok, Err, IfErr, IfSome, IsErrAnd, IsErrOf, IsTrue}
+use Rattle.std.proofs.Common.{inl, inr, refl, ap, sym, subst, ◌∙◌, arith}
+use Rattle.std.proofs.lemmas.Bool.{leb-true}
 use Rattle.escrow_num.specs.declared.refusal.Refusal.{Refusal}
 use Rattle.escrow_num.specs.declared.refusal.Refusal.TheVariants as refusal
 use Rattle.escrow_num.specs.Refusal.{refuse_if}
-use Rattle.escrow_journal.specs.Log.{Log, is_full_beside}
+use Rattle.escrow_journal.specs.Log.{Log, is_full, is_full_beside}
 use Rattle.escrow_journal.specs.declared.journal.TheConstants.Journal.{MAX_RESERVATIONS, MAX_SAVEPOINTS}
 use Rattle.escrow_txn.specs.Joined.{opened}
 use Rattle.escrow_journal.specs.Open.{grant_refusal, savepoint_refusal}
@@ -37,3 +38,18 @@ pub has_room : (session next : ℕ) (logs : List Log) (i : ℕ) (log : Log) → 
     → grant_refusal session (opened logs next) ≡ None → length log.reservations < MAX_RESERVATIONS
 has_room session next logs i log at none =
     subst (λ rs. length rs < MAX_RESERVATIONS) (own_is session logs i log at) (is_free session (opened logs next) none).room
+
+-- and a reservation is refused for want of memory alone
+pub only_memory : {T : Type 0} (log : Log) (result : Result T Refusal) → length log.reservations < MAX_RESERVATIONS
+    → IfErr result (λ e. (e ≡ refusal.TooManyReservations) ⊎ (e ≡ refusal.Memory)) → (IsErrOf result refusal.TooManyReservations → IsTrue (is_full log))
+    → IfErr result (λ e. e ≡ refusal.Memory)
+only_memory log (Ok x) room only full = tt
+only_memory log (Err e) room (inl many) full = absurd (let most = leb-true MAX_RESERVATIONS (length log.reservations) (full (ap Err many)) in omega arith)
+only_memory log (Err e) room (inr memory) full = memory
+
+-- which is handed on
+pub memory_on : {T U : Type 0} (call : Result U Refusal) (result : Result T Refusal) (e : Refusal) (why : Option Refusal) → call ≡ Err e
+    → IfErr call (λ r. r ≡ refusal.Memory) → IsErrAnd result (λ r. r ≡ e) → IfErr result (λ r. (why ≡ Some r) ⊎ (r ≡ refusal.Memory))
+memory_on (Ok x) result e why was memory is = absurd (cc)
+memory_on (Err x) (Ok y) e why was memory is = absurd is
+memory_on (Err x) (Err y) e why was memory is = let same : x ≡ e = cc in inr (is ∙ sym same ∙ memory)

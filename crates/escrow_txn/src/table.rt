@@ -9,7 +9,7 @@ use crate::merge::merged;
 use escrow_journal::Journal;
 use escrow_num::{Changes, Name, Refusal, Reservation, RowName, Session};
 use smallvec::SmallVec;
-use std::alloc::{AllocError, AllocFailed, Global};
+use std::alloc::{AllocError, Global};
 use std::marker::Model;
 
 /// The open transactions of a database: a journal for each of its 64 sessions, and the id that the
@@ -107,21 +107,25 @@ impl TxnTable {
         None
     }
 
-    /// Grants a session a reservation of changes of a row, where nothing but memory refuses it: it
-    /// takes the next id, and is the last of the open ones. Answers its id. Want of memory is the only
-    /// error, which hands the row's name back: then nothing changes, and no id is taken.
+    /// Grants a session a reservation of changes of a row: it takes the next id, and is the last of the
+    /// open ones. Answers its id. Refused where the session holds as many as it may, or else where there
+    /// are no more ids, however little memory there is; otherwise want of memory is the only error. Where
+    /// it is refused nothing changes, and no id is taken.
     pub fn grant(
         &mut self,
         session: Session,
         row: RowName,
         changes: Changes,
-    ) -> Result<u64, AllocFailed<RowName>>
-        requires { grant_refusal session self.old ≡ None }
+    ) -> Result<u64, Refusal>
         ensures id { IfOk result (λ id. id ≡ self.old.next_id) }
         ensures granted { OnOk result (self.new ≡ granted session row changes self.old) }
         ensures unchanged { OnErr result (self.new ≡ self.old) }
-        ensures returned { IfErr result (λ failed. failed.value ≡ row) }
+        ensures refused { IfSome (grant_refusal session self.old) (λ e. result ≡ Err e) }
+        ensures only { IfErr result (λ e. (grant_refusal session self.old ≡ Some e) ⊎ (e ≡ Refusal.Memory)) }
     {
+        if let Some(refusal) = self.grant_refusal(session) {
+            return Err(refusal);
+        }
         let id = self.next_id;
         let reservation = Reservation {
             id,
@@ -129,15 +133,9 @@ impl TxnTable {
             row,
             changes,
         };
-        match self.journals[place_of_session(session)].push(reservation) {
-            Ok(()) => {
-                self.next_id += 1;
-                Ok(id)
-            }
-            Err(failed) => Err(AllocFailed {
-                value: failed.value.row,
-            }),
-        }
+        self.journals[place_of_session(session)].push(reservation)?;
+        self.next_id += 1;
+        Ok(id)
     }
 
     /// Makes a savepoint of a session. An earlier one of that name is taken out (Oracle's rule), and

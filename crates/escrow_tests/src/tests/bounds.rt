@@ -4,7 +4,7 @@ ghost use Rattle.escrow_checks.specs.declared.spread.TheConstants.Spread.{MAX_OP
 ghost use Rattle.escrow_bounds.specs.Places.{place_at};
 ghost use Rattle.escrow_tests.specs.Placed.{IsPlaced};
 
-use escrow_bounds::Bounds;
+use escrow_bounds::{Bounds, Verdict};
 use escrow_checks::{Check, Coefficients, normalise};
 use escrow_num::{Amount, End, Name, RowName, Scale, Seq, Side, Value};
 use escrow_sql::{Item, Request, Statement, parse};
@@ -79,8 +79,7 @@ fn commit_first(bounds: &mut Bounds, row: &RowName, first: &[Amount], second: &[
     requires { IsPlaced bounds.old row.now (second.now ∷ first.now ∷ []) }
     ensures { IsPlaced bounds.new row.now (second.now ∷ []) }
 {
-    let at = bounds.find(row).unwrap();
-    bounds.remove_at(at, first, End::Commit);
+    bounds.remove(row, first, End::Commit);
 }
 
 /// What changes would break of the check, if they can break it: the side, the worst value and the limit.
@@ -92,12 +91,19 @@ fn verdict(
 ) -> Option<(Side, i128, i128)>
     requires { IsSome (place_at bounds.now row.now) }
 {
-    let at = bounds.find(row).unwrap();
-    let violation = bounds.verdict_at(at, changes)?;
-    if violation.check != check.name {
+    let Verdict::Broken {
+        check: name,
+        side,
+        worst,
+        limit,
+    } = bounds.verdict(row, changes)
+    else {
+        return None;
+    };
+    if name != check.name {
         return None;
     }
-    Some((violation.side, violation.worst.get(), violation.limit.get()))
+    Some((side, worst.get(), limit.get()))
 }
 
 /// The least and the greatest value of the check.
@@ -145,7 +151,7 @@ fn are_placed(rt: &impl Abort, bounds: &Bounds, check: &Check, alloc: Global, pl
 /// How many rows get a place.
 const ROWS: i64 = 12;
 
-/// A new place leaves those that stand, also if memory is refused.
+/// A new place leaves those that stand, also if memory is refused, and so does an empty one that is dropped.
 #[test]
 fn places_of_rows(rt: HostRuntime) {
     let alloc = rt.alloc();
@@ -159,4 +165,6 @@ fn places_of_rows(rt: HostRuntime) {
         reserve(&rt, &mut bounds, &row, values.as_slice(), &check);
     }
     are_placed(&rt, &bounds, &check, alloc, ROWS);
+    bounds.release(&row(&rt, ROWS - 1));
+    are_placed(&rt, &bounds, &check, alloc, ROWS - 1);
 }

@@ -51,20 +51,16 @@ fn mark(rt: &impl Abort, table: &mut TxnTable, session: Session, name: Name) {
     assert!(rt; later.is_empty());
 }
 
-/// Grants a session a reservation with an id. If memory is refused no id is taken, the row comes back, and the same is
-/// granted once it is asked again.
+/// Grants a session a reservation with an id. If memory is refused no id is taken, and the same is granted once it is
+/// asked again.
 fn grant(rt: &impl Abort, table: &mut TxnTable, session: Session, id: u64, alloc: Global) {
     let number = session.get();
-    assert!(rt; table.grant_refusal(session).is_none());
-    let granted = match table.grant(session, row(rt, number), change(rt, alloc)) {
-        Ok(granted) => Some(granted),
-        Err(failed) => {
-            assert_eq!(rt; table.next_id(), Some(id));
-            assert!(rt; failed.value.is_same(&row(rt, number)), "at {id}");
-            table.grant(session, failed.value, change(rt, alloc)).ok()
-        }
-    };
-    assert_eq!(rt; granted, Some(id));
+    let mut granted = table.grant(session, row(rt, number), change(rt, alloc));
+    if granted.is_err() {
+        assert_eq!(rt; table.next_id(), Some(id));
+        granted = table.grant(session, row(rt, number), change(rt, alloc));
+    }
+    assert_eq!(rt; granted.ok(), Some(id));
 }
 
 /// The open reservations are those of these steps, in order, each with its id, its session and its session's row.

@@ -8,10 +8,6 @@ use Rattle.escrow_bounds.proofs.LawLemmas.{release_counts}
 use Rattle.escrow_reserved.specs.Reserved.{Reserved}
 use Rattle.escrow_reserved.proofs.Counting.{few_counted, granted_counts, released_is}
 use Rattle.escrow_reserved.proofs.reserved.Reserved.hold.Goals as goal
-use Rattle.escrow_reserved.proofs.reserved.Reserved.hold.Goals.{in-Err, in-Ok}
-
-pub grant-requires : goal.grant-requires
-grant-requires c = rw (← c.self.view_is) at c.requires.free
 
 pub add_at-requires-clause-placed : goal.add_at-requires-clause-placed
 add_at-requires-clause-placed c = (c.args.row, rw (← c.self.view_is) at c.requires.at)
@@ -41,21 +37,14 @@ invariant_of-self-in-Err c =
       short = c.self.invariant.short;
     })
 
-pub returns-clause-takes : goal.returns-clause-takes
-returns-clause-takes c =
+pub returns-in-Ok-clause-takes : goal.returns-in-Ok-clause-takes
+returns-in-Ok-clause-takes c =
     let at = rw (← c.self.view_is) at c.requires.at in
-    elim c.match-grant.branch [
-      | in-Ok w ↦ rw (w.result-is, w.self-is, ← c.self.view_is) (rw c.requires.added at (w.add_at.ensures.takes c.args.row at))
-      | in-Err w ↦ rw w.result-is tt
-    ]
+    rw (← c.self.view_is) (rw c.requires.added at (c.add_at.ensures.takes c.args.row at))
 
-pub returns-clause-releases : goal.returns-clause-releases
-returns-clause-releases c =
+pub returns-in-Err-clause-releases : goal.returns-in-Err-clause-releases
+returns-in-Err-clause-releases c =
     let at = rw (← c.self.view_is) at c.requires.at in
-    elim c.match-grant.branch [
-      | in-Ok w ↦ rw w.result-is tt
-      | in-Err w ↦
-          let release = w.release_at in
-          rw (w.result-is, w.self-is, ← c.self.view_is)
-          (released_is c.self.inside.txns.reservations c.args.row c.self.inside.bounds release.new.self c.self.invariant.counts (release.ensures.empty c.args.row at) (release.ensures.counting c.args.row at))
-    ]
+    let release = c.release_at in
+    rw (← c.self.view_is)
+    (released_is c.self.inside.txns.reservations c.args.row c.self.inside.bounds release.new.self c.self.invariant.counts (release.ensures.empty c.args.row at) (release.ensures.counting c.args.row at))
