@@ -37,10 +37,11 @@ bound_kept (datum.Number n) = refl
 bound_kept (datum.Text t) = refl
 
 -- what a statement makes that was executed inside a transaction, under parameters that are equal to those it has
-pub acts : {sql : List ℕ} {params given : Row} {old new : State} {is_done : Bool} {Makes : Database → Database → Type 0} → ((n : ℕ) → Executes sql params old new (Ok n) → Makes old.now new.now)
-    → Wrote sql given old new is_done → given ≡ params → Acts old new is_done Makes
+pub acts : {sql : List ℕ} {params given : Row} {old new : State} {is_done : Bool} {steps : ℕ} {Makes : Database → Database → Type 0} → ((n : ℕ) → Executes sql params old new (Ok n) → Makes old.now new.now)
+    → Wrote sql given old new is_done → given ≡ params → Acts old new is_done steps Makes
 acts {sql = sql} {old = old} {new = new} makes it same = record {
   done = λ ok clean inside. let ran = it.done ok clean inside in (ran.0, makes ran.1 (subst (λ (ps : Row). Executes sql ps old new (Ok ran.1)) same ran.2));
+  was_open = λ ok clean inside _. it.was_open ok clean inside;
   pending = it.pending;
 }
 

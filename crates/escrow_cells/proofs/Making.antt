@@ -1,5 +1,5 @@
 -- What the three CREATEs make, and the row of META.
-use Rattle.std.proofs.Common.{◌≡◌, ℕ, Bool, true, false, List, [], None, Ok, refl, sym, ap, subst, ◌∙◌}
+use Rattle.std.proofs.Common.{◌≡◌, ℕ, Bool, true, false, List, [], None, Ok, refl, sym, ap, subst, ◌∙◌, arith}
 use Rattle.std.specs.List.{AllByRecursion}
 use Rattle.sqlite_trees.proofs.ListLemmas.{all-append, all_both}
 use Rattle.sqlite_schema.specs.declared.schema.Table.{Table}
@@ -60,10 +60,10 @@ module _ (schema : Schema) (text : List ℕ) (table : Table) (is : IsCreate sche
       rw now (record { schema_is = after; bare = all-append (λ (t : Table). first.0.trees t.tree ≡ []) schema.tables _ kept (empty, tt) })
 
 -- one after another they make the tables, and their row is put
-pub made_tables : (a b c d e : State) (is_done : Bool) → Wrote meta_text [] a b true → Wrote tab_text [] b c true → Wrote cell_text [] c d true → Wrote format_insert [] d e is_done → Acts a e is_done MakesStore
+pub made_tables : (a b c d e : State) (is_done : Bool) → Wrote meta_text [] a b true → Wrote tab_text [] b c true → Wrote cell_text [] c d true → Wrote format_insert [] d e is_done → Acts a e is_done 1 MakesStore
 made_tables a b c d e is_done metas tabs cells row =
-    let one = acts_then (Extends no_schema with_meta) (Extends with_meta with_tab) (Extends no_schema with_tab) (λ _ _ _ first next bare. next (first bare)) a b c true
+    let one = acts_then (Extends no_schema with_meta) (Extends with_meta with_tab) (Extends no_schema with_tab) (λ _ _ _ first next bare. next (first bare)) a b c 1 1 1 (omega arith) true
     (acts (creates no_schema meta_text meta meta_create a b) metas refl) (acts (creates with_meta tab_text (record tab { tree = 0 }) tab_create b c) tabs refl) in
-    let all = acts_then (Extends no_schema with_tab) (Extends with_tab with_cell) (Extends no_schema with_cell) (λ _ _ _ first next bare. next (first bare)) a c d true
+    let all = acts_then (Extends no_schema with_tab) (Extends with_tab with_cell) (Extends no_schema with_cell) (λ _ _ _ first next bare. next (first bare)) a c d 1 1 1 (omega arith) true
     one (acts (creates with_tab cell_text (record cell { tree = 0 }) cell_create c d) cells refl) in
-    acts_then (Extends no_schema with_cell) (Fills with_cell) MakesStore (λ _ _ _ first next none. next (first (record { schema_is = none; bare = tt }))) a d e is_done all (acts (inserts_format d e) row refl)
+    acts_then (Extends no_schema with_cell) (Fills with_cell) MakesStore (λ _ _ _ first next none. next (first (record { schema_is = none; bare = tt }))) a d e 1 1 1 (omega arith) is_done all (acts (inserts_format d e) row refl)

@@ -20,6 +20,12 @@ use Rattle.escrow_cells.specs.Read.{LeavesIdle}
 abbrev pub IsKept : State → State → Type 0
 IsKept old new = IsUnchanged old new ⊎ IsRolledBack old new
 
+-- a statement that was not run
+pub not_run_kept : (sql : List ℕ) (params : Row) (old new : State) (e : Error) → IsNotRun old new sql params e → IsKept old new
+unfolding IsNotRun
+not_run_kept sql params old new e (inl h) = inl h.1
+not_run_kept sql params old new e (inr h) = inr h.3
+
 module _ (sql : List ℕ) (params : Row) (old new : State) (only : IsReading sql) where
   pub survives_reading : Survives old new (CommitsShowing sql params old) → Survives old new (λ _. ⊥)
   unfolding CommitsShowing
@@ -31,14 +37,9 @@ module _ (sql : List ℕ) (params : Row) (old new : State) (only : IsReading sql
       let it = subst (ShowsRows old new sql h.0 (timed params h.0.formats h.1.now) rows) (only _ h.0 h.1.is) h.2 in
       it.3
 
-  not_run_kept : (e : Error) → IsNotRun old new sql params e → IsKept old new
-  unfolding IsNotRun
-  not_run_kept e (inl h) = inl h.1
-  not_run_kept e (inr h) = inr h.3
-
   pub failed_kept : (e : Error) → FailsToQuery sql params old new e → IsKept old new
   unfolding FailsToQuery
-  failed_kept e (inl h) = not_run_kept e h
+  failed_kept e (inl h) = not_run_kept sql params old new e h
   failed_kept e (inr h) =
       let it = subst (FailsToShow old new sql h.0 (timed params h.0.formats h.1.now) e) (only _ h.0 h.1.is) h.2 in
       inl it.3

@@ -17,11 +17,11 @@ pub record OnlyReads (old new : State) : Type 0 where
 
 -- A call writes, in one transaction: where it is done and the disk has returned what was written, the store
 -- is open, its database is one that the call makes of the old one, and a crash leaves this. Else the store
--- holds what it held. Whatever comes of it, a crash leaves what it might have left before, or a database
--- that the call makes.
+-- holds what it held. Whatever comes of it, a crash leaves what it might have left before, or, where the store
+-- was open, a database that the call makes: a store that a fault has shut is written no more.
 pub record Transacts (old new : State) (is_done : Bool) (Makes : Database → Database → Type 0) : Type 0 where
   pub done : is_done ≡ true → HasCleanDisk new → IsTrue new.is_open × Makes old.now new.now
   pub refused : is_done ≡ false → IsUsable new → new.now ≡ old.now
   pub usable : IsUsable new → IsUsable old
   pub durable : is_done ≡ true → HasCleanDisk new → (trees : Trees) → new.may_leave trees → trees ≡ new.now.trees
-  pub survives : Survives old new (λ trees. (db : Database) × Makes old.now db × (trees ≡ db.trees))
+  pub survives : Survives old new (λ trees. IsTrue old.is_open × (db : Database) × Makes old.now db × (trees ≡ db.trees))

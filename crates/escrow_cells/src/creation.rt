@@ -64,7 +64,7 @@ fn make_outside<S: Alter>(conn: &mut Connection<S>, origin: Origin) -> Result<()
 /// The same, inside a transaction.
 fn make_inside<S: Alter>(tx: &mut Transaction<'_, S>, origin: Origin) -> Result<(), Error>
     ensures same_reference { tx.new.conn.ghost_name ≡ tx.old.conn.ghost_name }
-    ensures acts { Acts (state S.Store tx.old.conn.now) (state S.Store tx.new.conn.now) (is_ok result) (made_of origin) }
+    ensures acts { Acts (state S.Store tx.old.conn.now) (state S.Store tx.new.conn.now) (is_ok result) 1 (made_of origin) }
 {
     match origin {
         Origin::Nothing => make_tables(tx),
@@ -75,7 +75,7 @@ fn make_inside<S: Alter>(tx: &mut Transaction<'_, S>, origin: Origin) -> Result<
 /// Makes what an empty store has.
 fn make_tables<S: Alter>(tx: &mut Transaction<'_, S>) -> Result<(), Error>
     ensures same_reference { tx.new.conn.ghost_name ≡ tx.old.conn.ghost_name }
-    ensures acts { Acts (state S.Store tx.old.conn.now) (state S.Store tx.new.conn.now) (is_ok result) MakesStore }
+    ensures acts { Acts (state S.Store tx.old.conn.now) (state S.Store tx.new.conn.now) (is_ok result) 1 MakesStore }
 {
     write(
         tx,
@@ -98,7 +98,7 @@ fn make_tables<S: Alter>(tx: &mut Transaction<'_, S>) -> Result<(), Error>
 /// Puts into META that the store has the known format.
 fn update_format<S: Alter>(tx: &mut Transaction<'_, S>) -> Result<(), Error>
     ensures same_reference { tx.new.conn.ghost_name ≡ tx.old.conn.ghost_name }
-    ensures acts { Acts (state S.Store tx.old.conn.now) (state S.Store tx.new.conn.now) (is_ok result) Migrates }
+    ensures acts { Acts (state S.Store tx.old.conn.now) (state S.Store tx.new.conn.now) (is_ok result) 1 Migrates }
 {
     write(tx, "UPDATE META SET V = 2 WHERE K = 'format'", &[])
 }

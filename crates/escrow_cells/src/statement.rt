@@ -3,8 +3,7 @@ ghost use Rattle.std.specs.Prelude.{◌≡◌, [], ◌∷◌, is_ok};
 ghost use Rattle.sqlite.specs.Held.{state};
 ghost use Rattle.sqlite.specs.Values.{bound};
 ghost use Rattle.escrow_cells.specs.declared.step.Step.TheVariants as step;
-ghost use Rattle.escrow_cells.specs.Step.{Does};
-ghost use Rattle.escrow_cells.specs.Inside.{Acts, Wrote};
+ghost use Rattle.escrow_cells.specs.Inside.{ActsBy, Wrote};
 ghost use Rattle.escrow_cells.specs.NewCell.{step_of};
 
 use crate::datum::Datum;
@@ -29,7 +28,7 @@ pub(crate) fn write<S: Alter>(
 /// Puts a new cell.
 fn insert_cell<S: Alter>(tx: &mut Transaction<'_, S>, cell: &NewCell<'_>) -> Result<(), Error>
     ensures same_reference { tx.new.conn.ghost_name ≡ tx.old.conn.ghost_name }
-    ensures acts { Acts (state S.Store tx.old.conn.now) (state S.Store tx.new.conn.now) (is_ok result) (Does (step_of cell.now ∷ [])) }
+    ensures acts { ActsBy (state S.Store tx.old.conn.now) (state S.Store tx.new.conn.now) (is_ok result) (step_of cell.now ∷ []) }
 {
     write(
         tx,
@@ -45,7 +44,7 @@ fn insert_two<S: Alter>(
     b: &NewCell<'_>,
 ) -> Result<(), Error>
     ensures same_reference { tx.new.conn.ghost_name ≡ tx.old.conn.ghost_name }
-    ensures acts { Acts (state S.Store tx.old.conn.now) (state S.Store tx.new.conn.now) (is_ok result) (Does (step_of a.now ∷ step_of b.now ∷ [])) }
+    ensures acts { ActsBy (state S.Store tx.old.conn.now) (state S.Store tx.new.conn.now) (is_ok result) (step_of a.now ∷ step_of b.now ∷ []) }
 {
     write(
         tx,
@@ -64,7 +63,7 @@ fn insert_three<S: Alter>(
     c: &NewCell<'_>,
 ) -> Result<(), Error>
     ensures same_reference { tx.new.conn.ghost_name ≡ tx.old.conn.ghost_name }
-    ensures acts { Acts (state S.Store tx.old.conn.now) (state S.Store tx.new.conn.now) (is_ok result) (Does (step_of a.now ∷ step_of b.now ∷ step_of c.now ∷ [])) }
+    ensures acts { ActsBy (state S.Store tx.old.conn.now) (state S.Store tx.new.conn.now) (is_ok result) (step_of a.now ∷ step_of b.now ∷ step_of c.now ∷ []) }
 {
     write(
         tx,
@@ -85,7 +84,7 @@ fn insert_four<S: Alter>(
     d: &NewCell<'_>,
 ) -> Result<(), Error>
     ensures same_reference { tx.new.conn.ghost_name ≡ tx.old.conn.ghost_name }
-    ensures acts { Acts (state S.Store tx.old.conn.now) (state S.Store tx.new.conn.now) (is_ok result) (Does (step_of a.now ∷ step_of b.now ∷ step_of c.now ∷ step_of d.now ∷ [])) }
+    ensures acts { ActsBy (state S.Store tx.old.conn.now) (state S.Store tx.new.conn.now) (is_ok result) (step_of a.now ∷ step_of b.now ∷ step_of c.now ∷ step_of d.now ∷ []) }
 {
     write(
         tx,
@@ -106,7 +105,7 @@ fn set_cell<S: Alter>(
     value: Datum<'_>,
 ) -> Result<(), Error>
     ensures same_reference { tx.new.conn.ghost_name ≡ tx.old.conn.ghost_name }
-    ensures acts { Acts (state S.Store tx.old.conn.now) (state S.Store tx.new.conn.now) (is_ok result) (Does (step.SetCell table key.entry place value.entry ∷ [])) }
+    ensures acts { ActsBy (state S.Store tx.old.conn.now) (state S.Store tx.new.conn.now) (is_ok result) (step.SetCell table key.entry place value.entry ∷ []) }
 {
     write(
         tx,
@@ -122,7 +121,7 @@ fn delete_row<S: Alter>(
     key: Datum<'_>,
 ) -> Result<(), Error>
     ensures same_reference { tx.new.conn.ghost_name ≡ tx.old.conn.ghost_name }
-    ensures acts { Acts (state S.Store tx.old.conn.now) (state S.Store tx.new.conn.now) (is_ok result) (Does (step.DeleteRow table key.entry ∷ [])) }
+    ensures acts { ActsBy (state S.Store tx.old.conn.now) (state S.Store tx.new.conn.now) (is_ok result) (step.DeleteRow table key.entry ∷ []) }
 {
     write(
         tx,
@@ -134,7 +133,7 @@ fn delete_row<S: Alter>(
 /// Takes out the cells of a table.
 fn delete_cells<S: Alter>(tx: &mut Transaction<'_, S>, table: i64) -> Result<(), Error>
     ensures same_reference { tx.new.conn.ghost_name ≡ tx.old.conn.ghost_name }
-    ensures acts { Acts (state S.Store tx.old.conn.now) (state S.Store tx.new.conn.now) (is_ok result) (Does (step.DeleteCells table ∷ [])) }
+    ensures acts { ActsBy (state S.Store tx.old.conn.now) (state S.Store tx.new.conn.now) (is_ok result) (step.DeleteCells table ∷ []) }
 {
     write(tx, "DELETE FROM CELL WHERE TAB = ?1", params![table])
 }
@@ -147,7 +146,7 @@ fn insert_tab<S: Alter>(
     text: &str,
 ) -> Result<(), Error>
     ensures same_reference { tx.new.conn.ghost_name ≡ tx.old.conn.ghost_name }
-    ensures acts { Acts (state S.Store tx.old.conn.now) (state S.Store tx.new.conn.now) (is_ok result) (Does (step.InsertTab id name.entry text.entry ∷ [])) }
+    ensures acts { ActsBy (state S.Store tx.old.conn.now) (state S.Store tx.new.conn.now) (is_ok result) (step.InsertTab id name.entry text.entry ∷ []) }
 {
     write(
         tx,
@@ -159,7 +158,7 @@ fn insert_tab<S: Alter>(
 /// Takes out a table's name and text.
 fn delete_tab<S: Alter>(tx: &mut Transaction<'_, S>, id: i64) -> Result<(), Error>
     ensures same_reference { tx.new.conn.ghost_name ≡ tx.old.conn.ghost_name }
-    ensures acts { Acts (state S.Store tx.old.conn.now) (state S.Store tx.new.conn.now) (is_ok result) (Does (step.DeleteTab id ∷ [])) }
+    ensures acts { ActsBy (state S.Store tx.old.conn.now) (state S.Store tx.new.conn.now) (is_ok result) (step.DeleteTab id ∷ []) }
 {
     write(tx, "DELETE FROM TAB WHERE ID = ?1", params![id])
 }
@@ -167,7 +166,7 @@ fn delete_tab<S: Alter>(tx: &mut Transaction<'_, S>, id: i64) -> Result<(), Erro
 /// Does one step.
 fn do_step<S: Alter>(tx: &mut Transaction<'_, S>, step: &Step<'_>) -> Result<(), Error>
     ensures same_reference { tx.new.conn.ghost_name ≡ tx.old.conn.ghost_name }
-    ensures acts { Acts (state S.Store tx.old.conn.now) (state S.Store tx.new.conn.now) (is_ok result) (Does (step.now ∷ [])) }
+    ensures acts { ActsBy (state S.Store tx.old.conn.now) (state S.Store tx.new.conn.now) (is_ok result) (step.now ∷ []) }
 {
     match *step {
         Step::InsertCell {
@@ -206,7 +205,7 @@ pub(crate) fn do_steps<S: Alter>(
     steps: &[Step<'_>],
 ) -> Result<(), Error>
     ensures same_reference { tx.new.conn.ghost_name ≡ tx.old.conn.ghost_name }
-    ensures acts { Acts (state S.Store tx.old.conn.now) (state S.Store tx.new.conn.now) (is_ok result) (Does steps.now) }
+    ensures acts { ActsBy (state S.Store tx.old.conn.now) (state S.Store tx.new.conn.now) (is_ok result) steps.now }
 {
     if let [a, b] = steps {
         if let (Some(a), Some(b)) = (NewCell::of(a), NewCell::of(b)) {
@@ -234,7 +233,7 @@ pub(crate) fn do_steps<S: Alter>(
 /// Does steps, each as a statement.
 fn do_each<S: Alter>(tx: &mut Transaction<'_, S>, steps: &[Step<'_>]) -> Result<(), Error>
     ensures same_reference { tx.new.conn.ghost_name ≡ tx.old.conn.ghost_name }
-    ensures acts { Acts (state S.Store tx.old.conn.now) (state S.Store tx.new.conn.now) (is_ok result) (Does steps.now) }
+    ensures acts { ActsBy (state S.Store tx.old.conn.now) (state S.Store tx.new.conn.now) (is_ok result) steps.now }
 {
     for step in steps {
         do_step(tx, step)?;

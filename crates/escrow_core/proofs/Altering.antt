@@ -456,6 +456,7 @@ judges_old catalog table old text added named is_table are = named ∙ ap (λ (t
 pub read_only_reads : {S : Type 0} (g : Ghosts S) (t after : Committed S) (o : Open) → Reads g t after → OnlyReads g (seen_of t o) (seen_of after o)
 read_only_reads g t after o reads = record {
   same = ap (λ (c : _ × _). record (seen_of t o).state { catalog = c.0; rows = c.1 }) (ap₂ (λ a b. (a, b)) reads.catalog reads.rows);
+  usable = reads.usable;
   survives = reads.survives;
 }
 

@@ -25,11 +25,11 @@ use Rattle.escrow_core.proofs.HeldReplies.{as_many_answers, as_many_events, plac
 -- WHAT WAS SERVED
 
 -- nothing was served yet
-pub nothing_served : (sure : Type 0) (s : State) (before : List Reply) → AreServed sure s [] before before s
+unfoldable pub nothing_served : (sure : Type 0) (s : State) (before : List Reply) → AreServed sure s [] before before s
 nothing_served sure s before = record { answers = []; as_many = refl; is_replies = sym (append-nil before); ran = λ _. refl }
 
 -- one event more
-pub served_more : (sure later : Type 0) (s : State) (events : List Event) (before replies : List Reply) (mid : State) (happened : Event) (answer : Reply) (new : State)
+unfoldable pub served_more : (sure later : Type 0) (s : State) (events : List Event) (before replies : List Reply) (mid : State) (happened : Event) (answer : Reply) (new : State)
     → AreServed sure s events before replies mid → (later → sure) → (later → IsServed mid happened answer new)
     → AreServed later s (events ++ happened ∷ []) before (replies ++ answer ∷ []) new
 served_more sure later s events before replies mid happened answer new so_far surely step = record {
@@ -40,7 +40,7 @@ served_more sure later s events before replies mid happened answer new so_far su
 }
 
 -- a run, and then another
-runs_on : (s : State) (events more : List Event) (answers told : List Reply) (mid new : State) → IsRun s events answers mid → IsRun mid more told new
+pub runs_on : (s : State) (events more : List Event) (answers told : List Reply) (mid new : State) → IsRun s events answers mid → IsRun mid more told new
     → IsRun s (events ++ more) (answers ++ told) new
 runs_on s [] more [] told mid new run rest = subst (λ (t : State). IsRun t more told new) run rest
 runs_on s [] more (a ∷ answers) told mid new run rest = absurd run
@@ -48,7 +48,7 @@ runs_on s (e ∷ events) more [] told mid new run rest = absurd run
 runs_on s (e ∷ events) more (a ∷ answers) told mid new run rest = (run.0, run.1, runs_on run.0 events more answers told mid new run.2 rest)
 
 -- nothing waits
-pub nothing_waits : (sure : Type 0) (s : State) (events : List Event) (before replies : List Reply) (now : State)
+unfoldable pub nothing_waits : (sure : Type 0) (s : State) (events : List Event) (before replies : List Reply) (now : State)
     → AreServed sure s events before replies now → IsBatch sure s events before replies none_held now
 nothing_waits sure s events before replies now so_far = record {
   served = events;
@@ -74,7 +74,7 @@ holding_if P true session plan sessions rest all =
     let parts = all_append (λ (entry : ℕ × End). P entry.0) plan ((session, end.Commit) ∷ []) all in (parts.1.0, rest parts.0)
 holding_if P false session plan sessions rest all = rest all
 
-holding_all : (P : ℕ → Type 0) (ws : List Waiting) → AllByRecursion (λ entry. P entry.0) (plan_of ws) → AllByRecursion P (holding ws)
+pub holding_all : (P : ℕ → Type 0) (ws : List Waiting) → AllByRecursion (λ entry. P entry.0) (plan_of ws) → AllByRecursion P (holding ws)
 holding_all P [] all = tt
 holding_all P (w ∷ earlier) all = holding_if P w.is_held w.session (plan_of earlier) (holding earlier) (holding_all P earlier) all
 
@@ -84,13 +84,13 @@ apart_more session [] apart others = (tt, tt)
 apart_more session (entry ∷ plan) apart others =
     (append_all (λ later. ¬ (later.0 ≡ entry.0)) plan ((session, end.Commit) ∷ []) apart.0 ((λ same. others.0 (sym same)), tt), apart_more session plan apart.1 others.1)
 
-apart_if : (b : Bool) (held : HeldBack) (session place : ℕ) → AreApart held.plan → AllByRecursion (λ entry. ¬ (entry.0 ≡ session)) held.plan
+pub apart_if : (b : Bool) (held : HeldBack) (session place : ℕ) → AreApart held.plan → AllByRecursion (λ entry. ¬ (entry.0 ≡ session)) held.plan
     → AreApart (if b then with_held held session place else held).plan
 apart_if true held session place apart others = apart_more session held.plan apart others
 apart_if false held session place apart others = apart
 
 -- what is held back
-held_if : (b : Bool) (session start n place : ℕ) (plan : List (ℕ × End)) (places : List ℕ) (held : HeldBack) → held ≡ record { plan = plan; places = places } → place ≡ start + n
+pub held_if : (b : Bool) (session start n place : ℕ) (plan : List (ℕ × End)) (places : List ℕ) (held : HeldBack) → held ≡ record { plan = plan; places = places } → place ≡ start + n
     → (if b then with_held held session place else held)
     ≡ record { plan = if b then plan ++ (session, end.Commit) ∷ [] else plan; places = if b then places ++ (start + n) ∷ [] else places }
 held_if true session start n place plan places held is at = rw (is, at) refl
@@ -101,19 +101,19 @@ done_if : (b : Bool) (answer : Reply) → unwrap_or (option_map (λ (failure : F
 done_if true answer = refl
 done_if false answer = refl
 
-done_answer : (w : Waiting) → answer_by all_done w ≡ w.answer
+pub done_answer : (w : Waiting) → answer_by all_done w ≡ w.answer
 done_answer w = done_if w.is_held w.answer
 
 -- where the first statement was asked
-begins_more : (w : Waiting) (ws : List Waiting) (mid now : State) → IsHeldRun mid ws now → IsAscending savepoint_before now.savepoints → BeginsInOrder mid ws → BeginsInOrder mid (w ∷ ws)
+pub begins_more : (w : Waiting) (ws : List Waiting) (mid now : State) → IsHeldRun mid ws now → IsAscending savepoint_before now.savepoints → BeginsInOrder mid ws → BeginsInOrder mid (w ∷ ws)
 begins_more w [] mid now held order begins = subst (λ (t : State). IsAscending savepoint_before t.savepoints) held order
 begins_more w (earlier ∷ ws) mid now held order begins = begins
 
 -- as many replies
-as_many_replies : (told replies : List Reply) (ws : List Waiting) → replies ≡ told ++ answers_by all_done ws → length replies ≡ length told + length ws
+pub as_many_replies : (told replies : List Reply) (ws : List Waiting) → replies ≡ told ++ answers_by all_done ws → length replies ≡ length told + length ws
 as_many_replies told replies ws is = ap length is ∙ length-append told (answers_by all_done ws) ∙ ap (λ n. length told + n) (as_many_answers all_done ws)
 
-pub batch_joins : (sure later : Type 0) (s : State) (events : List Event) (before replies : List Reply) (held : HeldBack) (now : State)
+unfoldable pub batch_joins : (sure later : Type 0) (s : State) (events : List Event) (before replies : List Reply) (held : HeldBack) (now : State)
     (happened : Event) (answer : Reply) (held_later : HeldBack) (new : State)
     → IsBatch sure s events before replies held now → (later → sure) → Joins later happened (length replies) held now answer held_later new
     → IsBatch later s (events ++ happened ∷ []) before (replies ++ answer ∷ []) held_later new
@@ -151,13 +151,13 @@ batch_places sure s events before replies held now batch =
     rw (batch.is_held, as_many_replies batch.told replies batch.waiting batch.is_replies) (places_below (length batch.told) batch.waiting)
 
 -- what waits is a run, whatever becomes of the COMMITs
-waits_as_run : (by : Outcome) (ws : List Waiting) (mid now : State) → IsHeldRun mid ws now → BeginsInOrder mid ws
+pub waits_as_run : (by : Outcome) (ws : List Waiting) (mid now : State) → IsHeldRun mid ws now → BeginsInOrder mid ws
     → IsRun mid (events_of ws) (answers_by by ws) (ended_by by ws now)
 waits_as_run by [] mid now held begins = held
 waits_as_run by (w ∷ earlier) mid now held begins = held_run mid (w ∷ earlier) now by begins held
 
 -- the COMMITs are written
-pub batch_ends : (sure later : Type 0) (s : State) (events : List Event) (before replies : List Reply) (held : HeldBack) (now new : State) (written : List Reply)
+unfoldable pub batch_ends : (sure later : Type 0) (s : State) (events : List Event) (before replies : List Reply) (held : HeldBack) (now new : State) (written : List Reply)
     → IsBatch sure s events before replies held now → (later → sure) → AreSettled later held.plan held.places now replies new written
     → AreServed later s events before written new
 batch_ends sure later s events before replies held now new written batch surely settled =

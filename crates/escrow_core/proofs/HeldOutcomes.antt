@@ -23,7 +23,7 @@ outcomes_by outcome plan = map (λ entry. outcome entry.0) plan
 -- BY SESSION, AND BACK
 
 -- an entry in front says nothing of entries of other sessions
-others_found : (entry : ℕ × End) (outcome : Option Failure) (by : Outcome) (plan : List (ℕ × End)) → AllByRecursion (λ later. ¬ (later.0 ≡ entry.0)) plan
+pub others_found : (entry : ℕ × End) (outcome : Option Failure) (by : Outcome) (plan : List (ℕ × End)) → AllByRecursion (λ later. ¬ (later.0 ≡ entry.0)) plan
     → map (λ (later : ℕ × End). if entry.0 == later.0 then outcome else by later.0) plan ≡ outcomes_by by plan
 others_found entry outcome by [] apart = refl
 others_found entry outcome by (later ∷ plan) apart =

@@ -108,7 +108,7 @@ pub refused_past : (places : List ℕ) (n place : ℕ) (cause : Failure) (more :
 refused_past places n place cause more replies found = rw (add-one n) (past_one places n place cause more replies found)
 
 -- the last reply, by what became of its COMMIT
-abbrev answer_if : Option Failure → Reply → Reply
+abbrev pub answer_if : Option Failure → Reply → Reply
 answer_if outcome answer = unwrap_or (option_map (λ failure. reply.Refused (refusal_for failure)) outcome) answer
 
 last_if : (place : ℕ) (outcome : Option Failure) (answer : Reply) (xs : List Reply) → length xs ≡ place

@@ -1,18 +1,27 @@
 -- The COMMITs of a plan as they are written, from one that fails to the next.
-use Rattle.std.specs.Prelude.{◌≡◌, ℕ, ◌+◌, ◌-◌, ◌<◌, Option, Some, None, List, [], ◌∷◌, ◌++◌, length, take, drop, replicate, slice_get, slice_set}
-use Rattle.std.proofs.Common.{refl, sym, ap, arith, ◌∙◌}
-use Rattle.std.proofs.lemmas.List.{append_assoc, length-append, length-drop, length-replicate}
+use Rattle.std.specs.Prelude.{◌≡◌, ℕ, zero, suc, ◌+◌, ◌-◌, ◌<◌, IsTrue, Option, Some, None, List, [], ◌∷◌, ◌++◌, length, take, drop, replicate, slice_get, slice_set}
+use Rattle.std.proofs.Common.{refl, sym, ap, subst, arith, ◌∙◌}
+use Rattle.std.proofs.lemmas.List.{append_assoc, length-append, length-drop, length-replicate, take-append-le}
 use Rattle.std.proofs.lemmas.Option.{slice_get_within}
+use Rattle.std.proofs.Math.Seq.{take-append_seam}
+use Rattle.sqlite.specs.State.{State as Store, HasCleanDisk, Survives}
+use Rattle.sqlite.proofs.StateLemmas.{survives_then}
+use Rattle.sqlite_trees.specs.Tree.{Trees}
 use Rattle.escrow_num.specs.declared.failure.Failure.{Failure}
 use Rattle.escrow_num.specs.declared.session.End.{End}
 use Rattle.escrow_num.specs.Refusal.{refusal_for}
 use Rattle.escrow_machine.specs.declared.reply.Reply.{Reply}
 use Rattle.escrow_machine.specs.declared.reply.Reply.TheVariants as reply
-use Rattle.escrow_machine.specs.Settle.{after_ends}
+use Rattle.escrow_machine.specs.Settle.{after_end, after_ends, settled}
 use Rattle.escrow_machine.specs.State.{State}
-use Rattle.escrow_core.specs.Beside.{AreSettled, refused_at, ended}
+use Rattle.escrow_machine.proofs.Settling.{settled_is_the_run}
+use Rattle.escrow_rows.specs.Answers.{IsUsable}
+use Rattle.escrow_core.specs.Beside.{AreAfterOutcomes, AreAllSettled, AreSettled, refused_at, ended}
+use Rattle.escrow_core.specs.Serves.{AreAfterEnds, AreHeldOf}
 use Rattle.escrow_core.proofs.HeldOutcomes.{all_ended, ended_past}
 use Rattle.escrow_core.proofs.HeldReplies.{none_refused, refused_past}
+use Rattle.escrow_core.proofs.Parts.{some_take}
+use Rattle.escrow_core.proofs.Serving.{still_clean, survives_itself}
 
 -- a rest of a plan is left, with the places of its replies
 pub record SettlesSoFar (sure : Type 0) (plan : List (ℕ × End)) (places : List ℕ) (before : State) (replies : List Reply) (rest : List (ℕ × End)) (left : List ℕ) (now : State) (later : List Reply) : Type 0 where
@@ -21,7 +30,7 @@ pub record SettlesSoFar (sure : Type 0) (plan : List (ℕ × End)) (places : Lis
   pub is_later : (more : List (Option Failure)) → refused_at places (outcomes ++ more) replies ≡ refused_at left more later
   pub is_now : sure → (more : List (Option Failure)) → ended plan (outcomes ++ more) before ≡ ended rest more now
 
-pub settling_begins : (sure : Type 0) (plan : List (ℕ × End)) (places : List ℕ) (before : State) (replies : List Reply)
+settling_begins : (sure : Type 0) (plan : List (ℕ × End)) (places : List ℕ) (before : State) (replies : List Reply)
     → SettlesSoFar sure plan places before replies plan places before replies
 settling_begins sure plan places before replies = record { outcomes = []; as_many = omega arith; is_later = λ more. refl; is_now = λ _ more. refl }
 
@@ -38,7 +47,7 @@ length_stopped : (place : ℕ) (cause : Failure) → length (stopped_at place ca
 length_stopped place cause = length-append (replicate place None) (Some cause ∷ []) ∙ ap (λ n. n + 1) (length-replicate place None)
 
 -- the one at a place fails
-pub settling_stops : (sure later : Type 0) (plan : List (ℕ × End)) (places : List ℕ) (before : State) (replies : List Reply) (rest : List (ℕ × End)) (left : List ℕ) (mid : State) (told : List Reply)
+settling_stops : (sure later : Type 0) (plan : List (ℕ × End)) (places : List ℕ) (before : State) (replies : List Reply) (rest : List (ℕ × End)) (left : List ℕ) (mid : State) (told : List Reply)
     (place at : ℕ) (cause : Failure) (new : State) → SettlesSoFar sure plan places before replies rest left mid told → (later → sure) → length rest ≡ length left → slice_get left place ≡ Some at
     → (later → (entry : ℕ × End) × (slice_get rest place ≡ Some entry) × (new ≡ after_ends mid (take place rest)))
     → SettlesSoFar later plan places before replies (drop (place + 1) rest) (drop (place + 1) left) new (slice_set told at (reply.Refused (refusal_for cause)))
@@ -62,7 +71,7 @@ settling_stops sure later plan places before replies rest left mid told place at
     }
 
 -- none of the rest fails
-pub settling_ends : (sure later : Type 0) (plan : List (ℕ × End)) (places : List ℕ) (before : State) (replies : List Reply) (rest : List (ℕ × End)) (left : List ℕ) (mid : State) (told : List Reply) (new : State)
+settling_ends : (sure later : Type 0) (plan : List (ℕ × End)) (places : List ℕ) (before : State) (replies : List Reply) (rest : List (ℕ × End)) (left : List ℕ) (mid : State) (told : List Reply) (new : State)
     → SettlesSoFar sure plan places before replies rest left mid told → (later → sure) → (later → new ≡ after_ends mid rest)
     → AreSettled later plan places before replies new told
 settling_ends sure later plan places before replies rest left mid told new so_far surely all =
@@ -73,3 +82,81 @@ settling_ends sure later plan places before replies rest left mid told new so_fa
       is_later = sym (so_far.is_later done ∙ none_refused left (length rest) told);
       is_after = λ h. all h ∙ sym (so_far.is_now (surely h) done ∙ all_ended rest mid);
     }
+
+-- WHAT A CRASH LEAVES
+
+done_first : (rest : List (ℕ × End)) (n : ℕ) (s : State) → ended rest (replicate n None) s ≡ after_ends s (take n rest)
+done_first [] zero s = refl
+done_first [] (suc n) s = refl
+done_first (entry ∷ rest) zero s = refl
+done_first (entry ∷ rest) (suc n) s = done_first rest n (after_end s entry.0 entry.1)
+
+-- what some first entries of the rest make
+rest_left : (sure : Type 0) (plan : List (ℕ × End)) (places : List ℕ) (before : State) (replies : List Reply) (rest : List (ℕ × End)) (left : List ℕ) (mid : State) (told : List Reply) (more : List (Option Failure))
+    (trees : Trees) (so_far : SettlesSoFar sure plan places before replies rest left mid told) → sure → AreAfterEnds rest mid trees → AreAfterOutcomes plan (so_far.outcomes ++ more) before trees
+rest_left sure plan places before replies rest left mid told more trees so_far surely ends =
+    let outcomes = so_far.outcomes in
+    let few = some_take rest ends.0 in
+    let same : settled (take ends.0 rest) mid ≡ ended plan (take (length outcomes) (outcomes ++ more) ++ replicate few.0 None) before =
+    settled_is_the_run mid (take ends.0 rest) ∙ ap (after_ends mid) (sym few.2) ∙ sym (done_first rest few.0 mid) ∙ sym (so_far.is_now surely (replicate few.0 None))
+    ∙ ap (λ os. ended plan (os ++ replicate few.0 None) before) (sym (take-append_seam outcomes more)) in (
+      length outcomes,
+      few.0,
+      omega (arith, length-append outcomes more),
+      omega (arith, few.1, so_far.as_many),
+      subst (λ (t : State). AreHeldOf t trees) same ends.1,
+    )
+
+-- what was left before is left where more has come of the rest
+still_left : (plan : List (ℕ × End)) (outcomes more : List (Option Failure)) (s : State) (trees : Trees) → AreAfterOutcomes plan outcomes s trees → AreAfterOutcomes plan (outcomes ++ more) s trees
+still_left plan outcomes more s trees left = (
+  left.0,
+  left.1,
+  omega (arith, left.2, length-append outcomes more),
+  left.3,
+  subst (λ (os : List (Option Failure)). AreHeldOf (ended plan (os ++ replicate left.1 None) s) trees) (sym (take-append-le left.0 outcomes more left.2)) left.4,
+)
+
+-- what is settled so far, and what a crash leaves of it
+pub record IsLeftSoFar (first now : Store) (plan : List (ℕ × End)) (places : List ℕ) (before : State) (replies : List Reply) (rest : List (ℕ × End)) (left : List ℕ) (latest : State) (told : List Reply) : Type 0 where
+  pub so_far : SettlesSoFar (HasCleanDisk now) plan places before replies rest left latest told
+  pub usable : IsUsable now → IsUsable first
+  pub leaves : Survives first now (λ trees. IsTrue first.is_open × AreAfterOutcomes plan so_far.outcomes before trees)
+
+pub left_begins : (now : Store) (plan : List (ℕ × End)) (places : List ℕ) (before : State) (replies : List Reply) → IsLeftSoFar now now plan places before replies plan places before replies
+left_begins now plan places before replies = record {
+  so_far = settling_begins (HasCleanDisk now) plan places before replies;
+  usable = λ usable. usable;
+  leaves = survives_itself now _;
+}
+
+module _ (first now new : Store) (plan : List (ℕ × End)) (places : List ℕ) (before : State) (replies : List Reply) (rest : List (ℕ × End)) (left : List ℕ) (mid : State) (told : List Reply)
+    (it : IsLeftSoFar first now plan places before replies rest left mid told) (usable : IsUsable new → IsUsable now)
+    (survives : Survives now new (λ trees. IsTrue now.is_open × AreAfterEnds rest mid trees)) where
+  -- whatever has come of the rest
+  leaves_more : (more : List (Option Failure)) → Survives first new (λ trees. IsTrue first.is_open × AreAfterOutcomes plan (it.so_far.outcomes ++ more) before trees)
+  leaves_more more =
+      survives_then first now new _ _ _
+      (λ clean trees k. (k.0, still_left plan it.so_far.outcomes more before trees k.1))
+      (λ clean trees k.
+      let was = still_clean now new _ survives clean in
+      ((it.usable (was, k.0)).1, rest_left (HasCleanDisk now) plan places before replies rest left mid told more trees it.so_far was k.1))
+      it.leaves survives
+
+  pub left_stops : (place at : ℕ) (cause : Failure) (latest : State) → length rest ≡ length left → slice_get left place ≡ Some at
+      → (HasCleanDisk new → (entry : ℕ × End) × (slice_get rest place ≡ Some entry) × (latest ≡ after_ends mid (take place rest)))
+      → IsLeftSoFar first new plan places before replies (drop (place + 1) rest) (drop (place + 1) left) latest (slice_set told at (reply.Refused (refusal_for cause)))
+  unfolding settling_stops
+  left_stops place at cause latest as_long found stopped = record {
+    so_far =
+        settling_stops (HasCleanDisk now) (HasCleanDisk new) plan places before replies rest left mid told place at cause latest it.so_far (still_clean now new _ survives) as_long found stopped;
+    usable = λ still. it.usable (usable still);
+    leaves = leaves_more (stopped_at place cause);
+  }
+
+  pub left_ends : (latest : State) → (HasCleanDisk new → latest ≡ after_ends mid rest) → AreAllSettled first new plan places before replies latest told
+  unfolding settling_ends
+  left_ends latest all = record {
+    settled = settling_ends (HasCleanDisk now) (HasCleanDisk new) plan places before replies rest left mid told latest it.so_far (still_clean now new _ survives) all;
+    left = leaves_more (replicate (length rest) None);
+  }

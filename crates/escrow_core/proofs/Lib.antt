@@ -12,15 +12,16 @@ pub mod HeldSettling
 pub mod Inserting
 pub mod Joining
 pub mod Keyed
+pub mod Leaving
 pub mod Parts
 pub mod Passing
 pub mod Planned
 pub mod Promised
 pub mod Queries
+pub mod Quiet
 pub mod Restarting
 pub mod Served
 pub mod Serving
 pub mod Shown
-pub mod Surviving
 pub mod Together
 pub mod Updating

@@ -24,6 +24,7 @@ use Rattle.escrow_machine.specs.State.{State}
 use Rattle.escrow_machine.specs.Walked.{counted_end}
 use Rattle.escrow_machine.proofs.Shapes.{HasOrder, few_reservations}
 use Rattle.escrow_machine.proofs.Settling.{CountsSoFar, counts_end, counts_next, settled_is_the_run}
+use Rattle.escrow_rows.specs.Answers.{IsUsable}
 use Rattle.escrow_core.specs.Ends.{AreCommits, Settles, left_after}
 use Rattle.escrow_core.specs.Seen.{Seen}
 use Rattle.escrow_core.specs.Serves.{AreAfterEnds, AreHeldOf}
@@ -64,7 +65,7 @@ pub part_all : {A : Type 0} (plan : List A) (i : ℕ) (part : List A) → IsPart
 part_all plan i part p = part_take plan i part (length part) p (omega arith) ∙ ap (λ xs. take i plan ++ xs) (take_all (length part) part (omega arith))
 
 -- any number of first entries of a part
-some_take : {A : Type 0} (part : List A) (m : ℕ) → (k : ℕ) × (k ≤ length part) × (take k part ≡ take m part)
+pub some_take : {A : Type 0} (part : List A) (m : ℕ) → (k : ℕ) × (k ≤ length part) × (take k part ≡ take m part)
 some_take [] zero = (0, omega arith, refl)
 some_take [] (suc m) = (0, omega arith, refl)
 some_take (x ∷ part) zero = (0, omega arith, refl)
@@ -152,21 +153,21 @@ part_stops plan i part cause stop s mid new p before within it = record {
 
 -- what a crash leaves within a part is what some first entries of the plan make
 pub part_survives : (a b c : Store) (plan : List (ℕ × End)) (i : ℕ) (part : List (ℕ × End)) (s mid : State) → IsPart plan i part
-    → (HasCleanDisk b → mid ≡ after_ends s (take i plan)) → (HasCleanDisk b → IsTrue a.is_open → IsTrue b.is_open)
-    → Survives a b (λ trees. IsTrue a.is_open → AreAfterEnds plan s trees)
-    → Survives b c (λ trees. IsTrue b.is_open → AreAfterEnds part mid trees)
-    → Survives a c (λ trees. IsTrue a.is_open → AreAfterEnds plan s trees)
-part_survives a b c plan i part s mid p before stays one two =
-    survives_then a b c (λ trees. IsTrue a.is_open → AreAfterEnds plan s trees) (λ trees. IsTrue b.is_open → AreAfterEnds part mid trees) (λ trees. IsTrue a.is_open → AreAfterEnds plan s trees)
+    → (HasCleanDisk b → mid ≡ after_ends s (take i plan)) → (IsUsable b → IsUsable a)
+    → Survives a b (λ trees. IsTrue a.is_open × AreAfterEnds plan s trees)
+    → Survives b c (λ trees. IsTrue b.is_open × AreAfterEnds part mid trees)
+    → Survives a c (λ trees. IsTrue a.is_open × AreAfterEnds plan s trees)
+part_survives a b c plan i part s mid p before usable one two =
+    survives_then a b c (λ trees. IsTrue a.is_open × AreAfterEnds plan s trees) (λ trees. IsTrue b.is_open × AreAfterEnds part mid trees) (λ trees. IsTrue a.is_open × AreAfterEnds plan s trees)
     (λ clean trees h. h)
-    (λ clean trees k. λ was_open.
+    (λ clean trees k.
     let mid_clean = still_clean b c _ two clean in
-    let left : AreAfterEnds part mid trees = k (stays mid_clean was_open) in
+    let left : AreAfterEnds part mid trees = k.1 in
     let few = some_take part left.0 in
     let same : settled (take left.0 part) mid ≡ settled (take (i + few.0) plan) s =
     settled_is_the_run mid (take left.0 part) ∙ ap (after_ends mid) (sym few.2) ∙ within_part plan i few.0 part s mid p few.1 (before mid_clean)
     ∙ sym (settled_is_the_run s (take (i + few.0) plan)) in
-    (i + few.0, subst (λ (t : State). AreHeldOf t trees) same left.1))
+    ((usable (mid_clean, k.0)).1, (i + few.0, subst (λ (t : State). AreHeldOf t trees) same left.1)))
     one two
 
 -- all of a plan is some first entries of it
@@ -181,19 +182,21 @@ on_ok (Err e) then holds = tt
 
 -- a plan is settled after a write of all of it that was refused, where the store is open still
 pub settles_after : {S : Type 0} (g : Ghosts S) (plan : List (ℕ × End)) (old mid new : Seen S) (r : Result Settled Stop) → mid.state ≡ old.state → (HasCleanDisk (state g mid.store) → IsTrue (state g mid.store).is_open)
-    → Survives (state g old.store) (state g mid.store) (λ trees. IsTrue (state g old.store).is_open → AreHeldOf (after_ends old.state plan) trees)
+    → (IsUsable (state g mid.store) → IsUsable (state g old.store))
+    → Survives (state g old.store) (state g mid.store) (λ trees. IsTrue (state g old.store).is_open × AreHeldOf (after_ends old.state plan) trees)
     → Settles g plan mid r new → Settles g plan old r new
-settles_after g plan old mid new r same opened survives it = record {
+settles_after g plan old mid new r same opened usable survives it = record {
   ok = λ clean. subst (λ (t : State). OnOk r (new.state ≡ after_ends t plan)) same (it.ok clean);
   counts = subst (λ (t : State). IfOk r (λ done. AreCounts plan t.reservations done)) same it.counts;
   left = subst (λ (t : State). OnOk r (new.state.reservations ≡ left_after plan t.reservations)) same it.left;
   stays = λ clean. on_ok r (λ stays _. stays (opened (still_clean (state g mid.store) (state g new.store) _ it.crash clean))) (it.stays clean);
   stop = λ clean. subst (λ (t : State). IfErr r (λ stop. IsStop plan t stop new.state)) same (it.stop clean);
   within = it.within;
+  usable = λ still. usable (it.usable still);
   crash =
-      survives_then (state g old.store) (state g mid.store) (state g new.store) _ _ (λ trees. IsTrue (state g old.store).is_open → AreAfterEnds plan old.state trees)
-      (λ clean trees k was_open. after_all plan old.state trees (k was_open))
-      (λ clean trees k was_open. subst (λ (t : State). AreAfterEnds plan t trees) same (k (opened (still_clean (state g mid.store) (state g new.store) _ it.crash clean))))
+      survives_then (state g old.store) (state g mid.store) (state g new.store) _ _ (λ trees. IsTrue (state g old.store).is_open × AreAfterEnds plan old.state trees)
+      (λ clean trees k. (k.0, after_all plan old.state trees k.1))
+      (λ clean trees k. ((usable (still_clean (state g mid.store) (state g new.store) _ it.crash clean, k.0)).1, subst (λ (t : State). AreAfterEnds plan t trees) same k.1))
       survives it.crash;
 }
 

@@ -89,7 +89,7 @@ step_by s session asked answer new None none event = event
 step_by s session asked answer new (Some f) none event = absurd (cc)
 
 -- the statement may pass
-may_pass : (s : State) (session : ℕ) (asked : Statement) → is_passing asked ≡ true → (asked ≡ statement.Commit → holds s session ≡ false)
+pub may_pass : (s : State) (session : ℕ) (asked : Statement) → is_passing asked ≡ true → (asked ≡ statement.Commit → holds s session ≡ false)
     → is_refused (step s session asked).0 ≡ false → passes s session asked ≡ true
 may_pass s session statement.Commit passing none not_refused = let holds_none : holds s session ≡ false = none refl in rw holds_none refl
 may_pass s session statement.Rollback passing none not_refused = refl

@@ -19,6 +19,7 @@ use Rattle.escrow_num.specs.declared.row.Row.{Row}
 use Rattle.escrow_num.specs.declared.value.RowName.{RowName}
 use Rattle.escrow_schema.specs.Catalog.{table_named}
 use Rattle.escrow_schema.specs.declared.table.TableDef.{TableDef}
+use Rattle.escrow_rows.specs.Answers.{IsUsable}
 use Rattle.escrow_tables.specs.Calls.{Reads, Writes}
 use Rattle.escrow_tables.specs.Committed.{Committed, AreHeld}
 use Rattle.escrow_journal.specs.Open.{Open}
@@ -168,6 +169,7 @@ module _ {S : Type 0} (g : Ghosts S) (session : ℕ) (asked : Statement) where
     apart = λ none. (refl, not_by_store d.state session asked (reply.Refused r) d.state (refused_serves d.state session asked r is) none);
     unread = λ _. refused_serves d.state session asked r is;
     refused = λ _. refl;
+    usable = λ usable. usable;
     survives = survives_itself (state g d.store) _;
     durable = λ e. absurd (no_write r e);
   }
@@ -182,15 +184,17 @@ module _ {S : Type 0} (g : Ghosts S) (session : ℕ) (asked : Statement) where
   pub served : (old new : Seen S) (answer : Reply) → asks_store old.state session asked ≡ true → PassesEarly old.state session asked
       → (HasCleanDisk (state g new.store) → StepOrRefusal old.state session asked answer new.state)
       → (IsTrue (is_refused answer) → new.state ≡ old.state)
-      → Survives (state g old.store) (state g new.store) (λ trees. IsTrue (state g old.store).is_open → AreAfter old.state session asked trees)
+      → (IsUsable (state g new.store) → IsUsable (state g old.store))
+      → Survives (state g old.store) (state g new.store) (λ trees. IsTrue (state g old.store).is_open × AreAfter old.state session asked trees)
       → (IsTrue (tells_write answer) → HasCleanDisk (state g new.store) → (trees : Trees) → (state g new.store).may_leave trees → AreHeldOf new.state trees)
       → Serves g session asked old answer new
-  served old new answer asks early event refused survives durable = record {
+  served old new answer asks early event refused usable survives durable = record {
     event = event;
     early = λ r first. let both : None ≡ Some r = sym early ∙ first in absurd (cc);
     apart = λ not_asked. absurd (false≢true (sym not_asked ∙ asks));
     unread = λ none. absurd (false≢true (sym none ∙ asking_reads old.state session asked asks));
     refused = refused;
+    usable = usable;
     survives = survives;
     durable = durable;
   }
@@ -199,7 +203,7 @@ module _ {S : Type 0} (g : Ghosts S) (session : ℕ) (asked : Statement) where
   pub answered : (d : Seen S) (answer : Reply) → asks_store d.state session asked ≡ true → PassesEarly d.state session asked → tells_write answer ≡ false
       → (HasCleanDisk (state g d.store) → StepOrRefusal d.state session asked answer d.state) → Serves g session asked d answer d
   answered d answer asks early quiet event =
-      served d d answer asks early event (λ _. refl) (survives_itself (state g d.store) _) (λ e. absurd (false≢true (sym quiet ∙ e)))
+      served d d answer asks early event (λ _. refl) (λ usable. usable) (survives_itself (state g d.store) _) (λ e. absurd (false≢true (sym quiet ∙ e)))
 
   -- refused for what was looked at
   pub late_refused : (d : Seen S) (r : Refusal) → asks_store d.state session asked ≡ true → PassesEarly d.state session asked
@@ -207,24 +211,24 @@ module _ {S : Type 0} (g : Ghosts S) (session : ℕ) (asked : Statement) where
   late_refused d r asks early is = answered d (reply.Refused r) asks early refl (λ u. refused_serves d.state session asked r (is u))
 
   -- what is served after a look at the store is served from before it
-  pub after_look : (old mid new : Seen S) (answer : Reply) → OnlyReads g old mid → (HasCleanDisk (state g mid.store) → IsTrue (state g old.store).is_open → IsTrue (state g mid.store).is_open)
+  pub after_look : (old mid new : Seen S) (answer : Reply) → OnlyReads g old mid
       → asks_store old.state session asked ≡ true → PassesEarly old.state session asked → Serves g session asked mid answer new → Serves g session asked old answer new
-  after_look old mid new answer only_reads stays asks early serves =
+  after_look old mid new answer only_reads asks early serves =
       let crashes = survives_then (state g old.store) (state g mid.store) (state g new.store) (λ _. ⊥) _
-      (λ trees. IsTrue (state g old.store).is_open → AreAfter old.state session asked trees)
+      (λ trees. IsTrue (state g old.store).is_open × AreAfter old.state session asked trees)
       (λ clean trees none. absurd none)
-      (λ clean trees k. λ was_open.
-      subst (λ (s : State). AreAfter s session asked trees) only_reads.same (k (stays (still_clean _ _ _ serves.survives clean) was_open)))
+      (λ clean trees k.
+      ((only_reads.usable (still_clean _ _ _ serves.survives clean, k.0)).1, subst (λ (s : State). AreAfter s session asked trees) only_reads.same k.1))
       only_reads.survives serves.survives in
       served old new answer asks early
       (λ clean. subst (λ (s : State). StepOrRefusal s session asked answer new.state) only_reads.same (serves.event clean))
-      (λ is. serves.refused is ∙ only_reads.same) crashes serves.durable
+      (λ is. serves.refused is ∙ only_reads.same) (λ usable. only_reads.usable (serves.usable usable)) crashes serves.durable
 
   -- a statement is served that leaves the store, and tells of no write
   pub served_apart : (old new : Seen S) (answer : Reply) → tells_write answer ≡ false → new.store ≡ old.store → StepOrRefusal old.state session asked answer new.state
       → Serves g session asked old answer new
   served_apart old new answer quiet same event =
-      let unwritten : Survives (state g old.store) (state g old.store) (λ trees. IsTrue (state g old.store).is_open → AreAfter old.state session asked trees) =
+      let unwritten : Survives (state g old.store) (state g old.store) (λ trees. IsTrue (state g old.store).is_open × AreAfter old.state session asked trees) =
       survives_itself (state g old.store) _ in
       record {
         event = λ _. event;
@@ -234,7 +238,8 @@ module _ {S : Type 0} (g : Ghosts S) (session : ℕ) (asked : Statement) where
         apart = λ none. (same, not_by_store old.state session asked answer new.state event none);
         unread = λ _. event;
         refused = refused_stays old.state session asked answer new.state event;
-        survives = subst (λ (h : Held S). Survives (state g old.store) (state g h) (λ trees. IsTrue (state g old.store).is_open → AreAfter old.state session asked trees)) (sym same) unwritten;
+        usable = subst (λ (h : Held S). IsUsable (state g h) → IsUsable (state g old.store)) (sym same) (λ usable. usable);
+        survives = subst (λ (h : Held S). Survives (state g old.store) (state g h) (λ trees. IsTrue (state g old.store).is_open × AreAfter old.state session asked trees)) (sym same) unwritten;
         durable = λ e. absurd (false≢true (sym quiet ∙ e));
       }
 
@@ -244,7 +249,7 @@ module _ {S : Type 0} (g : Ghosts S) (session : ℕ) (asked : Statement) where
       → (HasCleanDisk (state g old.store) → StepOrRefusal old.state session asked answer new.state) → (IsTrue (is_refused answer) → new.state ≡ old.state)
       → Serves g session asked old answer new
   served_beside old new answer quiet same early reads not_refused event refused =
-      let unwritten : Survives (state g old.store) (state g old.store) (λ trees. IsTrue (state g old.store).is_open → AreAfter old.state session asked trees) =
+      let unwritten : Survives (state g old.store) (state g old.store) (λ trees. IsTrue (state g old.store).is_open × AreAfter old.state session asked trees) =
       survives_itself (state g old.store) _ in
       record {
         event = subst (λ (h : Held S). HasCleanDisk (state g h) → StepOrRefusal old.state session asked answer new.state) (sym same) event;
@@ -252,7 +257,8 @@ module _ {S : Type 0} (g : Ghosts S) (session : ℕ) (asked : Statement) where
         apart = λ _. (same, not_refused);
         unread = λ none. absurd (false≢true (sym none ∙ reads));
         refused = refused;
-        survives = subst (λ (h : Held S). Survives (state g old.store) (state g h) (λ trees. IsTrue (state g old.store).is_open → AreAfter old.state session asked trees)) (sym same) unwritten;
+        usable = subst (λ (h : Held S). IsUsable (state g h) → IsUsable (state g old.store)) (sym same) (λ usable. usable);
+        survives = subst (λ (h : Held S). Survives (state g old.store) (state g h) (λ trees. IsTrue (state g old.store).is_open × AreAfter old.state session asked trees)) (sym same) unwritten;
         durable = λ e. absurd (false≢true (sym quiet ∙ e));
       }
 
@@ -263,6 +269,7 @@ module _ {S : Type 0} (g : Ghosts S) (session : ℕ) (asked : Statement) where
       served old new answer asks early
       (λ clean. subst (λ (s : State). StepOrRefusal old.state session asked answer s) (sym only_reads.same) (event clean))
       (λ _. only_reads.same)
+      only_reads.usable
       (survives_weaker (state g old.store) (state g new.store) (λ _. ⊥) _ (λ _ trees none. absurd none) only_reads.survives)
       (λ e. absurd (false≢true (sym quiet ∙ e)))
 
@@ -275,12 +282,12 @@ module _ {S : Type 0} (g : Ghosts S) (session : ℕ) (asked : Statement) where
   -- a crash leaves what the step makes, where a write leaves it
   crashed : (t new : Committed S) (o : Open) (answer : Reply) (next : State) (is_done : Bool) → Writes g t new is_done next.catalog next.rows
       → (HasCleanDisk (state g t.store) → step (seen_of t o).state session asked ≡ (answer, next))
-      → Survives (state g t.store) (state g new.store) (λ trees. IsTrue (state g t.store).is_open → AreAfter (seen_of t o).state session asked trees)
+      → Survives (state g t.store) (state g new.store) (λ trees. IsTrue (state g t.store).is_open × AreAfter (seen_of t o).state session asked trees)
   crashed t new o answer next is_done writes steps =
       survives_weaker (state g t.store) (state g new.store) _ _
-      (λ clean trees k opened.
+      (λ clean trees k.
       let after = steps (still_clean _ _ _ writes.survives clean) in
-      subst (λ (p : Reply × State). AreHeldOf p.1 trees) (sym after) (k opened))
+      (k.0, subst (λ (p : Reply × State). AreHeldOf p.1 trees) (sym after) k.1))
       writes.survives
 
   -- a write was done, and the reply is the step's
@@ -296,7 +303,7 @@ module _ {S : Type 0} (g : Ghosts S) (session : ℕ) (asked : Statement) where
       served (seen_of t o) (seen_of new after) answer asks early
       (λ clean. stepped (seen_of t o).state session asked answer (seen_of new after).state (succeeds answer accepted)
       (ap (λ (s : State). (answer, s)) (same clean) ∙ sym (steps (still_clean _ _ _ writes.survives clean))))
-      (λ is_refusal. absurd (false≢true (sym accepted ∙ is_refusal))) (crashed t new o answer next true writes steps)
+      (λ is_refusal. absurd (false≢true (sym accepted ∙ is_refusal))) writes.usable (crashed t new o answer next true writes steps)
       (λ _ clean trees may.
       subst (λ c. AreHeld c new.rows trees) (sym (writes.done_catalog refl))
       (subst (λ rs. AreHeld next.catalog rs trees) (sym (writes.done_rows refl clean)) (writes.durable refl clean trees may)))
@@ -313,7 +320,7 @@ module _ {S : Type 0} (g : Ghosts S) (session : ℕ) (asked : Statement) where
       ap (λ (c : _ × _). record s { catalog = c.0; rows = c.1 }) (ap₂ (λ a b. (a, b)) (writes.kept_catalog refl) (writes.kept_rows refl)) in
       served (seen_of t o) (seen_of new o) (reply.Refused (refusal_for f)) asks early
       (λ _. subst (λ (after : State). StepOrRefusal s session asked (reply.Refused (refusal_for f)) after) (sym same) (refused_serves s session asked (refusal_for f) (fails s session asked f early takes)))
-      (λ _. same) (crashed t new o answer next false writes steps) (λ e. absurd (no_write (refusal_for f) e))
+      (λ _. same) writes.usable (crashed t new o answer next false writes steps) (λ e. absurd (no_write (refusal_for f) e))
 
   -- what a database keeps after a write that was done
   pub wrote_keeps : (t new : Committed S) (o after : Open) (next : State) → IsKept g (seen_of t o)
@@ -355,14 +362,13 @@ module _ {S : Type 0} (g : Ghosts S) (session : ℕ) (asked : Statement) where
 -- the store was looked at for a statement that asks it, and that nothing refuses early
 pub record HasLooked {S : Type 0} (g : Ghosts S) (session : ℕ) (asked : Statement) (old mid : Seen S) : Type 0 where
   pub only_reads : OnlyReads g old mid
-  pub stays : HasCleanDisk (state g mid.store) → IsTrue (state g old.store).is_open → IsTrue (state g mid.store).is_open
   pub asks : asks_store old.state session asked ≡ true
   pub early : PassesEarly old.state session asked
 
 module _ {S : Type 0} (g : Ghosts S) (session : ℕ) (asked : Statement) (old mid : Seen S) (looked : HasLooked g session asked old mid) where
   -- what is served from then on
   pub since_look : (new : Seen S) (answer : Reply) → Serves g session asked mid answer new → Serves g session asked old answer new
-  since_look new answer serves = after_look g session asked old mid new answer looked.only_reads looked.stays looked.asks looked.early serves
+  since_look new answer serves = after_look g session asked old mid new answer looked.only_reads looked.asks looked.early serves
 
   pub early_since : PassesEarly mid.state session asked
   early_since = still_passes old.state mid.state session asked looked.only_reads.same looked.early

@@ -42,6 +42,7 @@ use Rattle.escrow_reserved.specs.Read.{committed_by, IsKnown, IsRead}
 use Rattle.escrow_reserved.specs.Reserved.{ArePlaced}
 use Rattle.escrow_reserved.proofs.Ends.{own_and_others}
 use Rattle.escrow_reserved.proofs.Places.{commits_amounts, ended_tables}
+use Rattle.escrow_rows.specs.Answers.{IsUsable}
 use Rattle.escrow_tables.specs.Calls.{Writes}
 use Rattle.escrow_tables.specs.Committed.{Committed, AreHeld}
 use Rattle.escrow_core.specs.Ends.{AreCommits, left_after}
@@ -183,10 +184,10 @@ module _ {S : Type 0} (g : Ghosts S) (plan : List (ℕ × End)) (commits : AreCo
 
   -- whatever comes of it, a crash leaves what it might have left before, or all
   pub together_survives : (is_done : _) → Writes g t new is_done t.catalog (applied t.rows all)
-      → Survives (state g t.store) (state g new.store) (λ trees. IsTrue (state g t.store).is_open → AreHeldOf (after_ends s plan) trees)
+      → Survives (state g t.store) (state g new.store) (λ trees. IsTrue (state g t.store).is_open × AreHeldOf (after_ends s plan) trees)
   together_survives is_done writes =
       survives_weaker (state g t.store) (state g new.store) _ _
-      (λ clean trees k opened. subst (λ (next : State). AreHeldOf next trees) (sym (together_is plan s commits)) (k opened)) writes.survives
+      (λ clean trees k. (k.0, subst (λ (next : State). AreHeldOf next trees) (sym (together_is plan s commits)) k.1)) writes.survives
 
   module _ (writes : Writes g t new true t.catalog (applied t.rows all)) where
     -- the changes are written, and the transactions are over
@@ -250,7 +251,8 @@ module _ {S : Type 0} (g : Ghosts S) (session : ℕ) (old new : Seen S) (holds :
   one_holds (Ok count) = tt
   one_holds (Err f) = ltb-true 0 (length (own session old.state.reservations)) holds
 
-  module _ (survives : Survives (state g old.store) (state g new.store) (λ trees. IsTrue (state g old.store).is_open → AreHeldOf (after_ends old.state alone) trees)) where
+  module _ (survives : Survives (state g old.store) (state g new.store) (λ trees. IsTrue (state g old.store).is_open × AreHeldOf (after_ends old.state alone) trees))
+      (usable : IsUsable (state g new.store) → IsUsable (state g old.store)) where
     -- its COMMIT is served
     pub one_done : (r : Result ℕ Failure) → (HasCleanDisk (state g new.store) → OnOk r (new.state ≡ after_ends old.state alone))
         → (HasCleanDisk (state g new.store) → OnOk r ((trees : Trees) → (state g new.store).may_leave trees → AreHeldOf new.state trees))
@@ -260,7 +262,7 @@ module _ {S : Type 0} (g : Ghosts S) (session : ℕ) (old new : Seen S) (holds :
         served g session statement.Commit old new (reply.Committed count) holds (passes old.state session)
         (λ clean.
         subst₂ (λ (n : ℕ) (t : State). StepOrRefusal old.state session statement.Commit (reply.Committed n) t) (sym is) (sym (committed_is old.state session) ∙ sym (done clean)) (commit_serves old.state session))
-        (λ e. absurd (false≢true e)) survives (λ _. durable)
+        (λ e. absurd (false≢true e)) usable survives (λ _. durable)
 
     -- or fails
     pub one_failed : (r : Result ℕ Failure) → OnErr r (new.state ≡ old.state) → IfErr r (λ f. Serves g session statement.Commit old (reply.Refused (refusal_for f)) new)
@@ -270,4 +272,4 @@ module _ {S : Type 0} (g : Ghosts S) (session : ℕ) (old new : Seen S) (holds :
         (λ _.
         subst (λ (t : State). StepOrRefusal old.state session statement.Commit (reply.Refused (refusal_for f)) t) (sym same)
         (refused_serves old.state session statement.Commit (refusal_for f) (fails old.state session statement.Commit f (passes old.state session) holds)))
-        (λ _. same) survives (λ e. absurd (no_write (refusal_for f) e))
+        (λ _. same) usable survives (λ e. absurd (no_write (refusal_for f) e))

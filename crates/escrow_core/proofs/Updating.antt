@@ -346,16 +346,16 @@ module _ {S : Type 0} (g : Ghosts S) (session : ℕ) (text : UpdateText) (name :
       first_refused r (inr is) = subst (λ (q : Refusal). Serves g session (statement.Update text) old (reply.Refused q) mid) (sym is) (first_fails failure.Memory)
 
       -- granted: the store stays
-      pub first_granted : (HasCleanDisk (state g mid.store) → IsTrue (state g old.store).is_open → IsTrue (state g mid.store).is_open) → why ≡ None
+      pub first_granted : why ≡ None
           → Serves g session (statement.Update text) old (reply.Reserved mid.state.next_id) (record { store = mid.store; state = with_open mid.state (txn.granted session name changes (open_in mid.state)) })
-      first_granted stays none =
+      first_granted none =
           let new : Seen S = record { store = mid.store; state = with_open mid.state (txn.granted session name changes (open_in mid.state)) } in
           let still_first : is_reserved mid.state name ≡ false = subst (λ (s : State). is_reserved s name ≡ false) (sym only_reads.same) first in
-          after_look g session (statement.Update text) old mid new (reply.Reserved mid.state.next_id) only_reads stays asks early
+          after_look g session (statement.Update text) old mid new (reply.Reserved mid.state.next_id) only_reads asks early
           (served g session (statement.Update text) mid new (reply.Reserved mid.state.next_id) (asks_first mid.state session text name changes planned_now still_first)
           (passes mid.state session text name changes planned_now)
           (λ clean. grant_step mid.state session text name changes planned_now (row_accepts mid.state session text name changes planned_now table amounts orderly named many (read clean) none))
-          (λ is. absurd (false≢true is)) (survives_itself (state g mid.store) _) (λ writes. absurd (false≢true writes)))
+          (λ is. absurd (false≢true is)) (λ usable. usable) (survives_itself (state g mid.store) _) (λ writes. absurd (false≢true writes)))
 
 -- WHAT A GRANT KEEPS
 module _ {S : Type 0} (g : Ghosts S) (session : ℕ) (text : UpdateText) (name : RowName) (changes : List (Option ℤ)) (d : Seen S) (old new : Places)

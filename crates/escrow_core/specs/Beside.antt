@@ -1,6 +1,8 @@
 -- Helps: words of COMMITs that are held back, and of what is served beside them.
-use Rattle.std.specs.Prelude.{◌≡◌, ℕ, ◌+◌, Bool, true, false, not, if◌then◌else◌, MatchBool, Option, None, is_none, option_map, unwrap_or, List, [], ◌∷◌, ◌++◌, length, slice_set}
+use Rattle.std.specs.Prelude.{◌≡◌, ℕ, ◌+◌, ◌≤◌, Bool, IsTrue, true, false, not, if◌then◌else◌, MatchBool, Option, None, is_none, option_map, unwrap_or, List, [], ◌∷◌, ◌++◌, length, take, replicate, slice_set}
 use Rattle.std.specs.List.{AllByRecursion, list_any}
+use Rattle.sqlite.specs.State.{State as Store, HasCleanDisk, Survives}
+use Rattle.sqlite_trees.specs.Tree.{Trees}
 use Rattle.escrow_num.specs.declared.failure.Failure.{Failure}
 use Rattle.escrow_num.specs.declared.session.End.{End}
 use Rattle.escrow_num.specs.declared.session.End.TheVariants as end
@@ -18,6 +20,9 @@ use Rattle.escrow_machine.specs.Held.{Waiting, Outcome, IsHeldBack, IsServedBesi
 use Rattle.escrow_machine.specs.Settle.{after_end}
 use Rattle.escrow_machine.specs.State.{State}
 use Rattle.escrow_machine.specs.Step.{IsRun}
+use Rattle.escrow_rows.specs.Answers.{IsUsable}
+use Rattle.escrow_core.specs.Left.{AreAfterSome}
+use Rattle.escrow_core.specs.Serves.{AreAfter, AreHeldOf}
 
 -- COMMITs that are held back, in order: the plan that writes them, and the places of their replies
 pub record HeldBack : Type 0 where
@@ -53,6 +58,11 @@ pub record Joins (sure : Type 0) (happened : Event) (place : ℕ) (held : HeldBa
   pub waits : sure
       → MatchBool waiting.is_held (IsHeldBack waiting.session waiting.asked waiting.answer before after) (IsServedBeside waiting.session waiting.asked waiting.answer before after)
 
+-- what a disk has is a database that holds the tables and rows after an event; a restart writes nothing
+abbrev pub AreAfterEvent : State → Event → Trees → Type 0
+AreAfterEvent s (event.Statement session asked) trees = AreAfter s session asked trees
+AreAfterEvent s event.Restart trees = ⊥
+
 -- THE COMMITS ARE WRITTEN
 
 -- the replies, once the reply at each place that has a failure beside it is the refusal
@@ -74,6 +84,17 @@ pub record AreSettled (sure : Type 0) (plan : List (ℕ × End)) (places : List 
   pub as_many : length outcomes ≡ length plan
   pub is_later : later ≡ refused_at places outcomes replies
   pub is_after : sure → after ≡ ended plan outcomes before
+
+-- what a disk has is a database that holds the tables and rows after some first entries of a plan, of which each became
+-- what it became, or, behind these, was done
+abbrev pub AreAfterOutcomes : List (ℕ × End) → List (Option Failure) → State → Trees → Type 0
+AreAfterOutcomes plan outcomes s trees =
+    (n : ℕ) × (more : ℕ) × (n ≤ length outcomes) × (n + more ≤ length plan) × AreHeldOf (ended plan (take n outcomes ++ replicate more None) s) trees
+
+-- what is settled of a plan, and what a crash leaves of it
+pub record AreAllSettled (old new : Store) (plan : List (ℕ × End)) (places : List ℕ) (before : State) (replies : List Reply) (after : State) (later : List Reply) : Type 0 where
+  pub settled : AreSettled (HasCleanDisk new) plan places before replies after later
+  pub left : Survives old new (λ trees. IsTrue old.is_open × AreAfterOutcomes plan settled.outcomes before trees)
 
 -- A BATCH OF EVENTS
 
@@ -122,3 +143,9 @@ pub record IsBatch (sure : Type 0) (s : State) (events : List Event) (before rep
   pub is_replies : replies ≡ told ++ answers_by all_done waiting
   pub is_held : held ≡ record { plan = plan_of waiting; places = places_of (length told) waiting }
   pub apart : AreApart held.plan
+
+-- a batch, and what a crash leaves of what was served of it, since a store was first seen
+pub record IsLeftBatch (first now : Store) (s : State) (events : List Event) (before replies : List Reply) (held : HeldBack) (latest : State) : Type 0 where
+  pub batch : IsBatch (HasCleanDisk now) s events before replies held latest
+  pub usable : IsUsable now → IsUsable first
+  pub left : Survives first now (λ trees. IsTrue first.is_open × AreAfterSome s batch.served batch.first.answers trees)

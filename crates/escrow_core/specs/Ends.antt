@@ -8,6 +8,7 @@ use Rattle.escrow_num.specs.declared.reservation.Reservation.{Reservation}
 use Rattle.escrow_num.specs.declared.session.End.{End}
 use Rattle.escrow_num.specs.declared.session.End.TheVariants as end
 use Rattle.escrow_journal.specs.Reservations.{own, others}
+use Rattle.escrow_rows.specs.Answers.{IsUsable}
 use Rattle.escrow_machine.specs.declared.settled.Settled.{Settled}
 use Rattle.escrow_machine.specs.declared.settled.Stop.{Stop}
 use Rattle.escrow_machine.specs.Settle.{AreCounts, IsStop, after_ends}
@@ -29,8 +30,8 @@ abbrev pub left_after : List (ℕ × End) → List Reservation → List Reservat
 left_after [] reservations = reservations
 left_after (entry ∷ plan) reservations = left_after plan (others entry.0 reservations)
 
--- A plan was settled, or stopped at a COMMIT that failed. A crash leaves what it might have left before, or what some
--- first entries of the plan make.
+-- A plan was settled, or stopped at a COMMIT that failed. A store that a fault has shut stays shut. A crash leaves what
+-- it might have left before, or, where the store was open, what some first entries of the plan make.
 pub record Settles {S : Type 0} (g : Ghosts S) (plan : List (ℕ × End)) (old : Seen S) (result : Result Settled Stop) (new : Seen S) : Type 0 where
   pub ok : HasCleanDisk (state g new.store) → OnOk result (new.state ≡ after_ends old.state plan)
   pub counts : IfOk result (λ done. AreCounts plan old.state.reservations done)
@@ -38,4 +39,5 @@ pub record Settles {S : Type 0} (g : Ghosts S) (plan : List (ℕ × End)) (old :
   pub stays : HasCleanDisk (state g new.store) → OnOk result (IsTrue (state g old.store).is_open → IsTrue (state g new.store).is_open)
   pub stop : HasCleanDisk (state g new.store) → IfErr result (λ stop. IsStop plan old.state stop new.state)
   pub within : IfErr result (λ stop. stop.place < length plan)
-  pub crash : Survives (state g old.store) (state g new.store) (λ trees. IsTrue (state g old.store).is_open → AreAfterEnds plan old.state trees)
+  pub usable : IsUsable (state g new.store) → IsUsable (state g old.store)
+  pub crash : Survives (state g old.store) (state g new.store) (λ trees. IsTrue (state g old.store).is_open × AreAfterEnds plan old.state trees)

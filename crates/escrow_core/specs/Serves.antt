@@ -9,6 +9,7 @@ use Rattle.escrow_num.specs.declared.failure.Failure.TheVariants as failure
 use Rattle.escrow_num.specs.declared.session.End.{End}
 use Rattle.escrow_num.specs.Refusal.{first_refusal}
 use Rattle.escrow_statement.specs.declared.statement.Statement.{Statement}
+use Rattle.escrow_rows.specs.Answers.{IsUsable}
 use Rattle.escrow_tables.specs.Committed.{AreHeld}
 use Rattle.escrow_machine.specs.declared.reply.Reply.{Reply}
 use Rattle.escrow_machine.specs.declared.reply.Reply.TheVariants as reply
@@ -35,13 +36,15 @@ AreAfterEnds plan s trees = (n : ℕ) × AreHeldOf (settled (take n plan) s) tre
 -- A statement of a session was served. While the disk has returned what was written, the reply and the
 -- state are the step's, or it failed as it may; what is refused early, and what goes by no row, is answered so
 -- whatever the disk did; what asks nothing of the store leaves it, and isn't refused by it; and whatever
--- the disk did, a refusal changes nothing. A crash leaves what it might have left before, or what the step
--- makes; after a reply that tells of a write, it leaves the tables and rows that there then are.
+-- the disk did, a refusal changes nothing. A store that a fault has shut stays shut. A crash leaves what it might have
+-- left before, or, where the store was open, what the step makes; after a reply that tells of a write, it leaves the
+-- tables and rows that there then are.
 pub record Serves {S : Type 0} (g : Ghosts S) (session : ℕ) (asked : Statement) (old : Seen S) (answer : Reply) (new : Seen S) : Type 0 where
   pub event : HasCleanDisk (state g new.store) → StepOrRefusal old.state session asked answer new.state
   pub early : (r : Refusal) → first_refusal (transition_of old.state session asked).early ≡ Some r → (answer ≡ reply.Refused r) × (new ≡ old)
   pub apart : asks_store old.state session asked ≡ false → (new.store ≡ old.store) × ¬ (failure_of answer ≡ Some failure.Store)
   pub unread : reads_rows old.state session asked ≡ false → StepOrRefusal old.state session asked answer new.state
   pub refused : IsTrue (is_refused answer) → new.state ≡ old.state
-  pub survives : Survives (state g old.store) (state g new.store) (λ trees. IsTrue (state g old.store).is_open → AreAfter old.state session asked trees)
+  pub usable : IsUsable (state g new.store) → IsUsable (state g old.store)
+  pub survives : Survives (state g old.store) (state g new.store) (λ trees. IsTrue (state g old.store).is_open × AreAfter old.state session asked trees)
   pub durable : IsTrue (tells_write answer) → HasCleanDisk (state g new.store) → (trees : Trees) → (state g new.store).may_leave trees → AreHeldOf new.state trees

@@ -5,6 +5,7 @@ use Rattle.escrow_schema.specs.Catalog.{table_named}
 use Rattle.sqlite.specs.Held.{state}
 use Rattle.sqlite.specs.State.{Survives}
 use Rattle.sqlite_trees.specs.declared.store.Store.{Ghosts}
+use Rattle.escrow_rows.specs.Answers.{IsUsable}
 use Rattle.escrow_core.specs.Seen.{Seen}
 use Rattle.escrow_core.specs.Serves.{AreHeldOf, Serves}
 use Rattle.sqlite_trees.specs.Tree.{Trees}
@@ -21,9 +22,10 @@ use Rattle.escrow_machine.specs.Settle.{after_end}
 use Rattle.escrow_machine.specs.State.{State}
 use Rattle.escrow_machine.specs.Transition.{transition_of}
 
--- A call looked at the store: the state stays.
+-- A call looked at the store: the state stays, and a store that a fault has shut stays shut.
 pub record OnlyReads {S : Type 0} (g : Ghosts S) (old new : Seen S) : Type 0 where
   pub same : new.state ≡ old.state
+  pub usable : IsUsable (state g new.store) → IsUsable (state g old.store)
   pub survives : Survives (state g old.store) (state g new.store) (λ _. ⊥)
 
 -- the table that a SHOW JOURNAL names is there, if it names one

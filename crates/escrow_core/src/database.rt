@@ -173,9 +173,11 @@ impl<S: Alter> Database<S> {
         // What is refused changes nothing, whatever the store is like.
         ensures refused { IsTrue (is_refused result) → self.new.state ≡ self.old.state }
 
-        // Where the store was open, a crash leaves what it might have left before, or what the step makes;
-        // once a write was answered, the tables and rows that there then are.
-        ensures crash { Survives (state S.Store self.old.store) (state S.Store self.new.store) (λ trees. IsTrue (state S.Store self.old.store).is_open → AreAfter self.old.state session statement.now trees) }
+        // A crash leaves what it might have left before, or, where the store was open, what the step makes; once
+        // a write was answered, the tables and rows that there then are. A store that a fault has shut stays shut,
+        // and is written no more.
+        ensures usable { IsUsable (state S.Store self.new.store) → IsUsable (state S.Store self.old.store) }
+        ensures crash { Survives (state S.Store self.old.store) (state S.Store self.new.store) (λ trees. IsTrue (state S.Store self.old.store).is_open × AreAfter self.old.state session statement.now trees) }
         ensures durable { IsTrue (tells_write result) → HasCleanDisk (state S.Store self.new.store) → (trees : Trees) → (state S.Store self.new.store).may_leave trees → AreHeldOf self.new.state trees }
     {
         match self.serve_statement(alloc, session, statement) {

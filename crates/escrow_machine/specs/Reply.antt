@@ -1,6 +1,5 @@
 -- Believed: which replies are failures, and which hold memory.
 use Rattle.std.specs.Prelude.{Bool, true, false, nat_lt, Option, Some, None, Result, Ok, Err}
-use Rattle.escrow_num.specs.Refusal.{refusal_for}
 use Rattle.escrow_num.specs.declared.refusal.Refusal.{Refusal}
 use Rattle.escrow_num.specs.declared.refusal.Refusal.TheVariants as refusal
 use Rattle.escrow_machine.specs.declared.reply.Reply.{Reply}
@@ -43,7 +42,7 @@ tells_write reply.Updated = true
 tells_write (reply.Committed count) = nat_lt 0 count
 tells_write _ = false
 
--- the reply to a restart: that it is done, or its failure
-abbrev pub restart_reply : Result (Unit {0}) Failure → Reply
+-- the reply to a restart: that it is done, or its refusal
+abbrev pub restart_reply : Result (Unit {0}) Refusal → Reply
 restart_reply (Ok done) = reply.Restarted
-restart_reply (Err f) = reply.Refused (refusal_for f)
+restart_reply (Err r) = reply.Refused r

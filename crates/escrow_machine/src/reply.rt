@@ -138,13 +138,13 @@ pub struct CheckBounds {
 impl Reply {
     ghost use Rattle.escrow_machine.specs.Reply.{failure_of, holds_memory, restart_reply};
 
-    /// What a restart is answered that ended so.
-    pub fn to_restart(outcome: Result<(), Failure>) -> Reply
+    /// Returns the reply to a restart that ended so.
+    pub fn to_restart(outcome: Result<(), Refusal>) -> Reply
         ensures { result ≡ restart_reply outcome }
     {
         match outcome {
             Ok(()) => Reply::Restarted,
-            Err(failure) => Reply::Refused(Refusal::from(failure)),
+            Err(refusal) => Reply::Refused(refusal),
         }
     }
 

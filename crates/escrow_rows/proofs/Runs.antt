@@ -14,5 +14,5 @@ writes_as g inside old new is_done P Q same says it = subst (λ (c : Held _). Tr
   refused = it.refused;
   usable = it.usable;
   durable = it.durable;
-  survives = survives_weaker _ _ _ _ (λ _ trees made. (made.0, says _ made.0 made.1, made.2)) it.survives;
+  survives = survives_weaker _ _ _ _ (λ _ trees made. (made.0, made.1, says _ made.1 made.2, made.3)) it.survives;
 })

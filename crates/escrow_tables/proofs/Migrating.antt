@@ -53,7 +53,7 @@ module _ (old mid last : State) (found : List CountedTable) (are : AreTables (st
       let usable : IsUsable mid = (at, (told at).0) in
       record {
         is_open = (only_reads.usable usable).1;
-        is_migrated = (catalog_of found, (told at).1, was_held at, (made.0, holds found (told at).1 made.0 are.0 (held_by at made.0 made.1), made.2));
+        is_migrated = (catalog_of found, (told at).1, was_held at, (made.1, holds found (told at).1 made.1 are.0 (held_by at made.1 made.2), made.3));
       }) only_reads.survives it.survives
 
   held_now : (done : is_done ≡ true) (clean : HasCleanDisk last) → IsHeld found (told (was_clean clean)).1 last.now

@@ -117,6 +117,7 @@ pub reads_nothing : {S : Type 0} (g : Ghosts S) (t : Committed S) → Reads g t 
 reads_nothing g t = record {
   catalog = refl;
   rows = refl;
+  usable = λ usable. usable;
   survives = record { clean = le_refl _; shield = λ h. h; counts = le_refl _; limit = refl; closes = λ _ h. inl h; crash = λ _ db h. inl h };
 }
 

@@ -48,6 +48,7 @@ untouched g it catalog rows = record {
   durable = λ e. absurd (false≢true e);
   kept_catalog = λ _. refl;
   kept_rows = λ _. refl;
+  usable = λ usable. usable;
   survives = record {
     clean = omega arith;
     shield = λ h. h;
@@ -89,8 +90,9 @@ module _ {S : Type 0} (g : Ghosts S) (old new : Held S) (D : Database → Databa
       durable = λ e clean trees may. ((state g new).now, holds after rows (state g new).now are_after (held_done e clean), it.durable e clean trees may);
       kept_catalog = λ e. ap catalog_of (if_not e).0;
       kept_rows = λ e. rows_at tables was (if_not e);
+      usable = it.usable;
       survives = survives_weaker (state g old) (state g new) _ _
-          (λ clean trees made is_open. (made.0, holds after rows made.0 are_after (turned (was_clean clean, is_open) made.0 made.1), made.2)) it.survives;
+          (λ clean trees made. (made.0, (made.1, holds after rows made.1 are_after (turned (was_clean clean, made.0) made.1 made.2), made.3))) it.survives;
     }
 
     -- and the fields keep what they hold

@@ -8,17 +8,21 @@ use Rattle.escrow_num.specs.declared.reservation.Reservation.{Reservation}
 use Rattle.escrow_num.specs.declared.row.Row.{Row}
 use Rattle.escrow_schema.specs.declared.table.TableDef.{TableDef}
 use Rattle.escrow_schema.specs.Rows.{row_named}
+use Rattle.escrow_rows.specs.Answers.{IsUsable}
 use Rattle.escrow_tables.specs.Committed.{Committed, AreHeld}
 
--- a call reads: tables and rows stay, and a crash leaves what it might have left before
+-- a call reads: tables and rows stay, a store that a fault has shut stays shut, and a crash leaves what it might have
+-- left before
 pub record Reads {S : Type 0} (g : Ghosts S) (old new : Committed S) : Type 0 where
   pub catalog : new.catalog ≡ old.catalog
   pub rows : new.rows ≡ old.rows
+  pub usable : IsUsable (state g new.store) → IsUsable (state g old.store)
   pub survives : Survives (state g old.store) (state g new.store) (λ _. ⊥)
 
 -- A call writes, in one transaction: where it is done there are then these tables and, where the disk has
 -- returned what was written, these rows; the store is open, and a crash leaves both. Else both stay.
--- Whatever comes of it, a crash leaves what it might have left before, or these tables and rows.
+-- Whatever comes of it, a crash leaves what it might have left before, or, where the store was open, these tables and
+-- rows: a store that a fault has shut is written no more.
 pub record Writes {S : Type 0} (g : Ghosts S) (old new : Committed S) (is_done : Bool) (catalog : List TableDef) (rows : List Row) : Type 0 where
   pub done_catalog : is_done ≡ true → new.catalog ≡ catalog
   pub done_rows : is_done ≡ true → HasCleanDisk (state g new.store) → new.rows ≡ rows
@@ -26,7 +30,8 @@ pub record Writes {S : Type 0} (g : Ghosts S) (old new : Committed S) (is_done :
   pub durable : is_done ≡ true → HasCleanDisk (state g new.store) → (trees : Trees) → (state g new.store).may_leave trees → AreHeld catalog rows trees
   pub kept_catalog : is_done ≡ false → new.catalog ≡ old.catalog
   pub kept_rows : is_done ≡ false → new.rows ≡ old.rows
-  pub survives : Survives (state g old.store) (state g new.store) (λ trees. IsTrue (state g old.store).is_open → AreHeld catalog rows trees)
+  pub usable : IsUsable (state g new.store) → IsUsable (state g old.store)
+  pub survives : Survives (state g old.store) (state g new.store) (λ trees. IsTrue (state g old.store).is_open × AreHeld catalog rows trees)
 
 -- what COMMIT is given: the amounts are those that the row of each reservation has, and each of the rows is there
 abbrev pub AreGiven : List Row → List Reservation → List (List ℤ) → Type 0

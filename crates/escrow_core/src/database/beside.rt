@@ -14,13 +14,15 @@ use sqlite::Alter;
 use std::alloc::Global;
 
 impl<S: Alter> Database<S> {
-    ghost use Rattle.std.specs.Prelude.{IfSome, IfNone, ⊤};
+    ghost use Rattle.std.specs.Prelude.{IfSome, IfNone, IsTrue};
     ghost use Rattle.sqlite.specs.Held.{state};
     ghost use Rattle.sqlite.specs.State.{HasCleanDisk, Survives};
     ghost use Rattle.escrow_journal.specs.Reservations.{own};
     ghost use Rattle.escrow_machine.specs.Held.{IsServedBeside, holds};
     ghost use Rattle.escrow_core.specs.Seen.{IsKept};
-    ghost use Rattle.escrow_core.specs.Beside.{AreSettled, Joins};
+    ghost use Rattle.escrow_rows.specs.Answers.{IsUsable};
+    ghost use Rattle.escrow_core.specs.Beside.{AreAllSettled, Joins};
+    ghost use Rattle.escrow_core.specs.Serves.{AreHeldOf};
 
     /// Serves an event while COMMITs are held back, or holds it back as well. `place` is where its reply
     /// goes. Returns the reply, or `None` if the COMMITs have to be written first; then nothing changed.
@@ -28,16 +30,21 @@ impl<S: Alter> Database<S> {
         &mut self,
         alloc: Global,
         event: &Event,
+        are_shared: bool,
         held: &mut Held,
         place: usize,
     ) -> Option<Reply>
         ensures joins { IfSome result (λ reply. Joins (HasCleanDisk (state S.Store self.new.store)) event.now place held.old self.old.state reply held.new self.new.state) }
         ensures refused { IfNone result ((self.new.state ≡ self.old.state) × (held.new ≡ held.old)) }
-        ensures survives { Survives (state S.Store self.old.store) (state S.Store self.new.store) (λ _. ⊤) }
+        ensures usable { IsUsable (state S.Store self.new.store) → IsUsable (state S.Store self.old.store) }
+        ensures survives { Survives (state S.Store self.old.store) (state S.Store self.new.store) (λ trees. IsTrue (state S.Store self.old.store).is_open × AreHeldOf self.old.state trees) }
     {
         let Event::Statement { session, statement } = event else {
             return None;
         };
+        if !are_shared {
+            return None;
+        }
         if held.names(*session) {
             return None;
         }
@@ -69,7 +76,8 @@ impl<S: Alter> Database<S> {
         requires { statement.now ≡ Statement.Commit → holds self.old.state session ≡ false }
         ensures beside { HasCleanDisk (state S.Store self.new.store) → IfSome result (λ reply. IsServedBeside session statement.now reply self.old.state self.new.state) }
         ensures refused { IfNone result (self.new.state ≡ self.old.state) }
-        ensures survives { Survives (state S.Store self.old.store) (state S.Store self.new.store) (λ _. ⊤) }
+        ensures usable { IsUsable (state S.Store self.new.store) → IsUsable (state S.Store self.old.store) }
+        ensures survives { Survives (state S.Store self.old.store) (state S.Store self.new.store) (λ trees. IsTrue (state S.Store self.old.store).is_open × AreHeldOf self.old.state trees) }
     {
         if !may_pass(statement) {
             return None;
@@ -91,8 +99,8 @@ impl<S: Alter> Database<S> {
     )
         requires pairs { length plan.now ≡ length places.now }
         requires places { AllByRecursion (λ place. place < vec_len replies.old) places.now }
-        ensures settled { AreSettled (HasCleanDisk (state S.Store self.new.store)) plan.now places.now self.old.state replies.old.items self.new.state replies.new.items }
-        ensures survives { Survives (state S.Store self.old.store) (state S.Store self.new.store) (λ _. ⊤) }
+        ensures settled { AreAllSettled (state S.Store self.old.store) (state S.Store self.new.store) plan.now places.now self.old.state replies.old.items self.new.state replies.new.items }
+        ensures usable { IsUsable (state S.Store self.new.store) → IsUsable (state S.Store self.old.store) }
         ensures len { vec_len replies.new ≡ vec_len replies.old }
         ensures capacity { vec_capacity replies.new ≡ vec_capacity replies.old }
     {

@@ -8,6 +8,7 @@ impl<S: Alter> Database<S> {
     ghost use Rattle.sqlite.specs.Held.{state};
     ghost use Rattle.sqlite.specs.State.{HasCleanDisk, Survives};
     ghost use Rattle.sqlite_trees.specs.Tree.{Trees};
+    ghost use Rattle.escrow_rows.specs.Answers.{IsUsable};
     ghost use Rattle.escrow_core.specs.Ends.{AreCommits, left_after};
     ghost use Rattle.escrow_core.specs.Serves.{AreHeldOf};
     ghost use Rattle.escrow_core.specs.Serving.{OnlyReads};
@@ -29,7 +30,8 @@ impl<S: Alter> Database<S> {
         ensures left { OnOk result (self.new.state.reservations ≡ left_after plan.now self.old.state.reservations) }
         ensures open { HasCleanDisk (state S.Store self.new.store) → OnOk result (IsTrue (state S.Store self.new.store).is_open) }
         ensures durable { HasCleanDisk (state S.Store self.new.store) → OnOk result ((trees : Trees) → (state S.Store self.new.store).may_leave trees → AreHeldOf self.new.state trees) }
-        ensures crash { Survives (state S.Store self.old.store) (state S.Store self.new.store) (λ trees. IsTrue (state S.Store self.old.store).is_open → AreHeldOf (after_ends self.old.state plan.now) trees) }
+        ensures usable { IsUsable (state S.Store self.new.store) → IsUsable (state S.Store self.old.store) }
+        ensures crash { Survives (state S.Store self.old.store) (state S.Store self.new.store) (λ trees. IsTrue (state S.Store self.old.store).is_open × AreHeldOf (after_ends self.old.state plan.now) trees) }
     {
         let reservations = self.reserved.all_of(alloc, plan)?;
         let amounts = self.reserved.amounts_of(alloc, &reservations)?;

@@ -12,6 +12,7 @@ impl<S: Alter> Database<S> {
     ghost use Rattle.std.specs.Prelude.{◌<◌, IfOk, IfErr, IsTrue, OnOk, OnErr};
     ghost use Rattle.sqlite.specs.Held.{state};
     ghost use Rattle.sqlite.specs.State.{HasCleanDisk, Survives};
+    ghost use Rattle.escrow_rows.specs.Answers.{IsUsable};
     ghost use Rattle.escrow_journal.specs.Reservations.{others};
     ghost use Rattle.escrow_num.specs.Refusal.{refusal_for};
     ghost use Rattle.escrow_core.specs.Serves.{Serves};
@@ -41,7 +42,8 @@ impl<S: Alter> Database<S> {
         ensures commit { OnErr result (end ≡ End.Commit) }
         ensures held { OnErr result (0 < length (own session self.old.state.reservations)) }
         ensures stays { HasCleanDisk (state S.Store self.new.store) → OnOk result (IsTrue (state S.Store self.old.store).is_open → IsTrue (state S.Store self.new.store).is_open) }
-        ensures crash { Survives (state S.Store self.old.store) (state S.Store self.new.store) (λ trees. IsTrue (state S.Store self.old.store).is_open → AreAfterEnd self.old.state session end trees) }
+        ensures usable { IsUsable (state S.Store self.new.store) → IsUsable (state S.Store self.old.store) }
+        ensures crash { Survives (state S.Store self.old.store) (state S.Store self.new.store) (λ trees. IsTrue (state S.Store self.old.store).is_open × AreAfterEnd self.old.state session end trees) }
     {
         match end {
             End::Commit => self.apply(alloc, session),

@@ -1,27 +1,30 @@
 use crate::database::Database;
-use escrow_num::Failure;
+use escrow_num::Refusal;
 use sqlite::Alter;
 use std::alloc::Global;
 
 impl<S: Alter> Database<S> {
-    ghost use Rattle.std.specs.Prelude.{◌≡◌, OnOk, OnErr, IsTrue};
+    ghost use Rattle.std.specs.Prelude.{◌≡◌, ◌⊎◌, IfErr, OnOk, OnErr, IsTrue};
     ghost use Rattle.sqlite.specs.Held.{state};
     ghost use Rattle.sqlite.specs.State.{HasCleanDisk, Survives};
+    ghost use Rattle.escrow_rows.specs.Answers.{IsUsable};
     ghost use Rattle.escrow_machine.specs.declared.event.Event.TheVariants as event;
     ghost use Rattle.escrow_machine.specs.Reply.{restart_reply};
     ghost use Rattle.escrow_machine.specs.State.{opened};
     ghost use Rattle.escrow_machine.specs.Step.{IsServed};
 
     /// Restarts the database: verifies its store, and then drops all reservations and savepoints; the next
-    /// id is 1. Catalog and rows stay. Fails for want of memory, or where the store refuses or doesn't hold
-    /// the tables any more, and then nothing changes.
-    pub fn restart(&mut self, alloc: Global) -> Result<(), Failure>
+    /// id is 1. Catalog and rows stay. Refused by 51 for want of memory, and by 60 where the store refuses or
+    /// doesn't hold the tables any more; then nothing changes.
+    pub fn restart(&mut self, alloc: Global) -> Result<(), Refusal>
         ensures event { HasCleanDisk (state S.Store self.new.store) → IsServed self.old.state event.Restart (restart_reply result) self.new.state }
         ensures open { HasCleanDisk (state S.Store self.new.store) → OnOk result (IsTrue (state S.Store self.new.store).is_open) }
+        ensures usable { IsUsable (state S.Store self.new.store) → IsUsable (state S.Store self.old.store) }
 
         // Whatever the store is like, nothing is open after it, or all that was; catalog and rows stay.
         ensures done { OnOk result (self.new.state ≡ opened self.old.state.catalog self.old.state.rows) }
         ensures refused { OnErr result (self.new.state ≡ self.old.state) }
+        ensures only { IfErr result (λ e. (e ≡ Refusal.Memory) ⊎ (e ≡ Refusal.Store)) }
 
         // The store isn't written: a crash leaves what it might have left before.
         ensures crash { Survives (state S.Store self.old.store) (state S.Store self.new.store) (λ _. ⊥) }

@@ -1,23 +1,24 @@
-ghost use Rattle.std.specs.Prelude.{◌≡◌, ◌+◌, ◌<◌, ◌≤◌, ◌++◌, ◌∷◌, [], List, length};
+ghost use Rattle.std.specs.Prelude.{◌≡◌, ◌+◌, ◌<◌, ◌≤◌, ◌++◌, ◌∷◌, [], List, drop, length};
 ghost use Rattle.std.specs.List.{AllByRecursion};
 ghost use Rattle.std.specs.Vec.{vec_len, vec_capacity};
 
 use crate::database::Database;
 use crate::database::held::Held;
 use escrow_machine::{Event, Reply};
-use escrow_num::Refusal;
+use escrow_num::{Refusal, Session};
 use sqlite::Alter;
 use std::alloc::{AllocError, Global};
 
 impl<S: Alter> Database<S> {
-    ghost use Rattle.std.specs.Prelude.{◌≡◌, IfOk, OnErr, ⊤};
-    ghost use Rattle.sqlite.specs.Held.{state};
+    ghost use Rattle.std.specs.Prelude.{◌≡◌, IfOk, IsTrue, OnErr};
+    ghost use Rattle.sqlite.specs.Held.{Held as Shown, state};
     ghost use Rattle.sqlite.specs.State.{HasCleanDisk, Survives};
     ghost use Rattle.sqlite_trees.specs.Tree.{Trees};
     ghost use Rattle.escrow_rows.specs.Answers.{IsUsable};
     ghost use Rattle.escrow_machine.specs.State.{State};
     ghost use Rattle.escrow_machine.specs.Step.{IsServed, IsRun};
-    ghost use Rattle.escrow_core.specs.Beside.{IsBatch};
+    ghost use Rattle.escrow_core.specs.Beside.{AreAfterEvent, IsLeftBatch};
+    ghost use Rattle.escrow_core.specs.Left.{AreAfterSome};
     ghost use Rattle.escrow_core.specs.Serves.{AreHeldOf};
 
     /// Serves events, one after another, and answers their replies. Room for the replies is taken
@@ -26,6 +27,11 @@ impl<S: Alter> Database<S> {
         ensures served { HasCleanDisk (state S.Store self.new.store) → IfOk result (λ replies. IsRun self.old.state events.now replies.items self.new.state) }
         ensures clean { HasCleanDisk (state S.Store self.new.store) → HasCleanDisk (state S.Store self.old.store) }
         ensures refused { OnErr result (self.new ≡ self.old) }
+
+        // A crash leaves what it might have left before, or, where the store was open, the tables and rows after some
+        // first events.
+        ensures usable { IsUsable (state S.Store self.new.store) → IsUsable (state S.Store self.old.store) }
+        ensures crash { IfOk result (λ replies. Survives (state S.Store self.old.store) (state S.Store self.new.store) (λ trees. IsTrue (state S.Store self.old.store).is_open × AreAfterSome self.old.state events.now replies.items trees)) }
     {
         let mut replies = Vec::with_capacity(alloc, events.len())?;
         self.run_into(alloc, events, &mut replies);
@@ -41,35 +47,40 @@ impl<S: Alter> Database<S> {
         ensures capacity { vec_capacity replies.new ≡ vec_capacity replies.old }
 
         // Where the store can be used, a crash leaves just the tables and rows after the events. Only a fault shuts
-        // the store, and the limit of steps stays.
+        // the store: a crash then leaves what it might have left before, or, where the store was open, the tables and
+        // rows after some first events, of which those that failed may count as served. A store that a fault has shut
+        // stays shut, and is written no more; the limit of steps stays.
         ensures left { IsUsable (state S.Store self.new.store) → (trees : Trees) → (state S.Store self.new.store).may_leave trees → AreHeldOf self.new.state trees }
-        ensures survives { Survives (state S.Store self.old.store) (state S.Store self.new.store) (λ _. ⊤) }
+        ensures usable { IsUsable (state S.Store self.new.store) → IsUsable (state S.Store self.old.store) }
+        ensures crash { Survives (state S.Store self.old.store) (state S.Store self.new.store) (λ trees. IsTrue (state S.Store self.old.store).is_open × AreAfterSome self.old.state events.now (drop (length replies.old.items) replies.new.items) trees) }
     {
         let mut held = Held::new();
+        let are_shared = are_shared(events);
         for event in events {
-            self.serve_next(alloc, event, &mut held, replies);
+            self.serve_next(alloc, event, are_shared, &mut held, replies);
         }
         self.settle_all(alloc, held.plan(), held.places(), replies);
         // What a crash leaves is told with the next id.
         let _ = self.next_id();
     }
 
-    /// Serves the next event, before the COMMITs that are held back are written or behind them.
+    /// Serves the next event, before the COMMITs that are held back are written or behind them. None is held back
+    /// where all events are of one session.
     fn serve_next(
         &mut self,
         alloc: Global,
         event: &Event,
+        are_shared: bool,
         held: &mut Held,
         replies: &mut Vec<Reply>,
     )
         requires room { vec_len replies.old < vec_capacity replies.old }
         requires places { AllByRecursion (λ place. place < vec_len replies.old) held.old.places }
-        ensures batch { (s : State) → (events : List Event) → (before : List Reply) → IsBatch (HasCleanDisk (state S.Store self.old.store)) s events before replies.old.items held.old self.old.state → IsBatch (HasCleanDisk (state S.Store self.new.store)) s (events ++ event.now ∷ []) before replies.new.items held.new self.new.state }
-        ensures survives { Survives (state S.Store self.old.store) (state S.Store self.new.store) (λ _. ⊤) }
+        ensures batch { (first : Shown S) → (s : State) → (events : List Event) → (before : List Reply) → IsLeftBatch (state S.Store first) (state S.Store self.old.store) s events before replies.old.items held.old self.old.state → IsLeftBatch (state S.Store first) (state S.Store self.new.store) s (events ++ event.now ∷ []) before replies.new.items held.new self.new.state }
         ensures len { vec_len replies.new ≡ vec_len replies.old + 1 }
         ensures capacity { vec_capacity replies.new ≡ vec_capacity replies.old }
     {
-        match self.serve_beside(alloc, event, held, replies.len()) {
+        match self.serve_beside(alloc, event, are_shared, held, replies.len()) {
             Some(reply) => keep(replies, reply),
             None => {
                 self.settle_all(alloc, held.plan(), held.places(), replies);
@@ -83,7 +94,8 @@ impl<S: Alter> Database<S> {
     /// Serves one event.
     fn serve(&mut self, alloc: Global, event: &Event) -> Reply
         ensures served { HasCleanDisk (state S.Store self.new.store) → IsServed self.old.state event.now result self.new.state }
-        ensures survives { Survives (state S.Store self.old.store) (state S.Store self.new.store) (λ _. ⊤) }
+        ensures usable { IsUsable (state S.Store self.new.store) → IsUsable (state S.Store self.old.store) }
+        ensures crash { Survives (state S.Store self.old.store) (state S.Store self.new.store) (λ trees. IsTrue (state S.Store self.old.store).is_open × AreAfterEvent self.old.state event.now trees) }
     {
         match event {
             Event::Statement { session, statement } => self.step(alloc, *session, statement),
@@ -102,4 +114,23 @@ fn keep(replies: &mut Vec<Reply>, reply: Reply)
 {
     let _: Option<Refusal> = None;
     replies.push_reserved(reply);
+}
+
+/// Returns whether events are of more than one session, so that COMMITs can share a write. Those behind a restart
+/// that comes first aren't looked at.
+fn are_shared(events: &[Event]) -> bool {
+    match events.first() {
+        Some(Event::Statement { session, .. }) => events
+            .iter()
+            .any(|event| is_of_another(event, *session)),
+        _ => false,
+    }
+}
+
+/// Returns whether an event is a statement of another session.
+fn is_of_another(event: &Event, session: Session) -> bool {
+    match event {
+        Event::Statement { session: other, .. } => *other != session,
+        Event::Restart => false,
+    }
 }

@@ -12,6 +12,7 @@ impl<S: Alter> Database<S> {
     ghost use Rattle.std.specs.Prelude.{IfOk, IfErr, IsTrue, OnOk};
     ghost use Rattle.sqlite.specs.Held.{state};
     ghost use Rattle.sqlite.specs.State.{HasCleanDisk, Survives};
+    ghost use Rattle.escrow_rows.specs.Answers.{IsUsable};
     ghost use Rattle.escrow_core.specs.Ends.{IsGroup, Settles};
     ghost use Rattle.escrow_machine.specs.Settle.{settled, AreCounts, IsStop};
     ghost use Rattle.escrow_core.specs.Serves.{AreAfterEnds};
@@ -25,9 +26,10 @@ impl<S: Alter> Database<S> {
         ensures counts { IfOk result (λ done. AreCounts plan.now self.old.state.reservations done) }
         ensures stop { HasCleanDisk (state S.Store self.new.store) → IfErr result (λ stop. IsStop plan.now self.old.state stop self.new.state) }
 
-        // A crash leaves what it might have left before, or what some first entries of the plan make; and the
-        // limit of steps stays.
-        ensures crash { Survives (state S.Store self.old.store) (state S.Store self.new.store) (λ trees. IsTrue (state S.Store self.old.store).is_open → AreAfterEnds plan.now self.old.state trees) }
+        // A crash leaves what it might have left before, or, where the store was open, what some first entries of
+        // the plan make; a store that a fault has shut stays shut, and is written no more; the limit of steps stays.
+        ensures usable { IsUsable (state S.Store self.new.store) → IsUsable (state S.Store self.old.store) }
+        ensures crash { Survives (state S.Store self.old.store) (state S.Store self.new.store) (λ trees. IsTrue (state S.Store self.old.store).is_open × AreAfterEnds plan.now self.old.state trees) }
     {
         // That there are few enough reservations to be counted is told with the next id.
         let _ = self.next_id();

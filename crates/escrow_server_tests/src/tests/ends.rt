@@ -2,7 +2,7 @@
 use super::free::databases;
 use escrow_core::{Database, Event, Failure, Reply, Settled, Stop};
 use escrow_memory::BlockStore;
-use escrow_num::{End, Session};
+use escrow_num::{End, Refusal, Session};
 use escrow_reply::render_lines;
 use escrow_sql::{Request, parse};
 use std::process::Abort;
@@ -237,7 +237,7 @@ fn settle_stops(rt: HostRuntime) {
         serve(&rt, database, &ONE_APPLIED);
         serve(&rt, database, &TAKEN);
         database.set_step_limit(Some(1));
-        assert!(rt; matches!(database.restart(rt.alloc()), Err(Failure::Store)));
+        assert!(rt; matches!(database.restart(rt.alloc()), Err(Refusal::Store)));
         database.set_step_limit(None);
         serve(&rt, database, &TAKEN_LEFT);
         assert!(rt; database.restart(rt.alloc()).is_ok());

@@ -1,4 +1,4 @@
-use Rattle.std.proofs.Common.{◌≡◌, List, [], ◌++◌, append_assoc, append-nil, refl, sym, ap, subst, ◌∙◌, rules}
+use Rattle.std.proofs.Common.{◌≡◌, List, [], ◌++◌, append_assoc, append-nil, length, refl, sym, ap, subst, ◌∙◌, rules}
 use Rattle.std.proofs.lemmas.List.{nil_from_length}
 use Rattle.sqlite.specs.Held.{state}
 use Rattle.escrow_cells.specs.declared.step.Step.{Step}
@@ -44,8 +44,8 @@ returns-clause-writes g c =
     let so_far = c.loop-some.invariant.goes_on in
     let none = nil_from_length _ c.in-None.ensures.steps.1.0 in
     let whole : so_far.0 ≡ c.args.steps.now = sym (append-nil so_far.0) ∙ ap (λ (rest : List Step). so_far.0 ++ rest) (sym none) ∙ so_far.2 in
-    let made : GoesOn (Does c.args.steps.now) (state g.S.Store c.args.conn.now) (state g.S.Store c.loop-some.tx.conn.now) =
-    subst (λ (done : List Step). GoesOn (Does done) (state g.S.Store c.args.conn.now) (state g.S.Store c.loop-some.tx.conn.now)) whole so_far.1 in
+    let made : GoesOn (length c.args.steps.now) (Does c.args.steps.now) (state g.S.Store c.args.conn.now) (state g.S.Store c.loop-some.tx.conn.now) =
+    subst (λ (done : List Step). GoesOn (length done) (Does done) (state g.S.Store c.args.conn.now) (state g.S.Store c.loop-some.tx.conn.now)) whole so_far.1 in
     let same = c.loop-some.invariant.same in
-    let it = ends _ _ _ c.requires.settled (Does c.args.steps.now) made c.commit.ensures.survives (g.met.S.Store.settled c.commit.new.self.0.store) c.commit.result c.commit.ensures.ok c.commit.ensures.err in
+    let it = ends _ _ _ c.requires.settled (Does c.args.steps.now) (length c.args.steps.now) c.requires.some made c.commit.ensures.survives (g.met.S.Store.settled c.commit.new.self.0.store) c.commit.result c.commit.ensures.ok c.commit.ensures.err in
     search (rules, it, same)

@@ -1,4 +1,4 @@
-use Rattle.std.proofs.Common.{◌≡◌, List, ◌++◌}
+use Rattle.std.proofs.Common.{◌≡◌, List, ◌++◌, length}
 use Rattle.std.specs.Slice.Iter.{chunks_rest, chunks_size}
 use Rattle.sqlite.specs.Held.{state}
 use Rattle.escrow_cells.specs.declared.step.Step.{Step}
@@ -12,5 +12,5 @@ invariant-loop-some g l = record {
   is_finite : (goal.iterator-loop-some g).is_finite l.some-iterator;
   by_four : chunks_size l.some-iterator ≡ 4;
   same : l.tx.conn.ghost_name ≡ l.initial.tx.conn.ghost_name;
-  goes_on : (done : List Step) × GoesOn (Does done) (state g.S.Store l.fn.conn) (state g.S.Store l.tx.conn.now) × (done ++ chunks_rest l.some-iterator ≡ l.steps);
+  goes_on : (done : List Step) × GoesOn (length done) (Does done) (state g.S.Store l.fn.conn) (state g.S.Store l.tx.conn.now) × (done ++ chunks_rest l.some-iterator ≡ l.steps);
 }

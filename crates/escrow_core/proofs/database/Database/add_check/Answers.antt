@@ -135,7 +135,6 @@ looked : (g : given.Over) (c : After-forget g)
     → HasLooked g.S.Store c.args.session (adds c.args.table c.args.text.now) (seen_of c.self.inside.tables c.self.inside.reserved.txns) (seen_of c.first_violation.new.self c.self.inside.reserved.txns)
 looked g c = record {
   only_reads = read_only_reads g.S.Store c.self.inside.tables c.first_violation.new.self c.self.inside.reserved.txns c.first_violation.ensures.reads;
-  stays = λ clean _. c.in_ok-violation.ensures.open clean;
   asks = refl;
   early = rw (← c.self.view_is) at c.in_ok-place.ensures.early;
 }

@@ -40,10 +40,10 @@ returns-clause-done g c =
     let at = (goal.at.returns-clause-done g c).After-is_empty in
     let some = holds g at (sym c.if-is_empty.false) in
     let r = c.commit_all.result in
-    one_done g.S.Store c.args.session c.args.self.now c.commit_all.new.self some c.commit_all.ensures.crash r c.commit_all.ensures.done c.commit_all.ensures.durable
+    one_done g.S.Store c.args.session c.args.self.now c.commit_all.new.self some c.commit_all.ensures.crash c.commit_all.ensures.usable r c.commit_all.ensures.done c.commit_all.ensures.durable
     (one_counted g.S.Store c.args.session c.args.self.now c.commit_all.new.self some r c.commit_all.ensures.count c.commit_all.ensures.left)
 
 pub returns-clause-failed : goal.returns-clause-failed
 returns-clause-failed g c =
     let at = (goal.at.returns-clause-failed g c).After-is_empty in
-    one_failed g.S.Store c.args.session c.args.self.now c.commit_all.new.self (holds g at (sym c.if-is_empty.false)) c.commit_all.ensures.crash c.commit_all.result c.commit_all.ensures.failed
+    one_failed g.S.Store c.args.session c.args.self.now c.commit_all.new.self (holds g at (sym c.if-is_empty.false)) c.commit_all.ensures.crash c.commit_all.ensures.usable c.commit_all.result c.commit_all.ensures.failed

@@ -69,3 +69,9 @@ pub returns-in-Err-clause-crash : goal.returns-in-Err-clause-crash
 returns-in-Err-clause-crash g c =
     let writes = rw (c.deref-2.ensures.value, c.in_ok-reservations.ensures.all) at c.apply-written.ensures in
     rw (← c.self.view_is) (together_survives g.S.Store c.args.plan.now c.requires c.self.inside.tables c.apply-written.new.self c.self.inside.reserved.txns _ writes)
+
+pub returns-in-Ok-clause-usable : goal.returns-in-Ok-clause-usable
+returns-in-Ok-clause-usable g c = rw (← c.self.view_is) c.apply-written.ensures.usable
+
+pub returns-in-Err-clause-usable : goal.returns-in-Err-clause-usable
+returns-in-Err-clause-usable g c = rw (← c.self.view_is) c.apply-written.ensures.usable

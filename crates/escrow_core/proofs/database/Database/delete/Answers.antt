@@ -33,7 +33,6 @@ returns-then-not-branch g c =
 looked : (g : given.Over) (c : After-is_reserved g) → HasLooked g.S.Store c.args.session (statement.Delete c.args.text.now) c.args.self.now (seen_of c.self.inside.tables c.self.inside.reserved.txns)
 looked g c = record {
   only_reads = rw (← c.self.view_is) at c.in_ok-stands.ensures.only_reads;
-  stays = rw (← c.self.view_is) at c.in_ok-stands.ensures.stays;
   asks = refl;
   early = sym c.in_ok-place.ensures.early;
 }

@@ -44,7 +44,6 @@ returns-then-not-branch g c =
 looked : (g : given.Over) (c : After-as_slice g) → HasLooked g.S.Store c.args.session (statement.Update c.args.text.now) c.args.self.now (seen_of c.self.inside.tables c.self.inside.reserved.txns)
 looked g c = record {
   only_reads = rw (← c.self.view_is) at c.in_ok-stands.ensures.only_reads;
-  stays = rw (← c.self.view_is) at c.in_ok-stands.ensures.stays;
   asks = plain_asks c.args.self.now.state c.args.session c.args.text.now c.args.key c.args.values c.requires.plan;
   early = planned_early c.args.self.now.state c.args.session c.args.text.now (plan.Plain c.args.key c.args.values) c.requires.plan;
 }

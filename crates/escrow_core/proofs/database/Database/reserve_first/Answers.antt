@@ -107,5 +107,5 @@ returns g c =
     rw (c.in_ok-id.ensures.id, c.in_ok-id.ensures.granted)
     (first_granted g.S.Store c.args.session c.args.text.now c.args.name c.args.changes c.args.self.now (seen_of c.self.inside.tables c.self.inside.reserved.txns)
     (record { table = c.requires.table; plan = c.requires.plan }) c.requires.first (looked g at)
-    c.table.result.now c.in-Some.amounts c.self.invariant.keeps.kept.orderly (named g at) (many g at) (read g at) (rw (← c.self.view_is) at c.in_ok-amounts.ensures.stays)
+    c.table.result.now c.in-Some.amounts c.self.invariant.keeps.kept.orderly (named g at) (many g at) (read g at)
     (rw (c.as_slice-checks.ensures, c.as_slice.ensures) at c.in_ok-id.ensures.free))

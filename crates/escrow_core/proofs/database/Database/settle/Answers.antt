@@ -34,7 +34,7 @@ returns-in-Err-clause-crash g c =
     let so_far = c.loop-place in
     let i = so_far.place in
     part_survives (state g.S.Store c.args.self.now.store) (state g.S.Store so_far.self.store) (state g.S.Store c.settle_part.new.self.store) plan i (take c.part_len.result (take (length plan - i) (drop i plan)))
-    c.args.self.now.state so_far.self.state (part_of plan i c.part_len.result c.part_len.ensures.within) so_far.invariant.ended so_far.invariant.stays so_far.invariant.crash c.settle_part.ensures.crash
+    c.args.self.now.state so_far.self.state (part_of plan i c.part_len.result c.part_len.ensures.within) so_far.invariant.ended so_far.invariant.usable so_far.invariant.crash c.settle_part.ensures.crash
 
 pub loop-place-preserved : goal.loop-place-preserved
 loop-place-preserved g c =
@@ -49,8 +49,9 @@ loop-place-preserved g c =
       within = part_within plan i part p so_far.invariant.within;
       ended = λ clean. part_done plan i part s so_far.self.state new.state p (so_far.invariant.ended (still_clean _ _ _ c.settle_part.ensures.crash clean)) (c.in-Ok.ensures.ok clean);
       stays = λ clean was_open. c.in-Ok.ensures.stays clean (so_far.invariant.stays (still_clean _ _ _ c.settle_part.ensures.crash clean) was_open);
+      usable = λ still. so_far.invariant.usable (c.settle_part.ensures.usable still);
       crash =
-          part_survives (state g.S.Store c.args.self.now.store) (state g.S.Store so_far.self.store) (state g.S.Store new.store) plan i part s so_far.self.state p so_far.invariant.ended so_far.invariant.stays
+          part_survives (state g.S.Store c.args.self.now.store) (state g.S.Store so_far.self.store) (state g.S.Store new.store) plan i part s so_far.self.state p so_far.invariant.ended so_far.invariant.usable
           so_far.invariant.crash c.settle_part.ensures.crash;
       counts =
           part_counts plan s.reservations i part so_far.self.state.reservations new.state.reservations so_far.settled c.in-Ok.done c.add_all.new.settled p c.in-Ok.ensures.counts c.in-Ok.ensures.left

@@ -2,6 +2,7 @@ use Rattle.std.proofs.Common.{◌≡◌, ◌≤◌, ◌-◌, drop, length, take}
 use Rattle.std.specs.Prelude.{IsTrue}
 use Rattle.sqlite.specs.Held.{state}
 use Rattle.sqlite.specs.State.{HasCleanDisk, Survives}
+use Rattle.escrow_rows.specs.Answers.{IsUsable}
 use Rattle.escrow_machine.specs.Settle.{after_ends}
 use Rattle.escrow_machine.proofs.Settling.{CountsSoFar}
 use Rattle.escrow_core.specs.Serves.{AreAfterEnds}
@@ -12,7 +13,8 @@ invariant-loop-place g l = record {
   within : l.place ≤ length l.plan;
   ended : HasCleanDisk (state g.S.Store l.self.store) → l.self.state ≡ after_ends l.initial.self.state (take l.place l.plan);
   stays : HasCleanDisk (state g.S.Store l.self.store) → IsTrue (state g.S.Store l.initial.self.store).is_open → IsTrue (state g.S.Store l.self.store).is_open;
-  crash : Survives (state g.S.Store l.initial.self.store) (state g.S.Store l.self.store) (λ trees. IsTrue (state g.S.Store l.initial.self.store).is_open → AreAfterEnds l.plan l.initial.self.state trees);
+  usable : IsUsable (state g.S.Store l.self.store) → IsUsable (state g.S.Store l.initial.self.store);
+  crash : Survives (state g.S.Store l.initial.self.store) (state g.S.Store l.self.store) (λ trees. IsTrue (state g.S.Store l.initial.self.store).is_open × AreAfterEnds l.plan l.initial.self.state trees);
   counts : CountsSoFar l.plan l.initial.self.state.reservations (drop l.place l.plan) l.self.state.reservations l.settled;
 }
 

@@ -30,9 +30,10 @@ returns-in-Err g c =
           stops c.args.plan.now (record { place = so_far.place; cause = c.in-Err.cause }) c.index-plan-place.result c.args.self.now.state so_far.self.state c.finish.new.self.state
           c.loop-place-test.true c.index-plan-place.is before c.in-Err.ensures.failed c.in-Err.ensures.commit c.in-Err.ensures.held;
       within = c.loop-place-test.true;
+      usable = λ still. so_far.invariant.usable (c.finish.ensures.usable still);
       crash =
           ends_survive (state g.S.Store c.args.self.now.store) (state g.S.Store so_far.self.store) (state g.S.Store c.finish.new.self.store) c.args.plan.now so_far.place c.index-plan-place.result
-          c.args.self.now.state so_far.self.state c.loop-place-test.true c.index-plan-place.is so_far.invariant.ended so_far.invariant.stays so_far.invariant.crash c.finish.ensures.crash;
+          c.args.self.now.state so_far.self.state c.loop-place-test.true c.index-plan-place.is so_far.invariant.ended so_far.invariant.usable so_far.invariant.crash c.finish.ensures.crash;
     }
 
 pub loop-place-preserved : goal.loop-place-preserved
@@ -46,9 +47,10 @@ loop-place-preserved g c =
       left = left_more plan so_far.place entry s.reservations so_far.self.state.reservations new.reservations c.loop-place-test.true c.index-plan-place.is so_far.invariant.left c.in-Ok.ensures.left;
       stays = λ clean was_open.
           c.in-Ok.ensures.stays clean (so_far.invariant.stays (still_clean _ _ _ c.finish.ensures.crash clean) was_open);
+      usable = λ still. so_far.invariant.usable (c.finish.ensures.usable still);
       crash =
           ends_survive (state g.S.Store c.args.self.now.store) (state g.S.Store so_far.self.store) (state g.S.Store c.finish.new.self.store) plan so_far.place entry s so_far.self.state
-          c.loop-place-test.true c.index-plan-place.is so_far.invariant.ended so_far.invariant.stays so_far.invariant.crash c.finish.ensures.crash;
+          c.loop-place-test.true c.index-plan-place.is so_far.invariant.ended so_far.invariant.usable so_far.invariant.crash c.finish.ensures.crash;
       ended = λ clean.
           ends_next plan so_far.place entry s so_far.self.state new c.loop-place-test.true c.index-plan-place.is
           (so_far.invariant.ended (still_clean _ _ _ c.finish.ensures.crash clean)) (c.in-Ok.ensures.done clean);
@@ -71,5 +73,6 @@ returns g c =
       stays = so_far.invariant.stays;
       stop = λ _. tt;
       within = tt;
+      usable = so_far.invariant.usable;
       crash = so_far.invariant.crash;
     }

@@ -2,6 +2,7 @@ use Rattle.std.proofs.Common.{◌≡◌, drop, take}
 use Rattle.std.specs.Prelude.{IsTrue}
 use Rattle.sqlite.specs.Held.{state}
 use Rattle.sqlite.specs.State.{HasCleanDisk, Survives}
+use Rattle.escrow_rows.specs.Answers.{IsUsable}
 use Rattle.escrow_machine.specs.Settle.{after_ends}
 use Rattle.escrow_machine.proofs.Settling.{CountsSoFar}
 use Rattle.escrow_core.specs.Ends.{left_after}
@@ -13,6 +14,7 @@ invariant-loop-place g l = record {
   ended : HasCleanDisk (state g.S.Store l.self.store) → l.self.state ≡ after_ends l.initial.self.state (take l.place l.plan);
   left : l.self.state.reservations ≡ left_after (take l.place l.plan) l.initial.self.state.reservations;
   stays : HasCleanDisk (state g.S.Store l.self.store) → IsTrue (state g.S.Store l.initial.self.store).is_open → IsTrue (state g.S.Store l.self.store).is_open;
-  crash : Survives (state g.S.Store l.initial.self.store) (state g.S.Store l.self.store) (λ trees. IsTrue (state g.S.Store l.initial.self.store).is_open → AreAfterEnds l.plan l.initial.self.state trees);
+  usable : IsUsable (state g.S.Store l.self.store) → IsUsable (state g.S.Store l.initial.self.store);
+  crash : Survives (state g.S.Store l.initial.self.store) (state g.S.Store l.self.store) (λ trees. IsTrue (state g.S.Store l.initial.self.store).is_open × AreAfterEnds l.plan l.initial.self.state trees);
   counts : CountsSoFar l.plan l.initial.self.state.reservations (drop l.place l.plan) l.self.state.reservations l.settled;
 }

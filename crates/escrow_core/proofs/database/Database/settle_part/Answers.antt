@@ -21,7 +21,8 @@ returns-in-Ok g c =
       stays = λ clean _. c.in-Ok.ensures.open clean;
       stop = λ _. tt;
       within = tt;
-      crash = survives_weaker (state g.S.Store c.args.self.now.store) (state g.S.Store c.commit_all.new.self.store) _ _ (λ clean trees k opened. after_all part s trees (k opened)) c.commit_all.ensures.crash;
+      usable = c.commit_all.ensures.usable;
+      crash = survives_weaker (state g.S.Store c.args.self.now.store) (state g.S.Store c.commit_all.new.self.store) _ _ (λ clean trees k. (k.0, after_all part s trees k.1)) c.commit_all.ensures.crash;
     }
 
 pub returns-then-not-store_answers : goal.returns-then-not-store_answers
@@ -42,9 +43,10 @@ returns-then-not-store_answers g c =
           stops part (record { place = 0; cause = c.in-Err.cause }) entry s s new.state some c.index-part-0.is refl same (first_commits part entry some c.index-part-0.is run.commits)
           (run.holds entry (slice_get-get_or part 0 entry some ∙ ap (λ e. Some e) (sym c.index-part-0.is)));
       within = some;
+      usable = λ still. c.commit_all.ensures.usable (c.store_answers.ensures.reads.usable still);
       crash =
           survives_then (state g.S.Store c.args.self.now.store) (state g.S.Store c.commit_all.new.self.store) (state g.S.Store new.store) _ _ _
-          (λ clean trees k opened. after_all part s trees (k opened)) (λ clean trees none. absurd none) c.commit_all.ensures.crash c.store_answers.ensures.reads.survives;
+          (λ clean trees k. (k.0, after_all part s trees k.1)) (λ clean trees none. absurd none) c.commit_all.ensures.crash c.store_answers.ensures.reads.survives;
     }
 
 pub returns : goal.returns
@@ -61,7 +63,8 @@ returns g c =
           survives_then (state g.S.Store old.store) (state g.S.Store mid.store) (state g.S.Store at.store) _ _ _
           (λ clean trees k. k) (λ clean trees none. absurd none) w.commit_all.ensures.crash w.store_answers.ensures.reads.survives in
           settles_after g.S.Store part old at new result (w.store_answers.ensures.reads.same ∙ w.in-Err.ensures.failed)
-          (λ clean. w.store_answers.ensures.open clean w.if-not-store_answers.false) survives
+          (λ clean. w.store_answers.ensures.open clean w.if-not-store_answers.false)
+          (λ still. w.commit_all.ensures.usable (w.store_answers.ensures.reads.usable still)) survives
           (subst (λ (d : Seen _). Settles g.S.Store part d result new) w.self-is c.settle_each.ensures)
       | else-part-gt1 w ↦ subst (λ (d : Seen _). Settles g.S.Store part d result new) w.self-is c.settle_each.ensures
     ]
