@@ -7,7 +7,7 @@ use Rattle.std.proofs.lemmas.Fmt.{length-decimal-le}
 use Rattle.std.proofs.lemmas.List.{append-nil, nil_from_length, take-append-drop, length-append, length-map, map-set}
 use Rattle.std.proofs.lemmas.Option.{slice_get-get_or, slice_get-map, IfSome_then}
 use Rattle.sqlite_trees.specs.declared.store.Store.{Ghosts}
-use Rattle.escrow_num.specs.declared.failure.Failure.{Failure}
+use Rattle.escrow_num.specs.declared.refusal.Refusal.{Refusal}
 use Rattle.escrow_machine.specs.declared.reply.Reply.{Reply}
 use Rattle.escrow_machine.specs.Reply.{holds_memory, restart_reply}
 use Rattle.escrow_core.specs.Seen.{Seen}
@@ -328,6 +328,6 @@ name_short place within = elim (cases_Bool (place == 0)) [
 ]
 
 -- the reply to a restart is short
-pub restart_short : (outcome : Result (Unit {0}) Failure) → holds_memory (restart_reply outcome) ≡ false
+pub restart_short : (outcome : Result (Unit {0}) Refusal) → holds_memory (restart_reply outcome) ≡ false
 restart_short (Ok done) = refl
-restart_short (Err failed) = refl
+restart_short (Err refusal) = refl

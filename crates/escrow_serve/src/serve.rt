@@ -7,7 +7,7 @@ ghost use Rattle.escrow_script.specs.declared.limits.TheConstants.{MAX_LINE};
 ghost use Rattle.escrow_serve.specs.Batch.{Gathers, GathersLines, HasRoom, TakesLines};
 ghost use Rattle.escrow_serve.specs.Left.{LeavesItsRows};
 ghost use Rattle.escrow_serve.specs.Output.{states_of, HaveCleanDisks, ServesAll, ServesWhole, StopsWithin};
-ghost use Rattle.escrow_serve.specs.Totals.{LinesServed};
+ghost use Rattle.escrow_serve.specs.Totals.{LineServed, LinesServed};
 
 use crate::alone::serve_task;
 use crate::batch::Batch;
@@ -203,11 +203,36 @@ fn serve_in_hand<S: Alter>(
     ensures each { vec_len totals.new ≡ vec_len totals.old }
     ensures clean { HaveCleanDisks S.Store databases.new.items → HaveCleanDisks S.Store databases.old.items }
 {
+    if !script.has_line() {
+        serve_line(alloc, databases, totals, script.line(), replies);
+        return;
+    }
     let alone = gather_lines(alloc, databases.len(), script, batch, replies);
     batch.serve(alloc, databases, totals, replies);
     if let Some(task) = alone {
         serve_task(alloc, databases, totals, task, replies);
     }
+}
+
+/// Serves one line by itself, and gathers the lines of its reply. There is room for a short one.
+fn serve_line<S: Alter>(
+    alloc: Global,
+    databases: &mut Vec<Database<S>>,
+    totals: &mut Vec<Totals>,
+    line: &[u8],
+    replies: &mut Vec<u8>,
+)
+    requires few { vec_len databases.old ≤ MAX_DATABASES }
+    requires each { vec_len totals.old ≡ vec_len databases.old }
+    requires room { vec_len replies.old + MAX_SHORT ≤ vec_capacity replies.old }
+    ensures served { (out : List ℕ) × (replies.new.items ≡ replies.old.items ++ out) × (HaveCleanDisks S.Store databases.new.items →
+        LineServed (states_of databases.old.items) totals.old.items line.now out (states_of databases.new.items) totals.new.items) }
+    ensures len { vec_len databases.new ≡ vec_len databases.old }
+    ensures each { vec_len totals.new ≡ vec_len totals.old }
+    ensures clean { HaveCleanDisks S.Store databases.new.items → HaveCleanDisks S.Store databases.old.items }
+{
+    let task = read_task(alloc, databases.len(), line);
+    serve_task(alloc, databases, totals, task, replies);
 }
 
 /// Lets the line that was taken last wait, and those in hand behind it, up to the first that may not: it is taken too,

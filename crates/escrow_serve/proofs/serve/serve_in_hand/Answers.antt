@@ -1,8 +1,10 @@
-use Rattle.std.proofs.Common.{◌++◌, ℕ, List, ap, subst, sym, ◌∙◌, append_assoc}
+use Rattle.std.proofs.Common.{◌++◌, [], ◌∷◌, ℕ, List, Option, arith, refl, ap, subst, sym, ◌∙◌, append_assoc}
 use Rattle.escrow_serve.specs.Batch.{Gathers}
 use Rattle.escrow_serve.specs.Output.{states_of}
 use Rattle.escrow_serve.specs.Task.{IsTask}
+use Rattle.escrow_serve.specs.Totals.{LineServed}
 use Rattle.escrow_serve.proofs.GatherLemmas.{hand_and_one}
+use Rattle.escrow_serve.proofs.LinesLemmas.{lines_more, lines_none}
 use Rattle.escrow_serve.proofs.serve.serve_in_hand.Goals as goal
 
 pub serve-requires-clause-gathered : goal.serve-requires-clause-gathered
@@ -10,6 +12,22 @@ serve-requires-clause-gathered g c =
     let so_far = c.gather_lines-alone.ensures.gathered in
     let batch = c.gather_lines-alone.new.batch in
     (so_far.items, subst (λ (n : ℕ). Gathers n batch.waiting.items batch.parts.items so_far.items) c.len.ensures so_far.gathers)
+
+pub returns-then-not-has_line-clause-served : goal.returns-then-not-has_line-clause-served
+returns-then-not-has_line-clause-served g c =
+    let one = c.serve_line.ensures.served in
+    let before = states_of c.args.databases.now.items in
+    let after = states_of c.serve_line.new.databases.items in
+    let counted = c.serve_line.new.totals.items in
+    let totals = c.args.totals.now.items in (
+      [],
+      one.0,
+      λ rem. refl,
+      omega arith,
+      one.1,
+      λ used. lines_more before before after totals totals counted [] c.args.script.now.line.items [] one.0 (lines_none before totals)
+          (subst (λ (line : List ℕ). LineServed before totals line one.0 after counted) c.line.ensures.value (one.2 used)),
+    )
 
 pub returns-in-Some-clause-served : goal.returns-in-Some-clause-served
 returns-in-Some-clause-served g c =
