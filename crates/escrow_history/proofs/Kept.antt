@@ -1,6 +1,6 @@
 -- What a database with its transcript keeps over its calls.
-use Rattle.std.specs.Prelude.{◌≡◌, ℕ, ◌+◌, ◌≤◌, ◌<◌, true, false, Option, Some, None, MatchOption, Result, Ok, Err, IsOk, OnErr, IsTrue, Bool, ◌⊎◌, [], length, Vec}
-use Rattle.std.proofs.Common.{refl, sym, subst, arith, inl, inr}
+use Rattle.std.specs.Prelude.{◌≡◌, ℕ, ◌+◌, ◌≤◌, ◌<◌, true, false, Option, Some, None, MatchOption, Result, Ok, Err, IsOk, OnErr, IsTrue, Bool, [], length, Vec}
+use Rattle.std.proofs.Common.{refl, sym, ap, subst, arith, inl, inr}
 use Rattle.std.proofs.lemmas.Bool.{false≢true}
 use Rattle.std.proofs.lemmas.List.{length_push}
 use Rattle.sqlite.specs.Held.{state}
@@ -8,10 +8,12 @@ use Rattle.sqlite.specs.State.{HasCleanDisk}
 use Rattle.sqlite_trees.specs.declared.store.Store.{Ghosts}
 use Rattle.escrow_num.specs.declared.failure.Failure.{Failure}
 use Rattle.escrow_num.specs.declared.failure.Failure.TheVariants as failure
+use Rattle.escrow_num.specs.declared.refusal.Refusal.TheVariants as refusal
 use Rattle.escrow_num.specs.Refusal.{refusal_for}
 use Rattle.escrow_statement.specs.declared.statement.Statement.{Statement}
 use Rattle.escrow_machine.specs.declared.reply.Reply.{Reply}
-use Rattle.escrow_machine.specs.Reply.{failure_of, holds_memory}
+use Rattle.escrow_machine.specs.declared.reply.Reply.TheVariants as reply
+use Rattle.escrow_machine.specs.Reply.{failure_of}
 use Rattle.escrow_machine.specs.State.{State}
 use Rattle.escrow_machine.specs.Step.{IsStep, StepOrRefusal, may_fail}
 use Rattle.escrow_machine.proofs.LawsMemory.{shown_stays}
@@ -24,7 +26,8 @@ use Rattle.escrow_transcript.specs.Legal.{IsLegal}
 use Rattle.escrow_transcript.proofs.Legals.{nothing_is_legal, one_more_is_legal}
 use Rattle.escrow_history.specs.Calls.{Appends, Stays, IsFailed}
 use Rattle.escrow_history.specs.History.{History, IsKept}
-use Rattle.escrow_history.specs.Inside.{history_of}
+use Rattle.escrow_history.specs.Inside.{history_of, IsNotKept}
+use Rattle.escrow_history.proofs.NeverFull.{never_told}
 
 module _ {S : Type 0} (g : Ghosts S) where
   -- a transcript begins at a base, which is what the database holds
@@ -68,9 +71,14 @@ module _ (s : State) (session : ℕ) (asked : Statement) (answer : Reply) (new :
       subst (λ (o : Option Failure). MatchOption o (IsStep s session asked answer new) (λ failure. IsTrue (may_fail s session asked failure) × (new ≡ s))) fails event in
       told.1
 
+  -- a reply that no step gives isn't given
+  never_stays : answer ≡ reply.Refused refusal.TranscriptFull → StepOrRefusal s session asked answer new → new ≡ s
+  never_stays full event = absurd (never_told s session asked answer new (served_step (ap failure_of full) event) full)
+
   -- so does a reply that holds memory: what isn't kept leaves the state
-  pub unserved_stays : (f : Failure) → (failure_of answer ≡ Some f) ⊎ (holds_memory answer ≡ true) → StepOrRefusal s session asked answer new → new ≡ s
-  unserved_stays f (inl fails) event = failed_stays f fails event
+  pub unserved_stays : (f : Failure) → IsNotKept answer f → StepOrRefusal s session asked answer new → new ≡ s
+  unserved_stays f (inl (inl fails)) event = failed_stays f fails event
+  unserved_stays f (inl (inr full)) event = never_stays full event
   unserved_stays f (inr holds) event = shown_stays s session asked answer new event holds
 
 -- what holds anyway holds of an error

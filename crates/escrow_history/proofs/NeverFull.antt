@@ -1,8 +1,9 @@
 -- The machine answers no statement that a transcript is full.
-use Rattle.std.specs.Prelude.{◌≡◌, ℕ, Bool, true, false, is_none, unwrap_or, option_map, option_and_then, IfSome, Option, Some, None, List, [], ◌∷◌}
+use Rattle.std.specs.Prelude.{◌≡◌, ℕ, Bool, true, false, is_none, unwrap_or, option_map, option_and_then, IfNone, IfSome, Option, Some, None, List, [], ◌∷◌}
 use Rattle.std.proofs.Common.{refl, sym, ◌∙◌, ap}
 use Rattle.std.proofs.lemmas.Bool.{false≢true}
 use Rattle.std.specs.List.{AllByRecursion}
+use Rattle.escrow_num.specs.declared.failure.Failure.{Failure}
 use Rattle.escrow_num.specs.declared.failure.Failure.TheVariants as failure
 use Rattle.escrow_num.specs.declared.refusal.Refusal.{Refusal}
 use Rattle.escrow_num.specs.declared.refusal.Refusal.TheVariants as refusal
@@ -37,7 +38,7 @@ use Rattle.escrow_transcript.specs.declared.base.Base.{Base}
 use Rattle.escrow_transcript.specs.declared.entry.Entry.{Entry}
 use Rattle.escrow_transcript.specs.Image.{started}
 use Rattle.escrow_transcript.specs.Legal.{AreSteps, IsLegal}
-use Rattle.escrow_history.specs.Laws.{IsAnswer}
+use Rattle.escrow_history.specs.Calls.{IsAnswer}
 
 -- a refusal is that of a full transcript
 abbrev is_full : Refusal → Bool
@@ -174,18 +175,26 @@ never_full s session asked =
     (λ r first. not_full r (first_among HasRoom (refusals (transition_of s session asked)) (has_room s session asked) r first))
     (λ _. (is_transition s session asked).answers refusal.TranscriptFull)
 
--- nor does a reply that is no failure tell of memory or the store
-is_answer : (s : State) (session : ℕ) (asked : Statement) (answer : Reply) (new : State) → failure_of answer ≡ None → IsStep s session asked answer new → IsAnswer answer
-is_answer s session asked answer new succeeds taken = record {
+pub never_told : (s : State) (session : ℕ) (asked : Statement) (answer : Reply) (new : State) → IsStep s session asked answer new → ¬ (answer ≡ reply.Refused refusal.TranscriptFull)
+never_told s session asked answer new taken same = never_full s session asked (ap (λ (p : Reply × State). p.0) (sym taken.is_step) ∙ same)
+
+-- a reply that is no failure, nor tells of a full transcript, is an answer
+pub is_answer : (answer : Reply) → failure_of answer ≡ None → ¬ (answer ≡ reply.Refused refusal.TranscriptFull) → IsAnswer answer
+is_answer answer succeeds room = record {
   of_memory = λ same. let none : Some failure.Memory ≡ None = ap failure_of (sym same) ∙ succeeds in absurd (cc);
-  of_room = λ same. never_full s session asked (ap (λ (p : Reply × State). p.0) (sym taken.is_step) ∙ same);
+  of_room = room;
   of_store = λ same. let none : Some failure.Store ≡ None = ap failure_of (sym same) ∙ succeeds in absurd (cc);
 }
+
+-- so a reply is where it is found to be no failure, and doesn't tell so
+pub answers_unless : (found : Option Failure) (answer : Reply) → found ≡ failure_of answer → ¬ (answer ≡ reply.Refused refusal.TranscriptFull) → IfNone found (IsAnswer answer)
+answers_unless None answer is room = is_answer answer (sym is) room
+answers_unless (Some f) answer is room = tt
 
 steps_are_answers : (s : State) (entries : List Entry) (end : State) → AreSteps s entries end → AllByRecursion (λ (e : Entry). IsAnswer e.reply) entries
 steps_are_answers s [] end steps = tt
 steps_are_answers s (e ∷ es) end (succeeds, (mid, (taken, rest))) =
-    (is_answer s e.session e.statement e.reply mid succeeds taken, steps_are_answers mid es end rest)
+    (is_answer e.reply succeeds (never_told s e.session e.statement e.reply mid taken), steps_are_answers mid es end rest)
 
 pub entries_are_answers : (base : Base) (entries : List Entry) (end : State) → IsLegal base entries end → AllByRecursion (λ (e : Entry). IsAnswer e.reply) entries
 entries_are_answers base entries end legal = steps_are_answers (started base.image) entries end legal.run

@@ -9,6 +9,7 @@ use Rattle.escrow_num.specs.Refusal.{refusal_for}
 use Rattle.escrow_statement.specs.declared.statement.Statement.{Statement}
 use Rattle.escrow_statement.specs.Copies.{holds_memory}
 use Rattle.escrow_machine.specs.declared.reply.Reply.{Reply}
+use Rattle.escrow_machine.specs.declared.reply.Reply.TheVariants as reply
 use Rattle.escrow_machine.specs.Promised.{is_promised}
 use Rattle.escrow_machine.specs.Reply.{failure_of}
 use Rattle.escrow_machine.specs.State.{State}
@@ -17,11 +18,18 @@ use Rattle.escrow_history.specs.declared.served.Unserved.{Unserved}
 use Rattle.escrow_history.specs.declared.served.Unserved.TheVariants.{Full, Failed}
 use Rattle.escrow_history.specs.History.{History}
 
+-- a reply is an answer: it doesn't tell that a statement wasn't served, as 51, 52 and 60 do
+pub record IsAnswer (answer : Reply) : Type 0 where
+  pub of_memory : ¬ (answer ≡ reply.Refused refusal.Memory)
+  pub of_room : ¬ (answer ≡ reply.Refused refusal.TranscriptFull)
+  pub of_store : ¬ (answer ≡ reply.Refused refusal.Store)
+
 -- A statement of a session was served: while the disk has returned what was written that was a step of the machine, and
--- it is the one entry more, with the next number. The reply is no failure.
+-- it is the one entry more, with the next number. The reply is an answer, whatever the disk did.
 pub record Appends {S : Type 0} (g : Ghosts S) (old : History S) (session : ℕ) (asked : Statement) (number : ℕ) (answer : Reply) (new : History S) : Type 0 where
   pub step : HasCleanDisk (state g new.store) → IsStep old.state session asked answer new.state
   pub succeeds : failure_of answer ≡ None
+  pub answers : IsAnswer answer
   pub number_is : number ≡ old.base.before + length old.entries + 1
   pub base : new.base ≡ old.base
   pub entries : new.entries ≡ old.entries ++ (record { number = number; session = session; statement = asked; reply = answer }) ∷ []

@@ -1,5 +1,10 @@
 -- Helps: what the fields of a database with its transcript hold.
-use Rattle.std.specs.Prelude.{ℕ, ◌-◌, min, Vec, vec_len, vec_capacity}
+use Rattle.std.specs.Prelude.{◌≡◌, ◌⊎◌, ℕ, ◌-◌, min, true, Some, Vec, vec_len, vec_capacity}
+use Rattle.escrow_num.specs.declared.failure.Failure.{Failure}
+use Rattle.escrow_num.specs.declared.refusal.Refusal.TheVariants as refusal
+use Rattle.escrow_machine.specs.declared.reply.Reply.{Reply}
+use Rattle.escrow_machine.specs.declared.reply.Reply.TheVariants as reply
+use Rattle.escrow_machine.specs.Reply.{failure_of, holds_memory}
 use Rattle.escrow_core.specs.Seen.{Seen}
 use Rattle.escrow_transcript.specs.declared.base.Base.{Base}
 use Rattle.escrow_transcript.specs.declared.entry.Entry.{Entry}
@@ -13,3 +18,11 @@ room_of entries = min (vec_capacity entries) MAX_ENTRIES - vec_len entries
 -- the history that a database, a base and entries are
 abbrev pub history_of : {S Z : Type 0} → Seen S → Base → Vec Entry Z → History S
 history_of d base entries = record { store = d.store; state = d.state; base = base; entries = entries.items; room = room_of entries }
+
+-- a reply is no answer: a failure, or one that only a transcript gives
+abbrev pub IsNoAnswer : Reply → Failure → Type 0
+IsNoAnswer answer failure = (failure_of answer ≡ Some failure) ⊎ (answer ≡ reply.Refused refusal.TranscriptFull)
+
+-- why a reply isn't kept: it is no answer, or a copy of it takes memory
+abbrev pub IsNotKept : Reply → Failure → Type 0
+IsNotKept answer failure = IsNoAnswer answer failure ⊎ (holds_memory answer ≡ true)

@@ -1,5 +1,7 @@
-ghost use Rattle.std.specs.Prelude.{◌≡◌, ◌⊎◌, ◌+◌, ◌<◌, ◌++◌, ◌∷◌, [], true, None, Some, IfOk, IfErr, OnOk, OnErr};
+ghost use Rattle.std.specs.Prelude.{◌≡◌, ◌+◌, ◌<◌, ◌++◌, ◌∷◌, [], true, None, IfOk, IfErr, IfNone, IfSome, OnOk, OnErr};
 ghost use Rattle.std.specs.Vec.{vec_len, vec_capacity};
+ghost use Rattle.escrow_history.specs.Calls.{IsAnswer};
+ghost use Rattle.escrow_history.specs.Inside.{IsNoAnswer, IsNotKept};
 ghost use Rattle.escrow_machine.specs.Reply.{failure_of, holds_memory};
 
 use crate::served::{Served, Unserved};
@@ -275,15 +277,16 @@ struct Answered {
     kept: Reply,
 }
 
-/// What was asked and answered, with two copies of the answer. A reply that is a failure is that failure, and want
-/// of memory comes only where the reply holds memory.
+/// What was asked and answered, with two copies of the answer. A reply that is no answer is why, and want of memory
+/// comes only where the reply holds memory.
 fn with_copies(alloc: Global, asked: Statement, reply: Reply) -> Result<Answered, Failure>
     ensures same { IfOk result (λ a. (a.asked ≡ asked) × (a.reply ≡ reply)) }
     ensures copies { IfOk result (λ a. (a.told ≡ reply) × (a.kept ≡ reply)) }
     ensures succeeds { OnOk result (failure_of reply ≡ None) }
-    ensures fails { IfErr result (λ f. (failure_of reply ≡ Some f) ⊎ (holds_memory reply ≡ true)) }
+    ensures answers { OnOk result (IsAnswer reply) }
+    ensures fails { IfErr result (IsNotKept reply) }
 {
-    if let Some(failure) = reply.failure() {
+    if let Some(failure) = failure_in(&reply) {
         return Err(failure);
     }
     let (told, kept) = two_copies(alloc, &reply)?;
@@ -293,6 +296,19 @@ fn with_copies(alloc: Global, asked: Statement, reply: Reply) -> Result<Answered
         told,
         kept,
     })
+}
+
+/// Why a reply of a database is no answer. That a transcript is full no statement is answered: only a store that
+/// lies could bring it about, and it is told as the store's failure.
+fn failure_in(reply: &Reply) -> Option<Failure>
+    ensures succeeds { IfNone result (failure_of reply.now ≡ None) }
+    ensures answers { IfNone result (IsAnswer reply.now) }
+    ensures fails { IfSome result (IsNoAnswer reply.now) }
+{
+    if reply.is_same(&Reply::Refused(Refusal::TranscriptFull)) {
+        return Some(Failure::Store);
+    }
+    reply.failure()
 }
 
 /// Two copies of a reply. Only that to a query takes memory.

@@ -1,12 +1,13 @@
 -- Boards and watchers of databases that are to be shared.
-use Rattle.std.proofs.Common.{◌≡◌, ℕ, List, [], ◌∷◌, ◌++◌, length, map, refl, sym, ap, subst, ◌∙◌, append_assoc}
+use Rattle.std.proofs.Common.{◌≡◌, ℕ, List, [], ◌∷◌, ◌++◌, length, map, refl, sym, ap, subst, ◌∙◌, append_assoc, inl, inr}
 use Rattle.std.specs.Prelude.{All}
 use Rattle.std.proofs.lemmas.List.{append-nil, map_push, same_from_push}
 use Rattle.escrow_transcript.specs.declared.base.Base.{Base}
 use Rattle.escrow_transcript.specs.declared.entry.Entry.{Entry}
 use Rattle.escrow_stats.specs.Watching.{Boarded, Watching, IsNewBoard, IsNewWatcher}
 use Rattle.escrow_shards.specs.Begun.{Begun}
-use Rattle.escrow_shards.specs.Watchers.{AreNewWatchers, new_board}
+use Rattle.escrow_shards.specs.declared.cause.Unshared.{Unshared}
+use Rattle.escrow_shards.specs.Watchers.{AreNewWatchers, IsUnshared, IsUnwatched, new_board}
 
 module _ {S : Type 0} where
   -- a board that is new is the board of its opening
@@ -50,3 +51,8 @@ module _ {S : Type 0} where
       subst (λ (os : List (Begun S)). AreNewWatchers count os new) (sym more)
       (subst (AreNewWatchers count (openings ++ o ∷ [])) (sym is)
       (snoc_watchers count openings o watchers mine are long (subst (λ (b : Base). All (IsNewWatcher b) mine) same each)))
+
+-- without boards and watchers databases aren't shared
+pub unwatched_is : (cause : Unshared) → IsUnwatched cause → IsUnshared cause
+unwatched_is cause (inl is) = subst IsUnshared (sym is) (inr (inl refl))
+unwatched_is cause (inr is) = subst IsUnshared (sym is) tt

@@ -1,10 +1,9 @@
 -- Believed: what a call makes of its pass.
-use Rattle.std.specs.Prelude.{◌≡◌, ◌⊎◌, ℕ, None, ◌∷◌, [], ◌++◌}
+use Rattle.std.specs.Prelude.{◌≡◌, ◌⊎◌, ℕ, ◌∷◌, [], ◌++◌}
 use Rattle.escrow_num.specs.declared.refusal.Refusal.{Refusal}
 use Rattle.escrow_num.specs.declared.refusal.Refusal.TheVariants as refusal
 use Rattle.escrow_statement.specs.declared.statement.Statement.{Statement}
-use Rattle.escrow_machine.specs.Reply.{failure_of}
-use Rattle.escrow_history.specs.Calls.{IsFailed}
+use Rattle.escrow_history.specs.Calls.{IsAnswer, IsFailed}
 use Rattle.escrow_shards.specs.declared.answer.Answer.{Answer}
 use Rattle.escrow_shards.specs.declared.answer.Answer.TheVariants.{Served, Unserved}
 use Rattle.escrow_shards.specs.Seat.{Seat}
@@ -13,10 +12,10 @@ use Rattle.escrow_shards.specs.Seat.{Seat}
 abbrev pub IsUnserved : Refusal → Type 0
 IsUnserved r = (r ≡ refusal.TranscriptFull) ⊎ IsFailed r
 
--- The answer to a statement. Where it was served the reply is no failure, and the pass has one receipt more, with
--- the statement and the reply that was answered; otherwise the pass is as it was.
+-- The answer to a statement. Where it was served the reply is none of 51, 52 and 60, and the pass has one receipt more,
+-- with the statement and the reply that was answered; otherwise the pass is as it was.
 abbrev pub IsAnswered : Answer → Statement → Seat → Seat → Type 0
 IsAnswered (Served reply) asked old new =
-    (failure_of reply ≡ None)
+    IsAnswer reply
     × ((number : ℕ) × (new ≡ record old { receipts = old.receipts ++ (record { number = number; statement = asked; reply = reply }) ∷ [] }))
 IsAnswered (Unserved r) asked old new = IsUnserved r × (new ≡ old)

@@ -1,6 +1,7 @@
 -- Believed: boards and watchers of databases that are shared, as they are made.
 use Rattle.std.specs.Prelude.{◌≡◌, ◌⊎◌, ℕ, List, [], ◌∷◌, ◌++◌, length, All}
 use Rattle.escrow_num.specs.declared.refusal.Refusal.TheVariants as refusal
+use Rattle.escrow_history.specs.Calls.{IsNotBegun}
 use Rattle.escrow_stats.specs.Watching.{Boarded, Watching, IsNewWatcher}
 use Rattle.escrow_shards.specs.Begun.{Begun}
 use Rattle.escrow_shards.specs.declared.cause.Unshared.{Unshared}
@@ -19,3 +20,10 @@ AreNewWatchers count (o ∷ openings) watchers =
 -- why there are no boards and watchers: memory, or no place to read at
 abbrev pub IsUnwatched : Unshared → Type 0
 IsUnwatched cause = (cause ≡ unshared.Refused refusal.Memory) ⊎ (cause ≡ unshared.NoPlace)
+
+-- why databases aren't shared that are to be watched: as of those that aren't (26, 51, 60); more watchers are asked
+-- than there may be; or no place to read at
+abbrev pub IsUnshared : Unshared → Type 0
+IsUnshared (unshared.Refused r) = IsNotBegun r
+IsUnshared unshared.TooManyWatchers = Unit {0}
+IsUnshared unshared.NoPlace = Unit {0}

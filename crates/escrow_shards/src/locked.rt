@@ -20,11 +20,11 @@ pub struct Locked<S: Alter> {
 }
 
 impl<S: Alter> Locked<S> {
-    ghost use Rattle.std.specs.Prelude.{◌≡◌, ◌↔◌, ◌+◌, [], length, true, IfOk, IfErr, IsErrOf, OnErr};
+    ghost use Rattle.std.specs.Prelude.{◌≡◌, ◌↔◌, ◌⊎◌, ◌+◌, ◌<◌, ◌≤◌, [], length, true, IfOk, IfErr, IsErrOf, OnErr};
     ghost use Rattle.sqlite.specs.Held.{state};
     ghost use Rattle.sqlite.specs.State.{HasCleanDisk};
     ghost use Rattle.escrow_machine.specs.State.{has_open};
-    ghost use Rattle.escrow_transcript.specs.declared.transcript.TheConstants.Transcript.{MAX_ENTRIES};
+    ghost use Rattle.escrow_transcript.specs.declared.transcript.TheConstants.Transcript.{MAX_ENTRIES, MAX_NUMBER};
     ghost use Rattle.escrow_history.specs.Calls.{Appends, Stays, IsNotDrained};
 
     /// A database of whose history no part was handed out.
@@ -52,6 +52,11 @@ impl<S: Alter> Locked<S> {
     }
 
     /// Hands out the next part of the history: the transcript, which begins again where the part ends.
+    ///
+    /// # Errors
+    ///
+    /// [`Refusal::TranscriptFull`] where the last part has the greatest number, and then those of
+    /// [`Audited::drain`]: [`Refusal::TransactionOpen`] just where something is open. Nothing has changed then.
     pub(crate) fn drain(&mut self, alloc: Global, database: usize) -> Result<Part<S>, Refusal>
         ensures part { IfOk result (λ p. (p.database ≡ database) × ((p.number ≡ self.old.parts + 1) × ((p.base ≡ self.old.audited.base) × (p.entries ≡ self.old.audited.entries)))) }
         ensures begun { IfOk result (λ p. (self.new.audited.base ≡ p.end) × ((self.new.audited.entries ≡ []) × (self.new.parts ≡ p.number))) }
@@ -59,6 +64,9 @@ impl<S: Alter> Locked<S> {
         ensures state { self.new.audited.state ≡ self.old.audited.state }
         ensures refused { OnErr result (Stays S.Store self.old.audited self.new.audited × (self.new.parts ≡ self.old.parts)) }
         ensures only { IfErr result IsNotDrained }
+        ensures last { MAX_NUMBER ≤ self.old.parts → IsErrOf result Refusal.TranscriptFull }
+        ensures open { self.old.parts < MAX_NUMBER → (IsErrOf result Refusal.TransactionOpen ↔ (has_open self.old.audited.state ≡ true)) }
+        ensures full { IsErrOf result Refusal.TranscriptFull → (MAX_NUMBER ≤ self.old.parts) ⊎ (MAX_NUMBER < self.old.audited.base.before + length self.old.audited.entries + MAX_ENTRIES) }
         ensures clean { HasCleanDisk (state S.Store self.new.audited.store) → HasCleanDisk (state S.Store self.old.audited.store) }
     {
         if self.parts >= Transcript::MAX_NUMBER {

@@ -30,7 +30,7 @@ impl<S: Alter, L> Model for Shard<S, L> {
 
 impl<S: Alter, L: UnderLock<S>> Shard<S, L> {
     ghost use Rattle.std.specs.Prelude.{◌≡◌, None, IfOk, IfErr};
-    ghost use Rattle.escrow_history.specs.Calls.{IsNotDrained};
+    ghost use Rattle.escrow_history.specs.Calls.{IsAnswer, IsNotDrained};
     ghost use Rattle.escrow_machine.specs.Reply.{failure_of};
 
     /// A database that goes under its lock.
@@ -56,6 +56,7 @@ impl<S: Alter, L: UnderLock<S>> Shard<S, L> {
     ) -> Result<Served, Unserved>
         ensures kept { IfOk result (λ r. r.kept ≡ r.reply) }
         ensures succeeds { IfOk result (λ r. failure_of r.reply ≡ None) }
+        ensures answers { IfOk result (λ r. IsAnswer r.reply) }
     {
         let mut locked = self.lock.lock(rt);
         gate.inside(rt, database, session, n);

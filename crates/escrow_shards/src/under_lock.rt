@@ -13,7 +13,7 @@ use std::sync::Wait;
 /// [`Watched`]: crate::Watched
 pub trait UnderLock<S: Alter> {
     ghost use Rattle.std.specs.Prelude.{◌≡◌, None, IfOk, IfErr};
-    ghost use Rattle.escrow_history.specs.Calls.{IsNotDrained};
+    ghost use Rattle.escrow_history.specs.Calls.{IsAnswer, IsNotDrained};
     ghost use Rattle.escrow_machine.specs.Reply.{failure_of};
 
     /// Serves one statement of a session, and adds its entry to the transcript. It may wait.
@@ -25,7 +25,8 @@ pub trait UnderLock<S: Alter> {
         statement: &Statement,
     ) -> Result<Served, Unserved>
         ensures kept { IfOk result (λ r. r.kept ≡ r.reply) }
-        ensures succeeds { IfOk result (λ r. failure_of r.reply ≡ None) };
+        ensures succeeds { IfOk result (λ r. failure_of r.reply ≡ None) }
+        ensures answers { IfOk result (λ r. IsAnswer r.reply) };
 
     /// Hands out the next part of the history of a database.
     fn drain_locked(&mut self, alloc: Global, database: usize) -> Result<Part<S>, Refusal>

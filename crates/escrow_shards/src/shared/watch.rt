@@ -25,7 +25,7 @@ impl<S: Alter + Drop, R: Wait + Copy + Drop> Shared<S, Watched<S, R>> {
     ghost use Rattle.escrow_shards.specs.Opened.{any_open, seen_at, AreRead};
     ghost use Rattle.escrow_shards.specs.Seat.{new_seats};
     ghost use Rattle.escrow_shards.specs.Sharing.{HasSeat};
-    ghost use Rattle.escrow_shards.specs.Watchers.{AreNewWatchers};
+    ghost use Rattle.escrow_shards.specs.Watchers.{AreNewWatchers, IsUnshared};
 
     /// The same as [`Shared::make`], of databases that are watched: it makes so many watchers for each, in the
     /// databases' order. Calls show the totals of what was served, and wait for no watcher but one that is reading;
@@ -51,6 +51,7 @@ impl<S: Alter + Drop, R: Wait + Copy + Drop> Shared<S, Watched<S, R>> {
         ensures watchers { IfOk result (λ r. AreNewWatchers watchers r.0.openings r.2.items) }
         ensures closed { OnOk result (any_open databases.items ≡ false) }
         ensures back { IfErr result (λ f. AreRead S.Store databases.items f.databases.items) }
+        ensures only { IfErr result (λ f. IsUnshared f.cause) }
         ensures many { IfErr result (λ f. (f.cause ≡ Unshared.TooManyWatchers) ↔ (MAX_WATCHERS < watchers)) }
         ensures within { OnOk result (watchers ≤ MAX_WATCHERS) }
         ensures open { IfErr result (λ f. watchers ≤ MAX_WATCHERS → (f.cause ≡ Unshared.Refused Refusal.TransactionOpen) ↔ (any_open databases.items ≡ true)) }

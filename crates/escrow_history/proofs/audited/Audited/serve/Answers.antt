@@ -48,6 +48,7 @@ invariant_of-self-2 g c =
     appended_keeps g.S.Store old new c.args.session c.args.statement.now number c.step-reply.result c.self.invariant room (λ clean. omega (arith, c.step-reply.ensures.crash.clean, clean)) (record {
       step = λ clean. served_step d.state c.args.session c.args.statement.now c.step-reply.result c.step-reply.new.self.state done.ensures.succeeds (c.step-reply.ensures.event clean);
       succeeds = done.ensures.succeeds;
+      answers = done.ensures.answers;
       number_is = omega (arith, c.len-2.ensures, c.reserve.ensures.len, c.self.inside.entries.ok.0);
       base = refl;
       entries = c.keep.ensures.items

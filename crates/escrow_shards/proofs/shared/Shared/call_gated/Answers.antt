@@ -11,7 +11,7 @@ returns-in-Ok-serve g c =
     let served = c.in-Ok-serve.served in
     let last = kept_last served.number inside.receipts.items c.reserve.new.self.items c.push_reserved.new.self.items c.args.statement.now c.in-Ok.statement_kept served.reply served.kept
     c.push_reserved.ensures.items c.reserve.ensures.items c.in-Ok.ensures.same c.in-Ok-serve.ensures.kept in (
-      c.in-Ok-serve.ensures.succeeds,
+      c.in-Ok-serve.ensures.answers,
       (
         served.number,
         subst

@@ -6,6 +6,7 @@ use Rattle.escrow_shards.specs.Watchers.{AreNewWatchers}
 use Rattle.escrow_shards.proofs.NewSeats.{all_have_seats}
 use Rattle.escrow_shards.proofs.Reading.{read_same}
 use Rattle.escrow_shards.proofs.UnderLocks.{as_many, few_of}
+use Rattle.escrow_shards.proofs.Watching.{unwatched_is}
 use Rattle.escrow_shards.proofs.shared.watch.Shared+S+Watched+S+R.make_watched.Goals as goal
 
 pub returns-then-watchers-gt-MAX_WATCHERS-clause-back : goal.returns-then-watchers-gt-MAX_WATCHERS-clause-back
@@ -33,3 +34,6 @@ pub returns-in-Ok-boards_of-clause-watchers : goal.returns-in-Ok-boards_of-claus
 returns-in-Ok-boards_of-clause-watchers g c =
     subst (λ os. AreNewWatchers c.args.watchers os c.in-Ok-boards_of.made.watchers.items)
     (c.as_slice.ensures.value ∙ sym c.into_watched-shards.ensures) c.in-Ok-boards_of.ensures.watchers
+
+pub returns-in-Err-boards_of-clause-only : goal.returns-in-Err-boards_of-clause-only
+returns-in-Err-boards_of-clause-only g c = unwatched_is c.in-Err-boards_of.cause c.in-Err-boards_of.ensures.only
