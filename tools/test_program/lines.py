@@ -8,7 +8,51 @@ SCRIPT = "bank.1: COMMIT\nbank2.1: COMMIT\nbank3.1: COMMIT\n"
 ONE_OF_THREE = "bank.1> OK committed 0\nscript> ERR 12 line\nscript> ERR 12 line\n"
 ONE = "bank.1: COMMIT\n"
 COMMITTED = "bank.1> OK committed 0\n"
-HELP = "A server of tables"
+HELP = """A server of tables whose RESERVABLE columns many sessions change at once.
+
+It reads statements from standard input, one a line, and writes the replies to
+standard output.
+
+Usage: escrowd <MODE> [--store <PATH>] [--databases <N>]
+
+Arguments:
+  <MODE>  `serve` and `run` serve line after line, `free` the sessions of a phase at the same time
+
+Options:
+      --store <PATH>   The file that keeps bank; bank2 is kept in PATH.2 and so on [default: all in memory]
+      --databases <N>  How many databases there are, 1 to 16: bank, bank2, bank3 and so on [default: 1]
+  -h, --help           Print help
+  -V, --version        Print version
+
+A line is a database, a point, a session from 1 to 64, a colon
+and a statement:
+
+  bank.1: CREATE TABLE ACCOUNT (ID INTEGER PRIMARY KEY, BALANCE INTEGER RESERVABLE CHECK (BALANCE >= 50))
+  bank.1: INSERT INTO ACCOUNT VALUES (1, 100)
+  bank.1: UPDATE ACCOUNT SET BALANCE = BALANCE - 30 WHERE ID = 1
+  bank.1: COMMIT
+
+The line `@restart bank` restarts that database: what is open in it is dropped.
+Empty lines and lines that begin with -- are passed over.
+
+`serve` serves one line after another until its input ends, and writes each reply
+before it asks for more input. `run` does the same with a script, which has at
+most 16777216 bytes. `free` serves the lines up to `@join` in one phase: its sessions, at most
+64, run at the same time, and the replies are written after it, in the order of
+the lines. At the end it looks whether what the sessions were answered fits one
+history of each database. `@restart` is refused there.
+
+A store's file is made where there is none, and what was committed there is found
+again by the next run. Without --store everything is gone at the end.
+
+Exit status: 0 when all was served and written, 1 when the input can't be read,
+a reply can't be written, memory is short, a phase has too many sessions or a
+history doesn't fit, 2 for wrong arguments, 3 when a store can't be opened, in
+which case nothing was read.
+
+Later versions add statements, answer those of this one as it does, and read the
+stores that it wrote. --version prints which one this is.
+"""
 
 # In each phase one session of a database asks. The last line has no line feed.
 PHASES = Case(
@@ -129,9 +173,18 @@ def bad_cases() -> Iterator[Case]:
 
 
 def help_cases() -> Iterator[Case]:
-    """Help reads nothing. Standard output takes its first bytes alone."""
-    for words in (("--help",), ("-h",), ("run", "--help")):
-        yield Case("help", words, SCRIPT, HELP, unprinted(Reason.LARGE), status=1, reads=False, room=len(HELP))
+    """Help reads nothing. Standard output takes all of it, or its first bytes alone."""
+    for words in (("--help",), ("-h",), ("run", "--help"), ("--databases", "17", "--help", "walk")):
+        yield Case("help", words, SCRIPT, HELP, reads=False)
+        yield Case("help that is cut off", words, SCRIPT, HELP[:18], unprinted(Reason.LARGE), status=1, reads=False, room=18)
+
+
+def byte_by_byte() -> Iterator[Case]:
+    """A script that comes byte by byte takes more than 20,000 reads, and each of its replies a write, in `free` behind a phase each."""
+    for mode in MODES:
+        line = f"{ONE}@join\n" if mode == "free" else ONE
+        times = 21_000 // len(line)
+        yield Case("byte by byte", (mode,), line * times, COMMITTED * times, stdin=Input.BYTES)
 
 
 def unread_cases() -> Iterator[Case]:
@@ -177,4 +230,4 @@ def cases() -> List[Case]:
     """All runs of command lines and streams."""
     typed = [Case("typed", (mode,), *both, stdin=Input.TERMINAL) for mode in MODES for both in TYPED]
     wrong = [*bad_cases(), *unread_cases(), *unwritten_cases(), *refused_in_silence()]
-    return [*SERVED, *map(good_case, GOOD), *help_cases(), *typed, *wrong]
+    return [*SERVED, *map(good_case, GOOD), *help_cases(), *byte_by_byte(), *typed, *wrong]

@@ -88,6 +88,37 @@ def longest_scripts() -> List[Case]:
     return found
 
 
+MOST_ROWS = 65_536
+# A step through all keys up to 65,537, which is a prime: they come in no order.
+STEP = 40_503
+
+
+def most_rows() -> List[Case]:
+    """A table takes so many rows, here in no order of their keys, and no more until one is deleted. All of them are shown in order."""
+    keys = [place * STEP % (MOST_ROWS + 1) for place in range(1, MOST_ROWS + 1)]
+    made = [(f"bank.1: INSERT INTO T VALUES ({key}, {key % 7})\n" + "@join\n" * (place % 32_768 == 0), "bank.1> OK inserted\n") for place, key in enumerate(keys, 1)]
+    shown = [f"bank.1> {key} | {key % 7}\n" for key in range(2, MOST_ROWS + 2)]
+    shown[-1] = "bank.1> 65537 | 8\n"
+    script, replies = ("".join(it) for it in zip(
+        ("bank.1: CREATE TABLE T (ID INTEGER PRIMARY KEY, N INTEGER RESERVABLE)\n", "bank.1> OK created T\n"),
+        *made,
+        ("bank.1: INSERT INTO T VALUES (65537, 8)\n", "bank.1> ERR 34 table full\n"),
+        ("bank.1: INSERT INTO T VALUES (1, 8)\n", "bank.1> ERR 30 row exists\n"),
+        ("bank.1: DELETE FROM T WHERE ID = 1\n", "bank.1> OK deleted\n"),
+        ("bank.1: INSERT INTO T VALUES (65537, 8)\n", "bank.1> OK inserted\n"),
+        ("bank.1: SELECT * FROM T\n", f"bank.1> ID | N\n{''.join(shown)}bank.1> OK rows {MOST_ROWS}\n"),
+        ("bank.1: INSERT INTO T VALUES (1, 8)\n", "bank.1> ERR 34 table full\n"),
+    ))
+    return [Case("the most rows", (mode,), script, replies, reads=True) for mode in ("run", "free")]
+
+
+def parts() -> Case:
+    """The last session of the last database is served as many statements in each phase as are then handed out as a part of a history, in 24 phases: none of
+    them finds the transcript full."""
+    asked, served, phases = "bank16.64: COMMIT\n", "bank16.64> OK committed 0\n", 24
+    return Case("24 parts", ("free", "--databases", "16"), (asked * 32_768 + "@join\n") * phases, served * 32_768 * phases, reads=True)
+
+
 def counter(program: Program, folder: str) -> None:
     """Eight sessions count up one row at the same time, 100 times each: each number is given once, and in the end all are counted."""
     made = "bank.1: CREATE TABLE COUNTER (ID INTEGER PRIMARY KEY, HITS INTEGER RESERVABLE)\nbank.1: INSERT INTO COUNTER VALUES (1, 0)\n@join\n"

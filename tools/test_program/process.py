@@ -3,13 +3,14 @@ import array
 import enum
 import fcntl
 import os
+import socket
 import subprocess
 import tempfile
 import termios
 import threading
 import time
 import tty
-from typing import Any, Callable, Dict, List, Mapping, NamedTuple, Optional, Sequence, Union
+from typing import Any, Callable, Dict, List, Mapping, NamedTuple, Optional, Sequence, Tuple, Union
 
 Word = Union[str, bytes]
 # The seconds that one run of the program may take.
@@ -35,6 +36,8 @@ class Input(enum.Enum):
     FAILING = enum.auto()
     # A terminal. Behind the script its end is typed, and then one line more.
     TERMINAL = enum.auto()
+    # A socket that gives one byte to each read.
+    BYTES = enum.auto()
     FOLDER = enum.auto()
     CLOSED = enum.auto()
 
@@ -127,6 +130,12 @@ def read_all(descriptor: int, into: bytearray) -> None:
         into += data
 
 
+def sockets() -> Tuple[int, int]:
+    """The end that reads and the end that writes of a socket. What is written at once is read at once, and nothing else with it."""
+    reader, writer = socket.socketpair(socket.AF_UNIX, socket.SOCK_SEQPACKET)
+    return reader.detach(), writer.detach()
+
+
 def unread_bytes(reader: int) -> int:
     """How many bytes of a pipe were not read yet."""
     count = array.array("i", [0])
@@ -174,7 +183,7 @@ class Stage:
         self.given.append(descriptor)
 
     def give_input(self, kind: Input, script: bytes = b"") -> None:
-        """Makes standard input. The script of a pipe is written later."""
+        """Makes standard input. The script of a pipe or a socket is written later."""
         if kind == Input.CLOSED:
             self.shell += "exec <&-; "
         elif kind == Input.FOLDER:
@@ -183,6 +192,9 @@ class Stage:
             self.reader, self.writer = os.pipe()
             self.own.append(self.reader)
             self.streams["stdin"] = self.reader
+        elif kind == Input.BYTES:
+            reader, self.writer = sockets()
+            self.give("stdin", reader)
         else:
             makers = {Input.FILE: self.give_file, Input.FAILING: self.give_failing, Input.TERMINAL: self.give_typed}
             makers[kind](script)
@@ -255,12 +267,13 @@ class Stage:
         """Whether the program has ended."""
         return self.started is None or self.started.poll() is not None
 
-    def write(self, script: bytes) -> None:
-        """Writes a script to the pipe that is standard input. A program that reads no more is judged by what it shows."""
+    def write(self, script: bytes, most: Optional[int] = None) -> None:
+        """Writes a script to the pipe that is standard input, so many bytes at a time at most. A program that reads no more is judged by what it shows."""
+        left = memoryview(script)
         try:
-            while script:
-                script = script[os.write(self.writer, script) :]
-        except BrokenPipeError:
+            while left:
+                left = left[os.write(self.writer, left[:most]) :]
+        except (BrokenPipeError, ConnectionResetError):
             pass
 
     def give_lines(self, script: str, replies: str) -> None:
@@ -309,8 +322,8 @@ def check(program: Program, case: Case, folder: str) -> None:
             stage.give_limited(limited, case.room)
         stage.give_output("stderr", case.stderr)
         stage.start(program, case.words, folder, case.variables)
-        if case.stdin == Input.PIPE:
-            stage.write(script)
+        if case.stdin in (Input.PIPE, Input.BYTES):
+            stage.write(script, 1 if case.stdin == Input.BYTES else None)
         status = stage.end()
         compare_errors(case, stage.text("stderr"))
         compare("standard output", case.replies, stage.text("stdout") if case.room is None else tail_of(limited, case.room))

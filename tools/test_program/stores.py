@@ -66,6 +66,8 @@ def paths() -> Story:
         Serve(store("made.db"), MADE),
         Serve(store("made.db"), CHANGED),
         Serve(store("made.db"), SHOWN),
+        Copy("stores/made.db", "stores/hot.db"),
+        Write("stores/hot.db-journal", "journal"),
         Serve(store("empty.db"), MADE),
         Serve(store("empty.db"), CHANGED),
         Serve(store("-.db"), MADE),
@@ -81,8 +83,11 @@ def paths() -> Story:
         Refuse("stores/note.db", FOREIGN),
         Refuse("stores/byte.db", FOREIGN),
         Refuse("stores/gone.db", JOURNAL),
+        Refuse("stores/hot.db", JOURNAL),
         Refuse("stores/log.db", NO_FILE),
-        Stand("stores", ["-.db", "byte.db", "bänk \U0001f4b0.db", "empty.db", "folder.db", "gone.db-journal", "log.db-wal", "made.db", "note.db"]),
+        Stand("stores", ["-.db", "byte.db", "bänk \U0001f4b0.db", "empty.db", "folder.db", "gone.db-journal", "hot.db", "hot.db-journal", "log.db-wal", "made.db",
+                         "note.db"]),
+        Same("stores/hot.db", "stores/made.db"),
         Hold("stores/note.db", NOTE),
         Hold("stores/byte.db", "b"),
     ])
@@ -111,6 +116,61 @@ SEVERAL_DATABASES = Story("several databases", [
     Run(HALF._replace(words=("free", *HALF.words[1:]))),
     Stand("stores", ["many.db", "many.db.2", "many.db.3", "two.db", "two.db.2"]),
 ])
+
+# As many databases as there may be, and their files.
+MOST = 16
+NAMES = ["bank", *(f"bank{number}" for number in range(2, MOST + 1))]
+FILES = ["bank.db", *(f"bank.db.{number}" for number in range(2, MOST + 1))]
+LAST = FILES[-1]
+
+
+def sixteen(mode: str) -> List[str]:
+    """The command line that serves a script in all of them."""
+    return [mode, "--databases", str(MOST), "--store", "stores/bank.db"]
+
+
+def all_but_the_last() -> Story:
+    """At the path of the last of 16 databases is one of others, or a folder: it is named and left as it was, nothing is served, and each of the others is
+    closed."""
+    line = f"escrowd: the store of {NAMES[-1]}, `stores/{LAST}`, can't be opened: {{}}\n"
+    refused = Case("", sixteen("serve"), "bank.1: COMMIT\n", status=3, reads=False)
+    return Story("all but the last", [
+        Folder("stores"),
+        Serve(store(LAST), COMMIT),
+        Patch(f"stores/{LAST}", b"META", b"NOTE"),
+        Copy(f"stores/{LAST}", "stores/other"),
+        Run(refused._replace(errors=line.format(FOREIGN))),
+        Same(f"stores/{LAST}", "stores/other"),
+        Stand("stores", [*FILES, "other"]),
+        Rename(f"stores/{LAST}", "stores/other"),
+        Folder(f"stores/{LAST}"),
+        *(Run(refused._replace(words=sixteen(mode), errors=line.format(NO_FILE))) for mode in MODES),
+        Stand("stores", [*FILES, "other"]),
+    ])
+
+
+def behind_a_fault(mode: str) -> Story:
+    """Behind a fault each of 16 databases is in its own file, with the row that its last session has committed."""
+    asked = [
+        f"{name}.64: CREATE TABLE T (ID INTEGER PRIMARY KEY, N INTEGER RESERVABLE)\n{name}.64: INSERT INTO T VALUES (1, {number})\n"
+        f"{name}.64: UPDATE T SET N = N + 100 WHERE ID = 1\n{name}.64: COMMIT\n"
+        for number, name in enumerate(NAMES, 1)
+    ]
+    replies = [f"{name}.64> OK created T\n{name}.64> OK inserted\n{name}.64> OK reserved 1\n{name}.64> OK committed 1\n" for name in NAMES]
+    shown = [f"{name}.1> ID | N\n{name}.1> 1 | {100 + number}\n{name}.1> OK rows 1\n" for number, name in enumerate(NAMES, 1)]
+    all_shown = ("".join(f"{name}.1: SELECT * FROM T\n" for name in NAMES), "".join(shown))
+    last_shown = ("bank.1: SELECT * FROM T\n", f"bank.1> ID | N\nbank.1> 1 | {100 + MOST}\nbank.1> OK rows 1\n")
+    # sessions at the same time that aren't served to the end leave the logs
+    logs = [f"{file}-wal" for file in FILES] if mode == "free" else []
+    return Story(f"behind a fault, {mode}", [
+        Folder("stores"),
+        Run(Case("", sixteen(mode), "".join(asked) + "@join\n", "".join(replies), READ, status=1, stdin=Input.FAILING)),
+        Stand("stores", [*FILES, *logs]),
+        Serve(sixteen(mode), all_shown),
+        Stand("stores", FILES),
+        Serve(store(LAST), last_shown),
+    ])
+
 
 # A store of another format, and a database with another table, stay as they are.
 STORES_OF_OTHERS = Story("stores of others", [
@@ -255,6 +315,18 @@ MIGRATIONS = Story("migrations", [
     Stand("stores", ["bank.db", "bank.db.2"]),
 ])
 
+# The same of 16 stores: each is told, in order.
+ALL_MIGRATIONS = Story("all migrations", [
+    Folder("stores"),
+    *(Copy(OLD, f"stores/{file}") for file in FILES),
+    Serve(sixteen("serve"), COMMIT, errors="".join(MIGRATED.format(file) for file in FILES)),
+    Serve(sixteen("run"), COMMIT),
+    # the last one alone
+    Copy(OLD, f"stores/{LAST}"),
+    Serve(sixteen("free"), COMMIT, errors=MIGRATED.format(LAST)),
+    Stand("stores", FILES),
+])
+
 # Where rights are wanting no store is opened, whether one is there or not, and nothing is left.
 WITHOUT_RIGHTS = Story("without rights", [
     Folder("stores"),
@@ -349,8 +421,13 @@ def stopped() -> Story:
     ])
 
 
-UNCLOSED = ("escrowd: the store of bank, `stores/bank.db`, can't be closed, and what was committed last stands in `stores/bank.db-wal`:"
+def unclosed_line(name: str, file: str) -> str:
+    """The line of a store that can't be closed."""
+    return (f"escrowd: the store of {name}, `stores/{file}`, can't be closed, and what was committed last stands in `stores/{file}-wal`:"
             " it can't be read or written\n")
+
+
+UNCLOSED = unclosed_line("bank", "bank.db")
 
 
 def unclosed(mode: str) -> Story:
@@ -370,9 +447,25 @@ def unclosed_and_unwritten() -> Story:
     ])
 
 
+def several_unclosed() -> Story:
+    """Of 16 stores the second and the last can't be closed: both are reported, in order, and the others are closed."""
+    errors = unclosed_line("bank2", "bank.db.2") + unclosed_line(NAMES[-1], LAST)
+    cut = [Write("stores/bank.db.2-wal", ""), Write(f"stores/{LAST}-wal", "")]
+    return Story("several unclosed", [
+        Folder("stores"),
+        Meanwhile(sixteen("run"), NOTHING, cut, COMMIT, errors),
+        Stand("stores", [*FILES, "bank.db.2-wal", f"{LAST}-wal"]),
+    ])
+
+
 def stories() -> List[Story]:
-    """All stories."""
+    """All stories of one database, or of few."""
     by_mode = [story(mode) for story in (copied_while_open, in_use, unclosed) for mode in MODES]
     by_modes = [two_modes(*modes) for modes in itertools.permutations(MODES, 2)]
     return [paths(), SEVERAL_DATABASES, STORES_OF_OTHERS, names(), MOVED_WITH_ITS_LOG, MOVED_WHILE_OPEN, KILLED, MIGRATIONS, WITHOUT_RIGHTS, *by_mode, *by_modes,
             one_file_at_rest(), closed_streams(), stopped(), unclosed_and_unwritten()]
+
+
+def stories_of_many() -> List[Story]:
+    """Stories of as many databases as there may be."""
+    return [all_but_the_last(), ALL_MIGRATIONS, *map(behind_a_fault, MODES), several_unclosed()]
