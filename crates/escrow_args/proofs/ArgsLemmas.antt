@@ -8,11 +8,10 @@ use Rattle.clap.specs.declared.error.kind.ErrorKind.TheVariants as kind
 use Rattle.std.specs.Prelude.{codes, nat_le}
 use Rattle.std.proofs.lemmas.Bool.Decides.{nat_tests}
 use Rattle.escrow_args.specs.declared.args.ArgFault.{ArgFault}
-use Rattle.escrow_args.specs.declared.args.ArgFault.TheVariants as arg_fault
 use Rattle.escrow_args.specs.declared.args.Mode.{Mode}
 use Rattle.escrow_args.proofs.ArgsFaults.{IsOne}
 use Rattle.escrow_script.specs.declared.limits.TheConstants.{MAX_DATABASES}
-use Rattle.escrow_args.specs.Args.{status_at, fault_status, allowed, databases_of, mode_of, status_of, values_ask}
+use Rattle.escrow_args.specs.Args.{status_at, allowed, databases_of, mode_of, no_memory, status_of, values_ask}
 
 -- without a mode, values ask nothing
 pub no_mode : (rows : List Row) → mode_of (first_of (codes "mode") rows) ≡ None → values_ask rows ≡ None
@@ -48,9 +47,9 @@ above n least more =
     rw (low, high) refl
 
 -- the status of an error of the one kind, or of memory
-pub status_among : (kinds : Kinds) (k : ErrorKind) (fault : ArgFault) → IsOne kinds → (fault ≡ arg_fault.Memory) ⊎ (fault_status fault ≡ status_of k)
-    → (k ≡ kind.OutOfMemory) ⊎ IsAmong k kinds → (k ≡ kind.OutOfMemory → fault ≡ arg_fault.Memory)
-    → (fault ≡ arg_fault.Memory) ⊎ (fault_status fault ≡ status_at kinds)
+pub status_among : (kinds : Kinds) (k : ErrorKind) (fault : ArgFault) → IsOne kinds → (fault ≡ no_memory) ⊎ (fault.status ≡ status_of k)
+    → (k ≡ kind.OutOfMemory) ⊎ IsAmong k kinds → (k ≡ kind.OutOfMemory → fault ≡ no_memory)
+    → (fault ≡ no_memory) ⊎ (fault.status ≡ status_at kinds)
 status_among kinds k fault one (inl memory) among is = inl memory
 status_among kinds k fault one (inr same) (inl memory) is = inl (is memory)
 status_among [] k fault one (inr same) (inr among) is = elim among [ ]
@@ -59,7 +58,7 @@ status_among (x ∷ []) k fault one (inr same) (inr (inr none)) is = elim none [
 status_among (x ∷ y ∷ kinds) k fault one (inr same) (inr among) is = elim one [ ]
 
 -- values that ask nothing are refused by a mistake, or by want of memory
-pub wrong_value : (rows : List Row) (fault : ArgFault) → values_ask rows ≡ None → (fault ≡ arg_fault.Memory) ⊎ (fault_status fault ≡ 2)
-    → (fault ≡ arg_fault.Memory) ⊎ ((values_ask rows ≡ None) × (fault_status fault ≡ 2))
+pub wrong_value : (rows : List Row) (fault : ArgFault) → values_ask rows ≡ None → (fault ≡ no_memory) ⊎ (fault.status ≡ 2)
+    → (fault ≡ no_memory) ⊎ ((values_ask rows ≡ None) × (fault.status ≡ 2))
 wrong_value rows fault none (inl memory) = inl memory
 wrong_value rows fault none (inr two) = inr (none, two)

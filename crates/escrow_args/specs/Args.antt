@@ -8,7 +8,6 @@ use Rattle.clap.specs.declared.builder.action.ArgAction.TheVariants.{Set}
 use Rattle.clap.specs.declared.error.kind.ErrorKind.{ErrorKind}
 use Rattle.clap.specs.declared.error.kind.ErrorKind.TheVariants as kind
 use Rattle.escrow_args.specs.declared.args.ArgFault.{ArgFault}
-use Rattle.escrow_args.specs.declared.args.ArgFault.TheVariants as arg_fault
 use Rattle.escrow_args.specs.declared.args.Args.{Args}
 use Rattle.escrow_args.specs.declared.args.Mode.{Mode}
 use Rattle.escrow_args.specs.declared.args.Mode.TheVariants as mode
@@ -79,11 +78,9 @@ asked_path words = option_and_then (λ args. args.path) (asked_by words)
 
 -- THE EXIT STATUS
 
--- for a fault: 0 for help and the version, 1 for want of memory, 2 for a mistake
-abbrev pub fault_status : ArgFault → ℕ
-fault_status (arg_fault.Help text) = 0
-fault_status (arg_fault.Wrong text) = 2
-fault_status arg_fault.Memory = 1
+-- the fault where memory was refused, which has no text
+abbrev pub no_memory : ArgFault
+no_memory = record { status = 1; text = [] }
 
 -- for a kind of error: 0 for help and the version, 1 for want of memory, 2 for a mistake
 abbrev pub status_of : ErrorKind → ℕ

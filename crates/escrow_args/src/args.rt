@@ -1,7 +1,7 @@
 ghost use Rattle.std.specs.Prelude.{◌≡◌, ◌≤◌, ◌⊎◌, false, Some, None, map, option_map, IfOk, IfSome, IsErrAnd, MatchResult};
 ghost use Rattle.clap.specs.Words.{FailsBy, app_of, found_of, kind_of, matches_of, rows_of, rule_of};
 ghost use Rattle.escrow_args.specs.declared.args.Args.{Args};
-ghost use Rattle.escrow_args.specs.Args.{app, asked_by, databases_of, databases_rule, fault_status, faults_of, mode_of, mode_rule, refused_status, status_of, store_rule, values_ask};
+ghost use Rattle.escrow_args.specs.Args.{app, asked_by, databases_of, databases_rule, faults_of, mode_of, mode_rule, no_memory, refused_status, status_of, store_rule, values_ask};
 
 use clap::error::ErrorKind;
 use clap::{Arg, ArgAction, ArgMatches, Command, Error};
@@ -35,27 +35,21 @@ pub struct Args {
 
 /// Why there are no arguments to go on with.
 #[derive(Drop)]
-pub enum ArgFault {
-    /// Help or the version is asked, which is this text.
-    Help(Text),
-    /// The words are wrong, and why.
-    Wrong(Text),
-    /// Memory was refused.
-    Memory,
+pub struct ArgFault {
+    /// The exit status: 0 where help or the version is asked, 1 for want of memory, 2 for a mistake.
+    pub status: u8,
+    /// The text to print: help or the version, or what is wrong with the words. Empty for want of memory.
+    pub text: Text,
 }
 
 impl ArgFault {
-    ghost use Rattle.std.specs.Prelude.{◌≡◌};
-    ghost use Rattle.escrow_args.specs.Args.{fault_status};
-
-    /// The exit status: 0 where help or the version is asked, 1 for want of memory, 2 for a mistake.
-    pub fn status(&self) -> u8
-        ensures { result ≡ fault_status self.now }
+    /// Returns the fault where memory was refused. Takes no memory.
+    fn memory(alloc: Global) -> Self
+        ensures { result ≡ no_memory }
     {
-        match self {
-            ArgFault::Help(_) => 0,
-            ArgFault::Memory => 1,
-            ArgFault::Wrong(_) => 2,
+        ArgFault {
+            status: 1,
+            text: Text::from_string(String::new(alloc)),
         }
     }
 }
@@ -70,9 +64,9 @@ impl ArgFault {
 pub fn read_args<S: AsStr>(alloc: Global, words: &[S]) -> Result<Args, ArgFault>
     // Words that ask are refused for want of memory alone, and others always.
     ensures asked { (args : Args) → asked_by (map S.text words.now) ≡ Some args
-        → MatchResult result (λ read. read ≡ args) (λ fault. fault ≡ ArgFault.Memory) }
+        → MatchResult result (λ read. read ≡ args) (λ fault. fault ≡ no_memory) }
     ensures refused { asked_by (map S.text words.now) ≡ None
-        → IsErrAnd result (λ fault. (fault ≡ ArgFault.Memory) ⊎ (fault_status fault ≡ refused_status (map S.text words.now))) }
+        → IsErrAnd result (λ fault. (fault ≡ no_memory) ⊎ (fault.status ≡ refused_status (map S.text words.now))) }
     ensures databases { IfOk result (λ args. (1 ≤ args.databases) × (args.databases ≤ MAX_DATABASES)) }
 {
     match parsed(alloc, words) {
@@ -184,7 +178,7 @@ stores that it wrote. --version prints which one this is.";
 /// The arguments that the values ask, or what is wrong with a value.
 fn asked(alloc: Global, matches: &ArgMatches<'_>) -> Result<Args, ArgFault>
     ensures values { MatchResult result (λ args. values_ask (rows_of (found_of matches.now)) ≡ Some args)
-        (λ fault. (fault ≡ ArgFault.Memory) ⊎ ((values_ask (rows_of (found_of matches.now)) ≡ None) × (fault_status fault ≡ 2))) }
+        (λ fault. (fault ≡ no_memory) ⊎ ((values_ask (rows_of (found_of matches.now)) ≡ None) × (fault.status ≡ 2))) }
     ensures databases { IfOk result (λ args. (1 ≤ args.databases) × (args.databases ≤ MAX_DATABASES)) }
 {
     let Some(mode) = mode_of(matches.get_str("mode")) else {
@@ -199,7 +193,7 @@ fn asked(alloc: Global, matches: &ArgMatches<'_>) -> Result<Args, ArgFault>
             path,
             databases,
         }),
-        Err(_) => Err(ArgFault::Memory),
+        Err(_) => Err(ArgFault::memory(alloc)),
     }
 }
 
@@ -244,17 +238,18 @@ fn databases_of(value: Option<&str>) -> Option<u8>
 
 /// What a parse without matches gives to print.
 fn fault_of(alloc: Global, error: &Error) -> ArgFault
-    ensures status { (result ≡ ArgFault.Memory) ⊎ (fault_status result ≡ status_of (kind_of error.now)) }
-    ensures memory { kind_of error.now ≡ ErrorKind.OutOfMemory → result ≡ ArgFault.Memory }
+    ensures status { (result ≡ no_memory) ⊎ (result.status ≡ status_of (kind_of error.now)) }
+    ensures memory { kind_of error.now ≡ ErrorKind.OutOfMemory → result ≡ no_memory }
 {
     let Ok(text) = error.to_string(alloc) else {
-        return ArgFault::Memory;
+        return ArgFault::memory(alloc);
     };
     match error.kind() {
-        ErrorKind::OutOfMemory => ArgFault::Memory,
-        ErrorKind::DisplayHelp | ErrorKind::DisplayVersion => {
-            ArgFault::Help(Text::from_string(text))
-        }
+        ErrorKind::OutOfMemory => ArgFault::memory(alloc),
+        ErrorKind::DisplayHelp | ErrorKind::DisplayVersion => ArgFault {
+            status: 0,
+            text: Text::from_string(text),
+        },
         _ => wrong_words(alloc, without_prefix(text.as_str())),
     }
 }
@@ -266,14 +261,11 @@ fn without_prefix(text: &str) -> &str {
 
 /// The fault of words that clap refuses with a text. A word too many is most likely a script's file.
 fn wrong_words(alloc: Global, text: &str) -> ArgFault
-    ensures { (result ≡ ArgFault.Memory) ⊎ (fault_status result ≡ 2) }
+    ensures { (result ≡ no_memory) ⊎ (result.status ≡ 2) }
 {
     match text.split_once('\n') {
         Some((said, usage)) if names_a_file(said) => {
-            match format!(in alloc; "{said}\n{FILE_TIP}{usage}") {
-                Ok(text) => ArgFault::Wrong(Text::from_string(text)),
-                Err(_) => ArgFault::Memory,
-            }
+            mistake(alloc, format!(in alloc; "{said}\n{FILE_TIP}{usage}"))
         }
         _ => wrong(alloc, text),
     }
@@ -293,12 +285,22 @@ fn names_a_file(text: &str) -> bool {
         .is_some_and(|word| !word.starts_with('-'))
 }
 
-/// The fault of words that are wrong, or of memory where there is none for its text.
+/// The fault of words that are wrong, and a text says why.
 fn wrong(alloc: Global, text: &str) -> ArgFault
-    ensures { (result ≡ ArgFault.Memory) ⊎ (fault_status result ≡ 2) }
+    ensures { (result ≡ no_memory) ⊎ (result.status ≡ 2) }
 {
-    match String::from_str(alloc, text) {
-        Ok(text) => ArgFault::Wrong(Text::from_string(text)),
-        Err(_) => ArgFault::Memory,
+    mistake(alloc, String::from_str(alloc, text))
+}
+
+/// The fault of words that are wrong, with the text that says why, or of memory where it was refused for the text.
+fn mistake(alloc: Global, text: Result<String, AllocError>) -> ArgFault
+    ensures { (result ≡ no_memory) ⊎ (result.status ≡ 2) }
+{
+    match text {
+        Ok(text) => ArgFault {
+            status: 2,
+            text: Text::from_string(text),
+        },
+        Err(_) => ArgFault::memory(alloc),
     }
 }

@@ -1,4 +1,4 @@
--- Helps: what is read of a part of a row. Nothing that callers of a database see rests on it.
+-- Believed: what is read of a part of a row.
 use Rattle.std.specs.Prelude.{ℤ, Bool, ◌&&◌, List, [], ◌∷◌, map, filter, IsPermutation, IsSorted}
 use Rattle.std.specs.Ordering.{on}
 use Rattle.sqlite_value.specs.declared.value.Value.{Value}

@@ -23,11 +23,12 @@ mod update;
 
 use escrow_machine::Reply;
 use escrow_num::{Refusal, Session};
+use escrow_recover::Opened;
 use escrow_reserved::{Recent, Reserved};
 use escrow_statement::Statement;
 use escrow_tables::Tables;
 use sqlite::{Alter, Connection};
-use std::alloc::{AllocFailed, Global};
+use std::alloc::Global;
 use std::marker::Model;
 
 /// What answers a statement: its reply, or why it is refused.
@@ -68,12 +69,12 @@ impl<S: Alter> Model for Database<S> {
 }
 
 impl<S: Alter> Database<S> {
-    ghost use Rattle.std.specs.Prelude.{◌≡◌, false, IfOk, IfErr, IsTrue};
-    ghost use Rattle.std.specs.List.{AllByRecursion};
+    ghost use Rattle.std.specs.Prelude.{◌≡◌, false, IfOk, IfErr, IsTrue, List};
     ghost use Rattle.sqlite.specs.Held.{state};
     ghost use Rattle.sqlite.specs.State.{HasCleanDisk, Survives};
     ghost use Rattle.sqlite_trees.specs.Tree.{Trees};
     ghost use Rattle.escrow_journal.specs.Open.{id_left};
+    ghost use Rattle.escrow_num.specs.declared.row.Row.{Row};
     ghost use Rattle.escrow_rows.specs.Answers.{IsUsable};
     ghost use Rattle.escrow_num.specs.declared.failure.Failure.TheVariants.{Store};
     ghost use Rattle.escrow_machine.specs.Promised.{asks_store, is_promised, reads_rows};
@@ -84,26 +85,34 @@ impl<S: Alter> Database<S> {
     ghost use Rattle.escrow_machine.specs.State.{has_open, is_open, opened};
     ghost use Rattle.escrow_machine.specs.Step.{IsStep, StepOrRefusal};
     ghost use Rattle.escrow_machine.specs.Valid.{IsValid};
-    ghost use Rattle.escrow_schema.specs.Rows.{MeetsChecks};
+    ghost use Rattle.escrow_schema.specs.Stored.{catalog_of};
+    ghost use Rattle.escrow_recover.specs.Opened.{IsOpened, Stores};
 
-    /// A database of tables and rows that were committed, in which nothing is open and the next id is 1.
-    /// Each row has to meet the checks of its table. Out of memory is the only error, and hands the
-    /// tables back.
-    pub fn open(alloc: Global, tables: Tables<S>) -> Result<Self, AllocFailed<Tables<S>>>
-        requires { HasCleanDisk (state S.Store tables.store) → AllByRecursion (MeetsChecks tables.catalog) tables.rows }
-        ensures store { IfOk result (λ d. d.store ≡ tables.store) }
-        ensures state { IfOk result (λ d. d.state ≡ opened tables.catalog tables.rows) }
-        ensures refused { IfErr result (λ failed. failed.value ≡ tables) }
+    /// Opens the database of a store that is opened: nothing is open in it, and the next id is 1. Makes no
+    /// store call.
+    ///
+    /// # Errors
+    ///
+    /// [`Refusal::Memory`], with what was opened.
+    pub fn open(alloc: Global, found: Opened<S>) -> Result<Self, (Opened<S>, Refusal)>
+        requires { HasCleanDisk (state S.Store found.store) → IsOpened (state S.Store found.store) found.catalog }
+        ensures store { IfOk result (λ d. d.store ≡ found.store) }
+        ensures state { IfOk result (λ d. d.state ≡ opened (catalog_of found.catalog) d.state.rows) }
+        ensures rows { IfOk result (λ d. (rows : List Row) → Stores (state S.Store found.store) found.catalog rows → d.state.rows ≡ rows) }
+        ensures refused { IfErr result (λ failed. (failed.0 ≡ found) × (failed.1 ≡ Refusal.Memory)) }
     {
-        // What its type knows of the tables is told where they are counted.
-        let _ = tables.len();
         match Reserved::new(alloc) {
-            Ok(reserved) => Ok(Database {
-                tables,
-                reserved,
-                recent: Recent::new(),
-            }),
-            Err(_) => Err(AllocFailed { value: tables }),
+            Ok(reserved) => {
+                let tables = Tables::over(found);
+                // What its type knows of the tables is told where they are counted.
+                let _ = tables.len();
+                Ok(Database {
+                    tables,
+                    reserved,
+                    recent: Recent::new(),
+                })
+            }
+            Err(_) => Err((found, Refusal::Memory)),
         }
     }
 

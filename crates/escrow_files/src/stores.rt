@@ -8,8 +8,7 @@ ghost use Rattle.escrow_files.specs.Files.{file_of};
 
 use crate::site::{Outlook, Site};
 use escrow_memory::BlockStore;
-use escrow_num::Failure;
-use escrow_tables::Unverified;
+use escrow_num::Refusal;
 use sqlite::{Alter, Connection, Error, ErrorCode, File, FileStore, Options, Unknown};
 use sqlite_std_file::OpenError;
 use std::alloc::{AllocError, Global};
@@ -103,13 +102,13 @@ impl From<Error> for OpenFault {
     }
 }
 
-impl From<Unverified> for OpenFault {
-    fn from(cause: Unverified) -> OpenFault {
+impl From<Refusal> for OpenFault {
+    fn from(cause: Refusal) -> OpenFault {
         match cause {
-            Unverified::Failed(Failure::Memory) => OpenFault::Memory,
-            Unverified::Failed(Failure::Store) => OpenFault::Store,
-            Unverified::ForeignStore => OpenFault::Foreign,
-            Unverified::OtherFormat => OpenFault::Version,
+            Refusal::Memory => OpenFault::Memory,
+            Refusal::ForeignStore => OpenFault::Foreign,
+            Refusal::UnknownVersion => OpenFault::Version,
+            _ => OpenFault::Store,
         }
     }
 }

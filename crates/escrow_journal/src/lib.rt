@@ -8,4 +8,5 @@ mod journal;
 pub mod laws;
 mod lists;
 
+pub use escrow_num::Reservation;
 pub use journal::Journal;

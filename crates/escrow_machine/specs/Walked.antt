@@ -1,4 +1,4 @@
--- Helps: words on reservations, columns and ends.
+-- Believed: words on reservations, columns and ends.
 use Rattle.std.specs.Prelude.{ℕ, ℤ, ◌+◌, ◌≤◌, List, [], ◌∷◌, length}
 use Rattle.escrow_num.specs.declared.reservation.Reservation.{Reservation}
 use Rattle.escrow_num.specs.declared.session.End.{End}

@@ -1,4 +1,4 @@
--- Helps: what is open in a database, beside the places of the rows that it reserves.
+-- Believed: what is open in a database, beside the places of the rows that it reserves.
 use Rattle.std.specs.Prelude.{◌≡◌, ℕ, ℤ, true, false, Option, Some, None, is_some, option_map, List, [], ◌∷◌, map}
 use Rattle.std.specs.List.{AllByRecursion, list_any}
 use Rattle.escrow_num.specs.declared.refusal.Refusal.{Refusal}

@@ -363,19 +363,15 @@ impl Reserved {
     /// Makes new places for the reserved rows of a table, over all the checks that it is to have; the
     /// places that there are stay as they are. Each check has at most as many coefficients as such a row
     /// has amounts. Want of memory is the only error.
-    pub fn prepare(
-        &self,
-        alloc: Global,
-        table: Name,
-        checks: &[Check],
-    ) -> Result<Addition, AllocError>
+    pub fn prepare(&self, alloc: Global, table: Name, checks: &[Check]) -> Result<Addition, Refusal>
         requires placed { ArePlaced self.now.txns.reservations self.now.places }
         requires many { length self.now.txns.reservations ≤ MAX_OPEN }
         requires few { (row : Row) (place : Kept) → bytes_eq row.table table ≡ true → place_at self.now.places row ≡ Some place
             → length place.amounts ≤ MAX_LEN }
         requires covered { (row : Row) (place : Kept) → bytes_eq row.table table ≡ true → place_at self.now.places row ≡ Some place
             → AllByRecursion (λ check. IsCovered check.coeffs place.amounts) checks.now }
-        ensures { IfOk result (λ addition. ArePrepared table checks.now self.now.txns.reservations self.now.places addition) }
+        ensures prepared { IfOk result (λ addition. ArePrepared table checks.now self.now.txns.reservations self.now.places addition) }
+        ensures only { IfErr result (λ e. e ≡ Refusal.Memory) }
     {
         let reservations = self.txns.all_in_order(alloc)?;
         self.bounds.prepare(table, checks, &reservations)

@@ -20,7 +20,7 @@ use Rattle.escrow_cells.specs.Read.{AreOfTable}
 use Rattle.escrow_cells.specs.Step.{is_in}
 use Rattle.escrow_cells.specs.Store.{IsStore, cells}
 use Rattle.escrow_rows.specs.declared.keyed_row.KeyedRow.{KeyedRow}
-use Rattle.escrow_rows.specs.declared.stored.StoredTable.{StoredTable}
+use Rattle.escrow_schema.specs.declared.stored.StoredTable.{StoredTable}
 use Rattle.escrow_rows.specs.Answers.{TellsAllValues}
 use Rattle.escrow_rows.specs.Changes.{Stands}
 use Rattle.escrow_rows.specs.Image.{cells_of, AreTables, AreRows}

@@ -19,7 +19,7 @@ use Rattle.escrow_num.proofs.Items.{Has, find_has}
 use Rattle.escrow_num.proofs.Orders.{name_same}
 use Rattle.escrow_schema.specs.Fit.{IsRowOf, values_of}
 use Rattle.escrow_cells.specs.Step.{same, is_in, is_of}
-use Rattle.escrow_rows.specs.declared.stored.StoredTable.{StoredTable}
+use Rattle.escrow_schema.specs.declared.stored.StoredTable.{StoredTable}
 use Rattle.escrow_rows.specs.Image.{stored, cells_from, cells_in, cells_of, stored_named, AreTables, IsOfTables}
 use Rattle.escrow_rows.specs.Changes.{Stands, name_in}
 use Rattle.escrow_rows.proofs.Same.{same_numbers, same_stored}

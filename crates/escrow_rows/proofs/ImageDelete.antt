@@ -9,7 +9,7 @@ use Rattle.escrow_num.specs.Order.{same_row}
 use Rattle.escrow_cells.specs.declared.datum.Datum.{Datum}
 use Rattle.escrow_cells.specs.declared.step.Step.TheVariants as step
 use Rattle.escrow_cells.specs.Step.{Does, kept, is_of}
-use Rattle.escrow_rows.specs.declared.stored.StoredTable.{StoredTable}
+use Rattle.escrow_schema.specs.declared.stored.StoredTable.{StoredTable}
 use Rattle.escrow_rows.specs.Image.{stored, cells_of, AreTables, AreRows, IsOfTables}
 use Rattle.escrow_rows.specs.Changes.{Stands, Deletes, name_in}
 use Rattle.escrow_schema.specs.Rows.{without_row}

@@ -19,7 +19,7 @@ use Rattle.escrow_cells.specs.declared.datum.Datum.{Datum}
 use Rattle.escrow_cells.specs.declared.step.Step.{Step}
 use Rattle.escrow_cells.specs.declared.step.Step.TheVariants as step
 use Rattle.escrow_cells.specs.Step.{Does, done, kept}
-use Rattle.escrow_rows.specs.declared.stored.StoredTable.{StoredTable}
+use Rattle.escrow_schema.specs.declared.stored.StoredTable.{StoredTable}
 use Rattle.escrow_rows.specs.Image.{stored, cells_from, cells_in, cells_of, stored_named}
 use Rattle.escrow_rows.specs.Changes.{Stands, Inserts}
 use Rattle.escrow_schema.specs.Rows.{with_row}

@@ -18,7 +18,7 @@ use Rattle.escrow_schema.specs.declared.table.TableDef.{TableDef}
 use Rattle.escrow_schema.specs.Print.{canonical}
 use Rattle.escrow_cells.specs.declared.step.Step.TheVariants as step
 use Rattle.escrow_cells.specs.Step.{Does}
-use Rattle.escrow_rows.specs.declared.stored.StoredTable.{StoredTable}
+use Rattle.escrow_schema.specs.declared.stored.StoredTable.{StoredTable}
 use Rattle.escrow_rows.specs.Image.{cells_in, cells_of, stored_named, tab_row}
 use Rattle.escrow_rows.specs.Changes.{Redefines, with_checks, with_redefined, without_stored}
 use Rattle.escrow_rows.proofs.Cells.{never_apart, stands_has}

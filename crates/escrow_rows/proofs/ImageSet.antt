@@ -19,7 +19,7 @@ use Rattle.escrow_schema.specs.Fit.{IsRowOf, values_of}
 use Rattle.escrow_cells.specs.declared.step.Step.{Step}
 use Rattle.escrow_cells.specs.Step.{Contents, Does, done, is_of}
 use Rattle.escrow_rows.specs.declared.amounts.NewAmounts.{NewAmounts}
-use Rattle.escrow_rows.specs.declared.stored.StoredTable.{StoredTable}
+use Rattle.escrow_schema.specs.declared.stored.StoredTable.{StoredTable}
 use Rattle.escrow_rows.specs.Image.{stored, cells_from, cells_in, cells_of, stored_named, AreTables, IsOfTables}
 use Rattle.escrow_rows.specs.Changes.{Stands, SetsPlain, PutsAmounts, name_in, with_new_amounts, with_amounts, put_all}
 use Rattle.escrow_schema.specs.Rows.{replaced, with_values, with_plain}

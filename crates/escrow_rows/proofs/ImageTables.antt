@@ -15,7 +15,7 @@ use Rattle.escrow_num.proofs.Orders.{name_same}
 use Rattle.escrow_schema.specs.Print.{canonical}
 use Rattle.escrow_cells.specs.declared.step.Step.TheVariants as step
 use Rattle.escrow_cells.specs.Step.{Does, same, is_in}
-use Rattle.escrow_rows.specs.declared.stored.StoredTable.{StoredTable}
+use Rattle.escrow_schema.specs.declared.stored.StoredTable.{StoredTable}
 use Rattle.escrow_rows.specs.Image.{cells_in, cells_of, stored_named, tab_row, AreTables, AreRows, IsOfTables}
 use Rattle.escrow_rows.specs.Changes.{Creates, Drops, without_stored}
 use Rattle.escrow_schema.specs.Rows.{without_rows_of}

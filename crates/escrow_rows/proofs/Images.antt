@@ -6,7 +6,7 @@ use Rattle.escrow_num.specs.declared.row.Row.{Row}
 use Rattle.escrow_cells.specs.declared.step.Step.{Step}
 use Rattle.escrow_cells.specs.Step.{Contents, contents, done, Does}
 use Rattle.escrow_cells.specs.Store.{Migrates as MigratesStore}
-use Rattle.escrow_rows.specs.declared.stored.StoredTable.{StoredTable}
+use Rattle.escrow_schema.specs.declared.stored.StoredTable.{StoredTable}
 use Rattle.escrow_rows.specs.Image.{IsImage, AreTables, AreRows, tab_row, cells_of}
 use Rattle.escrow_rows.specs.Changes.{Stands, TurnsRows, Migrates}
 

@@ -9,6 +9,7 @@ pub mod ImageSet
 pub mod ImageTables
 pub mod Images
 pub mod KeyedCells
+pub mod ListedTables
 pub mod Listings
 pub mod Looking
 pub mod News
@@ -27,3 +28,4 @@ pub mod Same
 pub mod Spans
 pub mod TableRead
 pub mod ViewLemmas
+pub mod WholeRows

@@ -22,7 +22,7 @@ use Rattle.escrow_num.specs.Ascending.{IsAscending}
 use Rattle.escrow_cells.specs.Read.{AreTabs}
 use Rattle.escrow_cells.specs.Store.{IsStore, tabs}
 use Rattle.escrow_rows.specs.declared.listed.ListedTable.{ListedTable}
-use Rattle.escrow_rows.specs.declared.stored.StoredTable.{StoredTable}
+use Rattle.escrow_schema.specs.declared.stored.StoredTable.{StoredTable}
 use Rattle.escrow_rows.specs.Answers.{TellsTables, listing}
 use Rattle.escrow_rows.specs.Image.{tab_row}
 use Rattle.escrow_rows.specs.Listing.{listed_row}

@@ -30,7 +30,7 @@ use Rattle.escrow_cells.specs.Read.{AreOfRow}
 use Rattle.escrow_cells.specs.Span.{AreOfSpan}
 use Rattle.escrow_cells.specs.Step.{is_of}
 use Rattle.escrow_cells.specs.Store.{IsStore, cells}
-use Rattle.escrow_rows.specs.declared.stored.StoredTable.{StoredTable}
+use Rattle.escrow_schema.specs.declared.stored.StoredTable.{StoredTable}
 use Rattle.escrow_schema.specs.Rows.{row_named}
 use Rattle.escrow_rows.specs.Answers.{Tells}
 use Rattle.escrow_rows.specs.Image.{stored, cells_of, IsImage, AreTables, AreRows}

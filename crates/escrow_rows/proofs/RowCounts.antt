@@ -22,7 +22,7 @@ use Rattle.escrow_schema.proofs.BackLemmas.{length-values_of}
 use Rattle.escrow_schema.proofs.RuleLemmas.{key_stands}
 use Rattle.escrow_cells.specs.Step.{same, is_in, is_of, is_at}
 use Rattle.escrow_cells.specs.Store.{IsStore, cells}
-use Rattle.escrow_rows.specs.declared.stored.StoredTable.{StoredTable}
+use Rattle.escrow_schema.specs.declared.stored.StoredTable.{StoredTable}
 use Rattle.escrow_rows.specs.Answers.{Tells, TellsCount}
 use Rattle.escrow_rows.specs.Image.{stored, cells_from, cells_of, AreTables, AreRows, IsOfTables}
 use Rattle.escrow_schema.specs.Rows.{row_named, rows_of}

@@ -14,7 +14,7 @@ use Rattle.escrow_num.proofs.Orders.{row_same}
 use Rattle.escrow_schema.specs.Fit.{IsRowOf}
 use Rattle.escrow_cells.specs.Step.{is_of}
 use Rattle.escrow_cells.specs.Store.{cells}
-use Rattle.escrow_rows.specs.declared.stored.StoredTable.{StoredTable}
+use Rattle.escrow_schema.specs.declared.stored.StoredTable.{StoredTable}
 use Rattle.escrow_schema.specs.Rows.{row_named}
 use Rattle.escrow_rows.specs.Image.{stored, cells_in, cells_of, AreTables, AreRows, IsOfTables}
 use Rattle.escrow_rows.specs.Changes.{Stands, name_in}

@@ -12,7 +12,7 @@ use Rattle.escrow_cells.specs.Read.{AreOfTable, Takes}
 use Rattle.escrow_cells.specs.Store.{IsStore, cells}
 use Rattle.escrow_rows.specs.declared.keyed_row.KeyedRow.{KeyedRow}
 use Rattle.escrow_rows.specs.declared.reader.RowReader.{RowReader}
-use Rattle.escrow_rows.specs.declared.stored.StoredTable.{StoredTable}
+use Rattle.escrow_schema.specs.declared.stored.StoredTable.{StoredTable}
 use Rattle.escrow_rows.specs.Gathered.{Extends, HasGathered, IsGathered}
 use Rattle.escrow_rows.specs.Image.{CanBeHeld}
 use Rattle.escrow_rows.specs.Placed.{keyed}

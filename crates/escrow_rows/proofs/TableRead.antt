@@ -15,7 +15,7 @@ use Rattle.escrow_num.proofs.Orders.{name_same}
 use Rattle.escrow_schema.specs.declared.table.TableDef.{TableDef}
 use Rattle.escrow_schema.specs.Fit.{IsRowOf, values_of}
 use Rattle.escrow_cells.specs.Step.{is_in}
-use Rattle.escrow_rows.specs.declared.stored.StoredTable.{StoredTable}
+use Rattle.escrow_schema.specs.declared.stored.StoredTable.{StoredTable}
 use Rattle.escrow_rows.specs.Changes.{Stands}
 use Rattle.escrow_rows.specs.Image.{cells_of, AreTables, AreRows, IsOfTables}
 use Rattle.escrow_rows.specs.Placed.{keyed_cells}

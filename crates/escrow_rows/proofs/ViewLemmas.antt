@@ -18,7 +18,7 @@ use Rattle.escrow_schema.proofs.BackLemmas.{length-values_of, row_with_values_of
 use Rattle.escrow_schema.proofs.RuleLemmas.{key_stands}
 use Rattle.escrow_cells.specs.Step.{same, is_of, is_at}
 use Rattle.escrow_cells.specs.Store.{cells}
-use Rattle.escrow_rows.specs.declared.stored.StoredTable.{StoredTable}
+use Rattle.escrow_schema.specs.declared.stored.StoredTable.{StoredTable}
 use Rattle.escrow_rows.specs.Image.{stored, cells_from, cells_in, cells_of, AreTables, AreRows, IsOfTables}
 use Rattle.escrow_rows.specs.Changes.{name_in}
 use Rattle.escrow_rows.specs.View.{kept_from, stored_numbered, row_at, rows_in}

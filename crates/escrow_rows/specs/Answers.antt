@@ -7,7 +7,7 @@ use Rattle.escrow_num.specs.declared.row.Row.{Row}
 use Rattle.escrow_num.specs.declared.value.Value.{Value}
 use Rattle.escrow_schema.specs.Fit.{values_of}
 use Rattle.escrow_schema.specs.Print.{canonical}
-use Rattle.escrow_rows.specs.declared.stored.StoredTable.{StoredTable}
+use Rattle.escrow_schema.specs.declared.stored.StoredTable.{StoredTable}
 use Rattle.escrow_rows.specs.declared.listed.ListedTable.{ListedTable}
 use Rattle.escrow_rows.specs.Image.{IsImage, AreTables, AreRows}
 use Rattle.escrow_schema.specs.Rows.{row_named, rows_of}
@@ -26,6 +26,14 @@ TellsAmounts s key = Tells s (λ rows. option_map (λ row. row.amounts) (row_nam
 -- its values, in column order
 abbrev pub TellsValues : StoredTable → Value → Database → Option (List Value) → Type 0
 TellsValues s key = Tells s (λ rows. option_map (values_of s.table) (row_named rows (name_in s key)))
+
+-- the row itself, if it is there
+abbrev pub TellsRow : StoredTable → Value → Database → Option Row → Type 0
+TellsRow s key = Tells s (λ rows. row_named rows (name_in s key))
+
+-- the rows of a table, in order of key
+abbrev pub TellsRows : StoredTable → Database → List Row → Type 0
+TellsRows s = Tells s (λ rows. rows_of rows s.table.name)
 
 -- the values of each row of a table, in order of key
 abbrev pub TellsAllValues : StoredTable → Database → List (List Value) → Type 0

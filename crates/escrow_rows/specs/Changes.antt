@@ -8,7 +8,7 @@ use Rattle.escrow_num.specs.declared.value.Value.{Value}
 use Rattle.escrow_num.specs.Order.{same_row}
 use Rattle.escrow_checks.specs.declared.check.Check.{Check}
 use Rattle.escrow_schema.specs.Rows.{with_row, without_row, without_rows_of, replaced, with_plain}
-use Rattle.escrow_rows.specs.declared.stored.StoredTable.{StoredTable}
+use Rattle.escrow_schema.specs.declared.stored.StoredTable.{StoredTable}
 use Rattle.escrow_rows.specs.declared.amounts.NewAmounts.{NewAmounts}
 use Rattle.escrow_rows.specs.Image.{IsImage, IsImageIn, AreTables, AreRows, stored_named}
 

@@ -19,7 +19,7 @@ use Rattle.escrow_schema.specs.Print.{canonical}
 use Rattle.escrow_schema.specs.Rows.{row_before, rows_of}
 use Rattle.escrow_cells.specs.declared.formats.TheConstants.{FORMAT}
 use Rattle.escrow_cells.specs.Store.{IsStore, format, metas, tabs, cells}
-use Rattle.escrow_rows.specs.declared.stored.StoredTable.{StoredTable}
+use Rattle.escrow_schema.specs.declared.stored.StoredTable.{StoredTable}
 use Rattle.escrow_schema.specs.declared.table.TheConstants.TableDef.{MAX_ROWS}
 
 -- a value as SQLite keeps it

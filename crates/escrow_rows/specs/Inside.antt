@@ -8,7 +8,7 @@ use Rattle.escrow_num.specs.declared.value.Value.TheVariants.{Number}
 use Rattle.escrow_schema.specs.declared.column.Column.{Column}
 use Rattle.escrow_cells.specs.declared.step.Step.{Step}
 use Rattle.escrow_cells.specs.Step.{Contents, done, with_value}
-use Rattle.escrow_rows.specs.declared.stored.StoredTable.{StoredTable}
+use Rattle.escrow_schema.specs.declared.stored.StoredTable.{StoredTable}
 use Rattle.escrow_rows.specs.declared.amounts.NewAmounts.{NewAmounts}
 use Rattle.escrow_rows.specs.Image.{stored}
 

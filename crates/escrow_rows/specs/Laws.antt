@@ -4,7 +4,7 @@ use Rattle.std.specs.List.{flat_map}
 use Rattle.sqlite.specs.Effect.{Database}
 use Rattle.escrow_num.specs.declared.row.Row.{Row}
 use Rattle.escrow_cells.specs.Store.{cells}
-use Rattle.escrow_rows.specs.declared.stored.StoredTable.{StoredTable}
+use Rattle.escrow_schema.specs.declared.stored.StoredTable.{StoredTable}
 use Rattle.escrow_rows.specs.Image.{AreTables, AreRows, cells_of}
 use Rattle.escrow_rows.specs.View.{rows_in}
 

@@ -9,3 +9,4 @@ pub mod Placed
 pub mod Reading
 pub mod Steps
 pub mod View
+pub mod Whole

@@ -10,7 +10,7 @@ use Rattle.escrow_schema.specs.Fit.{values_of}
 use Rattle.escrow_cells.specs.Read.{AreOfTable}
 use Rattle.escrow_cells.specs.Store.{cells}
 use Rattle.escrow_rows.specs.declared.keyed_row.KeyedRow.{KeyedRow}
-use Rattle.escrow_rows.specs.declared.stored.StoredTable.{StoredTable}
+use Rattle.escrow_schema.specs.declared.stored.StoredTable.{StoredTable}
 use Rattle.escrow_rows.specs.Image.{CanBeHeld}
 use Rattle.escrow_rows.specs.Placed.{keyed}
 

@@ -13,7 +13,7 @@ use Rattle.escrow_schema.specs.declared.column.Column.{Column}
 use Rattle.escrow_schema.specs.Fit.{row_with}
 use Rattle.escrow_cells.specs.Step.{same, is_at}
 use Rattle.escrow_cells.specs.Store.{cells}
-use Rattle.escrow_rows.specs.declared.stored.StoredTable.{StoredTable}
+use Rattle.escrow_schema.specs.declared.stored.StoredTable.{StoredTable}
 use Rattle.escrow_schema.specs.Rows.{with_row}
 
 -- the value that SQLite keeps; what a column can't hold reads as zero

@@ -3,9 +3,9 @@ ghost use Rattle.std.specs.Prelude.{◌≡◌, map};
 
 use crate::keyed_row::KeyedRow;
 use crate::store::RowStore;
-use crate::stored::StoredTable;
 use crate::taker::RowTaker;
 use escrow_num::{Failure, Seq, Value};
+use escrow_schema::StoredTable;
 use sqlite::Alter;
 use std::alloc::Global;
 

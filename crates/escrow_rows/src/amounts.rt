@@ -10,9 +10,9 @@ ghost use Rattle.escrow_rows.specs.Inside.{all_on, amounts_on, first_new, on_cel
 use crate::cell::push_cell;
 use crate::datum::datum;
 use crate::store::RowStore;
-use crate::stored::StoredTable;
 use escrow_cells::{Datum, Step, run};
 use escrow_num::{Amount, Changes, Failure, Value};
+use escrow_schema::StoredTable;
 use sqlite::Alter;
 use std::alloc::{AllocError, Global};
 

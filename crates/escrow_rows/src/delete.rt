@@ -1,8 +1,8 @@
 use crate::datum::datum;
 use crate::store::RowStore;
-use crate::stored::StoredTable;
 use escrow_cells::{Step, run};
 use escrow_num::{Failure, Value};
+use escrow_schema::StoredTable;
 use sqlite::Alter;
 
 impl<S: Alter> RowStore<S> {

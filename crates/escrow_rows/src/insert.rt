@@ -4,10 +4,9 @@ ghost use Rattle.escrow_rows.specs.Steps.{PutsCells};
 
 use crate::datum::datum;
 use crate::store::RowStore;
-use crate::stored::StoredTable;
 use escrow_cells::{Step, run};
 use escrow_num::{Failure, Row, Value};
-use escrow_schema::values_of;
+use escrow_schema::{StoredTable, values_of};
 use sqlite::Alter;
 use std::alloc::{AllocError, Global};
 

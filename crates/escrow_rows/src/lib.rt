@@ -20,14 +20,14 @@ mod read;
 mod reader;
 mod span;
 mod store;
-mod stored;
 mod tables;
 mod taker;
 mod unverified;
+mod whole_row;
 
 pub use amounts::NewAmounts;
 pub use keyed_row::KeyedRow;
 pub use listed::ListedTable;
 pub use store::RowStore;
-pub use stored::StoredTable;
 pub use taker::RowTaker;
+pub use whole_row::made_row;

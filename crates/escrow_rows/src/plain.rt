@@ -6,9 +6,9 @@ ghost use Rattle.escrow_rows.specs.Inside.{Change, first_new, plain_on};
 use crate::cell::push_cell;
 use crate::datum::datum;
 use crate::store::RowStore;
-use crate::stored::StoredTable;
 use escrow_cells::{Datum, Step, run};
 use escrow_num::{Failure, Value};
+use escrow_schema::StoredTable;
 use sqlite::Alter;
 use std::alloc::{AllocError, Global};
 

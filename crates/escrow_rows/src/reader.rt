@@ -7,10 +7,10 @@ ghost use Rattle.escrow_rows.specs.declared.keyed_row.KeyedRow.{KeyedRow as Keye
 
 use crate::keyed_row::KeyedRow;
 use crate::store::RowStore;
-use crate::stored::StoredTable;
 use crate::taker::RowTaker;
 use escrow_cells::{Sink, table_cells};
 use escrow_num::Failure;
+use escrow_schema::StoredTable;
 use sqlite::{Alter, Row};
 use std::alloc::Global;
 use std::mem;

@@ -4,10 +4,9 @@ ghost use Rattle.escrow_rows.specs.Listing.{listed_row};
 
 use crate::listed::ListedTable;
 use crate::store::RowStore;
-use crate::stored::StoredTable;
 use escrow_cells::{Step, count_keys, failure_of, run, tabs};
 use escrow_num::{Failure, Text};
-use escrow_schema::{TableDef, print_table};
+use escrow_schema::{StoredTable, TableDef, print_table};
 use sqlite::{Alter, Row};
 use std::alloc::Global;
 

@@ -14,6 +14,7 @@ pub mod KeyLemmas
 pub mod KeyValues
 pub mod LawLemmas
 pub mod ListLemmas
+pub mod Listed
 pub mod PlanLemmas
 pub mod PrintBack
 pub mod PrintChecks

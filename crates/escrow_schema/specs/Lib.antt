@@ -11,4 +11,5 @@ pub mod Plan
 pub mod Print
 pub mod Rows
 pub mod Rules
+pub mod Stored
 pub mod Typed

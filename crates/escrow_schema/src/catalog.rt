@@ -1,20 +1,22 @@
-ghost use Rattle.std.specs.Prelude.{◌≡◌, ◌⊎◌, ◌↔◌, ◌≤◌, ◌<◌, None, Some, Ok, Err, OnOk, OnErr, IfOk, IfErr, IfSome, IsErr, IsErrOf, is_some, length, insert, position, remove, option_copied, slice_set, true};
-ghost use Rattle.std.specs.Ordering.{nat_cmp, is_lt};
-ghost use Rattle.std.specs.Cmp.Lexicographic.{slice_cmp};
-ghost use Rattle.escrow_schema.specs.declared.table.TableDef.{TableDef};
-ghost use Rattle.escrow_schema.specs.Catalog.{place_named, table_named, with_table};
+ghost use Rattle.std.specs.Prelude.{◌≡◌, ◌⊎◌, ◌↔◌, ◌<◌, ◌≢◌, pos, int_le, None, Some, Err, OnOk, OnErr, IfOk, IfErr, IfSome, IsErr, IsErrOf, IsTrue, is_some, length, insert, option_copied, slice_get, slice_set, true};
+ghost use Rattle.std.specs.List.{AllByRecursion};
+ghost use Rattle.escrow_schema.specs.declared.counted_table.CountedTable.{CountedTable as Counted};
+ghost use Rattle.escrow_schema.specs.Stored.{defined_as, new_table};
 
 use crate::by_name::{find_by_name, place_by_name, place_in_order};
+use crate::counted_table::CountedTable;
+use crate::stored::StoredTable;
 use crate::table::TableDef;
 use escrow_num::{Name, Refusal};
 use std::alloc::Global;
 use std::marker::Model;
 
 /// The tables of a database, in order of name, which contracts see as their list: at most
-/// [`Catalog::MAX_TABLES`] of them, no two of one name, and each is one that some text defines.
+/// [`Catalog::MAX_TABLES`] of them, no two of one name or one number, and each is one that some text
+/// defines. Beside each is its number in the store, and how many rows it has.
 #[derive(Debug)]
 pub struct Catalog {
-    tables: Vec<TableDef>,
+    tables: Vec<CountedTable>,
 }
 
 // It is written out, so that no crate above proves again how its part is dropped.
@@ -26,21 +28,21 @@ impl Drop for Catalog {
 
 impl Model for Catalog {
     ghost use Rattle.std.specs.Prelude.{List};
-    ghost use Rattle.escrow_schema.specs.Catalog.{IsCatalog};
-    ghost use Rattle.escrow_schema.specs.declared.table.TableDef.{TableDef};
+    ghost use Rattle.escrow_schema.specs.Stored.{IsListed};
+    ghost use Rattle.escrow_schema.specs.declared.counted_table.CountedTable.{CountedTable};
 
-    ghost Value = { List TableDef };
+    ghost Value = { List CountedTable };
 
     ghost view = { λ c. c.tables.items };
 
-    ghost invariant = { λ c. IsCatalog c.tables.items };
+    ghost invariant = { λ c. IsListed c.tables.items };
 }
 
 impl Catalog {
     ghost use Rattle.std.specs.Prelude.{[]};
-    ghost use Rattle.escrow_schema.specs.Catalog.{IsCatalog, add_refusal, table_named, with_table, without_table};
-    ghost use Rattle.escrow_schema.specs.Altered.{with_altered};
+    ghost use Rattle.escrow_schema.specs.Catalog.{add_refusal, place_named, table_named, with_table};
     ghost use Rattle.escrow_schema.specs.Definition.{IsTable};
+    ghost use Rattle.escrow_schema.specs.Stored.{IsListed, catalog_of, recounted, with_definition, without_counted};
 
     /// The most tables.
     pub const MAX_TABLES: usize = 32;
@@ -54,32 +56,68 @@ impl Catalog {
         }
     }
 
+    /// The catalog of these tables. Takes no memory.
+    pub fn of(tables: Vec<CountedTable>) -> Self
+        requires { IsListed tables.items }
+        ensures { result ≡ tables.items }
+    {
+        Catalog { tables }
+    }
+
     /// The tables, in order of name.
-    pub fn tables(&self) -> &[TableDef]
+    pub fn tables(&self) -> &[CountedTable]
         ensures value { result.now ≡ self.now }
-        ensures catalog { IsCatalog self.now }
+        ensures listed { IsListed self.now }
     {
         &self.tables
     }
 
-    /// The table of a name.
-    pub fn find(&self, name: Name) -> Option<&TableDef>
-        ensures found { option_copied result ≡ table_named self.now name }
-        ensures table { IfSome result (λ table. IsTable table.now) }
+    /// The place of the table of a name, in order of name.
+    pub fn place(&self, name: Name) -> Option<usize>
+        ensures place { result ≡ place_named (catalog_of self.now) name }
+        ensures there { is_some result ≡ is_some (table_named (catalog_of self.now) name) }
+        ensures within { IfSome result (λ place. place < length self.now) }
     {
-        find_by_name(self.tables(), name)
+        place_by_name(self.tables(), name)
     }
 
-    /// Adds a table, in order of name. Refused where a table of its name stands, and then where as
-    /// many stand as there may be; memory is only taken, and wanted, where neither is so. Where it
-    /// is refused the catalog stays.
-    pub fn add(&mut self, table: TableDef) -> Result<(), Refusal>
-        requires { IsTable table }
-        ensures added { OnOk result (self.new ≡ with_table table self.old) }
+    /// The table at a place.
+    pub fn at(&self, place: usize) -> &CountedTable
+        requires { place < length self.now }
+        ensures at { slice_get self.now place ≡ Some result.now }
+        ensures table { IsTable result.now.stored.table }
+    {
+        &self.tables()[place]
+    }
+
+    /// The table of a name.
+    pub fn find(&self, name: Name) -> Option<&TableDef>
+        ensures found { option_copied result ≡ table_named (catalog_of self.now) name }
+        ensures table { IfSome result (λ table. IsTable table.now) }
+    {
+        let counted = find_by_name(self.tables(), name)?;
+        Some(&counted.stored.table)
+    }
+
+    /// Adds a table without rows, in order of name, and returns its place. Its number in the store is from 1
+    /// on, and no other table has it.
+    ///
+    /// # Errors
+    ///
+    /// [`Refusal::TableExists`] if there is a table of its name, else [`Refusal::TooManyTables`] if there are
+    /// as many tables as there may be; [`Refusal::Memory`] only where neither is so. The catalog is then
+    /// unchanged.
+    pub fn add(&mut self, id: i64, table: TableDef) -> Result<usize, Refusal>
+        requires table { IsTable table }
+        requires number { IsTrue (int_le (pos 1) id) }
+        requires free { AllByRecursion (λ (c : Counted). c.stored.id ≢ id) self.old }
+        ensures added { IfOk result (λ place. self.new ≡ insert self.old place (new_table id table)) }
+        ensures catalog { OnOk result (catalog_of self.new ≡ with_table table (catalog_of self.old)) }
+        ensures within { IfOk result (λ place. place < length self.new) }
         ensures unchanged { OnErr result (self.new ≡ self.old) }
-        ensures refused { IfSome (add_refusal self.old table) (λ e. result ≡ Err e) }
-        ensures only { IfErr result (λ e. (add_refusal self.old table ≡ Some e) ⊎ (e ≡ Refusal.Memory)) }
-        ensures memory { IsErrOf result Refusal.Memory → add_refusal self.old table ≡ None }
+        ensures refused { IfSome (add_refusal (catalog_of self.old) table) (λ e. result ≡ Err e) }
+        ensures only { IfErr result (λ e. (add_refusal (catalog_of self.old) table ≡ Some e) ⊎ (e ≡ Refusal.Memory)) }
+        ensures memory { IsErrOf result Refusal.Memory → add_refusal (catalog_of self.old) table ≡ None }
     {
         if self.find(table.name).is_some() {
             return Err(Refusal::TableExists);
@@ -87,53 +125,66 @@ impl Catalog {
         if Self::MAX_TABLES <= self.tables.len() {
             return Err(Refusal::TooManyTables);
         }
-        let place = table_place(&self.tables, table.name);
-        match self.tables.insert(place, table) {
-            Ok(()) => Ok(()),
+        let place = place_in_order(&self.tables, table.name);
+        match self.tables.insert(place, new_table(id, table)) {
+            Ok(()) => Ok(place),
             Err(_) => Err(Refusal::Memory),
         }
     }
 
-    /// Puts a table in the place of the one of its name. Takes no memory.
+    /// Puts a definition in the place of the one of its name. Takes no memory.
     pub fn replace(&mut self, table: TableDef)
         requires table { IsTable table }
-        requires there { is_some (table_named self.old table.name) ≡ true }
-        ensures { self.new ≡ with_altered table self.old }
+        requires there { is_some (table_named (catalog_of self.old) table.name) ≡ true }
+        ensures { self.new ≡ with_definition table self.old }
     {
         match place_by_name(&self.tables, table.name) {
-            Some(place) => put_over(&mut self.tables, place, table),
+            Some(place) => define_at(&mut self.tables, place, table),
             None => {}
         }
     }
 
-    /// Takes the table of a name out, and hands it back. Refused exactly where there is none, and
-    /// then the catalog stays. Takes no memory.
+    /// Sets how many rows the table at a place has. Takes no memory.
+    pub fn count(&mut self, place: usize, rows: usize)
+        requires { place < length self.old }
+        ensures { self.new ≡ recounted self.old place rows }
+    {
+        self.tables[place].rows = rows;
+    }
+
+    /// Takes the table of a name out, and returns its definition. Takes no memory.
+    ///
+    /// # Errors
+    ///
+    /// [`Refusal::NoSuchTable`] exactly where there is none. The catalog is then unchanged.
     pub fn remove(&mut self, name: Name) -> Result<TableDef, Refusal>
-        ensures removed { IfOk result (λ table. table_named self.old name ≡ Some table) }
-        ensures rest { OnOk result (self.new ≡ without_table name self.old) }
+        ensures removed { IfOk result (λ table. table_named (catalog_of self.old) name ≡ Some table) }
+        ensures rest { OnOk result (self.new ≡ without_counted name self.old) }
         ensures unchanged { OnErr result (self.new ≡ self.old) }
-        ensures refused { IsErr result ↔ (table_named self.old name ≡ None) }
+        ensures refused { IsErr result ↔ (table_named (catalog_of self.old) name ≡ None) }
         ensures only { IfErr result (λ e. e ≡ Refusal.NoSuchTable) }
     {
         match place_by_name(&self.tables, name) {
-            Some(place) => Ok(self.tables.remove(place)),
+            Some(place) => Ok(self.tables.remove(place).stored.table),
             None => Err(Refusal::NoSuchTable),
         }
     }
 }
 
-/// Puts a table over the one at a place.
-fn put_over(catalog: &mut Vec<TableDef>, place: usize, table: TableDef)
-    requires { place < length catalog.old.items }
-    ensures { catalog.new.items ≡ slice_set catalog.old.items place table }
+/// A new table, which has no rows.
+fn new_table(id: i64, table: TableDef) -> CountedTable
+    ensures { result ≡ new_table id table }
 {
-    catalog[place] = table;
+    CountedTable {
+        stored: StoredTable { id, table },
+        rows: 0,
+    }
 }
 
-/// The place at which a table of this name stands in order.
-fn table_place(catalog: &[TableDef], name: Name) -> usize
-    ensures within { result ≤ length catalog.now }
-    ensures place { (table : TableDef) → table.name ≡ name → insert catalog.now result table ≡ with_table table catalog.now }
+/// Puts a definition in the place of that of the table at a place.
+fn define_at(tables: &mut Vec<CountedTable>, place: usize, table: TableDef)
+    requires { place < length tables.old.items }
+    ensures { (c : Counted) → slice_get tables.old.items place ≡ Some c → tables.new.items ≡ slice_set tables.old.items place (defined_as table c) }
 {
-    place_in_order(catalog, name)
+    tables[place].stored.table = table;
 }

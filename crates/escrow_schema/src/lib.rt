@@ -4,7 +4,7 @@
 //!
 //! [`define`] gives the table that a text defines, and refuses exactly where a rule of definitions
 //! is broken; [`alter`] adds checks to such a table and drops one, by the same rules. [`Catalog`]
-//! keeps such tables in order of name. [`fit_row`] and [`plan_update`] refuse exactly what doesn't
+//! keeps such tables in order of name, each with its number in the store and how many rows it has. [`fit_row`] and [`plan_update`] refuse exactly what doesn't
 //! fit the table, before they take memory. [`values_of`] and [`row_of`] turn a row into its values
 //! and back. [`print_table`] writes the canonical text of a table, which is read back as the same
 //! table by the law of `escrow_readback`.
@@ -18,6 +18,7 @@ mod by_name;
 mod catalog;
 mod column;
 mod copies;
+mod counted_table;
 mod definition;
 mod fit;
 mod items;
@@ -30,13 +31,15 @@ mod print;
 mod ranges;
 mod row;
 mod rules;
+mod stored;
 mod table;
 mod values;
 
 pub use altered::{alter, declared_place, with_check, without_check_at};
-pub use by_name::{HasTable, find_by_name, place_by_name, place_in_order};
+pub use by_name::find_by_name;
 pub use catalog::Catalog;
 pub use column::{Column, ColumnType};
+pub use counted_table::CountedTable;
 pub use definition::define;
 pub use fit::fit_row;
 pub use key::check_key;
@@ -45,5 +48,6 @@ pub use plan::{Plan, plan_update};
 pub use print::print_table;
 pub use row::row_of;
 pub use rules::{names_of, reservable_names, reservable_scales, reservables, scales_of};
+pub use stored::StoredTable;
 pub use table::TableDef;
 pub use values::values_of;

@@ -12,8 +12,8 @@ use Rattle.sqlite_trees.specs.declared.store.Store.{Ghosts}
 use Rattle.escrow_cells.specs.Store.{HasTables}
 use Rattle.escrow_cells.specs.Tables.{no_schema}
 use Rattle.sqlite.specs.State.{HasCleanDisk}
-use Rattle.escrow_tables.specs.Committed.{Holds}
-use Rattle.escrow_tables.specs.Migrated.{HoldsBefore}
+use Rattle.escrow_recover.specs.Holds.{Holds}
+use Rattle.escrow_recover.specs.Migrated.{HoldsBefore}
 use Rattle.escrow_core.specs.Seen.{Seen}
 use Rattle.escrow_machine.specs.State.{State, empty}
 use Rattle.escrow_server.specs.declared.fault.RunFault.{RunFault}

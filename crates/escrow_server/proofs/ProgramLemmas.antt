@@ -10,14 +10,13 @@ use Rattle.std.proofs.lemmas.Bool.{true≢false}
 use Rattle.std.proofs.lemmas.Option.{IfSome_then}
 use Rattle.escrow_machine.specs.State.{State}
 use Rattle.escrow_args.specs.declared.args.ArgFault.{ArgFault}
-use Rattle.escrow_args.specs.declared.args.ArgFault.TheVariants as arg_fault
 use Rattle.escrow_args.specs.declared.args.Args.{Args}
 use Rattle.escrow_args.specs.declared.args.Mode.{Mode}
 use Rattle.escrow_args.specs.declared.args.Mode.TheVariants as mode
 use Rattle.escrow_server.specs.declared.fault.RunFault.{RunFault}
 use Rattle.escrow_server.specs.declared.fault.RunFault.TheVariants as run_fault
 use Rattle.escrow_script.specs.declared.fault.ServeFault.TheVariants as fault
-use Rattle.escrow_args.specs.Args.{fault_status}
+use Rattle.escrow_args.specs.Args.{no_memory}
 use Rattle.escrow_server.specs.Free.{RunsFree}
 use Rattle.escrow_serve.specs.Output.{ServesAll, ServesWhole, StopsWithin}
 use Rattle.escrow_files.specs.Files.{file_of}
@@ -99,15 +98,15 @@ ends_unserved mode.Serve count status (Some bytes) rest old_bytes new_bytes fail
     inr (inl (failed, fault.Memory, empty_states count, stopped_unserved fault.Memory (empty_states count) bytes old_bytes new_bytes refl wrote))
 
 -- the status where words are refused
-pub status_refused : (status expected : ℕ) (fault : ArgFault) → (status ≡ 1) ⊎ (status ≡ fault_status fault) → (fault ≡ arg_fault.Memory) ⊎ (fault_status fault ≡ expected)
+pub status_refused : (status expected : ℕ) (fault : ArgFault) → (status ≡ 1) ⊎ (status ≡ fault.status) → (fault ≡ no_memory) ⊎ (fault.status ≡ expected)
     → (status ≡ 1) ⊎ (status ≡ expected)
 status_refused status expected fault (inl one) is = inl one
-status_refused status expected fault (inr same) (inl memory) = inl (same ∙ ap fault_status memory)
+status_refused status expected fault (inr same) (inl memory) = inl (same ∙ ap (λ (f : ArgFault). f.status) memory)
 status_refused status expected fault (inr same) (inr is) = inr (same ∙ is)
 
 -- words that don't ask for help aren't given it
-pub not_helped : (expected : ℕ) (fault : ArgFault) → (fault ≡ arg_fault.Memory) ⊎ (fault_status fault ≡ expected) → expected ≢ 0 → fault_status fault ≢ 0
-not_helped expected fault (inl memory) some = λ helped. let one : fault_status fault ≡ 1 = ap fault_status memory in omega (arith, one, helped)
+pub not_helped : (expected : ℕ) (fault : ArgFault) → (fault ≡ no_memory) ⊎ (fault.status ≡ expected) → expected ≢ 0 → fault.status ≢ 0
+not_helped expected fault (inl memory) some = λ helped. let one : fault.status ≡ 1 = ap (λ (f : ArgFault). f.status) memory in omega (arith, one, helped)
 not_helped expected fault (inr is) some = λ helped. some (sym is ∙ helped)
 
 -- HOW A RUN ENDS

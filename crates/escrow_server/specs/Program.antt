@@ -6,11 +6,9 @@ use Rattle.std.specs.List.{flat_map}
 use Rattle.std.specs.Io.KnownBytes.{Appends, IsAtEnd, Keeps}
 use Rattle.sqlite.specs.Effect.{Database}
 use Rattle.escrow_cells.specs.Tables.{no_schema}
-use Rattle.escrow_tables.specs.Committed.{Holds}
-use Rattle.escrow_tables.specs.Migrated.{HoldsBefore}
+use Rattle.escrow_recover.specs.Holds.{Holds}
+use Rattle.escrow_recover.specs.Migrated.{HoldsBefore}
 use Rattle.escrow_machine.specs.State.{State, empty, opened}
-use Rattle.escrow_args.specs.declared.args.ArgFault.{ArgFault}
-use Rattle.escrow_args.specs.declared.args.ArgFault.TheVariants as arg_fault
 use Rattle.escrow_args.specs.declared.args.Mode.{Mode}
 use Rattle.escrow_args.specs.declared.args.Mode.TheVariants as mode
 use Rattle.escrow_files.specs.Files.{file_of}
@@ -92,12 +90,6 @@ IsQuiet path old_bytes new_bytes = (told_bytes : Option (List ℕ)) × TellsOfMi
 abbrev pub unread_status : ErrorKind → ℕ
 unread_status error.InvalidData = 2
 unread_status _ = 1
-
--- the help or the version that is asked
-abbrev pub help_of : ArgFault → List ℕ
-help_of (arg_fault.Help text) = text
-help_of (arg_fault.Wrong text) = []
-help_of arg_fault.Memory = []
 
 -- the exit status where a script isn't served to its end: 3 where a store can't be opened, otherwise 1
 abbrev pub run_status : RunFault → ℕ

@@ -9,8 +9,8 @@ ghost use Rattle.escrow_server.specs.Program.{run_status, AreFound, IsFound, Sta
 use crate::fault::RunFault;
 use escrow_core::Database;
 use escrow_files::{CloseFault, OpenFault, OpenStore, Opened, Site, close};
+use escrow_recover::migrate;
 use escrow_script::{MAX_DATABASES, database_name};
-use escrow_tables::migrate;
 use sqlite::{Alter, Connection, File, FileStore};
 use std::alloc::Global;
 
@@ -107,10 +107,13 @@ fn over<S: Alter + Drop>(
     ensures usable { IfOk result (λ d. HasCleanDisk (state S.Store d.0.store) → IsUsable (state S.Store connection)) }
 {
     match migrate(alloc, connection) {
-        Ok(opened) => match Database::open(alloc, opened.tables) {
-            Ok(database) => Ok((database, opened.migrated)),
-            Err(failed) => Err((OpenFault::Memory, failed.value.into_connection())),
-        },
+        Ok(opened) => {
+            let migrated = opened.migrated;
+            match Database::open(alloc, opened) {
+                Ok(database) => Ok((database, migrated)),
+                Err((opened, _)) => Err((OpenFault::Memory, opened.store.into_connection())),
+            }
+        }
         Err(fault) => Err((OpenFault::from(fault.cause), fault.connection)),
     }
 }

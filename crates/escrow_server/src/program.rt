@@ -4,11 +4,11 @@ ghost use Rattle.std.specs.Process.{exit_status};
 ghost use Rattle.escrow_machine.specs.State.{State};
 ghost use Rattle.escrow_args.specs.declared.args.Args.{Args};
 ghost use Rattle.escrow_server.specs.Free.{HoldCleanDisks, RunsFree};
-ghost use Rattle.escrow_args.specs.Args.{asked_by, asked_path, fault_status, refused_status};
+ghost use Rattle.escrow_args.specs.Args.{asked_by, asked_path, refused_status};
 ghost use Rattle.escrow_serve.specs.Output.{states_of, HaveCleanDisks, ServesAll, ServesWhole};
 ghost use Rattle.escrow_server.specs.Opened.{IsOpened};
 ghost use Rattle.escrow_files.specs.Files.{file_of};
-ghost use Rattle.escrow_server.specs.Program.{help_of, migrated_line, run_status, unread_status, AreLinesOf, EndsInMemory, EndsOverFiles, IsQuiet, SaysReason, SaysWhy, Stops, TellsOfMigrated, TellsOfStoresAlone, WritesPrefix, WritesNothing};
+ghost use Rattle.escrow_server.specs.Program.{migrated_line, run_status, unread_status, AreLinesOf, EndsInMemory, EndsOverFiles, IsQuiet, SaysReason, SaysWhy, Stops, TellsOfMigrated, TellsOfStoresAlone, WritesPrefix, WritesNothing};
 
 use crate::databases::{Unclosed, close_databases, open_databases};
 use crate::fault::RunFault;
@@ -309,21 +309,21 @@ fn migrated_line(alloc: Global, path: &str, place: u8) -> Result<String, AllocEr
 
 /// Prints help or the version where it is asked, or else says what is wrong, and answers the exit status.
 fn refuse<W: Write, F: Write>(alloc: Global, output: &mut W, errors: &mut F, fault: &ArgFault) -> u8
-    ensures status { (result ≡ 1) ⊎ (result ≡ fault_status fault.now) }
-    ensures help { result ≡ 0 → Appends (W.contents output.old) (W.contents output.new) (help_of fault.now) }
-    ensures unserved { fault_status fault.now ≢ 0 → WritesNothing (W.contents output.old) (W.contents output.new) }
+    ensures status { (result ≡ 1) ⊎ (result ≡ fault.now.status) }
+    ensures help { result ≡ 0 → Appends (W.contents output.old) (W.contents output.new) fault.now.text }
+    ensures unserved { fault.now.status ≢ 0 → WritesNothing (W.contents output.old) (W.contents output.new) }
     ensures silent { result ≡ 0 → WritesNothing (F.contents errors.old) (F.contents errors.new) }
     ensures said { result ≢ 0 → SaysReason (F.contents errors.old) (F.contents errors.new) }
 {
-    match fault {
-        ArgFault::Help(text) => give_help(alloc, output, errors, text.as_str()),
-        ArgFault::Wrong(text) => {
-            say_why(errors, text.as_str());
-            2
-        }
-        ArgFault::Memory => {
+    match fault.status {
+        0 => give_help(alloc, output, errors, fault.text.as_str()),
+        1 => {
             say_why(errors, NO_MEMORY);
             1
+        }
+        status => {
+            say_why(errors, fault.text.as_str());
+            status
         }
     }
 }

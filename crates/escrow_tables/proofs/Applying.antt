@@ -10,12 +10,12 @@ use Rattle.escrow_num.specs.Ascending.{IsAscending}
 use Rattle.escrow_checks.proofs.FormLemmas.{length-all_changed}
 use Rattle.escrow_schema.specs.Fit.{IsRowOf}
 use Rattle.escrow_rows.specs.declared.amounts.NewAmounts.{NewAmounts}
-use Rattle.escrow_rows.specs.declared.stored.StoredTable.{StoredTable}
+use Rattle.escrow_schema.specs.declared.stored.StoredTable.{StoredTable}
 use Rattle.escrow_schema.specs.declared.table.TheConstants.TableDef.{MAX_ROWS}
 use Rattle.escrow_rows.specs.Changes.{PutsAmounts}
 use Rattle.escrow_rows.specs.Image.{AreTables, AreRows, IsOfTables, stored_named}
 use Rattle.escrow_schema.specs.Rows.{row_before, rows_of, changes_to, row_after, applied}
-use Rattle.escrow_verify.specs.declared.counted_table.CountedTable.{CountedTable}
+use Rattle.escrow_schema.specs.declared.counted_table.CountedTable.{CountedTable}
 use Rattle.escrow_tables.specs.Inside.{stored_of, HasCount, IsHeld}
 use Rattle.escrow_tables.specs.Puts.{ArePuts, TellsPut}
 use Rattle.escrow_tables.proofs.Puts.{put_rows, puts_apply}

@@ -12,7 +12,7 @@ use Rattle.escrow_schema.specs.Definition.{IsTable}
 use Rattle.escrow_rows.specs.Answers.{IsUsable, Tells}
 use Rattle.escrow_rows.specs.Changes.{name_in}
 use Rattle.escrow_rows.specs.View.{rows_in}
-use Rattle.escrow_verify.specs.declared.counted_table.CountedTable.{CountedTable}
+use Rattle.escrow_schema.specs.declared.counted_table.CountedTable.{CountedTable}
 use Rattle.escrow_schema.specs.Rows.{row_named, rows_of}
 use Rattle.escrow_tables.specs.Inside.{Keeps, stored_of, catalog_of}
 use Rattle.escrow_tables.proofs.Named.{IsNamed, named_is_table}

@@ -13,10 +13,11 @@ use Rattle.escrow_rows.specs.Changes.{PutsAmounts}
 use Rattle.escrow_rows.specs.View.{rows_in}
 use Rattle.escrow_rows.specs.declared.amounts.NewAmounts.{NewAmounts}
 use Rattle.escrow_schema.specs.Rows.{applied}
+use Rattle.escrow_rows.proofs.ListedTables.{listed_are}
 use Rattle.escrow_tables.specs.Calls.{Writes}
 use Rattle.escrow_tables.specs.Inside.{IsHeld, Keeps, catalog_of, stored_of}
 use Rattle.escrow_tables.specs.Puts.{ArePuts, TellsPut}
-use Rattle.escrow_verify.specs.declared.counted_table.CountedTable.{CountedTable}
+use Rattle.escrow_schema.specs.declared.counted_table.CountedTable.{CountedTable}
 use Rattle.escrow_tables.proofs.Applying.{held_after}
 use Rattle.escrow_tables.proofs.Writing.{keeps_on, seen, writes}
 
@@ -28,13 +29,13 @@ module _ {S : Type 0} (g : Ghosts S) (old new was later : Held S) (tables : List
   rows = applied (rows_in (stored_of tables) (state g was).now) reservations
 
   turns : IsUsable (state g old) → (db : Database) → PutsAmounts news (state g was).now db → IsHeld tables rows db
-  turns usable db = held_after reservations tables _ news (state g was).now db keeps.are_tables (keeps.held usable.0) puts (told usable.0)
+  turns usable db = held_after reservations tables _ news (state g was).now db (listed_are tables keeps.listed) (keeps.held usable.0) puts (told usable.0)
 
   -- the reservations are applied where the call is done
   pub commits : Writes g (seen g old was tables) (seen g new later tables) is_done (catalog_of tables) rows
-  commits = writes g old new _ is_done it was later tables tables tables rows keeps keeps.are_tables turns (λ e. (refl, if_done e)) (λ e. (refl, if_not e))
+  commits = writes g old new _ is_done it was later tables tables tables rows keeps keeps.listed turns (λ e. (refl, if_done e)) (λ e. (refl, if_not e))
 
   -- and the fields keep what they hold
   pub keeps_committed : Keeps (state g new) (state g later) tables
   keeps_committed =
-      keeps_on g old new _ is_done it was later tables tables tables rows keeps keeps.are_tables turns (λ e. (refl, if_done e)) (λ e. (refl, if_not e)) keeps.is_catalog
+      keeps_on g old new _ is_done it was later tables tables tables rows keeps keeps.listed turns (λ e. (refl, if_done e)) (λ e. (refl, if_not e))

@@ -1,10 +1,9 @@
 -- DROP TABLE: the tables that are held, without one of them and its rows.
-use Rattle.std.proofs.Common.{◌≡◌, ◌≤◌, ℕ, pos, int_le, Bool, true, false, not, List, [], ◌∷◌, length, map, filter, Option, Some, sym, ap, subst, ◌∙◌, inl, inr, arith, bytes_eq, remove}
-use Rattle.std.specs.Prelude.{IsSomeAnd, IsTrue}
-use Rattle.std.specs.Ordering.{int_eq}
+use Rattle.std.proofs.Common.{◌≡◌, ◌≤◌, ℕ, Bool, true, false, not, List, [], ◌∷◌, length, filter, Option, None, Some, Result, Ok, Err, refl, sym, ap, subst, ◌∙◌, inl, inr, arith, bytes_eq}
+use Rattle.std.specs.Prelude.{◌↔◌, IsErr, IsSomeAnd, OnOk}
 use Rattle.std.proofs.lemmas.Bool.{cases_Bool, not-true}
-use Rattle.std.proofs.lemmas.List.Sums.{count_by-le-length, length-filter}
-use Rattle.sqlite_trees.proofs.ListLemmas.{all-filter, all_from_map, filter-filter, filter-map}
+use Rattle.std.proofs.lemmas.Option.{none-some}
+use Rattle.sqlite_trees.proofs.ListLemmas.{filter-filter, filter-map}
 use Rattle.sqlite_trees.specs.declared.store.Store.{Ghosts}
 use Rattle.sqlite.specs.Effect.{Database}
 use Rattle.sqlite.specs.Held.{Held, state}
@@ -13,45 +12,32 @@ use Rattle.escrow_num.proofs.Ascending.{ascending_filter}
 use Rattle.escrow_num.proofs.Items.{Has, all_has, has_all, has_filter}
 use Rattle.escrow_num.proofs.Orders.{name_same}
 use Rattle.escrow_schema.specs.declared.table.TableDef.{TableDef}
-use Rattle.escrow_schema.specs.Catalog.{place_named, IsCatalog, without_table}
-use Rattle.escrow_schema.specs.Definition.{IsTable}
+use Rattle.escrow_schema.specs.Catalog.{table_named, without_table}
 use Rattle.escrow_schema.specs.Fit.{IsRowOf}
-use Rattle.escrow_schema.proofs.CatalogLemmas.{Once, once_named, taken_out, without_one}
+use Rattle.escrow_schema.specs.Stored.{IsListed, without_counted}
+use Rattle.escrow_schema.proofs.Listed.{catalog_less, listed_less}
 use Rattle.escrow_cells.specs.Calls.{Transacts}
-use Rattle.escrow_rows.specs.declared.stored.StoredTable.{StoredTable}
+use Rattle.escrow_schema.specs.declared.stored.StoredTable.{StoredTable}
 use Rattle.escrow_rows.specs.Changes.{Drops, without_stored}
 use Rattle.escrow_schema.specs.Rows.{without_rows_of, rows_of}
 use Rattle.escrow_rows.specs.Image.{AreTables, AreRows, IsOfTables}
 use Rattle.escrow_rows.specs.View.{rows_in}
 use Rattle.escrow_rows.proofs.ImageTables.{found_without}
-use Rattle.escrow_verify.specs.declared.counted_table.CountedTable.{CountedTable}
+use Rattle.escrow_rows.proofs.ListedTables.{listed_are}
+use Rattle.escrow_schema.specs.declared.counted_table.CountedTable.{CountedTable}
 use Rattle.escrow_tables.specs.Calls.{Writes}
 use Rattle.escrow_tables.specs.Inside.{HasCount, IsHeld, Keeps, catalog_of, stored_of}
 use Rattle.escrow_tables.proofs.Named.{IsNamed}
-use Rattle.escrow_tables.proofs.Placed.{kept_place}
 use Rattle.escrow_tables.proofs.Writing.{keeps_on, seen, writes}
-
--- the tables of other names
-abbrev pub without_counted : List ℕ → List CountedTable → List CountedTable
-without_counted name tables = filter (λ (c : CountedTable). not (bytes_eq c.stored.table.name name)) tables
-
-catalog_without : (name : List ℕ) (tables : List CountedTable) → catalog_of (without_counted name tables) ≡ without_table name (catalog_of tables)
-catalog_without name tables = sym (filter-map (λ (t : TableDef). not (bytes_eq t.name name)) (λ (c : CountedTable). c.stored.table) tables)
 
 stored_without : (name : List ℕ) (tables : List CountedTable) → stored_of (without_counted name tables) ≡ without_stored name (stored_of tables)
 stored_without name tables = sym (filter-map (λ (s : StoredTable). not (bytes_eq s.table.name name)) (λ (c : CountedTable). c.stored) tables)
 
--- where one item at most is of a test, so is one at most that maps to it
-pub once_through : {A B : Type 0} (p : B → Bool) (f : A → B) (xs : List A) → Once p (map f xs) → Once (λ x. p (f x)) xs
-once_through p f [] h = tt
-once_through p f (x ∷ xs) h = ((λ e. all_from_map (λ y. p y ≡ false) f xs (h.0 e)), once_through p f xs h.1)
-
--- without the table at the place of a name those of other names are left
-pub taken_at : (tables : List CountedTable) (name : List ℕ) (place : ℕ) (c : CountedTable) → IsCatalog (catalog_of tables) → place_named (catalog_of tables) name ≡ Some place
-    → remove tables place ≡ without_counted name tables
-taken_at tables name place c catalog at =
-    let once = once_through (λ (t : TableDef). bytes_eq t.name name) (λ (c : CountedTable). c.stored.table) tables (once_named (catalog_of tables) name catalog.order) in
-    (taken_out (λ (c : CountedTable). bytes_eq c.stored.table.name name) tables place c once (sym (kept_place tables name) ∙ at)).1
+-- where a table has a name, it is taken out, and those of other names are left
+pub taken : {E : Type 0} (tables left : List CountedTable) (table : TableDef) (name : List ℕ) (r : Result TableDef E) → table_named (catalog_of tables) name ≡ Some table
+    → OnOk r (left ≡ without_counted name tables) → (IsErr r ↔ (table_named (catalog_of tables) name ≡ None)) → left ≡ without_counted name tables
+taken tables left table name (Ok t) is rest refused = rest
+taken tables left table name (Err e) is rest refused = absurd (none-some table (sym (refused.0 refl) ∙ is))
 
 -- what passes a test among what passes another is no more than what passes it
 fewer : {A : Type 0} (p q : A → Bool) (xs : List A) → length (filter p (filter q xs)) ≤ length (filter p xs)
@@ -62,18 +48,6 @@ fewer p q (x ∷ xs) =
       | inl kept ↦ rw kept (elim (cases_Bool (p x)) [ inl t ↦ rw t (omega arith) | inr f ↦ rw f rest ])
       | inr out ↦ rw out (elim (cases_Bool (p x)) [ inl t ↦ rw t (omega arith) | inr f ↦ rw f rest ])
     ]
-
--- the others can stand together
-fewer_tables : (name : List ℕ) (tables : List StoredTable) → AreTables tables → AreTables (without_stored name tables)
-fewer_tables name tables are =
-    let kept : StoredTable → Bool = λ s. not (bytes_eq s.table.name name) in
-    record {
-      defined = all-filter (λ (s : StoredTable). IsTable s.table) kept tables are.defined;
-      from_one = all-filter (λ (s : StoredTable). IsTrue (int_le (pos 1) s.id)) kept tables are.from_one;
-      ids_apart = ascending_filter (λ (a b : StoredTable). not (int_eq a.id b.id)) kept tables are.ids_apart;
-      names_apart = ascending_filter (λ (a b : StoredTable). not (bytes_eq a.table.name b.table.name)) kept tables are.names_apart;
-      few = omega (arith, are.few, length-filter kept tables, count_by-le-length kept tables);
-    }
 
 -- rows of the others are rows of theirs
 fewer_rows : (name : List ℕ) (tables : List StoredTable) (rows : List Row) → AreRows tables rows → AreRows (without_stored name tables) (without_rows_of name rows)
@@ -95,9 +69,9 @@ rows_of_other name other rows apart =
     filter-filter (λ (row : Row). bytes_eq row.name.table other) (λ (row : Row). not (bytes_eq row.name.table name))
     (λ row e. ap not (ap (λ (n : List ℕ). bytes_eq n name) (name_same row.name.table other e) ∙ apart)) rows
 
-module _ (tables : List CountedTable) (name : List ℕ) (c : CountedTable) (named : IsNamed tables name c) (are : AreTables (stored_of tables)) where
-  without_are : AreTables (stored_of (without_counted name tables))
-  without_are = subst AreTables (sym (stored_without name tables)) (fewer_tables name (stored_of tables) are)
+module _ (tables : List CountedTable) (name : List ℕ) (c : CountedTable) (named : IsNamed tables name c) (listed : IsListed tables) where
+  are : AreTables (stored_of tables)
+  are = listed_are tables listed
 
   -- the others are held, with their rows
   held_less : (rows : List Row) (old db : Database) → IsHeld tables rows old → Drops c.stored old db → IsHeld (without_counted name tables) (without_rows_of name rows) db
@@ -118,13 +92,12 @@ module _ (tables : List CountedTable) (name : List ℕ) (c : CountedTable) (name
     pub drop_writes : Writes g (seen g old was tables) (seen g new later fields) is_done (without_table name (catalog_of tables)) (without_rows_of name (rows_in (stored_of tables) (state g was).now))
     drop_writes =
         let rows = rows_in (stored_of tables) (state g was).now in
-        subst (λ (catalog : List TableDef). Writes g (seen g old was tables) (seen g new later fields) is_done catalog (without_rows_of name rows)) (catalog_without name tables)
-        (writes g old new (Drops c.stored) is_done it was later tables (without_counted name tables) fields (without_rows_of name rows) keeps without_are
+        subst (λ (catalog : List TableDef). Writes g (seen g old was tables) (seen g new later fields) is_done catalog (without_rows_of name rows)) (catalog_less name tables)
+        (writes g old new (Drops c.stored) is_done it was later tables (without_counted name tables) fields (without_rows_of name rows) keeps (listed_less name tables listed)
         (λ usable db makes. held_less rows (state g was).now db (keeps.held usable.0) makes) if_done if_not)
 
     pub drop_keeps : Keeps (state g new) (state g later) fields
     drop_keeps =
         let rows = rows_in (stored_of tables) (state g was).now in
-        keeps_on g old new (Drops c.stored) is_done it was later tables (without_counted name tables) fields (without_rows_of name rows) keeps without_are
+        keeps_on g old new (Drops c.stored) is_done it was later tables (without_counted name tables) fields (without_rows_of name rows) keeps (listed_less name tables listed)
         (λ usable db makes. held_less rows (state g was).now db (keeps.held usable.0) makes) if_done if_not
-        (subst IsCatalog (sym (catalog_without name tables)) (without_one (catalog_of tables) name keeps.is_catalog))

@@ -1,12 +1,15 @@
 -- The rows of a store are those that its database is the image of.
-use Rattle.std.proofs.Common.{◌≡◌, List, [], refl, subst, sym, arith}
+use Rattle.std.proofs.Common.{◌≡◌, List, refl, subst, sym}
 use Rattle.sqlite.specs.Effect.{Database}
 use Rattle.sqlite.specs.State.{State, HasCleanDisk}
 use Rattle.escrow_num.specs.declared.row.Row.{Row}
-use Rattle.escrow_rows.specs.Image.{IsImage, AreTables, AreRows}
+use Rattle.escrow_rows.specs.Image.{AreTables}
+use Rattle.escrow_schema.specs.Stored.{IsListed}
 use Rattle.escrow_rows.specs.View.{rows_in}
 use Rattle.escrow_rows.proofs.ViewLemmas.{rows_are}
-use Rattle.escrow_verify.specs.declared.counted_table.CountedTable.{CountedTable}
+use Rattle.escrow_schema.specs.declared.counted_table.CountedTable.{CountedTable}
+use Rattle.escrow_recover.specs.Opened.{IsOpened}
+use Rattle.escrow_recover.proofs.OpenedLemmas.{stores_rows}
 use Rattle.escrow_tables.specs.Inside.{IsHeld, Keeps, stored_of}
 
 pub rows_held : (tables : List CountedTable) (rows : List Row) (db : Database) → AreTables (stored_of tables) → IsHeld tables rows db → rows_in (stored_of tables) db ≡ rows
@@ -17,19 +20,13 @@ pub held_itself : (tables : List CountedTable) (rows : List Row) (db : Database)
     → IsHeld tables (rows_in (stored_of tables) db) db
 held_itself tables rows db are held = subst (λ (rs : List Row). IsHeld tables rs db) (sym (rows_held tables rows db are held)) held
 
-no_tables : AreTables []
-no_tables = record { defined = tt; from_one = tt; ids_apart = tt; names_apart = tt; few = omega arith }
-
-no_rows : AreRows [] []
-no_rows = record { of_tables = tt; row_order = tt; few_rows = λ table. omega arith }
-
-pub empty_rows : (s : State) → (HasCleanDisk s → IsImage [] [] s.now) → HasCleanDisk s → rows_in [] s.now ≡ []
-empty_rows s image clean = rows_are [] [] s.now no_tables no_rows (image clean).cells_are
-
-pub empty_keeps : (s : State) → (HasCleanDisk s → IsImage [] [] s.now) → Keeps s s []
-empty_keeps s image = record {
-  are_tables = no_tables;
-  is_catalog = record { tables = tt; order = tt; few = omega arith };
-  held = λ clean. held_itself [] [] s.now no_tables (record { are_rows = no_rows; image = image clean; counts = tt });
+-- the fields keep what was opened
+pub keeps_opened : (s : State) (tables : List CountedTable) → IsListed tables → (HasCleanDisk s → IsOpened s tables) → Keeps s s tables
+keeps_opened s tables listed opened = record {
+  listed = listed;
+  held = λ clean.
+      let found = opened clean in
+      let is = found.1 in
+      subst (λ (rows : List Row). IsHeld tables rows s.now) (sym (stores_rows s tables found.0 is)) (record { are_rows = is.store.are_rows; image = is.store.image; counts = is.counts });
   same = λ _. refl;
 }

@@ -18,14 +18,14 @@ use Rattle.escrow_cells.specs.Store.{IsStore}
 use Rattle.escrow_rows.specs.Answers.{Tells}
 use Rattle.escrow_rows.specs.Reading.{ReadsRows}
 use Rattle.escrow_rows.specs.declared.keyed_row.KeyedRow.{KeyedRow}
-use Rattle.escrow_rows.specs.declared.stored.StoredTable.{StoredTable}
+use Rattle.escrow_schema.specs.declared.stored.StoredTable.{StoredTable}
 use Rattle.escrow_rows.proofs.AllValues.{all_told}
 use Rattle.escrow_rows.proofs.TableRead.{own_rows}
+use Rattle.escrow_rows.proofs.WholeRows.{rows_back}
 use Rattle.escrow_tables.specs.Judged.{first_violation}
 use Rattle.escrow_tables.specs.Judging.{HasJudged}
-use Rattle.escrow_tables.specs.Whole.{rows_with}
+use Rattle.escrow_rows.specs.Whole.{rows_with}
 use Rattle.escrow_tables.specs.declared.judged.RowsJudged.{RowsJudged}
-use Rattle.escrow_tables.proofs.WholeReads.{rows_back}
 
 -- ---- the first of several
 

@@ -7,12 +7,9 @@ pub mod Created
 pub mod Dropped
 pub mod Held
 pub mod JudgedRows
-pub mod Migrating
 pub mod Named
 pub mod NewRows
 pub mod Numbers
-pub mod OneHeld
-mod Opening
 pub mod Placed
 pub mod Puts
 pub mod Putting

@@ -1,5 +1,5 @@
 -- Tables by name, among those that are kept.
-use Rattle.std.proofs.Common.{◌≡◌, ℕ, Bool, true, false, cond, List, [], ◌∷◌, map, Option, Some, None, option_map, find, bytes_eq, refl, sym, ap, ◌∙◌, subst}
+use Rattle.std.proofs.Common.{◌≡◌, ℕ, List, Option, Some, None, option_map, bytes_eq, sym, ap, ◌∙◌, subst}
 use Rattle.std.specs.Prelude.{IsSomeAnd}
 use Rattle.sqlite_trees.proofs.ListLemmas.{all_weaker}
 use Rattle.escrow_num.specs.declared.row.Row.{Row}
@@ -9,25 +9,14 @@ use Rattle.escrow_schema.specs.declared.table.TableDef.{TableDef}
 use Rattle.escrow_schema.specs.Catalog.{IsCatalog, table_named}
 use Rattle.escrow_schema.specs.Definition.{IsTable}
 use Rattle.escrow_schema.specs.Fit.{IsRowOf}
-use Rattle.escrow_rows.specs.declared.stored.StoredTable.{StoredTable}
+use Rattle.escrow_schema.specs.Stored.{counted_named}
+use Rattle.escrow_schema.proofs.Listed.{find_through, named_table}
+use Rattle.escrow_schema.specs.declared.stored.StoredTable.{StoredTable}
 use Rattle.escrow_rows.specs.Changes.{Stands}
 use Rattle.escrow_rows.specs.Image.{AreRows, stored_named, IsOfTables}
-use Rattle.escrow_verify.specs.declared.counted_table.CountedTable.{CountedTable}
+use Rattle.escrow_schema.specs.declared.counted_table.CountedTable.{CountedTable}
 use Rattle.escrow_schema.specs.Rows.{AreRowsOf, HasTable}
 use Rattle.escrow_tables.specs.Inside.{stored_of, catalog_of}
-
--- the table of a name, with its count
-abbrev pub counted_named : List CountedTable → List ℕ → Option CountedTable
-counted_named tables name = find (λ (c : CountedTable). bytes_eq c.stored.table.name name) tables
-
--- what is found through a map
-find_through : {A B : Type 0} (p : B → Bool) (f : A → B) (xs : List A) → find p (map f xs) ≡ option_map f (find (λ x. p (f x)) xs)
-find_through p f [] = refl
-find_through p f (x ∷ xs) =
-    elim (p (f x)) as (λ b. cond b (Some (f x)) (find p (map f xs)) ≡ option_map f (cond b (Some x) (find (λ y. p (f y)) xs))) [ true ↦ refl | false ↦ find_through p f xs ]
-
-pub named_table : (tables : List CountedTable) (name : List ℕ) → table_named (catalog_of tables) name ≡ option_map (λ (c : CountedTable). c.stored.table) (counted_named tables name)
-named_table tables name = find_through (λ (t : TableDef). bytes_eq t.name name) (λ (c : CountedTable). c.stored.table) tables
 
 pub named_stored : (tables : List CountedTable) (name : List ℕ) → stored_named (stored_of tables) name ≡ option_map (λ (c : CountedTable). c.stored) (counted_named tables name)
 named_stored tables name = find_through (λ (s : StoredTable). bytes_eq s.table.name name) (λ (c : CountedTable). c.stored) tables
@@ -56,10 +45,6 @@ pub named_is_table : (tables : List CountedTable) (name : List ℕ) (c : Counted
 named_is_table tables name c catalog named =
     let found = find_has (λ (t : TableDef). bytes_eq t.name name) (catalog_of tables) c.stored.table named.in_catalog in
     all_has IsTable (catalog_of tables) catalog.tables c.stored.table found.0
-
--- where no table is found by a name, none in the catalog has it
-pub none_named : (tables : List CountedTable) (name : List ℕ) → None ≡ counted_named tables name → table_named (catalog_of tables) name ≡ None
-none_named tables name e = named_table tables name ∙ ap (option_map (λ (c : CountedTable). c.stored.table)) (sym e)
 
 -- a row of a table in the catalog is one of the tables in the store, and the other way round
 both_tables : (row : Row) (o : Option CountedTable) → IsSomeAnd (option_map (λ (c : CountedTable). c.stored.table) o) (λ t. IsRowOf t row) → IsSomeAnd (option_map (λ (c : CountedTable). c.stored) o) (λ s. IsRowOf s.table row)

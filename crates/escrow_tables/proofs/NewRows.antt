@@ -16,7 +16,7 @@ use Rattle.escrow_num.specs.declared.value.RowName.{RowName}
 use Rattle.escrow_num.specs.declared.value.Value.{Value}
 use Rattle.escrow_schema.specs.Rows.{row_named, replaced, with_plain, with_row, with_values, without_row, row_before, rows_of}
 use Rattle.escrow_rows.specs.Image.{AreRows, IsOfTables}
-use Rattle.escrow_rows.specs.declared.stored.StoredTable.{StoredTable}
+use Rattle.escrow_schema.specs.declared.stored.StoredTable.{StoredTable}
 use Rattle.escrow_schema.specs.declared.table.TheConstants.TableDef.{MAX_ROWS}
 use Rattle.escrow_rows.proofs.OneRow.{rows_named}
 

@@ -13,7 +13,7 @@ use Rattle.std.proofs.lemmas.Bool.{cases_Bool, or_parts}
 use Rattle.std.proofs.lemmas.Bool.Decides.{nat_tests, Decides-int_eq}
 use Rattle.std.proofs.lemmas.Int.{ints}
 use denote.Param.Members.{Mut}
-use Rattle.escrow_verify.specs.declared.counted_table.CountedTable.{CountedTable}
+use Rattle.escrow_schema.specs.declared.counted_table.CountedTable.{CountedTable}
 
 -- the steps of a range of numbers
 abbrev steps : RangeInclusive ℤ → Option ℤ → RangeInclusive ℤ → Type 0

@@ -1,12 +1,12 @@
 -- The table at a place, and how many rows each table has after a change of one of them.
-use Rattle.std.proofs.Common.{◌≡◌, ◌<◌, ℕ, zero, suc, Bool, true, false, List, [], ◌∷◌, None, Some, ap, ap₂, cond, nat_lt, refl, ◌+◌, arith, bytes_eq, find, get_or, inl, inr, length, map, position, set, subst, sym, ◌∙◌}
-use Rattle.std.specs.Prelude.{IsTrue, is_some, not}
-use Rattle.std.specs.List.{AllByRecursion, position_or_len}
-use Rattle.std.proofs.lemmas.Bool.{cases_Bool, both_ways, cond-false, cond-true, le-ltb, lt-ltb, ltb-false, ltb-true, not-true}
+use Rattle.std.proofs.Common.{◌≡◌, ◌<◌, ℕ, zero, suc, Bool, true, false, List, [], ◌∷◌, Some, ap, refl, arith, bytes_eq, find, get_or, inl, inr, length, subst, sym, ◌∙◌}
+use Rattle.std.specs.Prelude.{IsTrue, not, slice_get}
+use Rattle.std.specs.List.{AllByRecursion}
+use Rattle.std.proofs.lemmas.Bool.{both_ways, cond-false, cond-true, not-true}
 use Rattle.std.proofs.lemmas.Grind.{common_steps}
-use Rattle.std.proofs.lemmas.List.{length-map, set-get_or}
+use Rattle.std.proofs.lemmas.List.{length-map}
 use Rattle.std.proofs.lemmas.List.Quantifiers.{position-Some}
-use Rattle.std.proofs.Math.Seq.{map-set_same}
+use Rattle.std.proofs.lemmas.Option.{get_or_from_slice_get}
 use Rattle.sqlite_trees.proofs.ListLemmas.{all_both, all_weaker}
 use Rattle.escrow_num.proofs.Items.{Has, all_has}
 use Rattle.escrow_num.proofs.Orders.{same_name}
@@ -14,18 +14,15 @@ use Rattle.escrow_num.specs.Ascending.{IsAscending}
 use Rattle.escrow_num.specs.declared.row.Row.{Row}
 use Rattle.escrow_schema.specs.Catalog.{IsCatalog, place_named}
 use Rattle.escrow_schema.specs.Definition.{IsTable}
+use Rattle.escrow_schema.specs.Stored.{counted_named, recounted}
 use Rattle.escrow_schema.specs.declared.table.TableDef.{TableDef}
 use Rattle.escrow_rows.specs.Image.{AreTables}
 use Rattle.escrow_schema.specs.Rows.{rows_of}
-use Rattle.escrow_rows.specs.declared.stored.StoredTable.{StoredTable}
+use Rattle.escrow_schema.specs.declared.stored.StoredTable.{StoredTable}
 use Rattle.escrow_tables.specs.Inside.{HasCount, catalog_of, stored_of}
-use Rattle.escrow_verify.specs.declared.counted_table.CountedTable.{CountedTable}
+use Rattle.escrow_schema.specs.declared.counted_table.CountedTable.{CountedTable}
+use Rattle.escrow_schema.proofs.Listed.{all_unmap, kept_place}
 use Rattle.escrow_tables.proofs.Named.{IsNamed, is_named}
-
--- what holds of the image of each item
-all_unmap : {A B : Type 0} (P : B → Type 0) (f : A → B) (xs : List A) → AllByRecursion P (map f xs) → AllByRecursion (λ x. P (f x)) xs
-all_unmap P f [] h = tt
-all_unmap P f (x ∷ xs) h = (h.0, all_unmap P f xs h.1)
 
 -- an item at a place is one of the items
 has_at : {A : Type 0} (xs : List A) (i : ℕ) (x : A) → i < length xs → x ≡ get_or xs i x → Has xs x
@@ -44,41 +41,8 @@ find_at p (x ∷ xs) (suc i) d within passes before =
 pub record IsPlaced (tables : List CountedTable) (name : List ℕ) (place : ℕ) (c : CountedTable) : Type 0 where
   pub within : place < length tables
   pub item : c ≡ get_or tables place c
+  pub counted : Some c ≡ counted_named tables name
   pub named : IsNamed tables name c
-
--- the first item that passes stands where its image does
-first_through : {A B : Type 0} (p : B → Bool) (f : A → B) (xs : List A) → position_or_len p (map f xs) ≡ position_or_len (λ x. p (f x)) xs
-first_through p f [] = refl
-first_through p f (x ∷ xs) = elim (cases_Bool (p (f x))) [ inl t ↦ rw t refl | inr fails ↦ rw fails (ap (λ n. 1 + n) (first_through p f xs)) ]
-
-pub position_through : {A B : Type 0} (p : B → Bool) (f : A → B) (xs : List A) → position p (map f xs) ≡ position (λ x. p (f x)) xs
-position_through p f xs = ap₂ (λ n l. cond (nat_lt n l) (Some n) None) (first_through p f xs) (length-map xs f)
-
--- one more on each side changes no comparison
-one_more : (n l : ℕ) → nat_lt (1 + n) (suc l) ≡ nat_lt n l
-one_more n l = elim (cases_Bool (nat_lt n l)) [
-  | inl less ↦ lt-ltb (1 + n) (suc l) (omega (arith, ltb-true n l less)) ∙ sym less
-  | inr not_less ↦ le-ltb (1 + n) (suc l) (omega (arith, ltb-false n l not_less)) ∙ sym not_less
-]
-
--- an item that passes has a place where it is found
-passing : {A : Type 0} (p : A → Bool) (xs : List A) → nat_lt (position_or_len p xs) (length xs) ≡ is_some (find p xs)
-passing p [] = refl
-passing p (x ∷ xs) = elim (cases_Bool (p x)) [
-  | inl t ↦ rw t (lt-ltb 0 (length (x ∷ xs)) (omega arith))
-  | inr fails ↦ rw fails (one_more (position_or_len p xs) (length xs) ∙ passing p xs)
-]
-
-some_if : (b : Bool) (n : ℕ) → is_some (cond b (Some n) None) ≡ b
-some_if true n = refl
-some_if false n = refl
-
-pub has_place : {A : Type 0} (p : A → Bool) (xs : List A) → is_some (position p xs) ≡ is_some (find p xs)
-has_place p xs = some_if (nat_lt (position_or_len p xs) (length xs)) (position_or_len p xs) ∙ passing p xs
-
--- where the table of a name stands in the catalog, it stands among those that are kept
-pub kept_place : (tables : List CountedTable) (name : List ℕ) → place_named (catalog_of tables) name ≡ position (λ (c : CountedTable). bytes_eq c.stored.table.name name) tables
-kept_place tables name = position_through (λ (t : TableDef). bytes_eq t.name name) (λ (c : CountedTable). c.stored.table) tables
 
 -- what stands at the place of a name
 pub is_placed : (tables : List CountedTable) (name : List ℕ) (place : ℕ) (c : CountedTable) → place_named (catalog_of tables) name ≡ Some place → c ≡ get_or tables place c → IsPlaced tables name place c
@@ -86,7 +50,7 @@ is_placed tables name place c at item =
     let p : CountedTable → Bool = λ c. bytes_eq c.stored.table.name name in
     let first = position-Some p tables place c (sym (kept_place tables name) ∙ at) in
     let found = find_at p tables place c first.0 first.1 first.2 in
-    record { within = first.0; item = item; named = is_named tables name c (ap Some item ∙ sym found) }
+    record { within = first.0; item = item; counted = ap Some item ∙ sym found; named = is_named tables name c (ap Some item ∙ sym found) }
 
 -- the place of a name is one of the catalog, and of the tables that are kept
 pub place_within : (catalog : List TableDef) (name : List ℕ) (place : ℕ) → place_named catalog name ≡ Some place → place < length catalog
@@ -102,20 +66,20 @@ kept_within tables name place at = length_kept tables place (place_within (catal
 pub kept_is_table : (tables : List CountedTable) (place : ℕ) (c : CountedTable) → IsCatalog (catalog_of tables) → place < length tables → c ≡ get_or tables place c → IsTable c.stored.table
 kept_is_table tables place c catalog within item = all_has (λ (c : CountedTable). IsTable c.stored.table) tables (all_unmap IsTable (λ (c : CountedTable). c.stored.table) tables catalog.tables) c (has_at tables place c within item)
 
--- the tables, with another number of rows of the one at a place
-abbrev pub recounted : List CountedTable → ℕ → CountedTable → ℕ → List CountedTable
-recounted tables place c n = set tables place (record { stored = c.stored; rows = n })
+-- what a place gives is what stands there
+pub item_at : (tables : List CountedTable) (place : ℕ) (c : CountedTable) → slice_get tables place ≡ Some c → c ≡ get_or tables place c
+item_at tables place c at = sym (get_or_from_slice_get tables place c c at)
 
-module _ (tables : List CountedTable) (name : List ℕ) (place : ℕ) (c : CountedTable) (placed : IsPlaced tables name place c) where
-  pub stored_recounted : (n : ℕ) → stored_of (recounted tables place c n) ≡ stored_of tables
-  stored_recounted n = map-set_same (λ (c : CountedTable). c.stored) tables place (record { stored = c.stored; rows = n }) c (ap (λ (c : CountedTable). c.stored) placed.item)
+pub stored_recounted : (tables : List CountedTable) (place n : ℕ) → stored_of (recounted tables place n) ≡ stored_of tables
+stored_recounted [] place n = refl
+stored_recounted (c ∷ tables) zero n = refl
+stored_recounted (c ∷ tables) (suc place) n = ap (λ (ss : List StoredTable). c.stored ∷ ss) (stored_recounted tables place n)
 
-  pub catalog_recounted : (n : ℕ) → catalog_of (recounted tables place c n) ≡ catalog_of tables
-  catalog_recounted n = map-set_same (λ (c : CountedTable). c.stored.table) tables place (record { stored = c.stored; rows = n }) c (ap (λ (c : CountedTable). c.stored.table) placed.item)
-
-  -- with its own number of rows nothing changes
-  pub recounted_itself : recounted tables place c c.rows ≡ tables
-  recounted_itself = ap (set tables place) placed.item ∙ set-get_or tables place c
+-- with its own number of rows nothing changes
+pub recounted_itself : (tables : List CountedTable) (place : ℕ) (c : CountedTable) → c ≡ get_or tables place c → recounted tables place c.rows ≡ tables
+recounted_itself [] place c item = refl
+recounted_itself (d ∷ tables) zero c item = ap (λ (o : CountedTable). record d { rows = o.rows } ∷ tables) item
+recounted_itself (d ∷ tables) (suc place) c item = ap (λ (ts : List CountedTable). d ∷ ts) (recounted_itself tables place c item)
 
 -- no two tables have one name
 abbrev pub AreApart : List CountedTable → Type 0
@@ -138,14 +102,14 @@ module _ (rows new : List Row) (c : CountedTable) (n : ℕ) (others : (name : Li
   other_count t differ h = h ∙ sym (others t.stored.table.name differ)
 
   counts_at : (tables : List CountedTable) (place : ℕ) → place < length tables → c ≡ get_or tables place c → AreApart tables
-      → AllByRecursion (HasCount rows) tables → AllByRecursion (HasCount new) (recounted tables place c n)
+      → AllByRecursion (HasCount rows) tables → AllByRecursion (HasCount new) (recounted tables place n)
   counts_at [] place within at apart h = absurd (omega arith)
   counts_at (t ∷ ts) zero within at apart h =
       let later = all_both
       (λ (u : CountedTable). IsTrue (not (bytes_eq t.stored.table.name u.stored.table.name))) (HasCount rows) (HasCount new)
       (λ u differ k. other_count u (λ e. other_name t.stored.table.name u.stored.table.name differ (ap (λ (c : CountedTable). c.stored.table.name) (sym at) ∙ sym e)) k)
       ts apart.0 h.1 in
-      (own, later)
+      (own ∙ ap (λ (o : CountedTable). length (rows_of new o.stored.table.name)) at, later)
   counts_at (t ∷ ts) (suc i) within at apart h =
       let has = has_at ts i c (omega arith) at in
       let differ = all_has (λ (u : CountedTable). IsTrue (not (bytes_eq t.stored.table.name u.stored.table.name))) ts apart.0 c has in
@@ -153,7 +117,7 @@ module _ (rows new : List Row) (c : CountedTable) (n : ℕ) (others : (name : Li
 
   -- each table has as many rows as are counted, where those of other names have as many as they had
   pub counts_after : (tables : List CountedTable) (name : List ℕ) (place : ℕ) → IsPlaced tables name place c → AreTables (stored_of tables)
-      → AllByRecursion (HasCount rows) tables → AllByRecursion (HasCount new) (recounted tables place c n)
+      → AllByRecursion (HasCount rows) tables → AllByRecursion (HasCount new) (recounted tables place n)
   counts_after tables name place placed are = counts_at tables place placed.within placed.item (apart tables are)
 
 -- the same, where each table has as many rows as it had

@@ -11,7 +11,7 @@ use Rattle.escrow_num.specs.Order.{same_row}
 use Rattle.escrow_num.proofs.Items.{find_has}
 use Rattle.escrow_num.proofs.Orders.{row_same}
 use Rattle.escrow_rows.specs.declared.amounts.NewAmounts.{NewAmounts}
-use Rattle.escrow_rows.specs.declared.stored.StoredTable.{StoredTable}
+use Rattle.escrow_schema.specs.declared.stored.StoredTable.{StoredTable}
 use Rattle.escrow_rows.specs.Changes.{Stands}
 use Rattle.escrow_schema.specs.Rows.{replaced, row_named}
 use Rattle.escrow_tables.specs.Calls.{AreGiven}

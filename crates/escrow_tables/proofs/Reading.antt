@@ -9,15 +9,15 @@ use Rattle.escrow_num.specs.declared.value.Value.{Value}
 use Rattle.escrow_rows.specs.Answers.{IsUsable, OnlyReads, Tells}
 use Rattle.escrow_rows.specs.Changes.{name_in}
 use Rattle.escrow_rows.specs.View.{rows_in}
-use Rattle.escrow_verify.specs.declared.counted_table.CountedTable.{CountedTable}
+use Rattle.escrow_rows.proofs.ListedTables.{listed_are}
+use Rattle.escrow_schema.specs.declared.counted_table.CountedTable.{CountedTable}
 use Rattle.escrow_tables.specs.Inside.{Keeps, stored_of}
 use Rattle.escrow_tables.proofs.Named.{IsNamed}
 
 -- what the fields keep, they keep over a call that reads
 pub keeps_reading : (old new last : State) (tables : List CountedTable) → Keeps old last tables → OnlyReads old new → Keeps new last tables
 keeps_reading old new last tables keeps only_reads = record {
-  are_tables = keeps.are_tables;
-  is_catalog = keeps.is_catalog;
+  listed = keeps.listed;
   held = λ clean. keeps.held (omega (arith, only_reads.survives.clean, clean));
   same = λ usable. only_reads.same usable ∙ keeps.same (only_reads.usable usable);
 }
@@ -32,7 +32,7 @@ module _ (tables : List CountedTable) (name : List ℕ) (c : CountedTable) (name
       let usable = before (clean, told.0) in
       let held = keeps.held usable.0 in
       subst (λ (db : Database). Tells c.stored of db (items found)) (keeps.same usable) told.1
-      (stored_of tables) (rows_in (stored_of tables) last.now) keeps.are_tables held.are_rows named.stands held.image)
+      (stored_of tables) (rows_in (stored_of tables) last.now) (listed_are tables keeps.listed) held.are_rows named.stands held.image)
 
   -- the name of a row of the table
   pub name_of : (key : Value) → name_in c.stored key ≡ record { table = name; key = key }

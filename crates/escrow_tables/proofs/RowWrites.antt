@@ -11,7 +11,8 @@ use Rattle.escrow_num.proofs.Items.{all_has}
 use Rattle.escrow_num.specs.declared.row.Row.{Row}
 use Rattle.escrow_num.specs.declared.value.RowName.{RowName}
 use Rattle.escrow_num.specs.declared.value.Value.{Value}
-use Rattle.escrow_schema.specs.Catalog.{IsCatalog}
+use Rattle.escrow_schema.specs.Stored.{IsListed, recounted}
+use Rattle.escrow_schema.proofs.Listed.{catalog_recounted, listed_recounted}
 use Rattle.escrow_schema.specs.declared.table.TableDef.{TableDef}
 use Rattle.escrow_cells.specs.Calls.{Transacts}
 use Rattle.escrow_rows.specs.Answers.{IsUsable}
@@ -19,66 +20,59 @@ use Rattle.escrow_schema.specs.Rows.{row_named, with_plain, with_row, without_ro
 use Rattle.escrow_rows.specs.Changes.{TurnsRows}
 use Rattle.escrow_rows.specs.Image.{AreRows, AreTables, IsOfTables, IsImage}
 use Rattle.escrow_rows.specs.View.{rows_in}
-use Rattle.escrow_rows.specs.declared.stored.StoredTable.{StoredTable}
+use Rattle.escrow_rows.proofs.ListedTables.{listed_are}
+use Rattle.escrow_schema.specs.declared.stored.StoredTable.{StoredTable}
 use Rattle.escrow_schema.specs.declared.table.TheConstants.TableDef.{MAX_ROWS}
 use Rattle.escrow_tables.specs.Calls.{Writes}
 use Rattle.escrow_tables.specs.Inside.{HasCount, IsHeld, Keeps, catalog_of, stored_of}
-use Rattle.escrow_verify.specs.declared.counted_table.CountedTable.{CountedTable}
-use Rattle.escrow_tables.proofs.Named.{stored_has}
+use Rattle.escrow_schema.specs.declared.counted_table.CountedTable.{CountedTable}
+use Rattle.escrow_tables.proofs.Named.{IsNamed, stored_has}
 use Rattle.escrow_tables.proofs.NewRows.{are_rows_kept, are_rows_plain, are_rows_with, count_plain, one_less, one_more, others_with, others_without}
-use Rattle.escrow_tables.proofs.Placed.{IsPlaced, catalog_recounted, counts_after, counts_same, recounted, recounted_itself, stored_recounted}
+use Rattle.escrow_tables.proofs.Placed.{IsPlaced, counts_after, counts_same, recounted_itself, stored_recounted}
 use Rattle.escrow_tables.proofs.Writing.{keeps_on, seen, writes}
 
 -- what is held of rows after a change of those of a table
-pub record Turned (tables : List CountedTable) (place : ℕ) (c : CountedTable) (n : ℕ) (rows : List Row) : Type 0 where
+pub record Turned (tables : List CountedTable) (place n : ℕ) (rows : List Row) : Type 0 where
   pub are_rows : AreRows (stored_of tables) rows
-  pub counts : AllByRecursion (HasCount rows) (recounted tables place c n)
+  pub counts : AllByRecursion (HasCount rows) (recounted tables place n)
 
--- The rows of the table at a place change, and it has then n; the field that counts them has this number where
--- the call is done, and otherwise the one that it had.
-module _ {S : Type 0} (g : Ghosts S) (old new was later : Held S) (tables : List CountedTable) (name : List ℕ) (place : ℕ) (c : CountedTable) (placed : IsPlaced tables name place c)
+-- The rows of the table at a place change, and it has then n.
+module _ {S : Type 0} (g : Ghosts S) (old new was later : Held S) (tables fields : List CountedTable) (name : List ℕ) (place : ℕ) (c : CountedTable) (named : IsNamed tables name c)
     (after : List Row → List Row) (n : ℕ) (keeps : Keeps (state g old) (state g was) tables)
-    (turned : HasCleanDisk (state g old) → Turned tables place c n (after (rows_in (stored_of tables) (state g was).now)))
-    (is_done : Bool) (it : Transacts (state g old) (state g new) is_done (TurnsRows c.stored after)) (count : ℕ)
-    (if_done : is_done ≡ true → (count ≡ n) × (later ≡ new)) (if_not : is_done ≡ false → (count ≡ c.rows) × (later ≡ was)) where
-  are_after : AreTables (stored_of (recounted tables place c n))
-  are_after = subst AreTables (sym (stored_recounted tables name place c placed n)) keeps.are_tables
-
-  fields_done : is_done ≡ true → (recounted tables place c count ≡ recounted tables place c n) × (later ≡ new)
-  fields_done e = (ap (recounted tables place c) (if_done e).0, (if_done e).1)
-
-  fields_not : is_done ≡ false → (recounted tables place c count ≡ tables) × (later ≡ was)
-  fields_not e = (ap (recounted tables place c) (if_not e).0 ∙ recounted_itself tables name place c placed, (if_not e).1)
+    (turned : HasCleanDisk (state g old) → Turned tables place n (after (rows_in (stored_of tables) (state g was).now)))
+    (is_done : Bool) (it : Transacts (state g old) (state g new) is_done (TurnsRows c.stored after))
+    (if_done : is_done ≡ true → (fields ≡ recounted tables place n) × (later ≡ new)) (if_not : is_done ≡ false → (fields ≡ tables) × (later ≡ was)) where
+  listed_after : IsListed (recounted tables place n)
+  listed_after = listed_recounted tables place n keeps.listed
 
   -- the call turns what is held into what is held after it
   turns : IsUsable (state g old) → (db : Database) → TurnsRows c.stored after (state g was).now db
-      → IsHeld (recounted tables place c n) (after (rows_in (stored_of tables) (state g was).now)) db
+      → IsHeld (recounted tables place n) (after (rows_in (stored_of tables) (state g was).now)) db
   turns usable db change =
       let rows = rows_in (stored_of tables) (state g was).now in
-      let stays = sym (stored_recounted tables name place c placed n) in
+      let stays = sym (stored_recounted tables place n) in
       let held = keeps.held usable.0 in
       let made = turned usable.0 in
       record {
         are_rows = subst (λ (ts : List StoredTable). AreRows ts (after rows)) stays made.are_rows;
-        image = subst (λ (ts : List StoredTable). IsImage ts (after rows) db) stays (change (stored_of tables) rows keeps.are_tables held.are_rows placed.named.stands held.image);
+        image = subst (λ (ts : List StoredTable). IsImage ts (after rows) db) stays (change (stored_of tables) rows (listed_are tables keeps.listed) held.are_rows named.stands held.image);
         counts = made.counts;
       }
 
-  row_writes : Writes g (seen g old was tables) (seen g new later (recounted tables place c count)) is_done (catalog_of tables) (after (rows_in (stored_of tables) (state g was).now))
+  row_writes : Writes g (seen g old was tables) (seen g new later (fields)) is_done (catalog_of tables) (after (rows_in (stored_of tables) (state g was).now))
   row_writes =
       let rows = after (rows_in (stored_of tables) (state g was).now) in
-      let fields = recounted tables place c count in
-      subst (λ (catalog : List TableDef). Writes g (seen g old was tables) (seen g new later fields) is_done catalog rows) (catalog_recounted tables name place c placed n)
-      (writes g old new (TurnsRows c.stored after) is_done it was later tables (recounted tables place c n) fields rows keeps are_after turns fields_done fields_not)
+      subst (λ (catalog : List TableDef). Writes g (seen g old was tables) (seen g new later fields) is_done catalog rows) (catalog_recounted tables place n)
+      (writes g old new (TurnsRows c.stored after) is_done it was later tables (recounted tables place n) fields rows keeps listed_after turns if_done if_not)
 
-  row_keeps : Keeps (state g new) (state g later) (recounted tables place c count)
+  row_keeps : Keeps (state g new) (state g later) (fields)
   row_keeps =
-      keeps_on g old new (TurnsRows c.stored after) is_done it was later tables (recounted tables place c n) (recounted tables place c count) (after (rows_in (stored_of tables) (state g was).now)) keeps
-      are_after turns fields_done fields_not (subst IsCatalog (sym (catalog_recounted tables name place c placed n)) keeps.is_catalog)
+      keeps_on g old new (TurnsRows c.stored after) is_done it was later tables (recounted tables place n) (fields) (after (rows_in (stored_of tables) (state g was).now)) keeps
+      listed_after turns if_done if_not
 
   -- the call writes, and the fields keep what they hold
-  pub row_written : Writes g (seen g old was tables) (seen g new later (recounted tables place c count)) is_done (catalog_of tables) (after (rows_in (stored_of tables) (state g was).now))
-      × Keeps (state g new) (state g later) (recounted tables place c count)
+  pub row_written : Writes g (seen g old was tables) (seen g new later (fields)) is_done (catalog_of tables) (after (rows_in (stored_of tables) (state g was).now))
+      × Keeps (state g new) (state g later) (fields)
   row_written = (row_writes, row_keeps)
 
 module _ (tables : List CountedTable) (name : List ℕ) (place : ℕ) (c : CountedTable) (placed : IsPlaced tables name place c) (are : AreTables (stored_of tables))
@@ -89,14 +83,14 @@ module _ (tables : List CountedTable) (name : List ℕ) (place : ℕ) (c : Count
 
   -- the counts after a change of the number of its rows
   new_counts : (new : List Row) (n : ℕ) → ((other : List ℕ) → ¬ (other ≡ name) → length (rows_of new other) ≡ length (rows_of rows other)) → n ≡ length (rows_of new name)
-      → AllByRecursion (HasCount new) (recounted tables place c n)
+      → AllByRecursion (HasCount new) (recounted tables place n)
   new_counts new n others own =
       counts_after rows new c n (λ other differ. others other (λ e. differ (e ∙ sym placed.named.name_is))) (own ∙ ap (λ (n : List ℕ). length (rows_of new n)) (sym placed.named.name_is))
       tables name place placed are counts
 
 pub insert_turns : (tables : List CountedTable) (place : ℕ) (c : CountedTable) (row : Row) (n limit : ℕ) → IsPlaced tables row.name.table place c → AreTables (stored_of tables)
     → (rows : List Row) → AreRows (stored_of tables) rows → AllByRecursion (HasCount rows) tables → HasTable (catalog_of tables) row → row_named rows row.name ≡ None
-    → length (rows_of rows row.name.table) < MAX_ROWS → MAX_ROWS < limit → n ≡ min (c.rows + 1) limit → Turned tables place c n (with_row row rows)
+    → length (rows_of rows row.name.table) < MAX_ROWS → MAX_ROWS < limit → n ≡ min (c.rows + 1) limit → Turned tables place n (with_row row rows)
 insert_turns tables place c row n limit placed are rows are_rows counts fits new room large more =
     let had = has_count tables row.name.table place c placed are rows are_rows counts in
     let one = one_more row rows in
@@ -107,7 +101,7 @@ insert_turns tables place c row n limit placed are rows are_rows counts fits new
 
 pub delete_turns : (tables : List CountedTable) (place : ℕ) (c : CountedTable) (name : RowName) (n : ℕ) → IsPlaced tables name.table place c → AreTables (stored_of tables)
     → (rows : List Row) → AreRows (stored_of tables) rows → AllByRecursion (HasCount rows) tables → IsSome (row_named rows name) → n ≡ c.rows - 1
-    → Turned tables place c n (without_row name rows)
+    → Turned tables place n (without_row name rows)
 delete_turns tables place c name n placed are rows are_rows counts has less =
     let had = has_count tables name.table place c placed are rows are_rows counts in
     let one = one_less rows name are_rows.row_order has in
@@ -119,9 +113,9 @@ delete_turns tables place c name n placed are rows are_rows counts has less =
 
 pub plain_turns : (tables : List CountedTable) (place : ℕ) (c : CountedTable) (name : RowName) (values : List (Option Value)) → IsPlaced tables name.table place c
     → (rows : List Row) → AreRows (stored_of tables) rows → AllByRecursion (HasCount rows) tables → AllByRecursion (HasTable (catalog_of tables)) (with_plain name values rows)
-    → Turned tables place c c.rows (with_plain name values rows)
+    → Turned tables place c.rows (with_plain name values rows)
 plain_turns tables place c name values placed rows are_rows counts fit = record {
   are_rows = are_rows_plain (stored_of tables) name values rows are_rows (all_weaker (HasTable (catalog_of tables)) (IsOfTables (stored_of tables)) (stored_has tables) (with_plain name values rows) fit);
-  counts = subst (AllByRecursion (HasCount (with_plain name values rows))) (sym (recounted_itself tables name.table place c placed))
+  counts = subst (AllByRecursion (HasCount (with_plain name values rows))) (sym (recounted_itself tables place c placed.item))
       (counts_same rows (with_plain name values rows) (count_plain name values rows) tables counts);
 }

@@ -1,27 +1,19 @@
 -- The rows of the table at a place, among those of all tables.
-use Rattle.std.proofs.Common.{◌≡◌, ℕ, suc, zero, ◌+◌, ◌<◌, Bool, true, false, List, [], ◌∷◌, ◌++◌, Option, Some, None, length, map, drop, find, position, bytes_eq, inl, inr, refl, sym, ap, ap₂, subst, ◌∙◌, arith, append_assoc, le_refl}
-use Rattle.std.specs.Prelude.{IsSomeAnd, IsTrue, nat_lt}
-use Rattle.std.specs.List.{AllByRecursion, position_or_len}
-use Rattle.std.specs.Option.{option_to_list}
+use Rattle.std.proofs.Common.{◌≡◌, ℕ, suc, zero, ◌+◌, ◌<◌, Bool, true, false, List, [], ◌∷◌, ◌++◌, Some, None, length, drop, find, position, bytes_eq, inl, inr, refl, sym, ap, ◌∙◌, arith, append_assoc, le_refl}
+use Rattle.std.specs.Prelude.{IsTrue, nat_lt}
+use Rattle.std.specs.List.{position_or_len}
 use Rattle.std.proofs.lemmas.Bool.{cases_Bool, cond-true, cond-false, lt-ltb, ltb-true}
-use Rattle.sqlite.specs.State.{HasCleanDisk}
-use Rattle.sqlite.specs.Held.{state}
 use Rattle.sqlite_trees.specs.declared.store.Store.{Ghosts}
 use Rattle.escrow_num.specs.Ascending.{IsAscending}
 use Rattle.escrow_num.specs.declared.row.Row.{Row}
-use Rattle.escrow_num.specs.declared.value.Value.{Value}
-use Rattle.escrow_num.proofs.Items.{all_has, has_all, has_filter, find_has}
-use Rattle.escrow_num.proofs.Orders.{name_same, same_name}
+use Rattle.escrow_num.proofs.Items.{all_has, find_has}
+use Rattle.escrow_num.proofs.Orders.{same_name}
 use Rattle.escrow_schema.specs.declared.table.TableDef.{TableDef}
-use Rattle.escrow_schema.specs.Catalog.{IsCatalog, place_named, table_before, table_named}
-use Rattle.escrow_schema.specs.Definition.{IsTable}
-use Rattle.escrow_schema.specs.Fit.{IsRowOf, values_of}
-use Rattle.escrow_schema.specs.Rows.{AreRowsOf, HasTable, rows_of}
-use Rattle.escrow_schema.proofs.BackLemmas.{row_with_values_of}
-use Rattle.escrow_schema.proofs.CatalogLemmas.{found_table}
+use Rattle.escrow_schema.specs.Catalog.{place_named, table_before, table_named}
+use Rattle.escrow_schema.specs.Rows.{rows_of}
 use Rattle.escrow_tables.specs.Calls.{Reads}
 use Rattle.escrow_tables.specs.Committed.{Committed}
-use Rattle.escrow_tables.specs.Whole.{rows_by_table, rows_with}
+use Rattle.escrow_tables.specs.Whole.{rows_by_table}
 use Rattle.escrow_tables.proofs.AllRows.{below_differs}
 
 -- ---- the table at a place
@@ -71,22 +63,7 @@ at_place (u ∷ catalog) (suc place) order within =
       },
     )
 
--- ---- the rows of its values
-
-pub rows_back : (table : TableDef) (rows : List Row) → IsTable table → AllByRecursion (IsRowOf table) rows → rows_with table (map (values_of table) rows) ≡ rows
-rows_back table [] is_table of = refl
-rows_back table (r ∷ rows) is_table of =
-    ap₂ (λ (xs ys : List Row). xs ++ ys) (ap option_to_list (row_with_values_of table r is_table of.0)) (rows_back table rows is_table of.1)
-
--- the rows of a table are rows of its definition
-rows_fit : (catalog : List TableDef) (rows : List Row) (t : TableDef) → AllByRecursion (HasTable catalog) rows → table_named catalog t.name ≡ Some t
-    → AllByRecursion (IsRowOf t) (rows_of rows t.name)
-rows_fit catalog rows t has found =
-    has_all (IsRowOf t) (rows_of rows t.name) (λ r k.
-    let part = has_filter (λ (r : Row). bytes_eq r.name.table t.name) rows r k in
-    let is = all_has (HasTable catalog) rows has r part.0 in
-    let named : table_named catalog r.name.table ≡ Some t = ap (table_named catalog) (name_same r.name.table t.name part.1) ∙ found in
-    subst (λ (o : Option TableDef). IsSomeAnd o (λ table. IsRowOf table r)) named is)
+-- ---- its rows
 
 -- the definition that is found by the name at a place is the one that stands there
 pub one_there : (catalog : List TableDef) (place : ℕ) (t found : TableDef) → IsAtPlace catalog place t
@@ -95,20 +72,14 @@ one_there catalog place t found at named =
     let same : Some found ≡ Some t = sym (named t.name at.placed) ∙ at.found in cc
 
 -- what is read of the table at a place are its rows, which follow those of the tables before it
-pub adds : (catalog : List TableDef) (rows : List Row) (place : ℕ) (t first second : TableDef) (values : List (List Value)) (old new : List Row)
-    → IsCatalog catalog → AreRowsOf catalog rows → IsAtPlace catalog place t → first ≡ t → second ≡ t
-    → IsSomeAnd (table_named catalog first.name) (λ table. values ≡ map (values_of table) (rows_of rows first.name))
-    → new ≡ old ++ rows_with second values
+pub adds : (catalog : List TableDef) (rows : List Row) (place : ℕ) (t first : TableDef) (found old new : List Row)
+    → IsAtPlace catalog place t → first ≡ t → found ≡ rows_of rows first.name → new ≡ old ++ found
     → new ++ rows_by_table rows (drop (place + 1) catalog) ≡ old ++ rows_by_table rows (drop place catalog)
-adds catalog rows place t first second values old new is_catalog are at one two read added =
+adds catalog rows place t first found old new at one told added =
     let more = rows_by_table rows (drop (place + 1) catalog) in
     let mine = rows_of rows t.name in
-    let told : IsSomeAnd (table_named catalog t.name) (λ table. values ≡ map (values_of table) mine) =
-    subst (λ (d : TableDef). IsSomeAnd (table_named catalog d.name) (λ table. values ≡ map (values_of table) (rows_of rows d.name))) one read in
-    let are_values : values ≡ map (values_of t) mine = subst (λ (o : Option TableDef). IsSomeAnd o (λ table. values ≡ map (values_of table) mine)) at.found told in
-    let made : rows_with second values ≡ mine =
-    ap₂ rows_with two are_values ∙ rows_back t mine (found_table catalog t.name t is_catalog at.found) (rows_fit catalog rows t are.tables at.found) in
-    ap (λ (rs : List Row). rs ++ more) (added ∙ ap (λ (rs : List Row). old ++ rs) made) ∙ append_assoc old mine more
+    let is : found ≡ mine = told ∙ ap (λ (d : TableDef). rows_of rows d.name) one in
+    ap (λ (rs : List Row). rs ++ more) (added ∙ ap (λ (rs : List Row). old ++ rs) is) ∙ append_assoc old mine more
     ∙ ap (λ (ts : List TableDef). old ++ rows_by_table rows ts) (sym at.rest)
 
 -- ---- what a reading call keeps
@@ -120,7 +91,3 @@ reads_nothing g t = record {
   usable = λ usable. usable;
   survives = record { clean = le_refl _; shield = λ h. h; counts = le_refl _; limit = refl; closes = λ _ h. inl h; crash = λ _ db h. inl h };
 }
-
--- a disk that has returned what was written had done so before
-pub was_clean : {S : Type 0} (g : Ghosts S) (old new : Committed S) → Reads g old new → HasCleanDisk (state g new.store) → HasCleanDisk (state g old.store)
-was_clean g old new reads clean = omega (arith, reads.survives.clean, clean)

@@ -1,5 +1,5 @@
 -- What a call of the store that writes makes of the tables and rows of a database.
-use Rattle.std.proofs.Common.{◌≡◌, ◌∙◌, ◌∷◌, [], Bool, true, false, List, ap, ap₂, arith, inl, map, refl, subst, subst₂, sym}
+use Rattle.std.proofs.Common.{◌≡◌, ◌∙◌, Bool, true, false, List, ap, ap₂, arith, inl, refl, subst, subst₂, sym}
 use Rattle.std.proofs.lemmas.Bool.{false≢true}
 use Rattle.sqlite_trees.specs.declared.store.Store.{Ghosts}
 use Rattle.sqlite.specs.Effect.{Database}
@@ -7,27 +7,23 @@ use Rattle.sqlite.specs.Held.{Held, state}
 use Rattle.sqlite.specs.State.{HasCleanDisk}
 use Rattle.sqlite.proofs.StateLemmas.{survives_weaker}
 use Rattle.escrow_num.specs.declared.row.Row.{Row}
-use Rattle.escrow_schema.specs.Catalog.{IsCatalog}
+use Rattle.escrow_schema.specs.Stored.{IsListed}
 use Rattle.escrow_schema.specs.declared.table.TableDef.{TableDef}
 use Rattle.escrow_cells.specs.Calls.{Transacts}
 use Rattle.escrow_rows.specs.Answers.{IsUsable}
 use Rattle.escrow_rows.specs.Image.{AreTables}
 use Rattle.escrow_rows.specs.View.{rows_in}
-use Rattle.escrow_rows.specs.declared.stored.StoredTable.{StoredTable}
+use Rattle.escrow_rows.proofs.ListedTables.{listed_are}
+use Rattle.escrow_recover.proofs.OpenedLemmas.{definitions}
 use Rattle.escrow_tables.specs.Calls.{Writes}
 use Rattle.escrow_tables.specs.Committed.{Committed, Holds}
 use Rattle.escrow_tables.specs.Inside.{IsHeld, Keeps, catalog_of, stored_of}
-use Rattle.escrow_verify.specs.declared.counted_table.CountedTable.{CountedTable}
+use Rattle.escrow_schema.specs.declared.counted_table.CountedTable.{CountedTable}
 use Rattle.escrow_tables.proofs.Held.{held_itself, rows_held}
 
 -- what contracts see of a connection, of how it was when it was last written, and of tables
 abbrev pub seen : {S : Type 0} → Ghosts S → Held S → Held S → List CountedTable → Committed S
 seen g store last tables = record { store = store; catalog = catalog_of tables; rows = rows_in (stored_of tables) (state g last).now }
-
--- the definitions of tables, taken in two steps
-pub definitions : (tables : List CountedTable) → map (λ (s : StoredTable). s.table) (stored_of tables) ≡ catalog_of tables
-definitions [] = refl
-definitions (c ∷ tables) = ap (λ ts. c.stored.table ∷ ts) (definitions tables)
 
 -- a database of which tables and rows are held holds them
 pub holds : (tables : List CountedTable) (rows : List Row) (db : Database) → AreTables (stored_of tables) → IsHeld tables rows db → Holds (catalog_of tables) rows db
@@ -63,8 +59,11 @@ module _ {S : Type 0} (g : Ghosts S) (old new : Held S) (D : Database → Databa
   -- The tables that stand are kept, and how the store was when it was last written; the change makes others of
   -- them, with other rows. The fields have these, and the store as it is then, where the call is done.
   module _ (is_done : Bool) (it : Transacts (state g old) (state g new) is_done D) (was later : Held S) (tables after fields : List CountedTable) (rows : List Row) (keeps : Keeps (state g old) (state g was) tables)
-      (are_after : AreTables (stored_of after)) (turns : IsUsable (state g old) → (db : Database) → D (state g was).now db → IsHeld after rows db)
+      (listed_after : IsListed after) (turns : IsUsable (state g old) → (db : Database) → D (state g was).now db → IsHeld after rows db)
       (if_done : is_done ≡ true → (fields ≡ after) × (later ≡ new)) (if_not : is_done ≡ false → (fields ≡ tables) × (later ≡ was)) where
+    are_after : AreTables (stored_of after)
+    are_after = listed_are after listed_after
+
     -- a clean disk was clean before
     was_clean : HasCleanDisk (state g new) → HasCleanDisk (state g old)
     was_clean clean = omega (arith, it.survives.clean, clean)
@@ -96,22 +95,20 @@ module _ {S : Type 0} (g : Ghosts S) (old new : Held S) (D : Database → Databa
     }
 
     -- and the fields keep what they hold
-    pub keeps_on : IsCatalog (catalog_of after) → Keeps (state g new) (state g later) fields
-    keeps_on catalog = by is_done refl
+    pub keeps_on : Keeps (state g new) (state g later) fields
+    keeps_on = by is_done refl
       where
         at : (ts : List CountedTable) (h : Held S) → (fields ≡ ts) × (later ≡ h) → Keeps (state g new) (state g h) ts → Keeps (state g new) (state g later) fields
         at ts h is kept = subst₂ (λ (us : List CountedTable) (k : Held S). Keeps (state g new) (state g k) us) (sym is.0) (sym is.1) kept
 
         by : (b : Bool) → is_done ≡ b → Keeps (state g new) (state g later) fields
         by true e = at after new (if_done e) (record {
-          are_tables = are_after;
-          is_catalog = catalog;
+          listed = listed_after;
           held = λ clean. held_itself after rows (state g new).now are_after (held_done e clean);
           same = λ _. refl;
         })
         by false e = at tables was (if_not e) (record {
-          are_tables = keeps.are_tables;
-          is_catalog = keeps.is_catalog;
+          listed = keeps.listed;
           held = λ clean. keeps.held (was_clean clean);
           same = λ usable. it.refused e usable ∙ keeps.same (it.usable usable);
         })

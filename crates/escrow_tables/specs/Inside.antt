@@ -1,17 +1,15 @@
 -- Helps: what the fields of the tables of a database hold.
-use Rattle.std.specs.Prelude.{◌≡◌, List, IsTrue}
+use Rattle.std.specs.Prelude.{◌≡◌, List}
 use Rattle.std.specs.List.{AllByRecursion}
 use Rattle.sqlite.specs.Effect.{Database}
 use Rattle.sqlite.specs.State.{State, HasCleanDisk}
-use Rattle.sqlite_trees.specs.Tree.{Trees}
 use Rattle.escrow_num.specs.declared.row.Row.{Row}
-use Rattle.escrow_schema.specs.Catalog.{IsCatalog}
+use Rattle.escrow_schema.specs.Stored.{IsListed}
 use Rattle.escrow_rows.specs.Answers.{IsUsable}
-use Rattle.escrow_rows.specs.Image.{IsImage, AreTables, AreRows}
+use Rattle.escrow_rows.specs.Image.{IsImage, AreRows}
 use Rattle.escrow_rows.specs.View.{rows_in}
-use Rattle.escrow_verify.specs.declared.counted_table.CountedTable.{CountedTable}
-use Rattle.escrow_tables.specs.Migrated.{IsMigrated}
-pub use Rattle.escrow_verify.specs.Stored.{stored_of, catalog_of, HasCount}
+use Rattle.escrow_schema.specs.declared.counted_table.CountedTable.{CountedTable}
+pub use Rattle.escrow_recover.specs.Stored.{stored_of, catalog_of, HasCount}
 
 -- a database is the image of the tables, of rows of theirs, and these are counted
 pub record IsHeld (tables : List CountedTable) (rows : List Row) (db : Database) : Type 0 where
@@ -23,12 +21,6 @@ pub record IsHeld (tables : List CountedTable) (rows : List Row) (db : Database)
 -- like; their rows, as they then were, while its disk has returned what was written; and where it can be
 -- used, it still holds what it then held.
 pub record Keeps (s last : State) (tables : List CountedTable) : Type 0 where
-  pub are_tables : AreTables (stored_of tables)
-  pub is_catalog : IsCatalog (catalog_of tables)
+  pub listed : IsListed tables
   pub held : HasCleanDisk s → IsHeld tables (rows_in (stored_of tables) last.now) last.now
   pub same : IsUsable s → s.now ≡ last.now
-
--- a store was open, and what a disk has holds the tables and rows that it held in the format before
-pub record WasMigrated (old : State) (trees : Trees) : Type 0 where
-  pub is_open : IsTrue old.is_open
-  pub is_migrated : IsMigrated old.now trees

@@ -7,7 +7,7 @@ use Rattle.escrow_schema.specs.declared.table.TableDef.{TableDef}
 use Rattle.escrow_rows.specs.declared.keyed_row.KeyedRow.{KeyedRow}
 use Rattle.escrow_tables.specs.declared.judged.RowsJudged.{RowsJudged}
 use Rattle.escrow_tables.specs.Judged.{first_violation}
-use Rattle.escrow_tables.specs.Whole.{rows_with}
+use Rattle.escrow_rows.specs.Whole.{rows_with}
 
 -- rows have been judged: what was found is what was found before, or what the first of them that breaks
 -- something does

@@ -1,10 +1,7 @@
 pub mod Calls
 pub mod Committed
-pub mod Found
 pub mod Inside
 pub mod Judged
 pub mod Judging
-pub mod Laws
-pub mod Migrated
 pub mod Puts
 pub mod Whole

@@ -8,7 +8,7 @@ use Rattle.escrow_num.specs.Order.{same_row}
 use Rattle.escrow_num.specs.Reservation.{changes_at}
 use Rattle.escrow_checks.specs.Form.{all_changed}
 use Rattle.escrow_rows.specs.declared.amounts.NewAmounts.{NewAmounts}
-use Rattle.escrow_rows.specs.declared.stored.StoredTable.{StoredTable}
+use Rattle.escrow_schema.specs.declared.stored.StoredTable.{StoredTable}
 use Rattle.escrow_schema.specs.Rows.{row_named, replaced, row_after}
 use Rattle.escrow_rows.specs.Changes.{Stands, name_in}
 

@@ -15,8 +15,7 @@ ghost use Rattle.escrow_tables.specs.Puts.{ArePuts, TellsPut, changed_by, row_pu
 use crate::tables::Tables;
 use escrow_num::{Amount, Changes, Failure, Reservation, RowName, Seq};
 use escrow_rows::NewAmounts;
-use escrow_schema::find_by_name;
-use escrow_verify::CountedTable;
+use escrow_schema::{CountedTable, find_by_name};
 use sqlite::Alter;
 use std::alloc::{AllocError, Global};
 use std::snapshot::Snapshot;
@@ -35,7 +34,7 @@ impl<S: Alter> Tables<S> {
         requires given { HasCleanDisk (state S.Store self.old.store) → AreGiven self.old.rows (map (λ r. r.now) reservations.now) (map (λ amounts. amounts.now) before.now) }
         ensures { Writes S.Store self.old self.new (is_ok result) self.old.catalog (applied self.old.rows (map (λ r. r.now) reservations.now)) }
     {
-        let news = news_by(alloc, &self.tables, reservations, before)?;
+        let news = news_by(alloc, self.catalog.tables(), reservations, before)?;
         self.store.put_amounts(alloc, news.as_slice())?;
         self.last = Snapshot::of(&self.store);
         Ok(())

@@ -1,14 +1,11 @@
-ghost use Rattle.std.specs.Prelude.{◌≡◌, ◌≢◌, ◌≤◌, ◌<◌, pos, length, insert, IfSome, int_le, IsTrue};
+ghost use Rattle.std.specs.Prelude.{◌≡◌, ◌≢◌, pos, IfSome, int_le, IsTrue};
 ghost use Rattle.std.specs.List.{AllByRecursion, list_any};
-ghost use Rattle.std.specs.Vec.{vec_len, vec_capacity};
 ghost use Rattle.std.specs.Ordering.{int_eq};
-ghost use Rattle.escrow_verify.specs.declared.counted_table.CountedTable.{CountedTable as Kept};
+ghost use Rattle.escrow_schema.specs.declared.counted_table.CountedTable.{CountedTable as Kept};
 
 use crate::tables::Tables;
 use escrow_num::Failure;
-use escrow_rows::StoredTable;
-use escrow_schema::{TableDef, place_in_order};
-use escrow_verify::CountedTable;
+use escrow_schema::{CountedTable, TableDef};
 use sqlite::Alter;
 use std::alloc::Global;
 use std::snapshot::Snapshot;
@@ -21,21 +18,26 @@ impl<S: Alter> Tables<S> {
     ghost use Rattle.escrow_schema.specs.Rows.{without_rows_of};
     ghost use Rattle.escrow_tables.specs.Calls.{Writes};
 
-    /// CREATE TABLE: puts a new table, without rows. Room for it is taken before the store is asked.
+    /// CREATE TABLE: puts a new table, without rows. It is put into the catalog before the store is asked, so
+    /// that room for it is taken first, and taken out again if the store refuses.
     pub fn create(&mut self, alloc: Global, table: TableDef) -> Result<(), Failure>
         requires table { IsTable table }
         requires new { table_named self.old.catalog table.name ≡ None }
         requires room { length self.old.catalog < MAX_TABLES }
         ensures { Writes S.Store self.old self.new (is_ok result) (with_table table self.old.catalog) self.old.rows }
     {
-        self.tables.reserve(1)?;
-        let Some(id) = free_number(&self.tables) else {
+        let Some(id) = free_number(self.catalog.tables()) else {
             return Err(Failure::Store);
         };
-        let place = place_in_order(&self.tables, table.name);
-        let stored = StoredTable { id, table };
-        self.store.create_table(alloc, &stored)?;
-        put(&mut self.tables, place, CountedTable { stored, rows: 0 });
+        let name = table.name;
+        let Ok(place) = self.catalog.add(id, table) else {
+            return Err(Failure::Memory);
+        };
+        let stored = &self.catalog.at(place).stored;
+        if let Err(failure) = self.store.create_table(alloc, stored) {
+            let _ = self.catalog.remove(name);
+            return Err(failure);
+        }
         self.last = Snapshot::of(&self.store);
         Ok(())
     }
@@ -45,20 +47,13 @@ impl<S: Alter> Tables<S> {
         requires { (name : List ℕ) × (place_named self.old.catalog name ≡ Some place) }
         ensures { (name : List ℕ) → place_named self.old.catalog name ≡ Some place → Writes S.Store self.old self.new (is_ok result) (without_table name self.old.catalog) (without_rows_of name self.old.rows) }
     {
-        self.store.drop_table(&self.tables[place].stored)?;
-        self.tables.remove(place);
+        let counted = self.catalog.at(place);
+        self.store.drop_table(&counted.stored)?;
+        let name = counted.stored.table.name;
+        let _ = self.catalog.remove(name);
         self.last = Snapshot::of(&self.store);
         Ok(())
     }
-}
-
-/// Puts a table at a place. There is room for it.
-fn put(tables: &mut Vec<CountedTable>, place: usize, counted: CountedTable)
-    requires room { vec_len tables.old < vec_capacity tables.old }
-    requires within { place ≤ length tables.old.items }
-    ensures { tables.new.items ≡ insert tables.old.items place counted }
-{
-    let _ = tables.insert(place, counted);
 }
 
 /// The least number from 1 on that no table has. One of the first 33 is free, since there are 32 tables at

@@ -2,13 +2,12 @@
 ghost use Rattle.std.specs.Prelude.{◌≡◌, [], ◌∷◌, IfOk};
 ghost use Rattle.escrow_schema.specs.Definition.{IsTable};
 ghost use Rattle.escrow_tables.specs.Judged.{first_violation};
-ghost use Rattle.escrow_tables.specs.Whole.{rows_with};
+ghost use Rattle.escrow_rows.specs.Whole.{rows_with};
 
 use crate::judge::RowJudge;
 use crate::tables::Tables;
-use crate::whole::made_row;
 use escrow_num::{Failure, Name, Value, Violation};
-use escrow_rows::{KeyedRow, RowTaker};
+use escrow_rows::{KeyedRow, RowTaker, made_row};
 use escrow_schema::TableDef;
 use sqlite::Alter;
 use std::alloc::Global;
@@ -37,7 +36,7 @@ impl<S: Alter> Tables<S> {
         ensures reads { Reads S.Store self.old self.new }
         ensures open { HasCleanDisk (state S.Store self.new.store) → OnOk result (IsTrue (state S.Store self.new.store).is_open) }
     {
-        let stored = &self.tables[place].stored;
+        let stored = &self.catalog.at(place).stored;
         let taker = RowsJudged {
             alloc,
             judged: JudgedTable::new(&stored.table, judge),

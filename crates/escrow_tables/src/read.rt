@@ -28,7 +28,7 @@ impl<S: Alter> Tables<S> {
         ensures open { HasCleanDisk (state S.Store self.new.store) → OnOk result (IsTrue (state S.Store self.new.store).is_open) }
     {
         self.store
-            .amounts(alloc, &self.tables[place].stored, &name.key)
+            .amounts(alloc, &self.catalog.at(place).stored, &name.key)
     }
 
     /// The values of the committed row of a name, in column order, or `None` where there is no such row; the
@@ -45,7 +45,7 @@ impl<S: Alter> Tables<S> {
         ensures open { HasCleanDisk (state S.Store self.new.store) → OnOk result (IsTrue (state S.Store self.new.store).is_open) }
     {
         self.store
-            .values(alloc, &self.tables[place].stored, &name.key)
+            .values(alloc, &self.catalog.at(place).stored, &name.key)
     }
 
     /// Whether the committed row of a name stands; the place is that of its table. Takes no memory of its own.
@@ -55,7 +55,7 @@ impl<S: Alter> Tables<S> {
         ensures reads { Reads S.Store self.old self.new }
         ensures open { HasCleanDisk (state S.Store self.new.store) → OnOk result (IsTrue (state S.Store self.new.store).is_open) }
     {
-        self.store.stands(&self.tables[place].stored, &name.key)
+        self.store.stands(&self.catalog.at(place).stored, &name.key)
     }
 
     /// Whether the store still answers: once a fault has shut it, it doesn't. Looks for the row of a name.
@@ -83,6 +83,6 @@ impl<S: Alter> Tables<S> {
         ensures reads { Reads S.Store self.old self.new }
         ensures open { HasCleanDisk (state S.Store self.new.store) → OnOk result (IsTrue (state S.Store self.new.store).is_open) }
     {
-        self.store.all_values(alloc, &self.tables[place].stored)
+        self.store.all_values(alloc, &self.catalog.at(place).stored)
     }
 }

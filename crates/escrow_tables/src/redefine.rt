@@ -21,9 +21,9 @@ impl<S: Alter> Tables<S> {
         requires alike { IsSomeAnd (table_named self.old.catalog table.name) (λ (old : Table). table ≡ record old { checks = table.checks }) }
         ensures { Writes S.Store self.old self.new (is_ok result) (with_altered table self.old.catalog) self.old.rows }
     {
-        let counted = &mut self.tables[place];
-        self.store.redefine(alloc, &counted.stored, &table)?;
-        counted.stored.table = table;
+        let stored = &self.catalog.at(place).stored;
+        self.store.redefine(alloc, stored, &table)?;
+        self.catalog.replace(table);
         self.last = Snapshot::of(&self.store);
         Ok(())
     }

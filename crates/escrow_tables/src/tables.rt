@@ -1,7 +1,7 @@
 use escrow_num::Name;
+use escrow_recover::Opened;
 use escrow_rows::RowStore;
-use escrow_schema::{TableDef, find_by_name, place_by_name};
-use escrow_verify::CountedTable;
+use escrow_schema::{Catalog, TableDef};
 use sqlite::{Alter, Connection};
 use std::alloc::Global;
 use std::marker::Model;
@@ -15,8 +15,7 @@ pub struct Tables<S: Alter> {
     pub(crate) store: RowStore<S>,
     // The store as it was when it was last written, for clauses alone: it has no bytes.
     pub(crate) last: Snapshot<RowStore<S>>,
-    // In order of name.
-    pub(crate) tables: Vec<CountedTable>,
+    pub(crate) catalog: Catalog,
 }
 
 impl<S: Alter> Model for Tables<S> {
@@ -29,9 +28,9 @@ impl<S: Alter> Model for Tables<S> {
 
     ghost coded = { committed_code S.code };
 
-    ghost view = { λ t. record { store = t.store; catalog = catalog_of t.tables.items; rows = rows_in (stored_of t.tables.items) (state S.Store t.last.value).now } };
+    ghost view = { λ t. record { store = t.store; catalog = catalog_of t.catalog; rows = rows_in (stored_of t.catalog) (state S.Store t.last.value).now } };
 
-    ghost invariant = { λ t. Keeps (state S.Store t.store) (state S.Store t.last.value) t.tables.items };
+    ghost invariant = { λ t. Keeps (state S.Store t.store) (state S.Store t.last.value) t.catalog };
 }
 
 impl<S: Alter> Tables<S> {
@@ -39,24 +38,33 @@ impl<S: Alter> Tables<S> {
     ghost use Rattle.sqlite.specs.Held.{state};
     ghost use Rattle.sqlite.specs.State.{HasCleanDisk};
     ghost use Rattle.sqlite_trees.specs.Tree.{Trees};
+    ghost use Rattle.escrow_num.specs.declared.row.Row.{Row};
     ghost use Rattle.escrow_schema.specs.Catalog.{place_named, table_named, IsCatalog};
     ghost use Rattle.escrow_schema.specs.Definition.{IsTable};
     ghost use Rattle.escrow_rows.specs.Answers.{IsUsable};
-    ghost use Rattle.escrow_rows.specs.Image.{IsImage};
     ghost use Rattle.escrow_schema.specs.Rows.{rows_of, AreRowsOf};
+    ghost use Rattle.escrow_schema.specs.Stored.{catalog_of};
+    ghost use Rattle.escrow_recover.specs.Opened.{IsOpened, Stores};
     ghost use Rattle.escrow_tables.specs.Committed.{AreHeld};
 
-    /// The tables of an empty store: none. Makes no store call, and takes no memory.
-    pub fn empty(alloc: Global, store: RowStore<S>) -> Self
-        requires { HasCleanDisk (state S.Store store) → IsImage [] [] (state S.Store store).now }
-        ensures store { result.store ≡ store }
-        ensures catalog { result.catalog ≡ [] }
-        ensures rows { HasCleanDisk (state S.Store store) → result.rows ≡ [] }
+    /// The tables of a store that is opened. Makes no store call, and takes no memory.
+    pub fn over(opened: Opened<S>) -> Self
+        requires { HasCleanDisk (state S.Store opened.store) → IsOpened (state S.Store opened.store) opened.catalog }
+        ensures store { result.store ≡ opened.store }
+        ensures catalog { result.catalog ≡ catalog_of opened.catalog }
+        ensures rows { (rows : List Row) → Stores (state S.Store opened.store) opened.catalog rows → result.rows ≡ rows }
     {
+        let Opened {
+            store,
+            catalog,
+            migrated: _,
+        } = opened;
+        // What is known of the catalog is told where its tables are read.
+        let _ = catalog.tables();
         Tables {
             last: Snapshot::of(&store),
             store,
-            tables: Vec::new(alloc),
+            catalog,
         }
     }
 
@@ -78,14 +86,14 @@ impl<S: Alter> Tables<S> {
         ensures left { IsUsable (state S.Store self.now.store) → (trees : Trees) → (state S.Store self.now.store).may_leave trees → AreHeld self.now.catalog self.now.rows trees }
     {
         self.store.rests();
-        self.tables.len()
+        self.catalog.tables().len()
     }
 
     /// Whether there are no tables. Makes no store call.
     pub fn is_empty(&self) -> bool
         ensures { IsTrue result ↔ (self.now.catalog ≡ []) }
     {
-        self.tables.is_empty()
+        self.catalog.tables().is_empty()
     }
 
     /// The place of the table of a name among all, in order of name. Makes no store call.
@@ -93,7 +101,7 @@ impl<S: Alter> Tables<S> {
         ensures place { result ≡ place_named self.now.catalog name }
         ensures there { is_some result ≡ is_some (table_named self.now.catalog name) }
     {
-        place_by_name(&self.tables, name)
+        self.catalog.place(name)
     }
 
     /// The table at a place. Makes no store call.
@@ -102,7 +110,7 @@ impl<S: Alter> Tables<S> {
         ensures named { (name : List ℕ) → place_named self.now.catalog name ≡ Some place → table_named self.now.catalog name ≡ Some result.now }
         ensures table { IsTable result.now }
     {
-        &self.tables[place].stored.table
+        &self.catalog.at(place).stored.table
     }
 
     /// The table of a name. Makes no store call.
@@ -110,8 +118,7 @@ impl<S: Alter> Tables<S> {
         ensures found { option_copied result ≡ table_named self.now.catalog name }
         ensures table { IfSome result (λ table. IsTable table.now) }
     {
-        let counted = find_by_name(&self.tables, name)?;
-        Some(&counted.stored.table)
+        self.catalog.find(name)
     }
 
     /// How many rows the table at a place has. Makes no store call.
@@ -119,7 +126,7 @@ impl<S: Alter> Tables<S> {
         requires { place < length self.now.catalog }
         ensures { HasCleanDisk (state S.Store self.now.store) → (name : List ℕ) → place_named self.now.catalog name ≡ Some place → result ≡ length (rows_of self.now.rows name) }
     {
-        self.tables[place].rows
+        self.catalog.at(place).rows
     }
 
     /// Limits the steps that a statement of the store may take; with `None` there is no limit. A call

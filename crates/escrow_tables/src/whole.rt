@@ -1,20 +1,18 @@
-ghost use Rattle.std.specs.Prelude.{◌≡◌, ◌++◌, map, IfOk, OnOk, Some};
-ghost use Rattle.escrow_schema.specs.Definition.{IsTable};
-ghost use Rattle.escrow_schema.specs.Fit.{IsRowOf, row_with};
+ghost use Rattle.std.specs.Prelude.{◌≡◌, map, IfOk};
 ghost use Rattle.escrow_tables.specs.Inside.{catalog_of};
-ghost use Rattle.escrow_tables.specs.Whole.{rows_with};
 
 use crate::tables::Tables;
-use escrow_num::{Copied, Failure, Row, Seq, Value};
-use escrow_schema::{TableDef, row_of};
-use escrow_verify::CountedTable;
+use escrow_num::{Copied, Failure, Name, Row, Seq};
+use escrow_schema::{CountedTable, TableDef};
 use sqlite::Alter;
 use std::alloc::{AllocError, Global};
 
 impl<S: Alter> Tables<S> {
-    ghost use Rattle.std.specs.Prelude.{◌≡◌, ◌+◌, ◌++◌, ◌<◌, IfOk, OnOk, drop, length};
+    ghost use Rattle.std.specs.Prelude.{◌≡◌, ◌+◌, ◌++◌, ◌<◌, Some, IfOk, OnOk, drop, length};
     ghost use Rattle.sqlite.specs.Held.{state};
     ghost use Rattle.sqlite.specs.State.{HasCleanDisk};
+    ghost use Rattle.escrow_schema.specs.Catalog.{place_named};
+    ghost use Rattle.escrow_schema.specs.Rows.{rows_of};
     ghost use Rattle.escrow_tables.specs.Calls.{Reads};
     ghost use Rattle.escrow_tables.specs.Whole.{rows_by_table};
 
@@ -23,7 +21,7 @@ impl<S: Alter> Tables<S> {
     pub fn catalog(&self, alloc: Global) -> Result<Seq<TableDef>, AllocError>
         ensures { IfOk result (λ catalog. catalog ≡ self.now.catalog) }
     {
-        definitions(alloc, &self.tables)
+        definitions(alloc, self.catalog.tables())
     }
 
     /// The committed rows of all tables, in order of table and key. They are read one table after another.
@@ -47,8 +45,18 @@ impl<S: Alter> Tables<S> {
         // What is known of the tables is told where they are counted.
         let _ = self.len();
         let name = self.table(place).name;
-        let all = self.all_values(alloc, place, name)?;
-        push_rows(alloc, self.table(place), all.as_slice(), rows)
+        let mut more = self.rows_at(alloc, place, name)?.into_vec();
+        rows.append(&mut more)?;
+        Ok(())
+    }
+
+    /// The committed rows of the table of a name, which stands at a place, in order of key.
+    fn rows_at(&mut self, alloc: Global, place: usize, name: Name) -> Result<Seq<Row>, Failure>
+        requires { place_named self.old.catalog name ≡ Some place }
+        ensures told { HasCleanDisk (state S.Store self.new.store) → IfOk result (λ rows. rows ≡ rows_of self.old.rows name) }
+        ensures reads { Reads S.Store self.old self.new }
+    {
+        self.store.rows(alloc, &self.catalog.at(place).stored)
     }
 }
 
@@ -61,29 +69,4 @@ fn definitions(alloc: Global, tables: &[CountedTable]) -> Result<Seq<TableDef>, 
         catalog.push(counted.stored.table.copy(alloc)?)?;
     }
     Ok(Seq::from_vec(catalog))
-}
-
-/// Adds the row of each of these values. Values that make no row of the table are refused.
-fn push_rows(
-    alloc: Global,
-    table: &TableDef,
-    all: &[Seq<Value>],
-    rows: &mut Vec<Row>,
-) -> Result<(), Failure>
-    requires { IsTable table.now }
-    ensures { OnOk result (rows.new.items ≡ rows.old.items ++ rows_with table.now all.now) }
-{
-    for values in all {
-        rows.push(made_row(alloc, table, values.as_slice())?)?;
-    }
-    Ok(())
-}
-
-/// The row that values make. Values that make no row of the table are refused.
-pub(crate) fn made_row(alloc: Global, table: &TableDef, values: &[Value]) -> Result<Row, Failure>
-    requires { IsTable table.now }
-    ensures made { IfOk result (λ row. row_with table.now values.now ≡ Some row) }
-    ensures fits { IfOk result (λ row. IsRowOf table.now row) }
-{
-    row_of(alloc, table, values)?.ok_or(Failure::Store)
 }

@@ -22,9 +22,10 @@ impl<S: Alter> Tables<S> {
         requires room { HasCleanDisk (state S.Store self.old.store) → length (rows_of self.old.rows row.now.name.table) < MAX_ROWS }
         ensures { Writes S.Store self.old self.new (is_ok result) self.old.catalog (with_row row.now self.old.rows) }
     {
-        let counted = &mut self.tables[place];
+        let counted = self.catalog.at(place);
         self.store.insert(alloc, &counted.stored, row)?;
-        counted.rows = counted.rows.saturating_add(1);
+        let rows = counted.rows.saturating_add(1);
+        self.catalog.count(place, rows);
         self.last = Snapshot::of(&self.store);
         Ok(())
     }
@@ -42,7 +43,7 @@ impl<S: Alter> Tables<S> {
         ensures { Writes S.Store self.old self.new (is_ok result) self.old.catalog (with_plain name.now values.now self.old.rows) }
     {
         self.store
-            .set_plain(alloc, &self.tables[place].stored, &name.key, values)?;
+            .set_plain(alloc, &self.catalog.at(place).stored, &name.key, values)?;
         self.last = Snapshot::of(&self.store);
         Ok(())
     }
@@ -53,9 +54,10 @@ impl<S: Alter> Tables<S> {
         requires row { HasCleanDisk (state S.Store self.old.store) → IsSome (row_named self.old.rows name.now) }
         ensures { Writes S.Store self.old self.new (is_ok result) self.old.catalog (without_row name.now self.old.rows) }
     {
-        let counted = &mut self.tables[place];
+        let counted = self.catalog.at(place);
         self.store.delete(&counted.stored, &name.key)?;
-        counted.rows = counted.rows.saturating_sub(1);
+        let rows = counted.rows.saturating_sub(1);
+        self.catalog.count(place, rows);
         self.last = Snapshot::of(&self.store);
         Ok(())
     }

@@ -1,7 +1,8 @@
 //! Places when the checks of their table are altered.
-ghost use Rattle.std.specs.Prelude.{◌≡◌, ℕ, List, [], ◌∷◌, ◌++◌, ◌<◌, ◌≤◌, IfOk, OnOk, IsSome, Some, true, false, length, map, bytes_eq, option_map};
+ghost use Rattle.std.specs.Prelude.{◌≡◌, ℕ, List, [], ◌∷◌, ◌++◌, ◌<◌, ◌≤◌, IfOk, IfErr, OnOk, IsSome, Some, true, false, length, map, bytes_eq, option_map};
 ghost use Rattle.std.specs.List.{AllByRecursion};
 ghost use Rattle.escrow_num.specs.declared.reservation.Reservation.{Reservation};
+ghost use Rattle.escrow_num.specs.declared.refusal.Refusal.{Refusal};
 ghost use Rattle.escrow_num.specs.declared.value.RowName.{RowName};
 ghost use Rattle.escrow_checks.specs.Form.{IsCovered};
 ghost use Rattle.escrow_checks.specs.declared.coefficients.TheConstants.Coefficients.{MAX_LEN};
@@ -16,19 +17,19 @@ use super::{Addition, Bounds};
 use crate::changes::deltas;
 use crate::place::Place;
 use escrow_checks::Check;
-use escrow_num::{Name, Reservation, RowName};
+use escrow_num::{Name, Refusal, Reservation, RowName};
 use std::alloc::AllocError;
 
 impl Bounds {
     /// Makes places for the reserved rows of a table over all checks that it is to have, beside
     /// those that there are: they count the open reservations, which are given, at most 16,384, each
-    /// with at most 10 changes. Want of memory is the only error.
+    /// with at most 10 changes. Want of memory is the only error (51).
     pub fn prepare(
         &self,
         table: Name,
         checks: &[Check],
         reservations: &[&Reservation],
-    ) -> Result<Addition, AllocError>
+    ) -> Result<Addition, Refusal>
         requires counted { CountsAll self.now (map (λ r. r.now) reservations.now) }
         requires counting { AllCount self.now }
         requires short { AllByRecursion (λ r. length r.now.changes ≤ MAX_LEN) reservations.now }
@@ -37,7 +38,8 @@ impl Bounds {
             → length place.amounts ≤ MAX_LEN }
         requires covered { (row : RowName) (place : Kept) → bytes_eq row.table table ≡ true → place_at self.now row ≡ Some place
             → AllByRecursion (λ check. IsCovered check.coeffs place.amounts) checks.now }
-        ensures { IfOk result (λ addition. ArePrepared table checks.now (map (λ r. r.now) reservations.now) self.now addition) }
+        ensures prepared { IfOk result (λ addition. ArePrepared table checks.now (map (λ r. r.now) reservations.now) self.now addition) }
+        ensures only { IfErr result (λ e. e ≡ Refusal.Memory) }
     {
         let mut filled = Bounds::new(*self.places.allocator());
         for r in reservations {

@@ -4,10 +4,10 @@ use super::streams::{Sink, Source};
 use escrow_core::Database;
 use escrow_memory::BlockStore;
 use escrow_num::Session;
+use escrow_recover::open_store;
 use escrow_server::{FreeFault, serve_free};
 use escrow_shards::{Audit, Gate, NoGate};
 use escrow_sql::{Request, parse};
-use escrow_tables::open_store;
 use escrow_transcript::Entry;
 use std::cell::Cell;
 use std::io::{Read, Write};
@@ -23,10 +23,10 @@ pub(super) fn databases<R: Abort + AllocGlobal>(rt: &R, count: usize) -> Vec<Dat
         let Ok(connection) = escrow_memory::open(rt.alloc()) else {
             rt.panic("memory")
         };
-        let Ok(tables) = open_store(rt.alloc(), connection) else {
+        let Ok(opened) = open_store(rt.alloc(), connection) else {
             rt.panic("a store")
         };
-        let Ok(database) = Database::open(rt.alloc(), tables) else {
+        let Ok(database) = Database::open(rt.alloc(), opened) else {
             rt.panic("a database")
         };
         if databases.push(database).is_err() {

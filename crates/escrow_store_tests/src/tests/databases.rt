@@ -3,12 +3,12 @@
 use escrow_core::{Database, Event};
 use escrow_machine::Reply;
 use escrow_num::{Refusal, Session};
+use escrow_recover::{Opened, StoreFault, migrate, open_store};
 use escrow_reply::render;
 use escrow_sql::{Request, Statement, parse};
-use escrow_tables::{Opened, StoreFault, Tables, migrate, open_store};
 use sqlite::{Alter, Connection, FileStore, Files, Options};
 use sqlite_disk::{Disk, Fuse, Memory};
-use std::alloc::{AllocError, AllocFailed, Global};
+use std::alloc::{AllocError, Global};
 use std::io;
 use std::process::Abort;
 use std::test::Fail;
@@ -177,7 +177,7 @@ pub(super) fn execute<S: Alter>(conn: &mut Connection<S>, statements: &[&str]) -
     true
 }
 
-/// Opens a store by `migrate` or by `open_store`. Returns its tables, and whether it was migrated.
+/// Opens a store by `migrate` or by `open_store`.
 ///
 /// # Errors
 ///
@@ -186,15 +186,14 @@ pub(super) fn read<S: Alter + Drop>(
     alloc: Global,
     conn: Connection<S>,
     migrates: bool,
-) -> Result<(Tables<S>, bool), (u8, Connection<S>)> {
-    if migrates {
-        return match migrate(alloc, conn) {
-            Ok(Opened { tables, migrated }) => Ok((tables, migrated)),
-            Err(fault) => Err(refused(fault)),
-        };
-    }
-    match open_store(alloc, conn) {
-        Ok(tables) => Ok((tables, false)),
+) -> Result<Opened<S>, (u8, Connection<S>)> {
+    let opened = if migrates {
+        migrate(alloc, conn)
+    } else {
+        open_store(alloc, conn)
+    };
+    match opened {
+        Ok(opened) => Ok(opened),
         Err(fault) => Err(refused(fault)),
     }
 }
@@ -202,7 +201,7 @@ pub(super) fn read<S: Alter + Drop>(
 /// The number of a refusal to open a store, and the connection.
 fn refused<S: Alter + Drop>(fault: StoreFault<S>) -> (u8, Connection<S>) {
     let StoreFault { connection, cause } = fault;
-    (Refusal::from(cause).number(), connection)
+    (cause.number(), connection)
 }
 
 /// Opens a database over a store, as [`read`] does.
@@ -213,24 +212,27 @@ fn database<S: Alter + Drop>(
 ) -> Result<(Database<S>, bool), (u8, Connection<S>)> {
     if migrates {
         return match migrate(alloc, conn) {
-            Ok(Opened { tables, migrated }) => made(Database::open(alloc, tables), migrated),
+            Ok(opened) => {
+                let migrated = opened.migrated;
+                made(Database::open(alloc, opened), migrated)
+            }
             Err(fault) => Err(refused(fault)),
         };
     }
     match open_store(alloc, conn) {
-        Ok(tables) => made(Database::open(alloc, tables), false),
+        Ok(opened) => made(Database::open(alloc, opened), false),
         Err(fault) => Err(refused(fault)),
     }
 }
 
 /// A database that was opened, and whether its store was migrated; or the number of the refusal, and the connection.
 fn made<S: Alter + Drop>(
-    opened: Result<Database<S>, AllocFailed<Tables<S>>>,
+    opened: Result<Database<S>, (Opened<S>, Refusal)>,
     migrated: bool,
 ) -> Result<(Database<S>, bool), (u8, Connection<S>)> {
     match opened {
         Ok(database) => Ok((database, migrated)),
-        Err(AllocFailed { value }) => Err((Refusal::Memory.number(), value.into_connection())),
+        Err((opened, refusal)) => Err((refusal.number(), opened.store.into_connection())),
     }
 }
 

@@ -132,7 +132,7 @@ fn opened<S: Alter + Drop>(
     migrates: bool,
 ) -> (Answer, Connection<S>) {
     match read(alloc, conn, migrates) {
-        Ok((tables, migrated)) => (Ok(migrated), tables.into_connection()),
+        Ok(opened) => (Ok(opened.migrated), opened.store.into_connection()),
         Err((number, conn)) => (Err(number), conn),
     }
 }

@@ -6,9 +6,9 @@ use escrow_core::Database;
 use escrow_machine::Reply;
 use escrow_memory::BlockStore;
 use escrow_num::Session;
+use escrow_recover::open_store;
 use escrow_shards::{Answer, Pass, Shared};
 use escrow_sql::{Request, Statement, parse};
-use escrow_tables::open_store;
 use escrow_transcript::Entry;
 use std::alloc::Global;
 use std::sync::Wait;
@@ -48,8 +48,10 @@ fn concert(rt: HostRuntime) -> Result<()> {
 /// A concert of a hundred free seats, shared by eight sessions, and a pass for each.
 fn open_hall(alloc: Global) -> Result<(Shared<BlockStore>, Vec<Pass>)> {
     let connection = escrow_memory::open(alloc)?;
-    let tables = open_store(alloc, connection).ok().context("no store")?;
-    let mut database = Database::open(alloc, tables).ok().context("no memory")?;
+    let Ok(opened) = open_store(alloc, connection) else {
+        bail!("no store")
+    };
+    let mut database = Database::open(alloc, opened).ok().context("no memory")?;
     for text in [TABLE, "INSERT INTO SEATS VALUES (1, 100)"] {
         let reply = database.step(alloc, Session::FIRST, &statement(alloc, text)?);
         ensure!(!matches!(reply, Reply::Refused(_)), "refused: {text}");

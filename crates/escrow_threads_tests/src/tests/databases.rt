@@ -5,9 +5,9 @@ use escrow_core::Database;
 use escrow_machine::Reply;
 use escrow_memory::BlockStore;
 use escrow_num::Session;
+use escrow_recover::open_store;
 use escrow_reply::render;
 use escrow_sql::{Request, Statement, parse};
-use escrow_tables::open_store;
 use std::process::Abort;
 
 /// A table of accounts. Each keeps at least 50.
@@ -49,7 +49,7 @@ pub fn database<R: Abort + AllocGlobal>(rt: &R, asked: &[&str]) -> Database<Bloc
 fn open<R: Abort + AllocGlobal>(rt: &R) -> Database<BlockStore> {
     let connection = made(rt, escrow_memory::open(rt.alloc()), "memory");
     match open_store(rt.alloc(), connection) {
-        Ok(tables) => made(rt, Database::open(rt.alloc(), tables), "memory"),
+        Ok(opened) => made(rt, Database::open(rt.alloc(), opened), "memory"),
         Err(fault) => panic!(rt; "a store: {:?}", fault.cause),
     }
 }

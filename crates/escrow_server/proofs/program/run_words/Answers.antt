@@ -1,19 +1,20 @@
 use Rattle.std.proofs.Common.{◌≡◌, List, ℕ, Option, map, ap, inl, inr, subst, ◌∙◌, arith}
-use Rattle.escrow_args.specs.Args.{asked_by, asked_path, fault_status, refused_status}
+use Rattle.escrow_args.specs.Args.{asked_by, asked_path, refused_status}
+use Rattle.escrow_args.specs.declared.args.ArgFault.{ArgFault}
 use Rattle.escrow_server.specs.Program.{IsQuiet, SaysWhy}
 use Rattle.escrow_server.proofs.ProgramLemmas.{ends_unserved, file_unserved, is_quiet, not_helped, path_asked, says_why, status_refused}
 use Rattle.escrow_server.proofs.program.run_words.Goals as goal
 
 pub returns-in-Err-clause-asked : goal.returns-in-Err-clause-asked
 returns-in-Err-clause-asked g c = λ args asked _.
-    let memory : fault_status c.in-Err.fault ≡ 1 = ap fault_status (c.in-Err.ensures.asked args asked) in
+    let memory : c.in-Err.fault.status ≡ 1 = ap (λ (f : ArgFault). f.status) (c.in-Err.ensures.asked args asked) in
     let failed : c.refuse.result ≡ 1 = elim c.refuse.ensures.status [ inl one ↦ one | inr same ↦ same ∙ memory ] in
     ends_unserved args.mode args.databases c.refuse.result (g.R.Read.remaining c.args.input.now) (g.R.Read.remaining c.args.input.now) (g.W.Write.contents c.args.output.now) (g.W.Write.contents c.refuse.new.output) failed
     (c.refuse.ensures.unserved (λ helped. omega (arith, memory, helped)))
 
 pub returns-in-Err-clause-stored : goal.returns-in-Err-clause-stored
 returns-in-Err-clause-stored g c = λ args asked _.
-    let memory : fault_status c.in-Err.fault ≡ 1 = ap fault_status (c.in-Err.ensures.asked args asked) in
+    let memory : c.in-Err.fault.status ≡ 1 = ap (λ (f : ArgFault). f.status) (c.in-Err.ensures.asked args asked) in
     let failed : c.refuse.result ≡ 1 = elim c.refuse.ensures.status [ inl one ↦ one | inr same ↦ same ∙ memory ] in
     file_unserved c.refuse.result (g.R.Read.remaining c.args.input.now) (g.R.Read.remaining c.args.input.now) (g.W.Write.contents c.args.output.now) (g.W.Write.contents c.refuse.new.output) failed
 

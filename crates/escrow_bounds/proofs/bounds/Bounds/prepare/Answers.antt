@@ -31,8 +31,8 @@ loop-r-preserved c =
     let at = shown_at c.args.reservations.now i c.r-item.result c.loop-r-test.true c.r-item.is in
     filled_next c.args.table c.args.checks.now (shown c.args.reservations.now) i c.args.self.now c.loop-r.filled c.take_over.new.self c.r-item.result.now at.0 at.1 c.in_ok-take_over.ensures c.loop-r.invariant
 
-pub returns : goal.returns
-returns c =
+pub returns-clause-prepared : goal.returns-clause-prepared
+returns-clause-prepared c =
     let held = shown c.args.reservations.now in
     let i = c.loop-r.r-index in
     let past : length held ≤ i = omega (arith, length-shown c.args.reservations.now, c.loop-r-test.false) in

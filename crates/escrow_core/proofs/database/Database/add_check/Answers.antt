@@ -65,14 +65,14 @@ pub returns-in_err-addition : goal.returns-in_err-addition
 returns-in_err-addition g c =
     let s = c.args.self.now.state in
     let asked = adds c.args.table c.args.text.now in
-    refusal_serves g.S.Store c.args.session asked c.args.self.now c.from_residual-in_err-addition.result refusal.Memory c.from_residual-in_err-addition.ensures.1
-    (fails s c.args.session asked failure.Memory c.in_ok-place.ensures.early refl)
+    refusal_serves g.S.Store c.args.session asked c.args.self.now c.from_residual-in_err-addition.result c.in_err-addition.field-0.0 c.from_residual-in_err-addition.ensures.1
+    (rw c.in_err-addition.ensures.only (fails s c.args.session asked failure.Memory c.in_ok-place.ensures.early refl))
 
 pub new-judge-requires : goal.new-judge-requires
 new-judge-requires g c =
     let p = planned g (goal.at.new-judge-requires g c).In_ok-place in
     can_judge c.self.inside.tables.catalog c.args.table p.old c.args.text.now c.in_ok-place.added c.self.inside.reserved c.in_ok-addition.addition p.named p.is_table p.adds
-    c.self.invariant.keeps.placed (rw c.as_slice.ensures at c.in_ok-addition.ensures)
+    c.self.invariant.keeps.placed (rw c.as_slice.ensures at c.in_ok-addition.ensures.prepared)
 
 pub first_violation-requires-clause-place : goal.first_violation-requires-clause-place
 first_violation-requires-clause-place g c = rw (← c.self.view_is) at c.in_ok-place.ensures.place
@@ -106,7 +106,7 @@ judged g c clean =
     let s = (seen_of c.self.inside.tables c.self.inside.reserved.txns).state in
     let was = still_clean _ _ _ c.first_violation.ensures.reads.survives clean in
     let can = can_judge c.self.inside.tables.catalog c.args.table p.old c.args.text.now c.in_ok-place.added c.self.inside.reserved c.in_ok-addition.addition p.named p.is_table p.adds
-    c.self.invariant.keeps.placed (rw c.as_slice.ensures at c.in_ok-addition.ensures) in
+    c.self.invariant.keeps.placed (rw c.as_slice.ensures at c.in_ok-addition.ensures.prepared) in
     (rw c.new-judge.ensures at (c.in_ok-violation.ensures.told clean))
     ∙ rows_judged s c.args.table p.old c.args.text.now c.in_ok-place.added c.self.inside.reserved c.in_ok-addition.addition p.named p.is_table p.adds can refl
     (c.self.invariant.keeps.kept.safe_rows was) (c.self.invariant.keeps.amounts was)
@@ -191,7 +191,7 @@ pub adopt-requires-clause-placed : goal.adopt-requires-clause-placed
 adopt-requires-clause-placed g c = c.self.invariant.keeps.placed
 
 pub adopt-requires-clause-prepared : goal.adopt-requires-clause-prepared
-adopt-requires-clause-prepared g c = (c.args.table, c.as_slice.result.now, c.in_ok-addition.ensures)
+adopt-requires-clause-prepared g c = (c.args.table, c.as_slice.result.now, c.in_ok-addition.ensures.prepared)
 
 pub invariant_of-self-2 : goal.invariant_of-self-2
 invariant_of-self-2 g c =
@@ -200,7 +200,7 @@ invariant_of-self-2 g c =
     let checks = c.in_ok-place.added.table.checks in
     let m = may g (goal.at.invariant_of-self-2 g c).After-forget in
     let read = read_keeps g.S.Store c.self.inside.tables c.first_violation.new.self txns places c.self.invariant.keeps c.first_violation.ensures.reads in
-    let prepared = rw c.as_slice.ensures at c.in_ok-addition.ensures in
+    let prepared = rw c.as_slice.ensures at c.in_ok-addition.ensures.prepared in
     rw c.adopt.ensures.txns
     (alter_holds g.S.Store c.args.session (adds c.args.table c.args.text.now) c.first_violation.new.self c.redefine.new.self txns c.args.table m.0 c.in_ok-place.added.table m.1
     (λ row. IsOver checks (of_row row txns.reservations)) places c.adopt.new.self.places _ read c.in_ok-redefine.ensures (c.adopt.ensures.places c.args.table checks prepared)

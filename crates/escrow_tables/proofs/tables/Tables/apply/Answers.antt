@@ -18,19 +18,19 @@ use Rattle.escrow_tables.proofs.tables.Tables.apply.Goals.{After-put_amounts}
 -- the call writes, and the fields keep what they hold
 written : (g : given.Over) (c : After-put_amounts g) (is_done : Bool) (later : Held g.row.S.Denot) → is_ok c.put_amounts.result ≡ is_done
     → (is_done ≡ true → later ≡ c.put_amounts.new.self) → (is_done ≡ false → later ≡ c.self.inside.last.value)
-    → Writes g.S.Store (seen g.S.Store c.self.inside.store c.self.inside.last.value c.self.inside.tables.items) (seen g.S.Store c.put_amounts.new.self later c.self.inside.tables.items) is_done
-    (catalog_of c.self.inside.tables.items) (applied (rows_in (stored_of c.self.inside.tables.items) (state g.S.Store c.self.inside.last.value).now) (read c.args.reservations.now))
-    × Keeps (state g.S.Store c.put_amounts.new.self) (state g.S.Store later) c.self.inside.tables.items
+    → Writes g.S.Store (seen g.S.Store c.self.inside.store c.self.inside.last.value c.self.inside.catalog) (seen g.S.Store c.put_amounts.new.self later c.self.inside.catalog) is_done
+    (catalog_of c.self.inside.catalog) (applied (rows_in (stored_of c.self.inside.catalog) (state g.S.Store c.self.inside.last.value).now) (read c.args.reservations.now))
+    × Keeps (state g.S.Store c.put_amounts.new.self) (state g.S.Store later) c.self.inside.catalog
 written g c is_done later ok if_done if_not =
     let old = c.self.inside in
     let news = c.as_slice.result.now in
     let new = c.put_amounts.new.self in
-    let made = rw (c.deref.ensures.value, ← c.as_slice.ensures.value) at c.in_ok-news.ensures in
+    let made = rw (c.tables.ensures.value, ← c.as_slice.ensures.value) at c.in_ok-news.ensures in
     let given = rw (← c.self.view_is) at c.requires.given in
     let it = subst (λ b. Transacts (state g.S.Store old.store) (state g.S.Store new) b (PutsAmounts news)) ok c.put_amounts.ensures in (
-      commits g.S.Store old.store new old.last.value later old.tables.items (read c.args.reservations.now) news is_done c.self.invariant
+      commits g.S.Store old.store new old.last.value later old.catalog (read c.args.reservations.now) news is_done c.self.invariant
           made.puts (λ clean. made.told _ (given clean)) it if_done if_not,
-      keeps_committed g.S.Store old.store new old.last.value later old.tables.items (read c.args.reservations.now) news is_done c.self.invariant
+      keeps_committed g.S.Store old.store new old.last.value later old.catalog (read c.args.reservations.now) news is_done c.self.invariant
           made.puts (λ clean. made.told _ (given clean)) it if_done if_not,
     )
 

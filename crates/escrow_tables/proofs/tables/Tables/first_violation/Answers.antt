@@ -8,37 +8,38 @@ use Rattle.escrow_tables.specs.declared.judged.RowsJudged.{RowsJudged}
 use Rattle.escrow_tables.proofs.AtPlace.{named_at, rows_told}
 use Rattle.escrow_tables.proofs.JudgedRows.{judged_told}
 use Rattle.escrow_tables.proofs.Named.{IsNamed, named_is_table}
+use Rattle.escrow_tables.proofs.Placed.{item_at}
 use Rattle.escrow_tables.proofs.tables.Tables.first_violation.Given as given
 use Rattle.escrow_tables.proofs.tables.Tables.first_violation.Goals as goal
-use Rattle.escrow_tables.proofs.tables.Tables.first_violation.Goals.{After-index}
+use Rattle.escrow_tables.proofs.tables.Tables.first_violation.Goals.{After-at}
 
 -- what stands at the place is the table of the name
-named : (g : given.Over) (c : After-index g) → IsNamed c.self.inside.tables.items c.args.name c.index.result.now
-named g c = named_at c.self.inside.tables.items c.args.name c.args.place c.index.result.now (rw (← c.self.view_is) at c.requires.place) c.index.ensures
+named : (g : given.Over) (c : After-at g) → IsNamed c.self.inside.catalog c.args.name c.at.result.now
+named g c = named_at c.self.inside.catalog c.args.name c.args.place c.at.result.now (rw (← c.self.view_is) at c.requires.place) (item_at c.self.inside.catalog c.args.place c.at.result.now c.at.ensures.at)
 
-own : (g : given.Over) (c : After-index g) → c.index.result.now.stored.table ≡ g.J.RowJudge.table c.args.judge.now
-own g c = same_Some c.index.result.now.stored.table (g.J.RowJudge.table c.args.judge.now) (sym (named g c).in_catalog ∙ rw (← c.self.view_is) at c.requires.table)
+own : (g : given.Over) (c : After-at g) → c.at.result.now.stored.table ≡ g.J.RowJudge.table c.args.judge.now
+own g c = same_Some c.at.result.now.stored.table (g.J.RowJudge.table c.args.judge.now) (sym (named g c).in_catalog ∙ rw (← c.self.view_is) at c.requires.table)
 
 pub new-requires-clause-defined : goal.new-requires-clause-defined
 new-requires-clause-defined g c =
-    let after = (goal.at.new-requires-clause-defined g c).After-index in named_is_table c.self.inside.tables.items c.args.name c.index.result.now c.self.invariant.is_catalog (named g after)
+    let after = (goal.at.new-requires-clause-defined g c).After-at in named_is_table c.self.inside.catalog c.args.name c.at.result.now c.self.invariant.listed.is_catalog (named g after)
 
 pub new-requires-clause-own : goal.new-requires-clause-own
-new-requires-clause-own g c = own g (goal.at.new-requires-clause-own g c).After-index
+new-requires-clause-own g c = own g (goal.at.new-requires-clause-own g c).After-at
 
 pub read_rows-requires : goal.read_rows-requires
 read_rows-requires g c =
-    let after = (goal.at.read_rows-requires g c).After-index in named_is_table c.self.inside.tables.items c.args.name c.index.result.now c.self.invariant.is_catalog (named g after)
+    let after = (goal.at.read_rows-requires g c).After-at in named_is_table c.self.inside.catalog c.args.name c.at.result.now c.self.invariant.listed.is_catalog (named g after)
 
 pub returns-clause-told : goal.returns-clause-told
 returns-clause-told g c =
-    let after = (goal.at.returns-clause-told g c).After-index in
-    let tables = c.self.inside.tables.items in
-    let counted = c.index.result.now in
+    let after = (goal.at.returns-clause-told g c).After-at in
+    let tables = c.self.inside.catalog in
+    let counted = c.at.result.now in
     let table = g.J.RowJudge.table in
     let violation = g.J.RowJudge.violation in
     let old = state g.S.Store c.self.inside.store in
-    let is_table = named_is_table tables c.args.name counted c.self.invariant.is_catalog (named g after) in
+    let is_table = named_is_table tables c.args.name counted c.self.invariant.listed.is_catalog (named g after) in
     let taker : RowsJudged g.row.J.Denot = record { alloc = c.args.alloc; judged = c.new.result; found = None } in
     let found : Result (Option Violation) Failure = Ok c.in-Some.taker.found in
     rw (← c.self.view_is, ← c.new.ensures) (λ clean.

@@ -1,4 +1,4 @@
-use Rattle.std.proofs.Common.{arith, ◌≡◌, Bool, List, true, false, ap, refl, subst, subst₂, sym}
+use Rattle.std.proofs.Common.{◌≡◌, Bool, true, false, ap, refl, subst₂, sym}
 use Rattle.std.proofs.lemmas.Bool.{false≢true}
 use Rattle.std.proofs.lemmas.Result.{err_from_is_err_and}
 use Rattle.std.specs.Prelude.{is_ok}
@@ -10,10 +10,9 @@ use Rattle.escrow_cells.specs.Calls.{Transacts}
 use Rattle.escrow_rows.specs.Changes.{TurnsRows}
 use Rattle.escrow_schema.specs.Rows.{with_plain, HasTable}
 use Rattle.escrow_rows.specs.View.{rows_in}
-use Rattle.escrow_verify.specs.declared.counted_table.CountedTable.{CountedTable}
 use Rattle.escrow_tables.specs.Calls.{Writes}
 use Rattle.escrow_tables.specs.Inside.{Keeps, catalog_of, stored_of}
-use Rattle.escrow_tables.proofs.Placed.{IsPlaced, is_placed, kept_within, recounted_itself}
+use Rattle.escrow_tables.proofs.Placed.{IsPlaced, is_placed, item_at, kept_within, recounted_itself}
 use Rattle.escrow_tables.proofs.Reading.{name_of}
 use Rattle.escrow_tables.proofs.RowWrites.{Turned, plain_turns, row_written}
 use Rattle.escrow_tables.proofs.Writing.{seen}
@@ -21,43 +20,41 @@ use Rattle.escrow_tables.proofs.tables.Tables.set_plain.Given as given
 use Rattle.escrow_tables.proofs.tables.Tables.set_plain.Goals as goal
 use Rattle.escrow_tables.proofs.tables.Tables.set_plain.Goals.{After-set_plain}
 
-placed : (g : given.Over) (c : After-set_plain g) → IsPlaced c.self.inside.tables.items c.args.name.now.table c.args.place c.index.result.now
+placed : (g : given.Over) (c : After-set_plain g) → IsPlaced c.self.inside.catalog c.args.name.now.table c.args.place c.at.result.now
 placed g c =
-    is_placed c.self.inside.tables.items c.args.name.now.table c.args.place c.index.result.now (rw (← c.self.view_is) at c.requires.place) c.index.ensures
+    is_placed c.self.inside.catalog c.args.name.now.table c.args.place c.at.result.now (rw (← c.self.view_is) at c.requires.place) (item_at c.self.inside.catalog c.args.place c.at.result.now c.at.ensures.at)
 
 turned : (g : given.Over) (c : After-set_plain g) → HasCleanDisk (state g.S.Store c.self.inside.store)
-    → Turned c.self.inside.tables.items c.args.place c.index.result.now c.index.result.now.rows
-    (with_plain c.args.name.now c.args.values.now (rows_in (stored_of c.self.inside.tables.items) (state g.S.Store c.self.inside.last.value).now))
+    → Turned c.self.inside.catalog c.args.place c.at.result.now.rows
+    (with_plain c.args.name.now c.args.values.now (rows_in (stored_of c.self.inside.catalog) (state g.S.Store c.self.inside.last.value).now))
 turned g c clean =
-    let tables = c.self.inside.tables.items in
+    let tables = c.self.inside.catalog in
     let name = c.args.name.now in
     let values = c.args.values.now in
     let rows = rows_in (stored_of tables) (state g.S.Store c.self.inside.last.value).now in
     let held = c.self.invariant.held clean in
     let fits : AllByRecursion (HasTable (catalog_of tables)) (with_plain name values rows) = (rw (← c.self.view_is) at c.requires.fits) clean in
-    plain_turns tables c.args.place c.index.result.now name values (placed g c) rows held.are_rows held.counts fits
+    plain_turns tables c.args.place c.at.result.now name values (placed g c) rows held.are_rows held.counts fits
 
 -- the call writes, and the fields keep what they hold
 written : (g : given.Over) (c : After-set_plain g) (is_done : Bool) (later : Held g.row.S.Denot) → is_ok c.set_plain.result ≡ is_done
     → (is_done ≡ true → later ≡ c.set_plain.new.self) → (is_done ≡ false → later ≡ c.self.inside.last.value)
-    → Writes g.S.Store (seen g.S.Store c.self.inside.store c.self.inside.last.value c.self.inside.tables.items) (seen g.S.Store c.set_plain.new.self later c.self.inside.tables.items) is_done
-    (catalog_of c.self.inside.tables.items) (with_plain c.args.name.now c.args.values.now (rows_in (stored_of c.self.inside.tables.items) (state g.S.Store c.self.inside.last.value).now))
-    × Keeps (state g.S.Store c.set_plain.new.self) (state g.S.Store later) c.self.inside.tables.items
+    → Writes g.S.Store (seen g.S.Store c.self.inside.store c.self.inside.last.value c.self.inside.catalog) (seen g.S.Store c.set_plain.new.self later c.self.inside.catalog) is_done
+    (catalog_of c.self.inside.catalog) (with_plain c.args.name.now c.args.values.now (rows_in (stored_of c.self.inside.catalog) (state g.S.Store c.self.inside.last.value).now))
+    × Keeps (state g.S.Store c.set_plain.new.self) (state g.S.Store later) c.self.inside.catalog
 written g c is_done later ok if_done if_not =
-    let tables = c.self.inside.tables.items in
+    let tables = c.self.inside.catalog in
     let name = c.args.name.now in
     let values = c.args.values.now in
-    let counted = c.index.result.now in
+    let counted = c.at.result.now in
     let old = c.self.inside.store in
     let new = c.set_plain.new.self in
     let was = c.self.inside.last.value in
     let at = placed g c in
-    let rows = with_plain name values (rows_in (stored_of tables) (state g.S.Store was).now) in
+    let stays = recounted_itself tables c.args.place counted at.item in
     let it = subst₂ (λ b (n : RowName). Transacts (state g.S.Store old) (state g.S.Store new) b (TurnsRows counted.stored (with_plain n values))) ok (name_of tables name.table counted at.named name.key) c.set_plain.ensures in
-    subst (λ (ts : List CountedTable). Writes g.S.Store (seen g.S.Store old was tables) (seen g.S.Store new later ts) is_done (catalog_of tables) rows × Keeps (state g.S.Store new) (state g.S.Store later) ts)
-    (recounted_itself tables name.table c.args.place counted at)
-    (row_written g.S.Store old new was later tables name.table c.args.place counted at (with_plain name values) counted.rows c.self.invariant (turned g c)
-    is_done it counted.rows (λ e. (refl, if_done e)) (λ e. (refl, if_not e)))
+    row_written g.S.Store old new was later tables tables name.table c.args.place counted at.named (with_plain name values) counted.rows c.self.invariant (turned g c)
+    is_done it (λ e. (sym stays, if_done e)) (λ e. (refl, if_not e))
 
 pub invariant_of-self : goal.invariant_of-self
 invariant_of-self g c =
@@ -77,5 +74,5 @@ pub returns : goal.returns
 returns g c =
     rw (← c.self.view_is) ((written g (goal.at.returns g c).After-set_plain true c.of.result.value (ap is_ok c.in_ok-set_plain.was) (λ _. c.of.ensures) (λ e. absurd (false≢true (sym e)))).0)
 
-pub index-requires : goal.index-requires
-index-requires g c = omega (arith, kept_within c.self.inside.tables.items c.args.name.now.table c.args.place (rw (← c.self.view_is) at c.requires.place), c.self.inside.tables.ok.0)
+pub at-requires : goal.at-requires
+at-requires g c = kept_within c.self.inside.catalog c.args.name.now.table c.args.place (rw (← c.self.view_is) at c.requires.place)

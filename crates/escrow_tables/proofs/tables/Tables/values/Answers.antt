@@ -7,16 +7,17 @@ use Rattle.escrow_schema.specs.Rows.{row_named}
 use Rattle.escrow_rows.specs.View.{rows_in}
 use Rattle.escrow_tables.specs.Inside.{stored_of}
 use Rattle.escrow_tables.proofs.AtPlace.{by_table, is_table_at, named_at, row_told}
+use Rattle.escrow_tables.proofs.Placed.{item_at}
 use Rattle.escrow_tables.proofs.tables.Tables.values.Goals as goal
 
 pub values-requires : goal.values-requires
-values-requires g c = is_table_at c.self.inside.tables.items c.args.name.now.table c.args.place c.index.result.now c.self.invariant.is_catalog (rw (← c.self.view_is) at c.requires) c.index.ensures
+values-requires g c = is_table_at c.self.inside.catalog c.args.name.now.table c.args.place c.at.result.now c.self.invariant.listed.is_catalog (rw (← c.self.view_is) at c.requires) (item_at c.self.inside.catalog c.args.place c.at.result.now c.at.ensures.at)
 
 pub returns-clause-told : goal.returns-clause-told
 returns-clause-told g c =
-    let named = named_at c.self.inside.tables.items c.args.name.now.table c.args.place c.index.result.now (rw (← c.self.view_is) at c.requires) c.index.ensures in
-    let tables = c.self.inside.tables.items in
-    let counted = c.index.result.now in
+    let named = named_at c.self.inside.catalog c.args.name.now.table c.args.place c.at.result.now (rw (← c.self.view_is) at c.requires) (item_at c.self.inside.catalog c.args.place c.at.result.now c.at.ensures.at) in
+    let tables = c.self.inside.catalog in
+    let counted = c.at.result.now in
     let last = state g.S.Store c.self.inside.last.value in
     let rows = rows_in (stored_of tables) last.now in
     rw (← c.self.view_is) (λ clean.

@@ -1,0 +1,10 @@
+pub mod Counting
+pub mod Format
+pub mod Found
+pub mod Holds
+pub mod Inside
+pub mod Laws
+pub mod Migrated
+pub mod Opened
+pub mod Stored
+pub mod Tabs

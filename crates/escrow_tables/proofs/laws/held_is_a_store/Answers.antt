@@ -1,5 +1,0 @@
-use Rattle.escrow_tables.proofs.OneHeld.{held_is_a_store}
-use Rattle.escrow_tables.proofs.laws.held_is_a_store.Goals as goal
-
-pub returns : goal.returns
-returns c = held_is_a_store

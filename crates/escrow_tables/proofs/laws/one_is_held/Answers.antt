@@ -1,5 +1,0 @@
-use Rattle.escrow_tables.proofs.OneHeld.{one_is_held}
-use Rattle.escrow_tables.proofs.laws.one_is_held.Goals as goal
-
-pub returns : goal.returns
-returns c = one_is_held
