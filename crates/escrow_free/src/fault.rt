@@ -1,3 +1,5 @@
+ghost use Rattle.std.specs.Prelude.{◌≡◌, ◌≢◌, ◌↔◌};
+
 use escrow_num::Refusal;
 use escrow_script::{ReadFault, ServeFault, WriteFault};
 use escrow_shards::{Cause, Unshared};
@@ -32,24 +34,21 @@ pub enum FreeFault {
 
 impl FreeFault {
     /// Why databases aren't shared.
-    pub(crate) fn of_sharing(cause: Refusal) -> Self {
+    pub(crate) fn of_sharing(cause: Unshared) -> Self
+        ensures { (result ≡ FreeFault.Open) ↔ (cause ≡ Unshared.Refused Refusal.TransactionOpen) }
+    {
         match cause {
-            Refusal::TransactionOpen => FreeFault::Open,
-            Refusal::Memory => FreeFault::Memory,
-            _ => FreeFault::Store,
-        }
-    }
-
-    /// Why databases aren't shared that are to be watched.
-    pub(crate) fn of_watching(cause: Unshared) -> Self {
-        match cause {
-            Unshared::Refused(refusal) => FreeFault::of_sharing(refusal),
-            Unshared::TooManyWatchers | Unshared::NoPlace => FreeFault::Memory,
+            Unshared::Refused(Refusal::TransactionOpen) => FreeFault::Open,
+            Unshared::Refused(Refusal::Memory) | Unshared::TooManyWatchers | Unshared::NoPlace =>
+                FreeFault::Memory,
+            Unshared::Refused(_) => FreeFault::Store,
         }
     }
 
     /// Why their histories aren't handed back.
-    pub(crate) fn of_close(cause: Cause) -> Self {
+    pub(crate) fn of_close(cause: Cause) -> Self
+        ensures { result ≢ FreeFault.Open }
+    {
         match cause {
             Cause::Memory => FreeFault::Memory,
             Cause::Passes | Cause::Parts { .. } | Cause::Receipts { .. } => FreeFault::Mismatch,
@@ -69,6 +68,11 @@ impl From<AllocError> for FreeFault {
 }
 
 impl From<ServeFault> for FreeFault {
+    ghost use Rattle.std.specs.Prelude.{◌≢◌};
+    ghost use Rattle.escrow_free.specs.declared.fault.FreeFault.TheVariants.{Open};
+
+    ghost from_gives = { λ _ e. e ≢ Open };
+
     fn from(fault: ServeFault) -> FreeFault {
         match fault {
             ServeFault::Read(cause) => FreeFault::Read(cause),

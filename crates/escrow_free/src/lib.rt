@@ -1,6 +1,6 @@
 //! Scripts whose sessions run at the same time, phase by phase.
 //!
-//! Its one contract: what [`serve_free`] writes follows from the script's lines and from the histories
+//! Its one contract: what [`serve_free`] writes is what the lines of the script write of the histories
 //! that it hands back, each of them one legal run of the machine. That of
 //! [`serve_free_watched`] is the same.
 #![tactic(auto)]

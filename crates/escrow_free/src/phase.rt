@@ -1,5 +1,5 @@
 //! The sessions of a phase, served at the same time.
-ghost use Rattle.std.specs.Prelude.{◌≡◌, ◌<◌, length, All, IfOk};
+ghost use Rattle.std.specs.Prelude.{◌≡◌, ◌≢◌, ◌<◌, length, All, MatchResult};
 ghost use Rattle.std.specs.List.{AllByRecursion};
 ghost use Rattle.escrow_shards.specs.Sharing.{HasSeat};
 ghost use Rattle.escrow_free.specs.Desks.{ArePassesServed, AreServed, HasDesk};
@@ -42,7 +42,7 @@ pub(crate) fn run_phase<
 ) -> Result<Vec<Desk>, FreeFault>
     requires seats { AllByRecursion (HasDesk shared.now) desks.items }
     requires places { All (λ x. x.0 < length desks.items) items.items }
-    ensures { IfOk result (λ new. AreServed desks.items items.items new.items) }
+    ensures { MatchResult result (λ new. AreServed desks.items items.items new.items) (λ fault. fault ≢ FreeFault.Open) }
 {
     audience.begin(items.len());
     let served = serve_requests(rt, alloc, shared, desks, items, gate);
@@ -66,7 +66,7 @@ fn serve_requests<
 ) -> Result<Vec<Desk>, FreeFault>
     requires seats { AllByRecursion (HasDesk shared.now) desks.items }
     requires places { All (λ x. x.0 < length desks.items) items.items }
-    ensures { IfOk result (λ new. AreServed desks.items items.items new.items) }
+    ensures { MatchResult result (λ new. AreServed desks.items items.items new.items) (λ fault. fault ≢ FreeFault.Open) }
 {
     if items.is_empty() {
         return Ok(desks);
@@ -90,7 +90,7 @@ fn serve_passes<S: Alter + Send, L: UnderLock<S> + Send, R: Threads + Wait + Syn
 ) -> Result<Vec<Desk>, FreeFault>
     requires seats { AllByRecursion (HasSeat shared.now) passes.items }
     requires places { All (λ x. x.0 < length passes.items) items.items }
-    ensures { IfOk result (λ served. ArePassesServed passes.items items.items served.items) }
+    ensures { MatchResult result (λ served. ArePassesServed passes.items items.items served.items) (λ fault. fault ≢ FreeFault.Open) }
 {
     match run_fed(rt, alloc, shared, passes, items.into_iter(), gate) {
         Ok(done) => Ok(served_desks(alloc, done)?),

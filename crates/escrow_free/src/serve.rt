@@ -1,9 +1,9 @@
-ghost use Rattle.std.specs.Prelude.{◌≡◌, ◌≤◌, List, [], length, map, replicate, vec_len, IfOk, IfSome, OnOk};
+ghost use Rattle.std.specs.Prelude.{◌≡◌, ◌≢◌, ◌↔◌, ◌≤◌, true, List, [], length, map, replicate, vec_len, IfErr, IfOk, IfSome, IsErrOf, OnOk};
 ghost use Rattle.std.specs.Io.KnownBytes.{IsAtEnd};
 ghost use Rattle.escrow_num.specs.declared.session.TheConstants.Session.{MAX};
 ghost use Rattle.escrow_core.specs.Seen.{Seen};
 ghost use Rattle.escrow_stats.specs.Tally.{tally_of};
-ghost use Rattle.escrow_shards.specs.Opened.{AreRead, seen_at};
+ghost use Rattle.escrow_shards.specs.Opened.{any_open, AreRead, seen_at};
 ghost use Rattle.escrow_shards.specs.Seat.{new_seats};
 ghost use Rattle.escrow_free.specs.FreeOutput.{ServesFree};
 ghost use Rattle.escrow_free.specs.Histories.{AreHistories, histories};
@@ -40,7 +40,7 @@ use std::thread::Threads;
 ///
 /// # Errors
 ///
-/// [`FreeFault::Open`] where a transaction is open in a database, and [`FreeFault::Store`] where its store fails
+/// [`FreeFault::Open`] just where a transaction is open in a database, and [`FreeFault::Store`] where its store fails
 /// when it is read at the beginning; [`FreeFault::Sessions`] where a phase has statements of more than 64 sessions
 /// over all databases; [`FreeFault::Read`], [`FreeFault::Write`] and [`FreeFault::Memory`]; [`FreeFault::Mismatch`]
 /// where the histories don't fit what the sessions were answered. Nothing is handed back then.
@@ -65,10 +65,13 @@ pub fn serve_free<
     // in which it is handed back, as long as its disk had returned what was written.
     ensures legal { IfOk result (λ audit. AreHistories S.Store databases.items audit.parts.items audit.closed.items) }
 
-    // What was written follows from the script's lines and the histories alone; all of the script was read.
+    // What was written is what the script's lines write of the histories; all of the script was read.
     ensures output { IfOk result (λ audit. IfSome (R.remaining reader.old) (λ script.
         ServesFree script (histories audit.parts.items audit.closed.items) (W.contents writer.old) (W.contents writer.new))) }
     ensures end { OnOk result (IfSome (R.remaining reader.old) (λ script. IsAtEnd (R.remaining reader.new))) }
+
+    // That a transaction is open is told just where one is.
+    ensures open { IsErrOf result FreeFault.Open ↔ (any_open databases.items ≡ true) }
 {
     let stage = share(alloc, databases)?;
     let audit = serve_stage(rt, alloc, stage, reader, writer, gate, &mut Nobody)?;
@@ -106,6 +109,7 @@ pub fn serve_free_watched<
     ensures output { IfOk result (λ audit. IfSome (R.remaining reader.old) (λ script.
         ServesFree script (histories audit.parts.items audit.closed.items) (W.contents writer.old) (W.contents writer.new))) }
     ensures end { OnOk result (IfSome (R.remaining reader.old) (λ script. IsAtEnd (R.remaining reader.new))) }
+    ensures open { IsErrOf result FreeFault.Open ↔ (any_open databases.items ≡ true) }
 {
     let stage = share_watched(rt, alloc, databases)?;
     let audit = serve_stage(rt, alloc, stage, reader, writer, gate, audience)?;
@@ -140,6 +144,7 @@ fn serve_stage<
     ensures output { IfOk result (λ audit. IfSome (R.remaining reader.old) (λ script.
         ServesFree script (histories audit.parts.items audit.closed.items) (W.contents writer.old) (W.contents writer.new))) }
     ensures end { OnOk result (IfSome (R.remaining reader.old) (λ script. IsAtEnd (R.remaining reader.new))) }
+    ensures shared { IfErr result (λ fault. fault ≢ FreeFault.Open) }
 {
     let Stage {
         shared,
@@ -187,6 +192,7 @@ fn serve_phases<
     ensures served { IfOk result (λ s. IfSome (R.remaining reader.old) (λ script.
         IsServed (length shared.now.openings) script s.desks.items (W.contents writer.old) (W.contents writer.new))) }
     ensures end { OnOk result (IfSome (R.remaining reader.old) (λ script. IsAtEnd (R.remaining reader.new))) }
+    ensures shared { IfErr result (λ fault. fault ≢ FreeFault.Open) }
 {
     let databases = shared.databases();
     let mut totals = new_totals(alloc, desks.len())?;

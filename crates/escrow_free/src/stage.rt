@@ -1,7 +1,7 @@
 //! Databases that are shared for a script, and what is found when they no longer are.
-ghost use Rattle.std.specs.Prelude.{◌≡◌, ◌≤◌, length, map, vec_len, IfOk};
+ghost use Rattle.std.specs.Prelude.{◌≡◌, ◌≢◌, ◌↔◌, ◌≤◌, true, false, length, map, vec_len, IfOk, IfErr, MatchResult, OnOk};
 ghost use Rattle.escrow_num.specs.declared.session.TheConstants.Session.{MAX};
-ghost use Rattle.escrow_shards.specs.Opened.{AreRead, seen_at};
+ghost use Rattle.escrow_shards.specs.Opened.{any_open, AreRead, seen_at};
 ghost use Rattle.escrow_shards.specs.Seat.{new_seats};
 ghost use Rattle.escrow_shards.specs.Whole.{AreWhole};
 
@@ -33,6 +33,8 @@ pub(crate) fn share<S: Alter + Drop>(
     ensures read { IfOk result (λ stage. AreRead S.Store databases.items (map seen_at stage.shared.openings)) }
     ensures sessions { IfOk result (λ stage. stage.shared.sessions ≡ MAX) }
     ensures passes { IfOk result (λ stage. stage.passes.items ≡ new_seats (length databases.items) MAX) }
+    ensures closed { OnOk result (any_open databases.items ≡ false) }
+    ensures open { IfErr result (λ fault. (fault ≡ FreeFault.Open) ↔ (any_open databases.items ≡ true)) }
 {
     match Shared::<S>::make(alloc, databases, Session::MAX) {
         Ok((shared, passes)) => Ok(Stage {
@@ -55,6 +57,8 @@ pub(crate) fn share_watched<'r, S: Alter + Drop, T: Wait>(
     ensures read { IfOk result (λ stage. AreRead S.Store databases.items (map seen_at stage.shared.openings)) }
     ensures sessions { IfOk result (λ stage. stage.shared.sessions ≡ MAX) }
     ensures passes { IfOk result (λ stage. stage.passes.items ≡ new_seats (length databases.items) MAX) }
+    ensures closed { OnOk result (any_open databases.items ≡ false) }
+    ensures open { IfErr result (λ fault. (fault ≡ FreeFault.Open) ↔ (any_open databases.items ≡ true)) }
 {
     match Shared::make_watched(rt, alloc, databases, Session::MAX, 1) {
         Ok((shared, passes, watchers)) => Ok(Stage {
@@ -62,7 +66,7 @@ pub(crate) fn share_watched<'r, S: Alter + Drop, T: Wait>(
             passes,
             watchers,
         }),
-        Err(fault) => Err(FreeFault::of_watching(fault.cause)),
+        Err(fault) => Err(FreeFault::of_sharing(fault.cause)),
     }
 }
 
@@ -72,7 +76,9 @@ pub(crate) fn close<S: Alter + Drop, L: UnderLock<S> + Drop>(
     passes: Vec<Pass>,
     parts: Vec<Part<S>>,
 ) -> Result<Audit<S>, FreeFault>
-    ensures { IfOk result (λ audit. AreWhole S.Store shared passes.items audit.parts.items audit.closed.items) }
+    ensures { MatchResult result
+        (λ audit. AreWhole S.Store shared passes.items audit.parts.items audit.closed.items)
+        (λ fault. fault ≢ FreeFault.Open) }
 {
     match shared.close(passes, parts) {
         Ok(audit) => Ok(audit),

@@ -1,8 +1,8 @@
 -- What a database with its transcript keeps over its calls.
-use Rattle.std.specs.Prelude.{◌≡◌, ℕ, ◌+◌, ◌≤◌, ◌<◌, true, false, Option, Some, None, MatchOption, Result, Ok, Err, IsOk, OnErr, IsTrue, Bool, [], length, Vec}
-use Rattle.std.proofs.Common.{refl, sym, ap, subst, arith, inl, inr}
+use Rattle.std.specs.Prelude.{◌≡◌, ℕ, ◌+◌, ◌≤◌, ◌<◌, true, false, Option, Some, None, MatchOption, Result, Ok, Err, IsOk, OnErr, IsTrue, Bool, List, [], ◌++◌, length, Vec, vec_len}
+use Rattle.std.proofs.Common.{ap, arith, inl, inr, refl, subst, sym, ◌∙◌}
 use Rattle.std.proofs.lemmas.Bool.{false≢true}
-use Rattle.std.proofs.lemmas.List.{length_push}
+use Rattle.std.proofs.lemmas.List.{length-append, length_push}
 use Rattle.sqlite.specs.Held.{state}
 use Rattle.sqlite.specs.State.{HasCleanDisk}
 use Rattle.sqlite_trees.specs.declared.store.Store.{Ghosts}
@@ -11,11 +11,12 @@ use Rattle.escrow_num.specs.declared.failure.Failure.TheVariants as failure
 use Rattle.escrow_num.specs.declared.refusal.Refusal.TheVariants as refusal
 use Rattle.escrow_num.specs.Refusal.{refusal_for}
 use Rattle.escrow_statement.specs.declared.statement.Statement.{Statement}
+use Rattle.escrow_machine.specs.declared.event.Event.{Event}
 use Rattle.escrow_machine.specs.declared.reply.Reply.{Reply}
 use Rattle.escrow_machine.specs.declared.reply.Reply.TheVariants as reply
 use Rattle.escrow_machine.specs.Reply.{failure_of}
 use Rattle.escrow_machine.specs.State.{State}
-use Rattle.escrow_machine.specs.Step.{IsStep, StepOrRefusal, may_fail}
+use Rattle.escrow_machine.specs.Step.{IsRun, IsStep, StepOrRefusal, may_fail}
 use Rattle.escrow_machine.proofs.LawsMemory.{shown_stays}
 use Rattle.escrow_core.specs.Seen.{Seen}
 use Rattle.escrow_transcript.specs.declared.base.Base.{Base}
@@ -24,9 +25,15 @@ use Rattle.escrow_transcript.specs.declared.transcript.TheConstants.Transcript.{
 use Rattle.escrow_transcript.specs.Image.{started}
 use Rattle.escrow_transcript.specs.Legal.{IsLegal}
 use Rattle.escrow_transcript.proofs.Legals.{nothing_is_legal, one_more_is_legal}
+use Rattle.escrow_transcript.proofs.Numbers.{numbered_join}
+use Rattle.escrow_transcript.proofs.Steps.{steps_join}
+use Rattle.escrow_history.specs.declared.committed.Committed.{Committed}
 use Rattle.escrow_history.specs.Calls.{Appends, Stays, IsFailed}
+use Rattle.escrow_history.specs.Commits.{Commits, commits_of}
+use Rattle.escrow_history.specs.Entered.{asked_by, AreEntered}
 use Rattle.escrow_history.specs.History.{History, IsKept}
 use Rattle.escrow_history.specs.Inside.{history_of, IsNotKept}
+use Rattle.escrow_history.proofs.Entering.{asked_each, commits_few, entered_each, entered_numbered, entered_steps}
 use Rattle.escrow_history.proofs.NeverFull.{never_told}
 
 module _ {S : Type 0} (g : Ghosts S) where
@@ -56,6 +63,39 @@ module _ {S : Type 0} (g : Ghosts S) where
         legal = λ clean. rw (appends.base, appends.entries) (one_more_is_legal old.base old.entries old.state new.state e (kept.legal (was clean)) appends.succeeds (appends.step clean) appends.number_is);
         few = rw appends.entries (omega (arith, length_push old.entries e));
         numbers = rw appends.base kept.numbers;
+      }
+
+  -- what was entered of a run is what COMMITs make of a database and its transcript
+  pub commits_made : {Z : Type 0} (d after : Seen S) (base : Base) (entries room more : Vec Entry Z) (sessions : List ℕ) (events : List Event) (answers told : List Reply)
+      (outcomes : List (Result Committed Failure)) → events ≡ asked_by sessions → length answers ≡ length events → told ≡ answers
+      → (HasCleanDisk (state g after.store) → IsRun d.state events answers after.state) → room.items ≡ entries.items
+      → base.before + vec_len room ≡ base.before + length entries.items → AreEntered (base.before + vec_len room) told outcomes
+      → more.items ≡ room.items ++ commits_of sessions outcomes → Commits g (history_of d base entries) sessions outcomes (history_of after base more)
+  commits_made d after base entries room more sessions events answers told outcomes asked each is run same before entered added =
+      let begins = base.before + length entries.items in
+      let read : AreEntered begins answers outcomes = subst (λ (n : ℕ). AreEntered n answers outcomes) before (subst (λ (rs : List Reply). AreEntered (base.before + vec_len room) rs outcomes) is entered) in
+      record {
+        each = entered_each begins answers outcomes read ∙ each ∙ ap length asked ∙ asked_each sessions;
+        steps = λ clean. entered_steps begins d.state after.state sessions answers outcomes read (subst (λ (es : List Event). IsRun d.state es answers after.state) asked (run clean));
+        numbered = entered_numbered begins sessions answers outcomes read;
+        base = refl;
+        entries = added ∙ ap (λ (es : List Entry). es ++ commits_of sessions outcomes) same;
+      }
+
+  -- there is an entry more for each COMMIT that was served
+  pub committed_keeps : (old new : History S) (sessions : List ℕ) (outcomes : List (Result Committed Failure)) → IsKept g old → length old.entries + length sessions ≤ MAX_ENTRIES
+      → (HasCleanDisk (state g new.store) → HasCleanDisk (state g old.store)) → Commits g old sessions outcomes new → IsKept g new
+  committed_keeps old new sessions outcomes kept room was commits =
+      let more = commits_of sessions outcomes in
+      record {
+        legal = λ clean.
+            let legal = kept.legal (was clean) in
+            rw (commits.base, commits.entries) (record {
+              run = steps_join (started old.base.image) old.state new.state old.entries more legal.run (commits.steps clean);
+              numbered = numbered_join old.base.before (old.base.before + length old.entries) old.entries more legal.numbered refl commits.numbered;
+            });
+        few = rw commits.entries (let few = commits_few sessions outcomes in omega (arith, length-append old.entries more, few));
+        numbers = rw commits.base kept.numbers;
       }
 
 module _ (s : State) (session : ℕ) (asked : Statement) (answer : Reply) (new : State) where

@@ -1,3 +1,4 @@
+mod Entering
 mod NeverFull
 mod Promised
 pub mod Kept

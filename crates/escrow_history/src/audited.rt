@@ -4,6 +4,7 @@ ghost use Rattle.escrow_history.specs.Calls.{IsAnswer};
 ghost use Rattle.escrow_history.specs.Inside.{IsNoAnswer, IsNotKept};
 ghost use Rattle.escrow_machine.specs.Reply.{failure_of, holds_memory};
 
+use crate::committed::{Committed, ask_commits, enter_all};
 use crate::served::{Served, Unserved};
 use escrow_core::Database;
 use escrow_machine::Reply;
@@ -58,6 +59,7 @@ impl<S: Alter> Audited<S> {
     ghost use Rattle.escrow_transcript.specs.Image.{started};
     ghost use Rattle.escrow_transcript.specs.Legal.{IsLegal};
     ghost use Rattle.escrow_history.specs.Calls.{Appends, Stays, NeedsAnEntry, IsNoRoom, IsNotBegun, IsNotDrained};
+    ghost use Rattle.escrow_history.specs.Commits.{Commits};
     ghost use Rattle.escrow_history.specs.History.{IsKept};
 
     /// A database with a transcript that begins at what it holds. It begins at the first number.
@@ -229,6 +231,42 @@ impl<S: Alter> Audited<S> {
         })
     }
 
+    /// Serves COMMITs of sessions, one after another, as one write of the store where it can. Each that is served adds
+    /// its entry to the transcript. Answers of each session whether its COMMIT was served; one that wasn't left the
+    /// state as it was. Room for the entries is taken before the database is asked.
+    ///
+    /// # Errors
+    ///
+    /// [`Unserved::Full`] just where the transcript may not have so many entries more, before anything else;
+    /// [`Unserved::Failed`] for want of memory. No COMMIT was served then.
+    pub fn commit_all(
+        &mut self,
+        alloc: Global,
+        sessions: &[Session],
+    ) -> Result<Vec<Result<Committed, Failure>>, Unserved>
+        ensures served { IfOk result (λ outcomes. Commits S.Store self.old sessions.now outcomes.items self.new) }
+        ensures unserved { OnErr result (Stays S.Store self.old self.new) }
+        ensures full { IsErrOf result Unserved.Full ↔ (MAX_ENTRIES < length self.old.entries + length sessions.now) }
+        ensures clean { HasCleanDisk (state S.Store self.new.store) → HasCleanDisk (state S.Store self.old.store) }
+    {
+        if Transcript::MAX_ENTRIES - self.entries.len() < sessions.len() {
+            return Err(Unserved::Full);
+        }
+        self.entries.reserve(sessions.len())?;
+        let events = ask_commits(alloc, sessions)?;
+        let mut replies = Vec::with_capacity(alloc, sessions.len())?;
+        let mut outcomes = Vec::with_capacity(alloc, sessions.len())?;
+        self.database.run_into(alloc, &events, &mut replies);
+        enter_all(
+            &mut self.entries,
+            self.base.before,
+            sessions,
+            &replies,
+            &mut outcomes,
+        );
+        Ok(outcomes)
+    }
+
     /// Hands out the transcript, and the base where it ends; there a new one begins.
     ///
     /// # Errors
@@ -320,7 +358,7 @@ fn two_copies(alloc: Global, reply: &Reply) -> Result<(Reply, Reply), AllocError
 }
 
 /// Adds an entry, for which there is room.
-fn keep(entries: &mut Vec<Entry>, entry: Entry)
+pub(crate) fn keep(entries: &mut Vec<Entry>, entry: Entry)
     requires { vec_len entries.old < vec_capacity entries.old }
     ensures items { entries.new.items ≡ entries.old.items ++ entry ∷ [] }
     ensures room { (vec_len entries.new ≡ vec_len entries.old + 1) × (vec_capacity entries.new ≡ vec_capacity entries.old) }

@@ -6,9 +6,11 @@
 #![tactic(auto)]
 
 mod audited;
+mod committed;
 pub mod laws;
 mod served;
 
 pub use audited::Audited;
+pub use committed::Committed;
 pub use escrow_transcript::{Base, Entry, Image, Transcript};
 pub use served::{Served, Unserved};

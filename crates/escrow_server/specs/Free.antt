@@ -1,12 +1,16 @@
 -- Believed: the output of a script whose sessions run at the same time, in databases that the program opened.
-use Rattle.std.specs.Prelude.{◌≡◌, ℕ, Option, Some, List, length, slice_get}
+use Rattle.std.specs.Prelude.{◌≡◌, ℕ, Option, Some, List, length, map, slice_get}
 use Rattle.sqlite.specs.Held.{Held, state}
 use Rattle.sqlite.specs.State.{HasCleanDisk}
 use Rattle.sqlite_trees.specs.declared.store.Store.{Ghosts}
 use Rattle.escrow_machine.specs.State.{State}
 use Rattle.escrow_transcript.specs.declared.entry.Entry.{Entry}
 use Rattle.escrow_transcript.specs.Legal.{AreNumbered, AreSteps}
+use Rattle.escrow_core.specs.Seen.{Seen}
+use Rattle.escrow_shards.specs.Closing.{Closing}
+use Rattle.escrow_shards.specs.Piece.{Piece}
 use Rattle.escrow_free.specs.FreeOutput.{ServesFree}
+use Rattle.escrow_free.specs.Histories.{AreHistories}
 
 -- stores of a kind whose disks always return what was written
 abbrev pub HoldCleanDisks : {S : Type 0} → Ghosts S → Type 0
@@ -22,7 +26,15 @@ pub record AreRuns (states : List State) (histories : List (List Entry)) : Type 
   pub each : (place : ℕ) (s : State) (entries : List Entry) → slice_get states place ≡ Some s → slice_get histories place ≡ Some entries → RunsFrom s entries
 
 -- THE OUTPUT OF A SCRIPT whose sessions run at the same time: there are histories, each a run of the machine from the
--- state of its database, and what was written follows from the script's lines and them alone
+-- state of its database, and what was written is what the script's lines write of them
 abbrev pub RunsFree : List ℕ → List State → Option (List ℕ) → Option (List ℕ) → Type 0
 RunsFree script states old_bytes new_bytes =
     (histories : List (List Entry)) × AreRuns states histories × ServesFree script histories old_bytes new_bytes
+
+-- a database as it came out of its lock
+abbrev pub ended_of : {S : Type 0} → Closing S → Seen S
+ended_of c = record { store = c.history.store; state = c.history.state }
+
+-- Databases were handed back, each at the place where it was handed in, as its history ends there.
+abbrev pub AreEnded : {S : Type 0} → Ghosts S → List (Seen S) → List (Seen S) → Type 0
+AreEnded {S} g old new = (parts : List (Piece S)) × (closed : List (Closing S)) × AreHistories g old parts closed × (new ≡ map ended_of closed)

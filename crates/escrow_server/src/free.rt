@@ -1,10 +1,10 @@
 //! Scripts whose sessions run at the same time, in databases that the program opened.
-ghost use Rattle.std.specs.Prelude.{◌≡◌, ◌≤◌, vec_len, IfOk, OnOk, IfSome};
+ghost use Rattle.std.specs.Prelude.{◌≡◌, ◌≤◌, map, vec_len, IfOk, OnOk, IfSome};
 ghost use Rattle.std.specs.Vec.{vec_capacity};
 ghost use Rattle.std.specs.Io.KnownBytes.{IsAtEnd};
 ghost use Rattle.escrow_free.specs.FreeOutput.{ServesFree};
 ghost use Rattle.escrow_free.specs.Histories.{AreHistories, histories};
-ghost use Rattle.escrow_server.specs.Free.{HoldCleanDisks, RunsFree};
+ghost use Rattle.escrow_server.specs.Free.{ended_of, AreEnded, HoldCleanDisks, RunsFree};
 ghost use Rattle.escrow_serve.specs.Output.{states_of};
 
 use crate::desk::start;
@@ -41,6 +41,9 @@ pub(crate) fn serve_phases<
     ensures served { HoldCleanDisks S.Store → OnOk result (IfSome (R.remaining reader.old) (λ script.
         RunsFree script (states_of databases.old.items) (W.contents writer.old) (W.contents writer.new))) }
     ensures end { OnOk result (IfSome (R.remaining reader.old) (λ script. IsAtEnd (R.remaining reader.new))) }
+
+    // Whatever the disks did, each database is at its place again, as its history ends.
+    ensures back { OnOk result (AreEnded S.Store databases.old.items databases.new.items) }
 {
     // What is handed back has to be kept, so room for it is made before.
     let room = Vec::with_capacity(alloc, usize::from(MAX_DATABASES))?;
@@ -91,11 +94,12 @@ fn serve_before<
     }
 }
 
-/// Puts databases that came out of their locks where there is room for them.
+/// Puts databases that came out of their locks where there is room for them, in their order.
 fn put_back<S: Alter + Drop>(databases: &mut Vec<Database<S>>, closed: Vec<Closed<S>>)
     requires none { vec_len databases.old ≡ 0 }
     requires room { MAX_DATABASES ≤ vec_capacity databases.old }
     requires few { vec_len closed ≤ MAX_DATABASES }
+    ensures { databases.new.items ≡ map ended_of closed.items }
 {
     for ended in closed {
         let (database, _) = ended.into_parts();

@@ -29,6 +29,7 @@ module _ {S : Type 0} (g : Ghosts S) (sharing : Sharing S) (openings : List (Beg
         all_seats = subst (λ (n : ℕ). AreAllSeats n sessions seats) long d.all_seats;
         each = d.each;
         receipts = d.receipts;
+        asked = d.asked;
       } in
       subst (λ (h : Sharing S). AreWhole g h seats parts closed) sharing_is whole
 

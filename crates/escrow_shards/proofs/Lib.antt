@@ -1,13 +1,16 @@
+mod Asking
 pub mod Closings
 pub mod Crossing
 pub mod Following
 pub mod Kept
 pub mod Matching
 pub mod NewSeats
+pub mod NoPass
 pub mod Places
 pub mod Reading
 pub mod Rest
 pub mod Showing
+pub mod Together
 pub mod UnderLocks
 pub mod Watching
 pub mod Wholes

@@ -3,11 +3,13 @@ use Rattle.std.specs.Prelude.{◌≡◌, ℕ, ◌<◌, List, length, slice_get, 
 use Rattle.std.specs.List.{AllByRecursion}
 use Rattle.sqlite_trees.specs.declared.store.Store.{Ghosts}
 use Rattle.escrow_history.specs.History.{IsKept}
+use Rattle.escrow_shards.specs.declared.cause.Cause.{Cause}
+use Rattle.escrow_shards.specs.declared.cause.Cause.TheVariants as cause
 use Rattle.escrow_shards.specs.Begun.{IsBegun}
 use Rattle.escrow_shards.specs.Closing.{Closing, HasAllParts, IsWhole}
 use Rattle.escrow_shards.specs.Piece.{Piece}
 use Rattle.escrow_shards.specs.Seat.{Seat, AreAllSeats}
-use Rattle.escrow_shards.specs.Whole.{HasItsReceipts}
+use Rattle.escrow_shards.specs.Whole.{AreOfSessions, HasItsReceipts, LacksPass}
 
 -- a seat's database is among so many
 abbrev pub IsAmong : ℕ → Seat → Type 0
@@ -23,8 +25,16 @@ pub record IsSettled {S : Type 0} (g : Ghosts S) (d : ℕ) (parts : List (Piece 
 abbrev pub AreSettled : {S : Type 0} → Ghosts S → List (Piece S) → List (Closing S) → Type 0
 AreSettled {S} g parts closed = (d : ℕ) (c : Closing S) → slice_get closed d ≡ Some c → IsSettled g d parts c
 
+-- a cause tells that a session of a database has entries, and no pass
+abbrev pub IsOfNoPass : {S : Type 0} → ℕ → List (Piece S) → List (Closing S) → Cause → Type 0
+IsOfNoPass sessions parts closed (cause.Receipts d k) = LacksPass sessions d k parts closed
+IsOfNoPass sessions parts closed cause.Passes = ⊥
+IsOfNoPass sessions parts closed (cause.Parts d) = ⊥
+IsOfNoPass sessions parts closed cause.Memory = ⊥
+
 -- all that a close finds, but which databases they are
 pub record AreFound {S : Type 0} (g : Ghosts S) (sessions : ℕ) (seats : List Seat) (parts : List (Piece S)) (closed : List (Closing S)) : Type 0 where
   pub all_seats : AreAllSeats (length closed) sessions seats
   pub each : (d : ℕ) (c : Closing S) → slice_get closed d ≡ Some c → IsWhole g d parts c
   pub receipts : AllByRecursion (HasItsReceipts parts closed) seats
+  pub asked : AreOfSessions sessions parts closed

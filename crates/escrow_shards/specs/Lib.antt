@@ -10,5 +10,6 @@ pub mod Receipts
 pub mod Seat
 pub mod Sharing
 pub mod Shown
+pub mod Waiting
 pub mod Watchers
 pub mod Whole

@@ -1,4 +1,4 @@
--- Believed: boards and watchers of databases that are shared, as they are made.
+-- Believed: boards and watchers of databases that are shared, as they are made; and why databases aren't shared.
 use Rattle.std.specs.Prelude.{◌≡◌, ◌⊎◌, ℕ, List, [], ◌∷◌, ◌++◌, length, All}
 use Rattle.escrow_num.specs.declared.refusal.Refusal.TheVariants as refusal
 use Rattle.escrow_history.specs.Calls.{IsNotBegun}
@@ -21,8 +21,14 @@ AreNewWatchers count (o ∷ openings) watchers =
 abbrev pub IsUnwatched : Unshared → Type 0
 IsUnwatched cause = (cause ≡ unshared.Refused refusal.Memory) ⊎ (cause ≡ unshared.NoPlace)
 
--- why databases aren't shared that are to be watched: as of those that aren't (26, 51, 60); more watchers are asked
--- than there may be; or no place to read at
+-- why databases aren't shared that nobody is to watch: 26, 51 or 60
+abbrev pub IsRefused : Unshared → Type 0
+IsRefused (unshared.Refused r) = IsNotBegun r
+IsRefused unshared.TooManyWatchers = ⊥
+IsRefused unshared.NoPlace = ⊥
+
+-- why databases aren't shared that are to be watched: as of those that aren't; more watchers are asked than there may
+-- be; or no place to read at
 abbrev pub IsUnshared : Unshared → Type 0
 IsUnshared (unshared.Refused r) = IsNotBegun r
 IsUnshared unshared.TooManyWatchers = Unit {0}

@@ -7,14 +7,14 @@ use sqlite::Alter;
 
 /// Why databases aren't shared. It hands the databases back.
 #[derive(Drop)]
-pub struct MakeFault<S: Alter, C = Refusal> {
+pub struct MakeFault<S: Alter> {
     /// The databases, in their order.
     pub databases: Vec<Database<S>>,
-    /// 26, 51 or 60; of databases that are to be watched an [`Unshared`].
-    pub cause: C,
+    /// Why they aren't shared.
+    pub cause: Unshared,
 }
 
-/// Why databases aren't shared that are to be watched.
+/// The cause of a [`MakeFault`]. Where nobody is to watch the databases it is `Refused`.
 #[derive(Debug, Drop)]
 pub enum Unshared {
     /// 26, 51 or 60.
@@ -57,7 +57,7 @@ pub enum Cause {
         /// The database.
         database: usize,
     },
-    /// The receipts of a session of a database aren't just its entries.
+    /// The receipts of a session of a database aren't just its entries. It may have entries and no pass.
     Receipts {
         /// The database.
         database: usize,

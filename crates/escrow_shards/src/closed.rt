@@ -1,3 +1,4 @@
+use crate::beyond::beyond_in_all;
 use crate::follow::parts_follow;
 use crate::matched::all_matched;
 use crate::opening::Opening;
@@ -5,6 +6,7 @@ use crate::part::Part;
 use crate::pass::Pass;
 use escrow_core::Database;
 use escrow_history::Audited;
+use escrow_num::Session;
 use escrow_transcript::{Base, Entry, Transcript};
 use sqlite::Alter;
 use std::marker::Model;
@@ -29,11 +31,13 @@ impl<S: Alter> Model for Closed<S> {
 }
 
 impl<S: Alter> Closed<S> {
-    ghost use Rattle.std.specs.Prelude.{◌≡◌, ◌↔◌, IsTrue};
+    ghost use Rattle.std.specs.Prelude.{◌≡◌, ◌↔◌, ◌<◌, [], IfSome, IfNone, IsTrue};
+    ghost use Rattle.std.specs.List.{AllByRecursion};
     ghost use Rattle.escrow_history.specs.History.{IsKept};
     ghost use Rattle.escrow_shards.specs.Begun.{IsBegun};
     ghost use Rattle.escrow_shards.specs.Closing.{HasAllParts, all_entries};
     ghost use Rattle.escrow_shards.specs.Receipts.{receipts_of};
+    ghost use Rattle.escrow_shards.specs.Whole.{IsOfSessions};
 
     /// A database that came out of its lock, of which so many parts were handed out.
     pub(crate) fn new(opening: Opening<S>, audited: Audited<S>, parts: u64) -> Self
@@ -105,5 +109,18 @@ impl<S: Alter> Closed<S> {
             parts,
             self.audited.entries(),
         )
+    }
+
+    /// The session of the first entry that is of none of the first so many.
+    pub(crate) fn session_beyond(
+        &self,
+        database: usize,
+        sessions: u8,
+        parts: &[Part<S>],
+    ) -> Option<Session>
+        ensures none { IfNone result (AllByRecursion (IsOfSessions sessions) (all_entries database parts.now self.now)) }
+        ensures some { IfSome result (λ k. (sessions < k) × (receipts_of k (all_entries database parts.now self.now) ≡ [] → ⊥)) }
+    {
+        beyond_in_all(database, sessions, parts, self.audited.entries())
     }
 }

@@ -3,6 +3,7 @@ ghost use Rattle.std.specs.List.{AllByRecursion};
 ghost use Rattle.escrow_shards.specs.Found.{AreFound, AreSettled, IsAmong};
 ghost use Rattle.escrow_shards.specs.Whole.{HasItsReceipts, IsTrueOf, LacksParts, LacksReceipts};
 
+use crate::beyond::lacks_pass;
 use crate::cause::Cause;
 use crate::closed::Closed;
 use crate::follow::tell_parts;
@@ -11,7 +12,8 @@ use crate::pass::Pass;
 use crate::seats::are_all_seats;
 use sqlite::Alter;
 
-/// The first cause of a mismatch: passes first, then parts, then receipts. `None` where all fits together.
+/// The first cause of a mismatch: passes first, then parts, then receipts, those of sessions without a pass last.
+/// `None` where all fits together.
 pub(crate) fn cause_of<S: Alter>(
     closed: &[Closed<S>],
     sessions: u8,
@@ -34,7 +36,7 @@ pub(crate) fn cause_of<S: Alter>(
             session: pass.session(),
         });
     }
-    None
+    lacks_pass(closed, sessions, parts)
 }
 
 /// The first database whose parts aren't all there, in order.

@@ -9,6 +9,11 @@ pub trait Gate {
 
     /// Within a call, while its lock is held, before the statement is served.
     fn inside<R: Wait>(&self, rt: &R, database: usize, session: Session, n: u64);
+
+    /// Whether it does nothing. Then a COMMIT that waits may be served by another call, with its own.
+    fn is_idle(&self) -> bool {
+        false
+    }
 }
 
 /// A gate that does nothing.
@@ -19,4 +24,8 @@ impl Gate for NoGate {
     fn before<R: Wait>(&self, _: &R, _: usize, _: Session, _: u64) {}
 
     fn inside<R: Wait>(&self, _: &R, _: usize, _: Session, _: u64) {}
+
+    fn is_idle(&self) -> bool {
+        true
+    }
 }

@@ -7,6 +7,7 @@
 #![tactic(auto)]
 
 mod answer;
+mod beyond;
 mod cause;
 mod closed;
 mod findings;
@@ -25,6 +26,7 @@ mod shard;
 mod shared;
 mod start;
 mod under_lock;
+mod waiting;
 mod watched;
 
 pub use answer::Answer;

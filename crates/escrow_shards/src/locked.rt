@@ -2,8 +2,8 @@ use crate::closed::Closed;
 use crate::opening::Opening;
 use crate::part::Part;
 use crate::under_lock::UnderLock;
-use escrow_history::{Audited, Served, Unserved};
-use escrow_num::{Refusal, Session};
+use escrow_history::{Audited, Committed, Served, Unserved};
+use escrow_num::{Failure, Refusal, Session};
 use escrow_statement::Statement;
 use escrow_transcript::Transcript;
 use sqlite::Alter;
@@ -26,6 +26,7 @@ impl<S: Alter> Locked<S> {
     ghost use Rattle.escrow_machine.specs.State.{has_open};
     ghost use Rattle.escrow_transcript.specs.declared.transcript.TheConstants.Transcript.{MAX_ENTRIES, MAX_NUMBER};
     ghost use Rattle.escrow_history.specs.Calls.{Appends, Stays, IsNotDrained};
+    ghost use Rattle.escrow_history.specs.Commits.{Commits};
 
     /// A database of whose history no part was handed out.
     pub(crate) fn new(audited: Audited<S>) -> Self
@@ -49,6 +50,20 @@ impl<S: Alter> Locked<S> {
         ensures clean { HasCleanDisk (state S.Store self.new.audited.store) → HasCleanDisk (state S.Store self.old.audited.store) }
     {
         self.audited.serve(alloc, session, statement)
+    }
+
+    /// Serves COMMITs of sessions together, and adds the entries of those that are served to the transcript.
+    pub(crate) fn commit_all(
+        &mut self,
+        alloc: Global,
+        sessions: &[Session],
+    ) -> Result<Vec<Result<Committed, Failure>>, Unserved>
+        ensures served { IfOk result (λ outcomes. Commits S.Store self.old.audited sessions.now outcomes.items self.new.audited) }
+        ensures unserved { OnErr result (Stays S.Store self.old.audited self.new.audited) }
+        ensures parts { self.new.parts ≡ self.old.parts }
+        ensures clean { HasCleanDisk (state S.Store self.new.audited.store) → HasCleanDisk (state S.Store self.old.audited.store) }
+    {
+        self.audited.commit_all(alloc, sessions)
     }
 
     /// Hands out the next part of the history: the transcript, which begins again where the part ends.
@@ -94,6 +109,15 @@ impl<S: Alter> UnderLock<S> for Locked<S> {
         statement: &Statement,
     ) -> Result<Served, Unserved> {
         self.serve(alloc, session, statement)
+    }
+
+    fn commit_locked<R: Wait>(
+        &mut self,
+        _rt: &R,
+        alloc: Global,
+        sessions: &[Session],
+    ) -> Result<Vec<Result<Committed, Failure>>, Unserved> {
+        self.commit_all(alloc, sessions)
     }
 
     fn drain_locked(&mut self, alloc: Global, database: usize) -> Result<Part<S>, Refusal> {

@@ -1,20 +1,28 @@
+mod commit;
+
 use crate::closed::Closed;
 use crate::gate::Gate;
 use crate::opening::Opening;
 use crate::part::Part;
 use crate::under_lock::UnderLock;
+use crate::waiting::Waiting;
 use escrow_history::{Served, Unserved};
 use escrow_num::{Refusal, Session};
 use escrow_statement::Statement;
 use sqlite::Alter;
 use std::alloc::Global;
 use std::marker::Model;
-use std::sync::{Mutex, Wait};
+use std::sync::{Condvar, Mutex, Wait};
 
 /// A database under its lock, with its opening beside it. Contracts see the opening alone.
 #[derive(Drop)]
 pub(crate) struct Shard<S: Alter, L> {
     lock: Mutex<L>,
+    // The COMMITs that wait while another one is served. This lock is held for moments, and the one above is never asked
+    // for under it.
+    waiting: Mutex<Waiting>,
+    // Those that wait are told here that something became of them.
+    told: Condvar,
     opening: Opening<S>,
 }
 
@@ -39,6 +47,8 @@ impl<S: Alter, L: UnderLock<S>> Shard<S, L> {
     {
         Shard {
             lock: Mutex::new(locked),
+            waiting: Mutex::new(Waiting::new()),
+            told: Condvar::new(),
             opening,
         }
     }
@@ -58,6 +68,11 @@ impl<S: Alter, L: UnderLock<S>> Shard<S, L> {
         ensures succeeds { IfOk result (λ r. failure_of r.reply ≡ None) }
         ensures answers { IfOk result (λ r. IsAnswer r.reply) }
     {
+        if gate.is_idle() {
+            if let Statement::Commit = statement {
+                return self.commit(rt, alloc, session);
+            }
+        }
         let mut locked = self.lock.lock(rt);
         gate.inside(rt, database, session, n);
         locked.serve_locked(rt, alloc, session, statement)

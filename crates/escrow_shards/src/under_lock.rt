@@ -1,7 +1,7 @@
 use crate::locked::Locked;
 use crate::part::Part;
-use escrow_history::{Served, Unserved};
-use escrow_num::{Refusal, Session};
+use escrow_history::{Committed, Served, Unserved};
+use escrow_num::{Failure, Refusal, Session};
 use escrow_statement::Statement;
 use sqlite::Alter;
 use std::alloc::Global;
@@ -12,7 +12,7 @@ use std::sync::Wait;
 ///
 /// [`Watched`]: crate::Watched
 pub trait UnderLock<S: Alter> {
-    ghost use Rattle.std.specs.Prelude.{◌≡◌, None, IfOk, IfErr};
+    ghost use Rattle.std.specs.Prelude.{◌≡◌, None, length, IfOk, IfErr};
     ghost use Rattle.escrow_history.specs.Calls.{IsAnswer, IsNotDrained};
     ghost use Rattle.escrow_machine.specs.Reply.{failure_of};
 
@@ -27,6 +27,16 @@ pub trait UnderLock<S: Alter> {
         ensures kept { IfOk result (λ r. r.kept ≡ r.reply) }
         ensures succeeds { IfOk result (λ r. failure_of r.reply ≡ None) }
         ensures answers { IfOk result (λ r. IsAnswer r.reply) };
+
+    /// Serves COMMITs of sessions together, and adds the entries of those that are served. Answers of each session
+    /// whether its COMMIT was. It may wait.
+    fn commit_locked<R: Wait>(
+        &mut self,
+        rt: &R,
+        alloc: Global,
+        sessions: &[Session],
+    ) -> Result<Vec<Result<Committed, Failure>>, Unserved>
+        ensures each { IfOk result (λ outcomes. length outcomes.items ≡ length sessions.now) };
 
     /// Hands out the next part of the history of a database.
     fn drain_locked(&mut self, alloc: Global, database: usize) -> Result<Part<S>, Refusal>

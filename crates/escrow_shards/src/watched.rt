@@ -2,15 +2,15 @@ ghost use Rattle.std.specs.Prelude.{◌≡◌, ℕ, ◌+◌, ◌≤◌, ◌++◌
 ghost use Rattle.sqlite.specs.Held.{state};
 ghost use Rattle.sqlite.specs.State.{HasCleanDisk};
 ghost use Rattle.escrow_transcript.specs.declared.transcript.TheConstants.Transcript.{MAX_NUMBER};
-ghost use Rattle.escrow_transcript.specs.Legal.{IsLegal};
-ghost use Rattle.escrow_stats.specs.Watching.{IsPrefix};
+ghost use Rattle.escrow_transcript.specs.Legal.{AreNumbered, IsLegal};
+ghost use Rattle.escrow_stats.specs.Watching.{IsLegalFrom, IsPrefix};
 ghost use Rattle.escrow_shards.specs.Shown.{doubts_of};
 
 use crate::locked::Locked;
 use crate::part::Part;
 use crate::under_lock::UnderLock;
-use escrow_history::{Audited, Served, Unserved};
-use escrow_num::{Refusal, Session};
+use escrow_history::{Audited, Committed, Served, Unserved};
+use escrow_num::{Failure, Refusal, Session};
 use escrow_statement::Statement;
 use escrow_stats::Board;
 use escrow_transcript::Entry;
@@ -77,6 +77,20 @@ impl<S: Alter, R: Wait + Drop> UnderLock<S> for Watched<S, R> {
         Ok(served)
     }
 
+    /// Serves COMMITs, and shows the totals with each entry. It may wait for a watcher that is reading.
+    fn commit_locked<T: Wait>(
+        &mut self,
+        rt: &T,
+        alloc: Global,
+        sessions: &[Session],
+    ) -> Result<Vec<Result<Committed, Failure>>, Unserved> {
+        let before = self.locked.audited.entries().len();
+        let outcomes = self.locked.commit_all(alloc, sessions)?;
+        let audited = &self.locked.audited;
+        show_all(&mut self.board, rt, &audited.entries()[before..], audited);
+        Ok(outcomes)
+    }
+
     fn drain_locked(&mut self, alloc: Global, database: usize) -> Result<Part<S>, Refusal> {
         self.locked.drain(alloc, database)
     }
@@ -89,7 +103,29 @@ impl<S: Alter, R: Wait + Drop> UnderLock<S> for Watched<S, R> {
     }
 }
 
-/// Shows the totals with an entry, behind which a database is as it is. It may wait.
+/// Shows the totals with each of further entries, behind which a database is as it is. It may wait.
+fn show_all<S: Alter, R: Wait + Drop, T: Wait>(
+    board: &mut Board<S, R>,
+    rt: &T,
+    entries: &[Entry],
+    audited: &Audited<S>,
+)
+    requires numbered { AreNumbered (length board.old.entries) entries.now }
+    requires few { length board.old.entries + length entries.now ≤ MAX_NUMBER }
+    requires legal { HasCleanDisk (state S.Store audited.now.store) → IsLegal board.old.base (board.old.entries ++ entries.now) audited.now.state }
+    requires more { board.old.doubts ≤ doubts_of S.Store audited.now.store }
+    requires begins { IsPrefix board.old.shown board.old.entries }
+    ensures base { board.new.base ≡ board.old.base }
+    ensures entries { board.new.entries ≡ board.old.entries ++ entries.now }
+    ensures shown { IsPrefix board.new.shown board.new.entries }
+    ensures sure { board.new.doubts ≤ doubts_of S.Store audited.now.store }
+{
+    for entry in entries {
+        show(board, rt, entry, audited);
+    }
+}
+
+/// Shows the totals with an entry, which a database has. It may wait.
 fn show<S: Alter, R: Wait + Drop, T: Wait>(
     board: &mut Board<S, R>,
     rt: &T,
@@ -97,7 +133,7 @@ fn show<S: Alter, R: Wait + Drop, T: Wait>(
     audited: &Audited<S>,
 )
     requires number { (entry.now.number ≡ length board.old.entries + 1) × (entry.now.number ≤ MAX_NUMBER) }
-    requires legal { HasCleanDisk (state S.Store audited.now.store) → IsLegal board.old.base (board.old.entries ++ entry.now ∷ []) audited.now.state }
+    requires legal { HasCleanDisk (state S.Store audited.now.store) → IsLegalFrom board.old.base (board.old.entries ++ entry.now ∷ []) }
     requires more { board.old.doubts ≤ doubts_of S.Store audited.now.store }
     ensures base { board.new.base ≡ board.old.base }
     ensures entries { board.new.entries ≡ board.old.entries ++ entry.now ∷ [] }
@@ -117,7 +153,7 @@ fn show_as<S: Alter, R: Wait + Drop, T: Wait>(
     ghost doubts: { ℕ }
     requires picked { doubts ≡ doubts_of S.Store audited.now.store }
     requires number { (entry.now.number ≡ length board.old.entries + 1) × (entry.now.number ≤ MAX_NUMBER) }
-    requires legal { HasCleanDisk (state S.Store audited.now.store) → IsLegal board.old.base (board.old.entries ++ entry.now ∷ []) audited.now.state }
+    requires legal { HasCleanDisk (state S.Store audited.now.store) → IsLegalFrom board.old.base (board.old.entries ++ entry.now ∷ []) }
     requires more { board.old.doubts ≤ doubts }
     ensures base { board.new.base ≡ board.old.base }
     ensures entries { board.new.entries ≡ board.old.entries ++ entry.now ∷ [] }

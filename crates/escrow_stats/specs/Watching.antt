@@ -46,10 +46,11 @@ pub record IsSound {S : Type 0} (g : Ghosts S) (w : Watching) : Type 0 where
   pub legal : w.doubts ≡ 0 → IsLegalFrom w.base w.entries
   pub always : IsAlwaysClean g → w.doubts ≡ 0
 
--- a watcher of a history from a base that has read nothing
+-- a watcher of a history from a base that has read nothing, and knows of no doubt
 pub record IsNewWatcher (start : Base) (w : Watching) : Type 0 where
   pub begins : w.base ≡ start
   pub unread : w.entries ≡ []
+  pub sure : w.doubts ≡ 0
 
 -- What contracts see of a board: the base where the history of its database begins; all entries since, and a prefix of
 -- them, whose totals it shows; and the doubts of the disk when these were shown.

@@ -135,7 +135,7 @@ impl<S: Alter, R: Wait + Drop> Board<S, R> {
     /// Counts one entry more, and shows the totals with it. Where memory is refused the board goes on showing what it
     /// shows, and the next entry makes that good. It may wait for a watcher that is reading.
     pub fn post<T: Wait>(&mut self, rt: &T, entry: &Entry)
-        // How often the disk of the database was found not to return what was written.
+        // The doubts of the disk of the database: 0 while it has returned what was written.
         ghost doubts: { ℕ }
         requires number { (entry.now.number ≡ length self.old.entries + 1) × (entry.now.number ≤ MAX_NUMBER) }
         requires legal { doubts ≡ 0 → IsLegalFrom self.old.base (self.old.entries ++ entry.now ∷ []) }

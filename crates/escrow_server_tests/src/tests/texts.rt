@@ -2,7 +2,7 @@
 use escrow_core::Reply;
 use escrow_num::{Refusal, Session};
 use escrow_reply::{render, render_whole};
-use escrow_server::{CloseFault, OpenFault};
+use escrow_server::{CloseFault, FreeFault, OpenFault, ServeFault, WriteFault};
 use sqlite::{Error, ErrorCode};
 use std::io;
 
@@ -38,8 +38,37 @@ const SQLITE: [(ErrorCode, &str, &str); 4] = [
     ),
 ];
 
+/// What is said of faults of scripts that no script shows.
+const SERVED: [(ServeFault, &str); 2] = [
+    (ServeFault::Memory, "out of memory"),
+    (
+        ServeFault::Write(WriteFault::TakesNothing),
+        "a reply can't be written: standard output takes nothing",
+    ),
+];
+
+/// The same, where sessions run at the same time.
+const FREE: [(FreeFault, &str); 5] = [
+    (FreeFault::Memory, "out of memory"),
+    (
+        FreeFault::Write(WriteFault::TakesNothing),
+        "a reply can't be written: standard output takes nothing",
+    ),
+    (FreeFault::Store, "a store can't be read"),
+    (FreeFault::Open, "a transaction is open"),
+    (FreeFault::Mismatch, "the histories don't fit the replies"),
+];
+
 #[test]
 fn faults(rt: HostRuntime) {
+    for (fault, wanted) in SERVED {
+        let text = format!(in rt.alloc(); "{fault}").expect(&rt, "memory");
+        assert_eq!(rt; text.as_str(), wanted);
+    }
+    for (fault, wanted) in FREE {
+        let text = format!(in rt.alloc(); "{fault}").expect(&rt, "memory");
+        assert_eq!(rt; text.as_str(), wanted);
+    }
     for (number, wanted) in SYSTEM {
         let fault = OpenFault::from(io::Error::from_raw_os_error(number));
         let text = format!(in rt.alloc(); "{fault}").expect(&rt, "memory");

@@ -19,8 +19,9 @@ impl<S: Alter + Drop, L: UnderLock<S> + Drop> Shared<S, L> {
     ghost use Rattle.escrow_shards.specs.Whole.{AreWhole, IsTrueOf};
 
     /// Ends the sharing, with all passes and all parts that were handed out. All fits together only where
-    /// each pass is handed in once, the parts of each database are all there, in order, and the receipts
-    /// of each session are just its entries, in its order, each once. Then the entries of each database,
+    /// each pass is handed in once, the parts of each database are all there, in order, the receipts
+    /// of each session are just its entries, in its order, each once, and no entry is of a session
+    /// without a pass. Then the entries of each database,
     /// those of its parts and then those of its last transcript, are one legal run of the machine,
     /// numbered from 1, from the state at its opening to the state in which it is handed back; as long as
     /// its disk had returned what was written at its opening, whenever a part was handed out, and now.
@@ -29,8 +30,8 @@ impl<S: Alter + Drop, L: UnderLock<S> + Drop> Shared<S, L> {
     ///
     /// # Errors
     ///
-    /// The first cause that is found: passes, then parts, then receipts. Everything is handed back, the
-    /// databases out of their locks.
+    /// The first cause that is found: passes, then parts, then receipts, those of sessions without a pass
+    /// last. Everything is handed back, the databases out of their locks.
     pub fn close(self, passes: Vec<Pass>, parts: Vec<Part<S>>) -> Result<Audit<S>, Mismatch<S>>
         ensures whole { IfOk result (λ a. AreWhole S.Store self passes.items parts.items a.closed.items) }
         ensures same { IfOk result (λ a. a.parts ≡ parts) }

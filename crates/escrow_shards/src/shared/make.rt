@@ -6,7 +6,7 @@ ghost use Rattle.escrow_history.specs.Calls.{IsFailed, IsNotBegun};
 ghost use Rattle.escrow_shards.specs.Opened.{any_open, seen_at, AreRead, IsRead};
 ghost use Rattle.escrow_shards.specs.Seat.{new_seats, new_seats_of};
 
-use crate::cause::MakeFault;
+use crate::cause::{MakeFault, Unshared};
 use crate::locked::Locked;
 use crate::pass::Pass;
 use crate::room::Room;
@@ -23,11 +23,11 @@ use std::sync::Mutex;
 impl<S: Alter + Drop> Shared<S> {
     ghost use Rattle.std.specs.Prelude.{◌≡◌, ◌↔◌, ◌≤◌, true, false, map, length, vec_len, All, IfOk, IfErr, OnOk};
     ghost use Rattle.escrow_num.specs.Session.{IsSession};
-    ghost use Rattle.escrow_history.specs.Calls.{IsNotBegun};
     ghost use Rattle.escrow_shards.specs.declared.shared.TheConstants.{MAX_DATABASES};
     ghost use Rattle.escrow_shards.specs.Opened.{any_open, seen_at, AreRead};
     ghost use Rattle.escrow_shards.specs.Seat.{new_seats};
     ghost use Rattle.escrow_shards.specs.Sharing.{HasSeat};
+    ghost use Rattle.escrow_shards.specs.Watchers.{IsRefused};
 
     /// Puts databases under locks, each with its opening beside it, and makes a pass without receipts for
     /// each session of each database: by database, then by session. All memory that [`Shared::close`]
@@ -50,8 +50,8 @@ impl<S: Alter + Drop> Shared<S> {
         ensures seats { IfOk result (λ r. All (HasSeat r.0) r.1.items) }
         ensures closed { OnOk result (any_open databases.items ≡ false) }
         ensures back { IfErr result (λ f. AreRead S.Store databases.items f.databases.items) }
-        ensures only { IfErr result (λ f. IsNotBegun f.cause) }
-        ensures open { IfErr result (λ f. (f.cause ≡ Refusal.TransactionOpen) ↔ (any_open databases.items ≡ true)) }
+        ensures only { IfErr result (λ f. IsRefused f.cause) }
+        ensures open { IfErr result (λ f. (f.cause ≡ Unshared.Refused Refusal.TransactionOpen) ↔ (any_open databases.items ≡ true)) }
     {
         match prepare(alloc, &mut databases, sessions) {
             Ok(ready) => {
@@ -63,7 +63,10 @@ impl<S: Alter + Drop> Shared<S> {
                 };
                 Ok((shared, ready.passes))
             }
-            Err(cause) => Err(MakeFault { databases, cause }),
+            Err(refusal) => Err(MakeFault {
+                databases,
+                cause: Unshared::Refused(refusal),
+            }),
         }
     }
 }

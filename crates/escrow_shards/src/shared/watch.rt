@@ -41,7 +41,7 @@ impl<S: Alter + Drop, R: Wait + Copy + Drop> Shared<S, Watched<S, R>> {
         mut databases: Vec<Database<S>>,
         sessions: u8,
         watchers: usize,
-    ) -> Result<(Self, Vec<Pass>, Vec<Watcher<S>>), MakeFault<S, Unshared>>
+    ) -> Result<(Self, Vec<Pass>, Vec<Watcher<S>>), MakeFault<S>>
         requires databases { (1 ≤ vec_len databases) × (vec_len databases ≤ MAX_DATABASES) }
         requires sessions { IsSession sessions }
         ensures opened { IfOk result (λ r. AreRead S.Store databases.items (map seen_at r.0.openings)) }

@@ -33,7 +33,19 @@ const ACCOUNT: Asked = &[
     ),
 ];
 
-/// A COMMIT of a reservation.
+/// A table of balances, which stay at 50 or above, and one of 100.
+const BALANCES: Asked = &[
+    (
+        "CREATE TABLE ACCOUNT (ID INTEGER PRIMARY KEY, BALANCE INTEGER RESERVABLE CONSTRAINT MINIMUM_BALANCE CHECK (BALANCE >= 50))",
+        "bank.1> OK created ACCOUNT\n",
+    ),
+    (
+        "INSERT INTO ACCOUNT VALUES (1, 100)",
+        "bank.1> OK inserted\n",
+    ),
+];
+
+/// A COMMIT of a reservation, in the table of balances.
 const COMMIT: Write = Write {
     session: 1,
     set_up: &[(
@@ -48,13 +60,16 @@ const COMMIT: Write = Write {
             "SHOW JOURNAL",
             "bank.9> 1 session 1 ACCOUNT 1 BALANCE -30\nbank.9> OK reservations 1\n",
         ),
-        STANDS,
+        (
+            "SELECT * FROM ACCOUNT",
+            "bank.9> ID | BALANCE\nbank.9> 1 | 100\nbank.9> OK rows 1\n",
+        ),
     ],
     after: &[
         ("SHOW JOURNAL", "bank.9> OK reservations 0\n"),
         (
-            "SELECT * FROM ACCOUNT WHERE ID = 1",
-            "bank.9> ID | OWNER | BALANCE\nbank.9> 1 | 'it''s é' | 70\nbank.9> OK rows 1\n",
+            "SELECT * FROM ACCOUNT",
+            "bank.9> ID | BALANCE\nbank.9> 1 | 70\nbank.9> OK rows 1\n",
         ),
     ],
 };
@@ -220,14 +235,15 @@ const CHECKED: (&str, &str) = (
     "bank.9> CREATE TABLE ACCOUNT (ID NUMBER(15) PRIMARY KEY, OWNER VARCHAR2(20), BALANCE NUMBER(15) RESERVABLE, CONSTRAINT MINIMUM_BALANCE CHECK (BALANCE >= 50))\nbank.9> OK table\n",
 );
 
-/// Asks a statement under each limit of SQLite's steps, from 1 on, until it is served. After each refusal session 9
-/// looks, without a limit, whether anything changed.
+/// Asks a statement, of a table that was made, under each limit of SQLite's steps, from 1 on, until it is served. After each
+/// refusal session 9 looks, without a limit, whether anything changed.
 fn refuse_at_each_limit<R: Abort + AllocGlobal, B: Bank>(
     rt: &R,
+    table: Asked,
     write: &Write,
 ) -> Result<(), Fail> {
     let mut bank: B = over(rt, &[])?;
-    ask_all(rt, &mut bank, 1, ACCOUNT)?;
+    ask_all(rt, &mut bank, 1, table)?;
     ask_all(rt, &mut bank, write.session, write.set_up)?;
     for limit in 1..1000u64 {
         if is_served(rt, &mut bank, write, limit)? {
@@ -265,7 +281,7 @@ fn is_text(a: &str, b: &str) -> bool {
 /// A COMMIT that the store refuses leaves the transaction open, and can be asked again.
 #[test]
 fn commit_refused_by_store(rt: HostRuntime) -> Result<(), Fail> {
-    refuse_at_each_limit::<_, OverFiles>(&rt, &COMMIT)
+    refuse_at_each_limit::<_, OverFiles>(&rt, BALANCES, &COMMIT)
 }
 
 /// No other refused statement changes anything either. A refused ALTER TABLE leaves the table's checks, its rows'
@@ -273,7 +289,7 @@ fn commit_refused_by_store(rt: HostRuntime) -> Result<(), Fail> {
 #[test]
 fn writes_refused_by_store(rt: HostRuntime) -> Result<(), Fail> {
     for write in WRITES {
-        refuse_at_each_limit::<_, OverFiles>(&rt, write)?;
+        refuse_at_each_limit::<_, OverFiles>(&rt, ACCOUNT, write)?;
     }
     Ok(())
 }

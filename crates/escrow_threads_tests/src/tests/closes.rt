@@ -9,7 +9,7 @@ use super::results::{made, push, refused};
 use super::sharing::{ask, close_whole, drain, hall, share};
 use escrow_memory::BlockStore;
 use escrow_num::{Refusal, Session};
-use escrow_shards::{Cause, Closed, NoGate, Pass, Shared};
+use escrow_shards::{Cause, Closed, NoGate, Pass, Shared, Unshared};
 use std::process::Abort;
 use std::sync::Wait;
 use std::sync::atomic::Ordering;
@@ -40,7 +40,7 @@ fn sharing_databases(rt: HostRuntime) {
         let second = databases.get_mut(1).expect(&rt, "the second database");
         check_reply(&rt, second, open, opened);
         let fault = refused(&rt, share(&rt, databases, 4), "open");
-        assert!(rt; fault.cause.is_same(&Refusal::TransactionOpen));
+        assert!(rt; matches!(&fault.cause, Unshared::Refused(Refusal::TransactionOpen)));
         databases = fault.databases;
         let second = databases.get_mut(1).expect(&rt, "the second database");
         check_reply(&rt, second, end, ended);
@@ -101,14 +101,12 @@ fn close_small(rt: HostRuntime) {
     check_reply(&rt, &mut database, SHOW, shown);
 }
 
-/// How many threads share databases; how many databases, how many sessions each has, and how many passes there are.
+/// How many threads share databases; how many databases, and how many sessions each has.
 const THREADS: usize = 8;
 
 const DATABASES: usize = 16;
 
 const SESSIONS: usize = 64;
-
-const PASSES: usize = 1_024;
 
 /// What each session asks in turn: one hit is committed, and one isn't.
 const TURNS: [&str; 5] = [
@@ -186,9 +184,9 @@ fn check_honest<R: Abort + AllocGlobal>(rt: &R, shared: Shared<BlockStore>, pass
     }
 }
 
-/// The close is Ok where one thread serves all sessions, and where eight do side by side.
+/// The close of all is Ok where one thread serves all sessions, and where eight do side by side.
 #[test]
-fn close_honest(rt: HostRuntime) {
+fn close_of_a_crowd(rt: HostRuntime) {
     let watch = Watch::new(Meets::Nowhere);
     let (shared, mut passes) = crowd(&rt);
     for pass in passes.iter_mut() {
@@ -200,28 +198,6 @@ fn close_honest(rt: HostRuntime) {
     thread::for_each_mut(&rt, &mut passes, THREADS, &serve);
     check_honest(&rt, shared, passes);
     assert_eq!(rt; watch.faults.load(Ordering::SeqCst), 0);
-}
-
-/// Where one pass isn't handed in, the close says so, and everything comes back.
-#[test]
-fn close_missing(rt: HostRuntime) {
-    let watch = Watch::new(Meets::Nowhere);
-    let (shared, mut passes) = crowd(&rt);
-    for pass in passes.iter_mut() {
-        ask_turns(&rt, &shared, &watch, pass);
-    }
-    let last = passes.pop().expect(&rt, "the last pass");
-    assert_eq!(rt; last.receipts().len(), TURNS.len());
-    let closed = shared.close(passes, Vec::new(rt.alloc()));
-    let mismatch = refused(&rt, closed, "a pass is missing");
-    assert_eq!(rt; mismatch.cause, Cause::Passes);
-    assert_eq!(rt;
-        (mismatch.closed.len(), mismatch.passes.len()),
-        (DATABASES, PASSES - 1)
-    );
-    for closed in mismatch.closed {
-        check_hits(&rt, closed, HITS);
-    }
 }
 
 /// One move before a close. Two sharings are made alike, each of two databases with two sessions. The databases 0 and 1
@@ -315,8 +291,20 @@ const MANY: &[Move] = &[
     Ask(3, "ROLLBACK"),
 ];
 
+/// More parts of the first database than any other case has.
+const PARTS_ALONE: &[Move] = &[Drain(0); 24];
+
 /// The closes. Of two causes the first is found: passes, then parts, then receipts.
-const CASES: [Case; 13] = [
+const CASES: [Case; 14] = [
+    Case {
+        title: "24 parts",
+        moves: PARTS_ALONE,
+        passes: &[0, 1, 2, 3],
+        parts: &[
+            0, 1, 2, 3, 4, 5, 6, 7, 8, 9, 10, 11, 12, 13, 14, 15, 16, 17, 18, 19, 20, 21, 22, 23,
+        ],
+        cause: None,
+    },
     Case {
         title: "all of them, in another order",
         moves: SMALL,
@@ -413,7 +401,21 @@ const CASES: [Case; 13] = [
     },
 ];
 
-/// Makes the moves of a case and closes. The cause is that of the case, and everything comes back.
+/// How many statements are asked in a database of the sharing that is closed.
+fn asked_in(moves: &[Move], database: usize) -> u64 {
+    let mut asked = 0u64;
+    for step in moves {
+        if let Ask(place, _) = step {
+            if *place < 4 && *place / 2 == database {
+                asked = asked.saturating_add(1);
+            }
+        }
+    }
+    asked
+}
+
+/// Makes the moves of a case and closes. The cause is that of the case, and everything comes back, each database in its
+/// place.
 fn check_close<R: Wait + Abort + AllocGlobal>(rt: &R, case: &Case) {
     let (shared, mut passes) = hall(rt, 2, 2, &ACCOUNT);
     let (twin, mut more) = hall(rt, 2, 2, &ACCOUNT);
@@ -438,27 +440,29 @@ fn check_close<R: Wait + Abort + AllocGlobal>(rt: &R, case: &Case) {
     }
     let passes = pick(rt, passes, case.passes);
     let parts = pick(rt, parts, case.parts);
-    let (cause, back) = match shared.close(passes, parts) {
-        Ok(audit) => (
-            None,
-            (audit.closed.len(), case.passes.len(), audit.parts.len()),
-        ),
+    let (cause, closed, back) = match shared.close(passes, parts) {
+        Ok(audit) => (None, audit.closed, (case.passes.len(), audit.parts.len())),
         Err(mismatch) => (
             Some(mismatch.cause),
-            (
-                mismatch.closed.len(),
-                mismatch.passes.len(),
-                mismatch.parts.len(),
-            ),
+            mismatch.closed,
+            (mismatch.passes.len(), mismatch.parts.len()),
         ),
     };
     assert_eq!(rt; cause, case.cause, "{}", case.title);
     assert_eq!(rt;
         back,
-        (2, case.passes.len(), case.parts.len()),
+        (case.passes.len(), case.parts.len()),
         "{}",
         case.title
     );
+    assert_eq!(rt; closed.len(), 2, "{}", case.title);
+    for (database, closed) in closed.iter().enumerate() {
+        let served = closed
+            .base()
+            .before
+            .saturating_add(closed.entries().len() as u64);
+        assert_eq!(rt; served, asked_in(case.moves, database), "{}", case.title);
+    }
 }
 
 /// Closes of what fits and of what doesn't.

@@ -7,7 +7,7 @@ use escrow_machine::Reply;
 use escrow_memory::BlockStore;
 use escrow_num::{Refusal, Session};
 use escrow_shards::{
-    Answer, Closed, Gate, MAX_DATABASES, MakeFault, Part, Pass, Shared, UnderLock,
+    Answer, Closed, Gate, MAX_DATABASES, MakeFault, Part, Pass, Shared, UnderLock, Unshared,
 };
 use std::process::Abort;
 use std::sync::Wait;
@@ -28,7 +28,7 @@ pub fn share<R: Abort + AllocGlobal>(
         Ok(sharing) => return Ok(sharing),
         Err(fault) => fault,
     };
-    if fault.cause.number() != 51 {
+    if !matches!(&fault.cause, Unshared::Refused(Refusal::Memory)) {
         return Err(fault);
     }
     let databases = fault.databases;

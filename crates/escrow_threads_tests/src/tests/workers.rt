@@ -5,7 +5,7 @@ ghost use Rattle.escrow_shards.specs.Sharing.{HasSeat};
 ghost use Rattle.escrow_sessions.specs.Serving.{HasItsSeat};
 
 use super::closes::check_hits;
-use super::databases::{COUNTER, HIT};
+use super::databases::{COUNTER, HIT, check_shown};
 use super::gates::Watch;
 use super::results::{made, push, refused};
 use super::sharing::{close_whole, hall};
@@ -15,7 +15,7 @@ use escrow_num::Refusal;
 use escrow_sessions::{
     Cause, Done, Ended, Feed, Given, MAX_WORKERS, NotFed, run_fed, run_sessions,
 };
-use escrow_shards::{Answer, Closed, Gate, NoGate, Pass, Shared};
+use escrow_shards::{Answer, Closed, Gate, NoGate, Pass, Shared, UnderLock};
 use escrow_sql::{Request, parse};
 use escrow_stats::Tally;
 use std::alloc::Global;
@@ -125,9 +125,9 @@ fn feed<'a, R: Threads + Wait + Sync + Abort + AllocGlobal, G: Gate + Sync>(
 }
 
 /// Returns a feed for each pass, with the same work.
-fn feeds_of<R: Abort + AllocGlobal>(
+pub fn feeds_of<R: Abort + AllocGlobal, L: UnderLock<BlockStore>>(
     rt: &R,
-    shared: &Shared<BlockStore>,
+    shared: &Shared<BlockStore, L>,
     passes: Vec<Pass>,
     work: Work,
 ) -> Vec<Feed>
@@ -243,28 +243,67 @@ pub fn end<R: Abort + AllocGlobal>(
     done: Vec<Done>,
     answers: usize,
 ) -> Vec<Closed<BlockStore>> {
+    close_whole(rt, shared, passes_of(rt, by, done, answers))
+}
+
+/// The passes of workers, each of which has given so many answers, which are all.
+fn passes_of<R: Abort + AllocGlobal>(rt: &R, by: By, done: Vec<Done>, answers: usize) -> Vec<Pass> {
     let mut passes = Vec::new(rt.alloc());
     for worker in done {
         assert_eq!(rt; worker.ended, Ended::All, "{by:?}");
         assert_eq!(rt; worker.answers.len(), answers, "{by:?}");
         push(rt, &mut passes, worker.pass);
     }
-    close_whole(rt, shared, passes)
+    passes
 }
 
 /// How many hits there are in all.
 const ALL_HITS: usize = 800;
 
 /// Each session adds a hit and commits it, a hundred times.
-const HITS: Work = Work {
+pub const HITS: Work = Work {
     texts: &[HIT, "COMMIT"],
     times: 100,
     live: None,
 };
 
-/// Eight sessions hit one counter: the ids of the hits are the first ones, each granted once, and the history is whole.
+/// Each session then asks for the counter, and this is what it is shown.
+const SEEN: Work = Work {
+    texts: &["SELECT * FROM COUNTER"],
+    times: 1,
+    live: None,
+};
+
+/// Shows all hits to each session, by its worker. The passes come back.
+fn check_seen<R: Threads + Wait + Sync + Abort + AllocGlobal>(
+    rt: &R,
+    by: By,
+    shared: &Shared<BlockStore>,
+    passes: Vec<Pass>,
+) -> Vec<Pass> {
+    let done = made(
+        rt,
+        serve_all(rt, by, shared, passes, SEEN, &NoGate),
+        "workers",
+    );
+    for worker in &done {
+        let Some(Given::Reply(Answer::Served(reply))) = worker.answers.first() else {
+            rt.panic("a reply")
+        };
+        let session = worker.pass.session();
+        let number = session.get();
+        let text = format!(in rt.alloc();
+            "bank.{number}> ID | HITS\nbank.{number}> 1 | {ALL_HITS}\nbank.{number}> OK rows 1\n"
+        );
+        check_shown(rt, session, reply, made(rt, text, "memory").as_str());
+    }
+    passes_of(rt, by, done, 1)
+}
+
+/// Eight sessions hit one counter: the ids of the hits are the first ones, each granted once, all hits are counted, and the
+/// close is Ok.
 #[test]
-fn all_hits(rt: HostRuntime) {
+fn close_honest(rt: HostRuntime) {
     for by in BOTH {
         let (shared, passes) = hall(&rt, 1, 8, &COUNTER);
         let done = made(
@@ -285,10 +324,34 @@ fn all_hits(rt: HostRuntime) {
         }
         let count = granted.iter().filter(|is_granted| **is_granted).count();
         assert_eq!(rt; count, ALL_HITS, "{by:?}");
-        for closed in end(&rt, by, shared, done, 200) {
-            assert_eq!(rt; closed.entries().len(), 1_600, "{by:?}");
+        let passes = passes_of(&rt, by, done, 200);
+        let passes = check_seen(&rt, by, &shared, passes);
+        for closed in close_whole(&rt, shared, passes) {
+            assert_eq!(rt; closed.entries().len(), 1_608, "{by:?}");
             check_hits(&rt, closed, ALL_HITS);
         }
+    }
+}
+
+/// Where one pass of these isn't handed in, the close says so, and everything comes back.
+#[test]
+fn close_missing(rt: HostRuntime) {
+    let (shared, passes) = hall(&rt, 1, 8, &COUNTER);
+    let by = By::Channels;
+    let done = made(
+        &rt,
+        serve_all(&rt, by, &shared, passes, HITS, &NoGate),
+        "workers",
+    );
+    let mut passes = passes_of(&rt, by, done, 200);
+    let last = passes.pop().expect(&rt, "the last pass");
+    assert_eq!(rt; last.receipts().len(), 200);
+    let closed = shared.close(passes, Vec::new(rt.alloc()));
+    let mismatch = refused(&rt, closed, "a pass is missing");
+    assert_eq!(rt; mismatch.cause, escrow_shards::Cause::Passes);
+    assert_eq!(rt; (mismatch.closed.len(), mismatch.passes.len()), (1, 7));
+    for closed in mismatch.closed {
+        check_hits(&rt, closed, ALL_HITS);
     }
 }
 
@@ -338,7 +401,14 @@ fn totals_so_far(rt: HostRuntime) {
     }
 }
 
-/// Of 65 none is started, and all are handed back; 64 are started.
+/// Each session commits often.
+const COMMITS: Work = Work {
+    texts: &["COMMIT"],
+    times: 400,
+    live: None,
+};
+
+/// Of 65 none is started, and all are handed back; 64 are started, and each serves all that it is asked.
 #[test]
 fn too_many(rt: HostRuntime) {
     for by in BOTH {
@@ -349,13 +419,13 @@ fn too_many(rt: HostRuntime) {
         passes.pop();
         let done = made(
             &rt,
-            serve_all(&rt, by, &shared, passes, COMMIT, &NoGate),
+            serve_all(&rt, by, &shared, passes, COMMITS, &NoGate),
             "workers",
         );
         assert_eq!(rt; done.len(), MAX_WORKERS, "{by:?}");
         for worker in &done {
             assert_eq!(rt; worker.ended, Ended::All, "{by:?}");
-            assert_eq!(rt; worker.pass.receipts().len(), 1, "{by:?}");
+            assert_eq!(rt; worker.pass.receipts().len(), 400, "{by:?}");
         }
     }
 }

@@ -19,9 +19,11 @@ show-requires-clause-legal g c =
     let s = c.in_ok-served.served in
     let last = last_is new.entries old.entries _ c.in-Some.entry.now e.served.entries
     (ap (λ (es : List Entry). slice_get es (length es - 1)) (sym c.entries.ensures.entries) ∙ sym c.in-Some.ensures.value) in
-    λ now.
-    subst (λ (x : Entry). IsLegal board.base (board.entries ++ x ∷ []) new.state) (sym last)
-    (legal_more g.S.Store old new board c.args.session c.args.statement.now s.number s.reply c.self.invariant e.served e.clean now)
+    λ now. (
+      new.state,
+      subst (λ (x : Entry). IsLegal board.base (board.entries ++ x ∷ []) new.state) (sym last)
+          (legal_more g.S.Store old new board c.args.session c.args.statement.now s.number s.reply c.self.invariant e.served e.clean now),
+    )
 
 pub show-requires-clause-more : goal.show-requires-clause-more
 show-requires-clause-more g c =

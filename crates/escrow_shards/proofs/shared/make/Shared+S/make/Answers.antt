@@ -1,4 +1,6 @@
-use Rattle.std.proofs.Common.{length, map, refl, sym, ap, ◌∙◌, subst}
+use Rattle.std.proofs.Common.{◌≡◌, length, map, refl, sym, ap, ◌∙◌, subst}
+use Rattle.escrow_num.specs.declared.refusal.Refusal.TheVariants as refusal
+use Rattle.escrow_shards.specs.declared.cause.Unshared.TheVariants as unshared
 use Rattle.escrow_shards.specs.Opened.{seen_at, AreRead}
 use Rattle.escrow_shards.specs.Sharing.{Sharing}
 use Rattle.escrow_shards.proofs.NewSeats.{all_have_seats}
@@ -22,3 +24,7 @@ returns-in-Ok-clause-seats g c =
     (as_many c.into_shards-shards.result.items c.in-Ok.ready.starts.items c.prepare.new.databases.items c.into_shards-shards.ensures c.in-Ok.ensures.starts
     ∙ sym c.prepare.new.databases.ok.0 ∙ c.prepare.ensures.len ∙ c.args.databases.ok.0)
     refl c.in-Ok.ensures.passes
+
+pub returns-in-Err-clause-open : goal.returns-in-Err-clause-open
+returns-in-Err-clause-open g c =
+    (λ is. let same : c.in-Err.refusal ≡ refusal.TransactionOpen = cc in c.in-Err.ensures.open.0 same, λ opened. ap unshared.Refused (c.in-Err.ensures.open.1 opened))

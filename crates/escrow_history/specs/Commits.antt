@@ -1,0 +1,33 @@
+-- Believed: what COMMITs that share a write make of a database and its transcript.
+use Rattle.std.specs.Prelude.{◌≡◌, ℕ, ◌+◌, Result, Ok, Err, List, [], ◌∷◌, ◌++◌, length}
+use Rattle.sqlite.specs.Held.{state}
+use Rattle.sqlite.specs.State.{HasCleanDisk}
+use Rattle.sqlite_trees.specs.declared.store.Store.{Ghosts}
+use Rattle.escrow_num.specs.declared.failure.Failure.{Failure}
+use Rattle.escrow_statement.specs.declared.statement.Statement.TheVariants as statement
+use Rattle.escrow_machine.specs.declared.reply.Reply.TheVariants as reply
+use Rattle.escrow_transcript.specs.declared.entry.Entry.{Entry}
+use Rattle.escrow_transcript.specs.Legal.{AreSteps, AreNumbered}
+use Rattle.escrow_history.specs.declared.committed.Committed.{Committed}
+use Rattle.escrow_history.specs.History.{History}
+
+-- the entry of a COMMIT that was served
+abbrev pub commit_of : ℕ → Committed → Entry
+commit_of session c = record { number = c.number; session = session; statement = statement.Commit; reply = reply.Committed c.count }
+
+-- the entries of COMMITs, in the order of their sessions: one for each that was served, and none for one that wasn't
+abbrev pub commits_of : List ℕ → List (Result Committed Failure) → List Entry
+commits_of (session ∷ sessions) (Ok c ∷ outcomes) = commit_of session c ∷ commits_of sessions outcomes
+commits_of (session ∷ sessions) (Err f ∷ outcomes) = commits_of sessions outcomes
+commits_of (session ∷ sessions) [] = []
+commits_of [] outcomes = []
+
+-- COMMITs of sessions were asked, one after another, and each has its outcome: while the disk has returned what was
+-- written, those that were served are the machine's steps from the state before to the state behind; they are the
+-- entries more, with the next numbers.
+pub record Commits {S : Type 0} (g : Ghosts S) (old : History S) (sessions : List ℕ) (outcomes : List (Result Committed Failure)) (new : History S) : Type 0 where
+  pub each : length outcomes ≡ length sessions
+  pub steps : HasCleanDisk (state g new.store) → AreSteps old.state (commits_of sessions outcomes) new.state
+  pub numbered : AreNumbered (old.base.before + length old.entries) (commits_of sessions outcomes)
+  pub base : new.base ≡ old.base
+  pub entries : new.entries ≡ old.entries ++ commits_of sessions outcomes

@@ -1,0 +1,164 @@
+ghost use Rattle.std.specs.Prelude.{◌≡◌, length};
+
+use escrow_history::Committed;
+use escrow_num::{Failure, Session};
+use std::alloc::{AllocError, Global};
+use std::marker::Model;
+
+/// The COMMITs that wait while another one of their database is served, each in the place of its session; and whether a
+/// call leads: it serves them with its own once it has the lock, leaves in each place what came of it, and then has
+/// one of those lead that came meanwhile.
+#[derive(Drop)]
+pub(crate) struct Waiting {
+    places: [Place; Waiting::COUNT],
+    // How many calls are in a place: so a COMMIT without company looks into none.
+    count: usize,
+    is_led: bool,
+}
+
+/// The place of a session.
+#[derive(Clone, Copy)]
+pub(crate) enum Place {
+    /// No COMMIT of it waits.
+    Free,
+    /// Its COMMIT waits.
+    Asked,
+    /// The call that asked its COMMIT has yet to take that it leads from now on.
+    Leads,
+    /// Its COMMIT was served, or wasn't, and the call that asked it has yet to take that.
+    Answered(Result<Committed, Failure>),
+}
+
+/// What becomes of a COMMIT that was asked.
+#[derive(Clone, Copy)]
+pub(crate) enum Turn {
+    /// The call leads.
+    Leads,
+    /// It waits for the call that leads.
+    Waits,
+    /// Another call is in its place, as one with a pass of the same session of other databases may be.
+    Alone,
+    /// It was served, or wasn't.
+    Answered(Result<Committed, Failure>),
+}
+
+impl Model for Waiting {
+    ghost use Rattle.std.specs.Prelude.{◌≡◌, List, length};
+    ghost use Rattle.escrow_shards.specs.declared.waiting.Place.{Place};
+    ghost use Rattle.escrow_shards.specs.declared.waiting.TheConstants.Waiting.{COUNT};
+
+    ghost Value = { List Place };
+
+    ghost view = { λ w. w.places };
+
+    ghost invariant = { λ w. length w.places ≡ COUNT };
+}
+
+impl Waiting {
+    ghost use Rattle.std.specs.Prelude.{◌≡◌, ◌⊎◌, ◌∷◌, ◌↔◌, IfOk, IsTrue};
+    ghost use Rattle.escrow_shards.specs.Waiting.{answered, asking, at, turn_in, with_place};
+
+    /// How many places there are: one for each session that a database can have.
+    pub const COUNT: usize = Session::MAX as usize;
+
+    /// No COMMIT waits, and no call leads.
+    pub(crate) fn new() -> Self {
+        Waiting {
+            places: [Place::Free; Self::COUNT],
+            count: 0,
+            is_led: false,
+        }
+    }
+
+    /// Asks the COMMIT of a session: its call leads if none does, or waits.
+    pub(crate) fn ask(&mut self, session: Session) -> Turn
+        ensures waits { result ≡ Turn.Waits → (at self.old session ≡ Place.Free) × (self.new ≡ with_place self.old session Place.Asked) }
+        ensures same { (result ≡ Turn.Leads) ⊎ (result ≡ Turn.Alone) → self.new ≡ self.old }
+    {
+        let place = usize::from(session.get()) - 1;
+        if !self.is_led {
+            self.is_led = true;
+            return Turn::Leads;
+        }
+        if !matches!(self.places[place], Place::Free) {
+            return Turn::Alone;
+        }
+        self.places[place] = Place::Asked;
+        self.count = self.count.saturating_add(1);
+        Turn::Waits
+    }
+
+    /// Whether the COMMIT of a session waits.
+    pub(crate) fn waits(&self, session: Session) -> bool
+        ensures { IsTrue result ↔ (at self.now session ≡ Place.Asked) }
+    {
+        matches!(self.places[usize::from(session.get()) - 1], Place::Asked)
+    }
+
+    /// Takes what became of the COMMIT of a session out of its place.
+    pub(crate) fn take(&mut self, session: Session) -> Turn
+        ensures turn { result ≡ turn_in (at self.old session) }
+        ensures free { self.new ≡ with_place self.old session Place.Free }
+    {
+        let place = usize::from(session.get()) - 1;
+        let found = self.places[place];
+        self.places[place] = Place::Free;
+        self.count = self.count.saturating_sub(1);
+        match found {
+            Place::Answered(outcome) => Turn::Answered(outcome),
+            Place::Leads => Turn::Leads,
+            Place::Free | Place::Asked => Turn::Alone,
+        }
+    }
+
+    /// Whether no call is in a place.
+    pub(crate) fn is_empty(&self) -> bool {
+        self.count == 0
+    }
+
+    /// A session, and then those whose COMMITs wait. Want of memory is the only error.
+    pub(crate) fn with_those(
+        &self,
+        alloc: Global,
+        first: Session,
+    ) -> Result<Vec<Session>, AllocError>
+        ensures { IfOk result (λ sessions. sessions.items ≡ first ∷ asking 0 self.now) }
+    {
+        let mut sessions = Vec::with_capacity(alloc, self.count.saturating_add(1))?;
+        sessions.push(first)?;
+        for before in 0..Session::MAX {
+            let Some(session) = Session::new(before + 1) else {
+                unreachable!();
+            };
+            if self.waits(session) {
+                sessions.push(session)?;
+            }
+        }
+        Ok(sessions)
+    }
+
+    /// Leaves in the places of sessions what came of their COMMITs.
+    pub(crate) fn answer(&mut self, sessions: &[Session], outcomes: &[Result<Committed, Failure>])
+        ensures { self.new ≡ answered sessions.now outcomes.now self.old }
+    {
+        for (session, outcome) in sessions.iter().zip(outcomes) {
+            self.places[usize::from(session.get()) - 1] = Place::Answered(*outcome);
+        }
+    }
+
+    /// Ends the lead of a call: the next session behind its own whose COMMIT waits leads, or none does.
+    pub(crate) fn pass_on(&mut self, from: Session) {
+        self.is_led = false;
+        if self.is_empty() {
+            return;
+        }
+        for step in 0..Self::COUNT {
+            let place = (usize::from(from.get()) + step) % Self::COUNT;
+            if let Place::Asked = self.places[place] {
+                self.places[place] = Place::Leads;
+                self.is_led = true;
+                return;
+            }
+        }
+    }
+}
