@@ -11,7 +11,8 @@ use Rattle.sqlite.specs.State.{State, HasCleanDisk, KeepsCounts, Survives, Shows
 use Rattle.sqlite.specs.Steps.{FailsToCommit}
 use Rattle.sqlite.proofs.StateLemmas.{survives_then, survives_weaker}
 use Rattle.escrow_cells.specs.declared.step.Step.{Step}
-use Rattle.escrow_cells.specs.Step.{Does}
+use Rattle.escrow_cells.specs.Step.{Does, DoesFinding, finds}
+use Rattle.escrow_cells.specs.Store.{IsStore, cells}
 use Rattle.escrow_cells.specs.Calls.{OnlyReads, Transacts}
 use Rattle.escrow_cells.specs.Inside.{Acts, ActsBy, IsPending, GoesOn}
 use Rattle.escrow_cells.proofs.Steps.{does_more, does_none}
@@ -75,6 +76,30 @@ pub goes_first : {S : Type 0} (g : Ghosts S) (old start : Held S) (last : State)
     → GoesOn steps Makes (state g old) last
 goes_first g old start last steps Makes is acts =
     goes_then ◌≡◌ Makes Makes (λ x y z same makes. subst (λ (db : Database). Makes db z) (sym same) makes) (state g old) _ last steps 0 steps (omega arith) (begun g old ◌≡◌ (λ _. refl)) (rw is at acts)
+
+-- what a step tells of the store that is the first in a transaction which had just begun: it found it open, and whether
+-- it found a cell
+pub found_first : {S : Type 0} (g : Ghosts S) (old start : Held S) (last : State) (first : Step) (found : Bool) → start ≡ record old { in_transaction = true } → ActsBy (state g start) last true (first ∷ [])
+    → (HasCleanDisk last → IsTrue (state g start).in_transaction → IsStore (state g start).now → found ≡ finds first (cells (state g start).now)) → HasCleanDisk last
+    → IsTrue (state g old).is_open × (IsStore (state g old).now → finds first (cells (state g old).now) ≡ found)
+found_first g old start last first found is acts tells clean =
+    let a = rw is at acts in
+    let told = rw is at tells in
+    (a.was_open refl clean refl (omega arith), λ store. sym (told clean refl store))
+
+-- a transaction that has begun
+pub just_begun : {S : Type 0} (g : Ghosts S) (old start : Held S) → start ≡ record old { in_transaction = true } → IsPending (state g old) (state g start)
+just_begun g old start is = rw is (begun g old ◌≡◌ (λ _. refl)).pending
+
+-- the first of the steps found a cell
+pub finding : (first : Step) (rest : List Step) (old last : State) → GoesOn (length (first ∷ rest)) (Does (first ∷ rest)) old last → (HasCleanDisk last → IsStore old.now → finds first (cells old.now) ≡ true)
+    → GoesOn (length (first ∷ rest)) (DoesFinding first rest) old last
+finding first rest old last goes found = record {
+  pending = goes.pending;
+  inside = goes.inside;
+  was_open = goes.was_open;
+  made = λ clean. record { does = goes.made clean; found = found clean };
+}
 
 -- more steps are done after those before them
 pub goes_on : (done more : List Step) (old mid new : State) → GoesOn (length done) (Does done) old mid → ActsBy mid new true more → GoesOn (length (done ++ more)) (Does (done ++ more)) old new

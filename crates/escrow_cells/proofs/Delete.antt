@@ -1,5 +1,7 @@
 -- What the three DELETEs take out of CELL and of TAB.
 use Rattle.std.proofs.Common.{◌≡◌, ℕ, ℤ, Bool, true, false, not, ◌&&◌, List, [], ◌∷◌, map, filter, codes, slice_get, Some, Ok, IsPermutation, refl, sym, ap, ◌∙◌}
+use Rattle.std.specs.Prelude.{nat_lt}
+use Rattle.std.specs.List.{list_any}
 use Rattle.sqlite_value.specs.declared.value.Value.TheVariants.{Int}
 use Rattle.sqlite_value.specs.Order.{Row, column}
 use Rattle.sqlite_trees.specs.Tree.{rowid}
@@ -20,10 +22,10 @@ use Rattle.escrow_cells.specs.declared.step.Step.TheVariants as step
 use Rattle.escrow_cells.specs.Tables.{tab, cell, tab_tree, cell_tree}
 use Rattle.escrow_cells.specs.Store.{IsStore, NumbersDiffer, tabs, cells}
 use Rattle.escrow_cells.specs.Step.{kept, same, is_in, is_of, Does, HoldsContents}
-use Rattle.escrow_cells.proofs.Inside.{Edits, IsStatement, deletes, wrote_by}
+use Rattle.escrow_cells.proofs.Inside.{Edits, IsStatement, deletes, deletes_counted, wrote_by}
 use Rattle.escrow_cells.proofs.Makes.{left_is}
 use Rattle.escrow_cells.proofs.Leaves.{cell_of, tab_of, holds_cells, holds_tabs}
-use Rattle.escrow_cells.proofs.Matches.{plain_query, passes, matched}
+use Rattle.escrow_cells.proofs.Matches.{plain_query, passes, matched, any_matched}
 use Rattle.escrow_cells.proofs.ReadTexts.{is_given}
 
 abbrev pub row_text : List ℕ
@@ -96,11 +98,26 @@ last : (a : Bool) → (a && true) ≡ a
 last true = refl
 last false = refl
 
+-- a cell is of the row of a key where it passes
+of_key_is : (table : ℤ) (key : Datum) (r : Row) → passes of_key (Int table ∷ kept key ∷ []) r ≡ is_of (Int table) (kept key) (cell_of r)
+of_key_is table key r = ap (λ b. same (column r 1) (Int table) && b) (last (same (column r 2) (kept key)))
+
 pub deletes_row : (table : ℤ) (key : Datum) (old new : State) (n : ℕ) → Executes row_text (Int table ∷ kept key ∷ []) old new (Ok n) → Does (step.DeleteRow table key ∷ []) old.now new.now
 deletes_row table key old new n ran store =
     let params = Int table ∷ kept key ∷ [] in
     let gone = deleted row_text params old new store 2 cell of_key (ap (λ (s : Schema). slice_get s.tables 2) store.tables.is) row_delete n ran in
-    cells_deleted old.now new.now store of_key params (is_of (Int table) (kept key)) (λ r. ap (λ b. same (column r 1) (Int table) && b) (last (same (column r 2) (kept key)))) gone.0 gone.1 gone.2
+    cells_deleted old.now new.now store of_key params (is_of (Int table) (kept key)) (of_key_is table key) gone.0 gone.1 gone.2
+
+-- and tells whether there was one
+pub row_found : (table : ℤ) (key : Datum) (old new : State) (n : ℕ) → Executes row_text (Int table ∷ kept key ∷ []) old new (Ok n)
+    → IsStore old.now → nat_lt 0 n ≡ list_any (is_of (Int table) (kept key)) (cells old.now)
+row_found table key old new n ran store =
+    let params = Int table ∷ kept key ∷ [] in
+    let got = ap (λ (s : Schema). slice_get s.tables 2) store.tables.is in
+    let w = wrote_by row_delete params old new store.tables n ran in
+    let d = deletes old new cell 2 got store.no_keys _ params n _ w in
+    ap (nat_lt 0) (deletes_counted old new cell 2 got store.no_keys _ params n _ w)
+    ∙ any_matched of_key params (λ r. rowid r ∷ []) cell_of (is_of (Int table) (kept key)) (of_key_is table key) (old.now.trees cell_tree) d.0 (matched old.now params cell_tree of_key rowids d.0 d.1)
 
 pub deletes_cells : (table : ℤ) (old new : State) (n : ℕ) → Executes cells_text (Int table ∷ []) old new (Ok n) → Does (step.DeleteCells table ∷ []) old.now new.now
 deletes_cells table old new n ran store =

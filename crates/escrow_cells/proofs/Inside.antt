@@ -1,8 +1,10 @@
 -- What a statement does inside a transaction.
-use Rattle.std.proofs.Common.{◌≡◌, ℕ, Bool, List, [], ◌∷◌, ◌⊎◌, false, cond, Option, ℤ, slice_get, Some, None, Ok, Err, Result, refl, sym, ap, ◌∙◌, subst, subst₂, inl, inr}
+use Rattle.std.proofs.Common.{◌≡◌, ℕ, Bool, List, [], ◌∷◌, ◌⊎◌, false, cond, drop, length, map, Option, ℤ, slice_get, Some, None, Ok, Err, Result, IfOk, refl, sym, ap, ◌∙◌, subst, subst₂, inl, inr}
+use Rattle.std.specs.Prelude.{unwrap_or}
+use Rattle.std.proofs.lemmas.List.{length-map}
 use Rattle.std.specs.List.{AllByRecursion, flat_map, filter_map}
 use Rattle.sqlite_value.specs.Order.{Row}
-use Rattle.sqlite_trees.specs.Tree.{Trees}
+use Rattle.sqlite_trees.specs.Tree.{Trees, rowid}
 use Rattle.sqlite_schema.specs.declared.schema.Keys.{Keys}
 use Rattle.sqlite_schema.specs.declared.schema.Keys.TheVariants.{Enforced}
 use Rattle.sqlite_schema.specs.declared.schema.Table.{Table}
@@ -15,7 +17,9 @@ use Rattle.sqlite_schema.specs.declared.command.Command.{Command}
 use Rattle.sqlite_schema.specs.declared.command.Command.TheVariants.{Insert, Update, Delete}
 use Rattle.sqlite_rules.specs.declared.error.Rowids.TheVariants.{Chosen, Above, Given}
 use Rattle.sqlite_rules.specs.Calls.{ids_of}
-use Rattle.sqlite_rules.specs.Edit.{Edit, edit_of, taken_by, Applies}
+use Rattle.sqlite_rules.specs.Cast.{cast_row}
+use Rattle.sqlite_rules.specs.Edit.{Edit, edit_of, id_in, row_at, taken_by, without_all, Applies}
+use Rattle.sqlite_rules.proofs.PlaceLemmas.{given}
 use Rattle.sqlite_rules.specs.Action.{works, work_for}
 use Rattle.sqlite.specs.Effect.{Database, IsDatabase, Answers, IsSource}
 use Rattle.sqlite.specs.Does.{Tally, OnRows, WritesRows}
@@ -44,6 +48,13 @@ acts {sql = sql} {old = old} {new = new} makes it same = record {
   was_open = λ ok clean inside _. it.was_open ok clean inside;
   pending = it.pending;
 }
+
+-- what the number of rows tells that a statement changed which was executed inside a transaction, under parameters that
+-- are equal to those it has
+pub tells : (sql : List ℕ) (params given : Row) (old new : State) {E : Type 0} (Told : ℕ → Type 0) → ((n : ℕ) → Executes sql params old new (Ok n) → Told n) → (r : Result ℕ E)
+    → IfOk r (λ n. Executes sql given old new (Ok n)) → given ≡ params → IfOk r Told
+tells sql params given old new Told told (Ok n) ran same = told n (subst (λ (ps : Row). Executes sql ps old new (Ok n)) same ran)
+tells sql params given old new Told told (Err e) ran same = tt
 
 -- a text is that of a statement that does a command, whatever objects stand after the three tables
 pub record IsStatement (text : List ℕ) (command : Command) : Type 0 where
@@ -90,6 +101,11 @@ concluded task command s db tally after h =
     let all = went h in
     (all.0, all.1, ap (λ (p : Tally × Database). p.1) (same_value (went (went all.2).2).2))
 
+-- and it counts the rows that were written
+counted : (task : Task) (command : Command) (s : State) (db : Trees) (tally : Tally) (after : Database) (h : OnRows task (mode_of s) None command db (Ok (tally, after)))
+    → tally.rows ≡ Some (length (went h).0.rows)
+counted task command s db tally after h = ap (λ (p : Tally × Database). p.0.rows) (same_value (went (went (went h).2).2).2)
+
 module _ (task : Task) (plain : task.table.is_counted ≡ false) where
   -- a table without AUTOINCREMENT has no count
   uncounted : (db next : Trees) (counter : Option Row) (top : ℤ) → Counts task db counter top (Ok next) → next ≡ db
@@ -132,6 +148,17 @@ module _ (old new : State) (table : Table) (at : ℕ) (got : slice_get old.now.s
       let written = went queried.2 in
       (queried.0, queried.1, edits _ all.0 written.0 w.sound written.1 (ap (λ (it : Written). it.trees) (same_value written.2)) all.2)
 
+  -- as many rows are counted as the query found
+  pub updates_counted : (q : Program) (w : HasWritten old new None (Update at q) text params count) → count ≡ length (updates q w).0
+  unfolding went updates concluded
+  updates_counted q w =
+      let on = rw got at w.changed in
+      let all = concluded task (Update at q) old old.now.trees w.tally new.now on in
+      let written = went (went all.1).2 in
+      let rows = (updates q w).0 in
+      w.counted ∙ ap (λ (o : Option ℕ). unwrap_or o 0) (counted task (Update at q) old old.now.trees w.tally new.now on) ∙ ap (λ (it : Written). length it.rows) (same_value written.2)
+      ∙ ap length (given (without_all (old.now.trees table.tree) (ids_of rows)) (map (λ s. cast_row table (drop 1 s)) rows)) ∙ length-map rows (λ s. cast_row table (drop 1 s))
+
   pub deletes : (q : Program) → HasWritten old new None (Delete at q) text params count
       → (rows : List Row) × Answers old.now q params rows × Edits old.now new.now (edit_of old.now.trees table (ids_of rows) Given 0 [])
   deletes q w =
@@ -139,6 +166,16 @@ module _ (old new : State) (table : Table) (at : ℕ) (got : slice_get old.now.s
       let queried = went all.1 in
       let written = went queried.2 in
       (queried.0, queried.1, edits _ all.0 written.0 w.sound written.1 (ap (λ (it : Written). it.trees) (same_value written.2)) all.2)
+
+  pub deletes_counted : (q : Program) (w : HasWritten old new None (Delete at q) text params count) → count ≡ length (deletes q w).0
+  unfolding went deletes concluded
+  deletes_counted q w =
+      let on = rw got at w.changed in
+      let all = concluded task (Delete at q) old old.now.trees w.tally new.now on in
+      let written = went (went all.1).2 in
+      let rows = (deletes q w).0 in
+      w.counted ∙ ap (λ (o : Option ℕ). unwrap_or o 0) (counted task (Delete at q) old old.now.trees w.tally new.now on) ∙ ap (λ (it : Written). length it.rows) (same_value written.2)
+      ∙ length-map (ids_of rows) (row_at (old.now.trees table.tree)) ∙ length-map rows (λ r. id_in (rowid r))
 
   pub inserts : (from : Source) → table.is_counted ≡ false → HasWritten old new None (Insert at from) text params count
       → (rows : List Row) × IsSource old.now (stamped table params) from rows × Edits old.now new.now (edit_of old.now.trees table [] Chosen 0 rows)

@@ -21,4 +21,5 @@ pub mod Spans
 mod Steps
 pub mod Streaming
 mod Texts
+pub mod Unique
 mod Update

@@ -56,7 +56,7 @@ apart_permuted = along_permutation (λ xs ys. ((a : Row) → AreApartFrom a xs �
 pub numbered_permuted : (xs ys : List Row) → IsPermutation xs ys → NumbersDiffer xs → NumbersDiffer ys
 numbered_permuted xs ys same n = record { whole = all-permutation (λ r. IsTrue (is_int (rowid r))) xs ys same n.whole; apart = (apart_permuted xs ys same).1 n.apart }
 
-numbered_filtered : (p : Row → Bool) (xs : List Row) → NumbersDiffer xs → NumbersDiffer (filter p xs)
+pub numbered_filtered : (p : Row → Bool) (xs : List Row) → NumbersDiffer xs → NumbersDiffer (filter p xs)
 numbered_filtered p xs n = record { whole = all-filter (λ r. IsTrue (is_int (rowid r))) p xs n.whole; apart = ascending-filter (λ a b. tied a b ≡ false) p xs n.apart }
 
 numbered_left : (ids : List ℤ) (rows : List Row) → NumbersDiffer rows → NumbersDiffer (without_all rows ids)

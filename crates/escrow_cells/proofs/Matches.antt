@@ -1,7 +1,9 @@
 -- The rows of one tree that pass the tests of a statement.
-use Rattle.std.proofs.Common.{◌≡◌, ℕ, ◌^◌, Bool, true, false, cond, nat_le, List, [], ◌∷◌, map, filter, slice_get, unwrap_or, ◌-◌, None, IsPermutation, refl, sym, subst}
-use Rattle.std.specs.List.{list_all}
-use Rattle.std.proofs.lemmas.List.Sorted.{IsPermutation-map}
+use Rattle.std.proofs.Common.{◌≡◌, ℕ, ◌^◌, Bool, true, false, ◌||◌, cond, nat_le, nat_lt, List, [], ◌∷◌, length, map, filter, slice_get, unwrap_or, ◌-◌, None, IsPermutation, refl, sym, ap, ap₂, ◌∙◌, subst, arith}
+use Rattle.std.specs.List.{list_all, list_any}
+use Rattle.std.proofs.lemmas.Bool.{lt-ltb}
+use Rattle.std.proofs.lemmas.List.{length-map}
+use Rattle.std.proofs.lemmas.List.Sorted.{IsPermutation-map, length_permutation}
 use Rattle.sqlite_value.specs.declared.value.Value.TheVariants.{Null}
 use Rattle.sqlite_value.specs.Order.{Row}
 use Rattle.sqlite_trees.specs.Tree.{Trees}
@@ -30,3 +32,25 @@ matched db params tree tests terms rows h =
     let a = selected tree tests terms [] (overlay db.trees []) params rows (h.answer Null) in
     let taken = subst (λ l. IsPermutation (filter (passes tests params) l) a.taken) (stands_alone db.trees tree) a.same in
     subst (IsPermutation (map (λ r. eval_all terms (params ∷ r ∷ [])) (filter (passes tests params) (db.trees tree)))) (sym a.shows) (IsPermutation-map (λ r. eval_all terms (params ∷ r ∷ [])) _ _ taken)
+
+-- ---- whether some row passes
+
+-- some of a list pass where one does
+some_pass : {X : Type 0} (p : X → Bool) (xs : List X) → nat_lt 0 (length (filter p xs)) ≡ list_any p xs
+some_pass p [] = refl
+some_pass p (x ∷ xs) =
+    elim (p x) as (λ b. nat_lt 0 (length (cond b (x ∷ filter p xs) (filter p xs))) ≡ (b || list_any p xs)) [
+      | true ↦ lt-ltb 0 (length (x ∷ filter p xs)) (omega arith)
+      | false ↦ some_pass p xs
+    ]
+
+any_shown : {X Y : Type 0} (f : X → Y) (p : X → Bool) (q : Y → Bool) → ((x : X) → p x ≡ q (f x)) → (xs : List X) → list_any p xs ≡ list_any q (map f xs)
+any_shown f p q same [] = refl
+any_shown f p q same (x ∷ xs) = ap₂ ◌||◌ (same x) (any_shown f p q same xs)
+
+-- some are answered where one row passes, which is told by what is shown of it
+pub any_matched : (tests : List Term) (params : Row) (g f : Row → Row) (q : Row → Bool) → ((r : Row) → passes tests params r ≡ q (f r)) → (rows found : List Row)
+    → IsPermutation (map g (filter (passes tests params) rows)) found → nat_lt 0 (length found) ≡ list_any q (map f rows)
+any_matched tests params g f q same rows found permuted =
+    ap (nat_lt 0) (length_permutation _ found permuted ∙ length-map (filter (passes tests params) rows) g)
+    ∙ some_pass (passes tests params) rows ∙ any_shown f (passes tests params) q same rows

@@ -1,13 +1,15 @@
 -- Steps compose, although cells and tables are known up to their order.
-use Rattle.std.proofs.Common.{List, [], ◌∷◌, ◌++◌, fold, refl, sym, ◌∙◌, subst}
+use Rattle.std.proofs.Common.{◌≡◌, ℤ, true, List, [], ◌∷◌, ◌++◌, fold, refl, sym, ◌∙◌, subst}
 use Rattle.std.specs.List.Sorted.{IsPermutation}
 use Rattle.std.proofs.lemmas.List.Sorted.{IsPermutation-refl, IsPermutation-trans, IsPermutation-cons, IsPermutation-map}
 use Rattle.std.proofs.lemmas.List.Sums.{fold-append}
 use Rattle.sqlite_trees.proofs.ListLemmas.{IsPermutation-filter}
+use Rattle.sqlite_value.specs.Order.{Row}
 use Rattle.sqlite.specs.Effect.{Database}
+use Rattle.escrow_cells.specs.declared.datum.Datum.{Datum}
 use Rattle.escrow_cells.specs.declared.step.Step.{Step}
 use Rattle.escrow_cells.specs.declared.step.Step.TheVariants as step
-use Rattle.escrow_cells.specs.Step.{Contents, contents, done, HoldsContents, Does}
+use Rattle.escrow_cells.specs.Step.{Contents, contents, done, finds, HoldsContents, Does}
 
 -- the same cells and the same tables, in any order
 record AreAlike (c d : Contents) : Type 0 where
@@ -44,3 +46,13 @@ does_more steps more old mid new before after h =
       metas_are = last.metas_are ∙ first.metas_are;
     } in
     subst (λ c. HoldsContents c old new) (sym (fold-append done (contents old) steps more)) whole
+
+-- a step that goes by no key is done whatever there is
+pub finds_rest : (s : Step) (all : List Row) → ((table : ℤ) (key : Datum) (place : ℤ) (value : Datum) → s ≡ step.SetCell table key place value → ⊥) → ((table : ℤ) (key : Datum) → s ≡ step.DeleteRow table key → ⊥)
+    → finds s all ≡ true
+finds_rest (step.InsertCell table key place value) all set deleted = refl
+finds_rest (step.SetCell table key place value) all set deleted = absurd (set table key place value refl)
+finds_rest (step.DeleteRow table key) all set deleted = absurd (deleted table key refl)
+finds_rest (step.DeleteCells table) all set deleted = refl
+finds_rest (step.InsertTab id name text) all set deleted = refl
+finds_rest (step.DeleteTab id) all set deleted = refl

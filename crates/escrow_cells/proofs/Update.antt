@@ -1,6 +1,7 @@
 -- What UPDATE makes of CELL.
 use Rattle.std.proofs.Common.{◌≡◌, ℕ, ℤ, Bool, true, false, not, ◌&&◌, cond, List, [], ◌∷◌, ◌++◌, map, filter, drop, codes, slice_get, Ok, IsPermutation, refl, sym, ap, ap₂, ◌∙◌, subst, subst₂}
-use Rattle.std.specs.List.{AllByRecursion}
+use Rattle.std.specs.Prelude.{nat_lt}
+use Rattle.std.specs.List.{AllByRecursion, list_any}
 use Rattle.std.proofs.lemmas.Bool.{not-true}
 use Rattle.std.proofs.lemmas.List.{map-append}
 use Rattle.std.proofs.lemmas.List.Sorted.{IsPermutation-map, IsPermutation-trans, IsPermutation-append_left, IsPermutation-filter_both}
@@ -23,13 +24,13 @@ use Rattle.sqlite.specs.State.{State, Executes}
 use Rattle.escrow_cells.specs.declared.datum.Datum.{Datum}
 use Rattle.escrow_cells.specs.declared.step.Step.TheVariants as step
 use Rattle.escrow_cells.specs.Tables.{cell}
-use Rattle.escrow_cells.specs.Store.{NumbersDiffer}
+use Rattle.escrow_cells.specs.Store.{IsStore, NumbersDiffer, cells}
 use Rattle.escrow_cells.specs.Step.{kept, same, is_at, with_value, Does}
-use Rattle.escrow_cells.proofs.Inside.{IsStatement, updates, wrote_by}
+use Rattle.escrow_cells.proofs.Inside.{IsStatement, updates, updates_counted, wrote_by}
 use Rattle.escrow_cells.proofs.Makes.{put_beside, left_is}
 use Rattle.escrow_cells.proofs.Columns.{IsWritten, all_written}
 use Rattle.escrow_cells.proofs.Leaves.{cell_of, holds_cells}
-use Rattle.escrow_cells.proofs.Matches.{plain_query, passes, matched}
+use Rattle.escrow_cells.proofs.Matches.{plain_query, passes, matched, any_matched}
 use Rattle.escrow_cells.proofs.ReadTexts.{is_given}
 
 abbrev pub set_text : List ℕ
@@ -132,3 +133,16 @@ sets table key place value old new n ran store =
     let found = matched old.now given_params 4 at_tests set_terms u.0 u.1 in
     let cells_are = set_rows (Int table) (kept key) (Int place) (kept value) (old.now.trees 4) u.0 store.cells_numbered (all_written old.now store) found u.2.applies.fresh in
     holds_cells old.now new.now _ store u.2 refl _ (rw u.2.applies.rows cells_are)
+
+-- and tells whether there is one
+pub set_found : (table : ℤ) (key : Datum) (place : ℤ) (value : Datum) (old new : State) (n : ℕ) → Executes set_text (Int table ∷ kept key ∷ Int place ∷ kept value ∷ []) old new (Ok n)
+    → IsStore old.now → nat_lt 0 n ≡ list_any (is_at (Int table) (kept key) (Int place)) (cells old.now)
+set_found table key place value old new n ran store =
+    let t = store.tables in
+    let given_params = params (Int table) (kept key) (Int place) (kept value) in
+    let got = ap (λ (s : Schema). slice_get s.tables 2) t.is in
+    let w = wrote_by set_statement given_params old new t n ran in
+    let u = updates old new cell 2 got store.no_keys _ given_params n _ w in
+    ap (nat_lt 0) (updates_counted old new cell 2 got store.no_keys _ given_params n _ w)
+    ∙ any_matched at_tests given_params (found_by (Int table) (kept key) (Int place) (kept value)) cell_of (is_at (Int table) (kept key) (Int place))
+    (passes_at (Int table) (kept key) (Int place) (kept value)) (old.now.trees 4) u.0 (matched old.now given_params 4 at_tests set_terms u.0 u.1)

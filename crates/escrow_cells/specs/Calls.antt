@@ -1,5 +1,5 @@
 -- Believed: what calls make of a store.
-use Rattle.std.specs.Prelude.{◌≡◌, Bool, true, false, IsTrue}
+use Rattle.std.specs.Prelude.{◌≡◌, Bool, true, false, Result, Ok, Err, IsTrue}
 use Rattle.sqlite_trees.specs.Tree.{Trees}
 use Rattle.sqlite.specs.Effect.{Database}
 use Rattle.sqlite.specs.State.{State, HasCleanDisk, Survives}
@@ -7,6 +7,11 @@ use Rattle.sqlite.specs.State.{State, HasCleanDisk, Survives}
 -- a store that can be used: its disk has returned what was written, and no fault has shut it
 abbrev pub IsUsable : State → Type 0
 IsUsable s = HasCleanDisk s × IsTrue s.is_open
+
+-- a call that answers whether it did what was asked has done it
+abbrev pub was_done : {E : Type 0} → Result Bool E → Bool
+was_done (Ok done) = done
+was_done (Err e) = false
 
 -- a call only reads: where the store can be used after it, it holds what it held, and a crash leaves what
 -- it might have left before

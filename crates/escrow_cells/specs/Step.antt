@@ -1,5 +1,6 @@
 -- Believed: what a list of steps makes of a store.
-use Rattle.std.specs.Prelude.{◌≡◌, Bool, not, ◌&&◌, if◌then◌else◌, List, [], ◌∷◌, map, filter, fold, IsPermutation}
+use Rattle.std.specs.Prelude.{◌≡◌, Bool, true, not, ◌&&◌, if◌then◌else◌, List, [], ◌∷◌, map, filter, fold, IsPermutation}
+use Rattle.std.specs.List.{list_any}
 use Rattle.sqlite_value.specs.declared.value.Value.{Value}
 use Rattle.sqlite_value.specs.declared.value.Value.TheVariants.{Int, Text}
 use Rattle.sqlite_value.specs.declared.keys.Collation.TheVariants.{Binary}
@@ -67,3 +68,14 @@ pub record HoldsContents (c : Contents) (old new : Database) : Type 0 where
 -- order, since SQL has none
 abbrev pub Does : List Step → Database → Database → Type 0
 Does steps old new = IsStore old → HoldsContents (fold done (contents old) steps) old new
+
+-- a step that changes or takes out cells of the row of a key finds one; any other is done whatever there is
+abbrev pub finds : Step → List Row → Bool
+finds (step.SetCell table key place value) all = list_any (is_at (Int table) (kept key) (Int place)) all
+finds (step.DeleteRow table key) all = list_any (is_of (Int table) (kept key)) all
+finds _ all = true
+
+-- the first of some steps finds a cell, where it goes by a key, and all are done to the store
+pub record DoesFinding (first : Step) (rest : List Step) (old new : Database) : Type 0 where
+  pub does : Does (first ∷ rest) old new
+  pub found : IsStore old → finds first (cells old) ≡ true

@@ -1,8 +1,8 @@
 //! The three tables of a store, in SQLite: what each statement makes of their rows, a list of steps in
 //! one transaction, and what is read.
 //!
-//! Its contracts: a list of steps is done whole, or not at all, also over a crash ([`run`]), and so is a new
-//! store made ([`create`]), and one of another format brought to the known one ([`migrate`]).
+//! Its contracts: a list of steps is done whole, or not at all, also over a crash ([`run`], [`run_if_found`],
+//! [`run_unless_refused`]), and so is a new store made ([`create`]), and one of another format brought to the known one ([`migrate`]).
 #![tactic(auto)]
 
 mod creation;
@@ -31,4 +31,4 @@ pub use read::{
 pub use recognise::is_store_schema;
 pub use sink::Sink;
 pub use step::Step;
-pub use transaction::run;
+pub use transaction::{run, run_if_found, run_unless_refused};

@@ -1,16 +1,36 @@
 //! The statements that write, each inside a transaction.
-ghost use Rattle.std.specs.Prelude.{◌≡◌, [], ◌∷◌, is_ok};
+ghost use Rattle.std.specs.Prelude.{◌≡◌, [], ◌∷◌, nat_lt, is_ok, Ok, IfOk, IsTrue};
+ghost use Rattle.std.specs.List.{list_any};
+ghost use Rattle.sqlite_value.specs.declared.value.Value.TheVariants.{Int};
 ghost use Rattle.sqlite.specs.Held.{state};
+ghost use Rattle.sqlite.specs.State.{HasCleanDisk, Executes};
 ghost use Rattle.sqlite.specs.Values.{bound};
 ghost use Rattle.escrow_cells.specs.declared.step.Step.TheVariants as step;
 ghost use Rattle.escrow_cells.specs.Inside.{ActsBy, Wrote};
 ghost use Rattle.escrow_cells.specs.NewCell.{step_of};
+ghost use Rattle.escrow_cells.specs.Step.{kept, is_of, is_at, finds};
+ghost use Rattle.escrow_cells.specs.Store.{IsStore, cells};
 
 use crate::datum::Datum;
 use crate::new_cell::NewCell;
 use crate::step::Step;
 use sqlite::types::{ToSql, ValueRef};
 use sqlite::{Alter, Error, Transaction, params};
+
+/// Executes a statement that writes. Answers how many rows it put in, changed or took out.
+fn change<S: Alter>(
+    tx: &mut Transaction<'_, S>,
+    sql: &str,
+    params: &[ValueRef<'_>],
+) -> Result<usize, Error>
+    ensures same_reference { tx.new.conn.ghost_name ≡ tx.old.conn.ghost_name }
+    ensures wrote { Wrote sql.now (bound params.now) (state S.Store tx.old.conn.now) (state S.Store tx.new.conn.now) (is_ok result) }
+    ensures counted { HasCleanDisk (state S.Store tx.new.conn.now) → IsTrue (state S.Store tx.old.conn.now).in_transaction
+        → IfOk result (λ n. Executes sql.now (bound params.now) (state S.Store tx.old.conn.now) (state S.Store tx.new.conn.now) (Ok n)) }
+{
+    let rows = tx.execute(sql, params)?;
+    Ok(rows)
+}
 
 /// Executes a statement that writes.
 pub(crate) fn write<S: Alter>(
@@ -21,7 +41,7 @@ pub(crate) fn write<S: Alter>(
     ensures same_reference { tx.new.conn.ghost_name ≡ tx.old.conn.ghost_name }
     ensures wrote { Wrote sql.now (bound params.now) (state S.Store tx.old.conn.now) (state S.Store tx.new.conn.now) (is_ok result) }
 {
-    tx.execute(sql, params)?;
+    change(tx, sql, params)?;
     Ok(())
 }
 
@@ -96,34 +116,38 @@ fn insert_four<S: Alter>(
     )
 }
 
-/// Puts another value in a cell that stands.
+/// Puts another value in a cell that stands. Answers how many there are: one, or none.
 fn set_cell<S: Alter>(
     tx: &mut Transaction<'_, S>,
     table: i64,
     key: Datum<'_>,
     place: i64,
     value: Datum<'_>,
-) -> Result<(), Error>
+) -> Result<usize, Error>
     ensures same_reference { tx.new.conn.ghost_name ≡ tx.old.conn.ghost_name }
     ensures acts { ActsBy (state S.Store tx.old.conn.now) (state S.Store tx.new.conn.now) (is_ok result) (step.SetCell table key.entry place value.entry ∷ []) }
+    ensures found { HasCleanDisk (state S.Store tx.new.conn.now) → IsTrue (state S.Store tx.old.conn.now).in_transaction
+        → IfOk result (λ n. IsStore (state S.Store tx.old.conn.now).now → nat_lt 0 n ≡ list_any (is_at (Int table) (kept key.entry) (Int place)) (cells (state S.Store tx.old.conn.now).now)) }
 {
-    write(
+    change(
         tx,
         "UPDATE CELL SET V = ?4 WHERE TAB = ?1 AND K = ?2 AND C = ?3",
         params![table, key, place, value],
     )
 }
 
-/// Takes out the cells of the row of a key.
+/// Takes out the cells of the row of a key. Answers how many there were.
 fn delete_row<S: Alter>(
     tx: &mut Transaction<'_, S>,
     table: i64,
     key: Datum<'_>,
-) -> Result<(), Error>
+) -> Result<usize, Error>
     ensures same_reference { tx.new.conn.ghost_name ≡ tx.old.conn.ghost_name }
     ensures acts { ActsBy (state S.Store tx.old.conn.now) (state S.Store tx.new.conn.now) (is_ok result) (step.DeleteRow table key.entry ∷ []) }
+    ensures found { HasCleanDisk (state S.Store tx.new.conn.now) → IsTrue (state S.Store tx.old.conn.now).in_transaction
+        → IfOk result (λ n. IsStore (state S.Store tx.old.conn.now).now → nat_lt 0 n ≡ list_any (is_of (Int table) (kept key.entry)) (cells (state S.Store tx.old.conn.now).now)) }
 {
-    write(
+    change(
         tx,
         "DELETE FROM CELL WHERE TAB = ?1 AND K = ?2",
         params![table, key],
@@ -188,11 +212,48 @@ fn do_step<S: Alter>(tx: &mut Transaction<'_, S>, step: &Step<'_>) -> Result<(),
             key,
             place,
             value,
-        } => set_cell(tx, table, key, place, value),
-        Step::DeleteRow { table, key } => delete_row(tx, table, key),
+        } => {
+            set_cell(tx, table, key, place, value)?;
+            Ok(())
+        }
+        Step::DeleteRow { table, key } => {
+            delete_row(tx, table, key)?;
+            Ok(())
+        }
         Step::DeleteCells { table } => delete_cells(tx, table),
         Step::InsertTab { id, name, text } => insert_tab(tx, id, name, text),
         Step::DeleteTab { id } => delete_tab(tx, id),
+    }
+}
+
+/// Does one step. Answers whether it found a cell, where it goes by a key.
+pub(crate) fn do_finding<S: Alter>(
+    tx: &mut Transaction<'_, S>,
+    step: &Step<'_>,
+) -> Result<bool, Error>
+    ensures same_reference { tx.new.conn.ghost_name ≡ tx.old.conn.ghost_name }
+    ensures acts { ActsBy (state S.Store tx.old.conn.now) (state S.Store tx.new.conn.now) (is_ok result) (step.now ∷ []) }
+    ensures found { HasCleanDisk (state S.Store tx.new.conn.now) → IsTrue (state S.Store tx.old.conn.now).in_transaction
+        → IfOk result (λ found. IsStore (state S.Store tx.old.conn.now).now → found ≡ finds step.now (cells (state S.Store tx.old.conn.now).now)) }
+{
+    match *step {
+        Step::SetCell {
+            table,
+            key,
+            place,
+            value,
+        } => {
+            let found = set_cell(tx, table, key, place, value)?;
+            Ok(found > 0)
+        }
+        Step::DeleteRow { table, key } => {
+            let found = delete_row(tx, table, key)?;
+            Ok(found > 0)
+        }
+        _ => {
+            do_step(tx, step)?;
+            Ok(true)
+        }
     }
 }
 

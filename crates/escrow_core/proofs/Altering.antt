@@ -4,7 +4,7 @@ use Rattle.std.specs.List.{AllByRecursion, list_any}
 use Rattle.std.specs.Result.{IsErrAnd}
 use Rattle.std.proofs.Common.{inl, inr, refl, sym, ap, ap₂, subst, ◌∙◌, arith, append_assoc, length-append}
 use Rattle.std.proofs.Math.Seq.{drop-append_seam, take-append_seam}
-use Rattle.std.proofs.lemmas.Bool.{cases_Bool}
+use Rattle.std.proofs.lemmas.Bool.{cases_Bool, cond_both}
 use Rattle.sqlite.specs.Held.{state}
 use Rattle.sqlite.specs.State.{HasCleanDisk}
 use Rattle.sqlite_trees.specs.declared.store.Store.{Ghosts}
@@ -61,18 +61,18 @@ use Rattle.escrow_machine.specs.Valid.{AreSafeRows, IsOrderly, IsValid}
 use Rattle.escrow_machine.proofs.Refusals.{first_behind, first_in_front}
 use Rattle.escrow_machine.proofs.Safe.{row_unique, some_at, some_from}
 use Rattle.escrow_machine.proofs.Shapes.{covered}
-use Rattle.escrow_machine.proofs.ValidAlter.{add_check_valid, drop_check_valid, alter_orderly, is_added, name_found}
+use Rattle.escrow_machine.proofs.ValidAlter.{add_check_valid, altered_named, drop_check_valid, alter_orderly, in_place, is_added, name_found}
 use Rattle.escrow_core.specs.Altering.{Adds, Judge, CanJudge, adds, alter_refusal, amounts_by, violation_by, drops, new_ones, table_without}
 use Rattle.escrow_core.specs.declared.database.added.AddedChecks.{AddedChecks}
-use Rattle.escrow_reserved.specs.declared.recent.ReadRow.{ReadRow}
+use Rattle.escrow_reserved.specs.Read.{IsKnown, IsRead, ReadRow, ReadRows, row_read}
 use Rattle.escrow_reserved.specs.Placed.{amounts_named, AreOfTables, HaveAmounts, IsOfTable}
 use Rattle.escrow_core.specs.Inside.{seen_of, Holds, Keeps}
 use Rattle.escrow_reserved.specs.Reserved.{Reserved, ArePlaced}
 use Rattle.escrow_core.specs.Seen.{Seen}
 use Rattle.escrow_core.specs.Serves.{Serves}
 use Rattle.escrow_core.specs.Serving.{OnlyReads, answer_of}
-use Rattle.escrow_reserved.proofs.Places.{gone_amounts, gone_placed, gone_tables, none_placed}
-use Rattle.escrow_core.proofs.Serving.{accepted_step, forgotten, handed_on, late_applies, none_applies, read_keeps, still_clean, write_failed, wrote, wrote_keeps}
+use Rattle.escrow_reserved.proofs.Places.{gone_amounts, gone_placed, gone_tables, none_placed, some_same}
+use Rattle.escrow_core.proofs.Serving.{accepted_step, handed_on, late_applies, none_applies, read_keeps, still_clean, write_failed, wrote, wrote_keeps}
 use Rattle.escrow_reserved.proofs.ShownBounds.{all_take, free_list}
 use Rattle.escrow_reserved.proofs.Standing.{standing}
 
@@ -347,6 +347,25 @@ may_add_check g session table text d old added early named is_table are unbroken
       valid = λ clean valid. add_check_valid s table text old added.table valid named are.made (unbroken clean);
     }
 
+-- a row that was read has an amount for each RESERVABLE column of its table, which is altered or another one
+known_altered : (catalog : List TableDef) (table : List ℕ) (old made : TableDef) → table_named catalog table ≡ Some old → made ≡ record old { checks = made.checks } → (read : Option ReadRow)
+    → IsKnown catalog read → IsKnown (with_altered made catalog) read
+known_altered catalog table old made named alike None known = tt
+known_altered catalog table old made named alike (Some r) known =
+    subst (λ (o : Option TableDef). IsSomeAnd o (λ t. length r.amounts ≡ length (reservables t.columns))) (sym (altered_named made catalog r.name.table)) (at (table_named catalog r.name.table) refl known)
+  where
+    at : (o : Option TableDef) → table_named catalog r.name.table ≡ o → IsSomeAnd o (λ t. length r.amounts ≡ length (reservables t.columns))
+        → IsSomeAnd (option_map (in_place made) o) (λ t. length r.amounts ≡ length (reservables t.columns))
+    at None is many = absurd many
+    at (Some other) is many =
+        cond_both (bytes_eq other.name made.name) made other (λ (t : TableDef). length r.amounts ≡ length (reservables t.columns))
+        (λ same.
+        let called : made.name ≡ table = ap (λ (t : TableDef). t.name) alike ∙ name_found catalog table old named in
+        let here : r.name.table ≡ table = sym (name_found catalog r.name.table other is) ∙ name_same other.name made.name same ∙ called in
+        let itself : other ≡ old = some_same (sym is ∙ ap (table_named catalog) here ∙ named) in
+        many ∙ ap (λ (t : TableDef). length (reservables t.columns)) itself ∙ ap (λ (t : TableDef). length (reservables t.columns)) (sym alike))
+        (λ _. many)
+
 module _ {S : Type 0} (g : Ghosts S) (session : ℕ) (asked : Statement) (t new : Committed S) (o : Open) (table : List ℕ) (old made : TableDef)
     (may : MayAlter g session asked (seen_of t o) table old made) where
   -- the call that writes it may be made
@@ -362,7 +381,7 @@ module _ {S : Type 0} (g : Ghosts S) (session : ℕ) (asked : Statement) (t new 
 
   -- its write was done
   pub alter_serves : Writes g t new true (with_altered made t.catalog) t.rows → Serves g session asked (seen_of t o) (reply.Altered table) (seen_of new o)
-  alter_serves writes = wrote g session asked t new o o (reply.Altered table) (altered_state (seen_of t o).state made) may.asks may.early refl writes may.steps refl
+  alter_serves writes = wrote g session asked t new o o (reply.Altered table) (reply.Altered table) (altered_state (seen_of t o).state made) may.asks may.early refl (λ _. refl) writes may.steps refl
 
   -- it failed, and `?` handed the failure on
   pub alter_fails : (result : Result Reply Refusal) (f : Failure) → IsErrAnd result (λ e. e ≡ refusal_for f) → Writes g t new false (with_altered made t.catalog) t.rows
@@ -372,24 +391,29 @@ module _ {S : Type 0} (g : Ghosts S) (session : ℕ) (asked : Statement) (t new 
       (write_failed g session asked t new o f (reply.Altered table) (altered_state (seen_of t o).state made) may.asks may.early (may.takes f) writes may.steps)
 
   -- what is kept, where the places of the table come of the old ones
-  pub alter_holds : (Step : RowName → Kept → Kept → Type 0) (places after : Places) (recent : Option ReadRow) → Keeps g (seen_of t o) places → Writes g t new true (with_altered made t.catalog) t.rows
+  pub alter_holds : (Step : RowName → Kept → Kept → Type 0) (places after : Places) (recent : ReadRows) → Holds g (seen_of t o) places recent → Writes g t new true (with_altered made t.catalog) t.rows
       → TableGoes table Step places after → ((row : RowName) (a b : Kept) → Step row a b → b.amounts ≡ a.amounts)
-      → ((row : RowName) (a b : Kept) → Step row a b → checks_of a.checks ≡ old.checks → checks_of b.checks ≡ made.checks) → recent ≡ None → Holds g (seen_of new o) after recent
-  alter_holds Step places after recent keeps writes goes amounts checks none =
+      → ((row : RowName) (a b : Kept) → Step row a b → checks_of a.checks ≡ old.checks → checks_of b.checks ≡ made.checks) → Holds g (seen_of new o) after recent
+  alter_holds Step places after recent holds writes goes amounts checks =
       let s : State = (seen_of t o).state in
+      let keeps = holds.keeps in
       let called : old.name ≡ table = name_found t.catalog table old may.named in
       let here : table_named t.catalog old.name ≡ Some old = ap (table_named t.catalog) called ∙ may.named in
-      forgotten g (seen_of new o) after recent none (record {
-        kept = wrote_keeps g session asked t new o o (altered_state s made) keeps.kept writes refl
-            (subst (λ (x : TableDef). IsOrderly (with_altered x s.catalog) s.reservations s.savepoints s.next_id) (sym may.alike)
-            (alter_orderly s old made.checks keeps.kept.orderly here (subst IsTable may.alike may.is_table)))
-            (λ valid u. may.valid u valid);
-        placed = gone_placed table Step places after goes s.reservations keeps.placed;
-        of_tables = subst (λ c. AreOfTables c after) (sym (writes.done_catalog refl)) (gone_tables table Step places after goes amounts s.catalog old made may.named may.alike checks keeps.of_tables);
-        amounts = λ clean.
-            let was = still_clean _ _ _ writes.survives clean in
-            subst (λ rs. HaveAmounts rs after) (sym (writes.done_rows refl clean)) (gone_amounts table Step places after goes amounts s.rows (keeps.amounts was));
-      })
+      record {
+        keeps = record {
+          kept = wrote_keeps g session asked t new o o (altered_state s made) keeps.kept writes refl
+              (subst (λ (x : TableDef). IsOrderly (with_altered x s.catalog) s.reservations s.savepoints s.next_id) (sym may.alike)
+              (alter_orderly s old made.checks keeps.kept.orderly here (subst IsTable may.alike may.is_table)))
+              (λ valid u. may.valid u valid);
+          placed = gone_placed table Step places after goes s.reservations keeps.placed;
+          of_tables = subst (λ c. AreOfTables c after) (sym (writes.done_catalog refl)) (gone_tables table Step places after goes amounts s.catalog old made may.named may.alike checks keeps.of_tables);
+          amounts = λ clean.
+              let was = still_clean _ _ _ writes.survives clean in
+              subst (λ rs. HaveAmounts rs after) (sym (writes.done_rows refl clean)) (gone_amounts table Step places after goes amounts s.rows (keeps.amounts was));
+        };
+        known = λ name. subst (λ c. IsKnown c (row_read recent name)) (sym (writes.done_catalog refl)) (known_altered t.catalog table old made may.named may.alike (row_read recent name) (holds.known name));
+        read = λ clean name. subst (λ rs. IsRead rs (row_read recent name)) (sym (writes.done_rows refl clean)) (holds.read (still_clean _ _ _ writes.survives clean) name);
+      }
 
 -- the check at a place is gone
 pub checks_without : (old made : TableDef) (index : ℕ) → made ≡ without_check_at old index → (row : RowName) (a b : Kept) → IsWithout index a b → checks_of a.checks ≡ old.checks → checks_of b.checks ≡ made.checks
@@ -461,12 +485,12 @@ read_only_reads g t after o reads = record {
 }
 
 -- and what the database keeps
-pub read_holds : {S : Type 0} (g : Ghosts S) (t after : Committed S) (o : Open) (places : Places) (recent : Option ReadRow) → Holds g (seen_of t o) places recent → Reads g t after
+pub read_holds : {S : Type 0} (g : Ghosts S) (t after : Committed S) (o : Open) (places : Places) (recent : ReadRows) → Holds g (seen_of t o) places recent → Reads g t after
     → Holds g (seen_of after o) places recent
 read_holds g t after o places recent holds reads = record {
   keeps = read_keeps g t after o places holds.keeps reads;
-  known = rw reads.catalog holds.known;
-  read = λ clean. rw reads.rows (holds.read (still_clean _ _ _ reads.survives clean));
+  known = λ name. rw reads.catalog (holds.known name);
+  read = λ clean name. rw reads.rows (holds.read (still_clean _ _ _ reads.survives clean) name);
 }
 
 -- the table with the checks, by the one that stands

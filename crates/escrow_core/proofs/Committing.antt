@@ -24,9 +24,8 @@ use Rattle.escrow_schema.specs.declared.table.TableDef.{TableDef}
 use Rattle.escrow_bounds.specs.Held.{of_row}
 use Rattle.escrow_bounds.proofs.Ending.{length-after_all}
 use Rattle.escrow_machine.proofs.Safe.{some_weaker}
-use Rattle.escrow_reserved.specs.declared.recent.ReadRow.{ReadRow}
 use Rattle.escrow_reserved.specs.Placed.{amounts_named, HaveAmounts}
-use Rattle.escrow_reserved.specs.Read.{committed_by, IsKnown, IsRead}
+use Rattle.escrow_reserved.specs.Read.{committed_by, IsKnown, IsRead, ReadRow, ReadRows}
 use Rattle.escrow_core.specs.Inside.{seen_of, Holds}
 use Rattle.escrow_reserved.specs.Reserved.{AreAmounts, ArePlaced, Reserved}
 use Rattle.escrow_core.specs.Serves.{Serves}
@@ -76,7 +75,7 @@ read_after s session None valid read = tt
 read_after s session (Some r) valid read = committed_amounts s session r.name r.amounts valid read
 
 -- what a database holds where reservations are dropped, and the store is left
-pub dropped_holds : {S : Type 0} (g : Ghosts S) (t : Committed S) (o left : Open) (dropped : List Reservation) (old : Places) (after : Reserved) (recent : Option ReadRow) → Holds g (seen_of t o) old recent
+pub dropped_holds : {S : Type 0} (g : Ghosts S) (t : Committed S) (o left : Open) (dropped : List Reservation) (old : Places) (after : Reserved) (recent : ReadRows) → Holds g (seen_of t o) old recent
     → after.txns ≡ left → AreEnded end.Rollback dropped old after.places → (ArePlaced o.reservations old → ArePlaced after.txns.reservations after.places)
     → IsOrderly t.catalog left.reservations left.savepoints left.next_id → (IsValid (seen_of t o).state → IsValid (seen_of t left).state) → Holds g (seen_of t after.txns) after.places recent
 dropped_holds g t o left dropped old after recent holds is are placed orderly valid =
@@ -102,7 +101,7 @@ module _ {S : Type 0} (g : Ghosts S) (session : ℕ) (t : Committed S) (o : Open
       let quiet : nat_lt 0 (length (own session o.reservations)) ≡ false = subst (λ (mine : List Reservation). nat_lt 0 (length mine) ≡ false) (sym none) refl in
       served_apart g session statement.Commit (seen_of t o) (seen_of t (ended session o)) (done session o) quiet refl event
 
-  pub just_ended_holds : (old : Places) (after : Reserved) (recent : Option ReadRow) → Holds g (seen_of t o) old recent → after.txns ≡ ended session o → AreEnded end.Rollback (own session o.reservations) old after.places
+  pub just_ended_holds : (old : Places) (after : Reserved) (recent : ReadRows) → Holds g (seen_of t o) old recent → after.txns ≡ ended session o → AreEnded end.Rollback (own session o.reservations) old after.places
       → (ArePlaced o.reservations old → ArePlaced after.txns.reservations after.places) → Holds g (seen_of t after.txns) after.places recent
   just_ended_holds old after recent holds is are placed =
       let s : State = (seen_of t o).state in

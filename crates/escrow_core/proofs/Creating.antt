@@ -22,7 +22,7 @@ use Rattle.escrow_machine.specs.State.{State, is_open}
 use Rattle.escrow_machine.specs.Step.{step}
 use Rattle.escrow_machine.specs.Transition.{transition_of}
 use Rattle.escrow_machine.proofs.Refusals.{passed, failed, none_there}
-use Rattle.escrow_core.proofs.Serving.{MayWrite, accepted_step, late_applies, none_applies}
+use Rattle.escrow_core.proofs.Serving.{Any, MayWrite, accepted_step, late_applies, none_applies}
 use Rattle.escrow_machine.proofs.ValidCreate.{create_orderly, create_valid}
 
 -- a table's name is new where no early refusal applies
@@ -63,18 +63,18 @@ still_named catalog table other name new named =
 -- nothing refuses it
 pub may_create : {S : Type 0} (g : Ghosts S) (session : ℕ) (text : CreateText) (d : Seen S) (table : TableDef) → PassesEarly d.state session (statement.Create text)
     → definition_of text ≡ Some table → length d.state.catalog < MAX_TABLES
-    → MayWrite g session (statement.Create text) d (reply.Created text.table) (record d.state { catalog = with_table table d.state.catalog })
+    → MayWrite g session (statement.Create text) d (reply.Created text.table) (record d.state { catalog = with_table table d.state.catalog }) Any
 may_create g session text d table early made room =
     let free = new_text d.state session text early in
     record {
       asks = refl;
       early = early;
       takes = λ _. refl;
-      accepted = refl;
       steps = λ _. created_step d.state session text table early made room;
       same_open = refl;
       orderly = λ orderly. create_orderly d.state text table orderly made free room;
       valid = λ _ valid. create_valid d.state text table valid made free room;
+      reserved_stay = λ _ _. tt;
       tables_stay = λ row other _ named. still_named d.state.catalog table other row.table (new_table d.state session text table early made) named;
       amounts_stay = λ _ row amounts _ has. has;
     }

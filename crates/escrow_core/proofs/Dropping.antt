@@ -62,19 +62,18 @@ other_table_row rows name row differs =
 
 -- nothing refuses it
 pub may_drop : {S : Type 0} (g : Ghosts S) (session : ℕ) (name : List ℕ) (d : Seen S) → PassesEarly d.state session (statement.Drop name)
-    → MayWrite g session (statement.Drop name) d (reply.Dropped name) (after_drop d.state name)
+    → MayWrite g session (statement.Drop name) d (reply.Dropped name) (after_drop d.state name) (λ row. bytes_eq row.table name ≡ false)
 may_drop g session name d early =
     let free = (stands d.state session name early).free in
     record {
       asks = refl;
       early = early;
       takes = λ _. refl;
-      accepted = refl;
       steps = λ _. dropped_step d.state session name early;
       same_open = refl;
       orderly = λ orderly. drop_orderly d.state name orderly free;
       valid = λ _ valid. drop_valid d.state name valid free;
-      tables_stay = λ row table reserved named. other_table d.state.catalog name row.table (not_its_table d.state name row free reserved) ∙ named;
-      amounts_stay = λ _ row amounts reserved has.
-          ap (option_map (λ (r : Row). r.amounts)) (other_table_row d.state.rows name row (not_its_table d.state name row free reserved)) ∙ has;
+      reserved_stay = λ row reserved. not_its_table d.state name row free reserved;
+      tables_stay = λ row table differs named. other_table d.state.catalog name row.table differs ∙ named;
+      amounts_stay = λ _ row amounts differs has. ap (option_map (λ (r : Row). r.amounts)) (other_table_row d.state.rows name row differs) ∙ has;
     }

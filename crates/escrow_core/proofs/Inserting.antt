@@ -1,11 +1,12 @@
 -- INSERT: what follows for its transition from the row that it makes.
-use Rattle.std.specs.Prelude.{◌≡◌, ◌<◌, ℕ, ℤ, true, nat_le, is_some, option_map, option_and_then, unwrap_or, Option, Some, None, List, [], ◌∷◌, length, bytes_eq}
+use Rattle.std.specs.Prelude.{◌≡◌, ◌<◌, ℕ, ℤ, true, false, nat_le, is_some, if◌then◌else◌, option_map, option_and_then, unwrap_or, Option, Some, None, List, [], ◌∷◌, length, bytes_eq}
 use Rattle.std.proofs.Common.{inl, inr, refl, sym, ap, subst, ◌∙◌}
 use Rattle.std.proofs.lemmas.Option.{option_and_then_some}
 use Rattle.sqlite.specs.Held.{state}
 use Rattle.sqlite.specs.State.{HasCleanDisk}
 use Rattle.sqlite_trees.specs.declared.store.Store.{Ghosts}
-use Rattle.std.proofs.lemmas.Bool.{cases_Bool, lt-leb}
+use Rattle.std.proofs.lemmas.Bool.{cases_Bool, false≢true, lt-leb}
+use Rattle.escrow_num.specs.declared.failure.Failure.TheVariants as failure
 use Rattle.escrow_num.specs.declared.refusal.Violation.{Violation}
 use Rattle.escrow_num.specs.declared.refusal.Refusal.{Refusal}
 use Rattle.escrow_num.specs.declared.refusal.Refusal.TheVariants as refusal
@@ -24,8 +25,10 @@ use Rattle.escrow_schema.specs.Catalog.{table_named}
 use Rattle.escrow_schema.specs.Fit.{IsRowOf, inserted_row}
 use Rattle.escrow_schema.proofs.LawLemmas.{rows_of_table}
 use Rattle.escrow_schema.specs.declared.table.TheConstants.TableDef.{MAX_ROWS}
+use Rattle.escrow_machine.specs.declared.reply.Reply.{Reply}
 use Rattle.escrow_machine.specs.declared.reply.Reply.TheVariants as reply
 use Rattle.escrow_machine.specs.Asked.{new_row, insert_violation}
+use Rattle.escrow_tables.specs.Calls.{with_new}
 use Rattle.escrow_reserved.specs.Placed.{amounts_named}
 use Rattle.escrow_core.specs.Seen.{Seen}
 use Rattle.escrow_machine.specs.Accepted.{IsAccepted, IsRefusal, PassesEarly}
@@ -33,10 +36,12 @@ use Rattle.escrow_machine.specs.State.{State}
 use Rattle.escrow_schema.specs.Rows.{row_before, row_named, rows_of, with_row, HasTable}
 use Rattle.escrow_machine.specs.Step.{step}
 use Rattle.escrow_machine.specs.Transition.{transition_of}
+use Rattle.escrow_machine.specs.Valid.{IsValid}
 use Rattle.escrow_machine.proofs.Put.{with_row_put}
 use Rattle.escrow_machine.proofs.Refusals.{passed, failed, below}
 use Rattle.escrow_machine.proofs.Safe.{some_from}
-use Rattle.escrow_core.proofs.Serving.{MayWrite, accepted_step, late_applies, none_applies}
+use Rattle.escrow_core.specs.Serving.{unless_stands}
+use Rattle.escrow_core.proofs.Serving.{Any, MayWrite, accepted_step, fails, late_applies, late_first, none_applies, refused_step}
 use Rattle.escrow_machine.proofs.Transitions.{inserted_valid}
 
 -- why a row of a name that no row has isn't put
@@ -138,13 +143,12 @@ insert_step s session text row made accepted =
     accepted_step s session (statement.Insert text) accepted
     ∙ ap (λ (o : Option Row). (reply.Inserted, record s { rows = unwrap_or (option_map (λ r. with_row r s.rows) o) s.rows })) made
 
--- A NEW ROW, where its name, its table's room and its checks were looked at
+-- A ROW THAT IS MADE, where its table's room and its checks were looked at
 
--- a row of a name that no row has, its table, and how many rows that has
-pub record IsNew {S : Type 0} (g : Ghosts S) (d : Seen S) (session : ℕ) (text : InsertText) (row : Row) (table : TableDef) (count : ℕ) : Type 0 where
+-- a row, its table, and how many rows that has
+pub record IsAsked {S : Type 0} (g : Ghosts S) (d : Seen S) (session : ℕ) (text : InsertText) (row : Row) (table : TableDef) (count : ℕ) : Type 0 where
   pub made : new_row d.state text ≡ Some row
   pub early : PassesEarly d.state session (statement.Insert text)
-  pub none : HasCleanDisk (state g d.store) → row_named d.state.rows row.name ≡ None
   pub named : table_named d.state.catalog text.table ≡ Some table
   pub counted : HasCleanDisk (state g d.store) → count ≡ length (rows_of d.state.rows text.table)
 
@@ -156,30 +160,97 @@ still_has rows row name amounts new has =
       | inr differs ↦ ap (option_map (λ (r : Row). r.amounts)) (ap (λ (rs : List Row). row_named rs name) (with_row_put row rows) ∙ find_put row_before (λ (r : Row). same_row r.name name) row rows differs) ∙ has
     ]
 
-module _ {S : Type 0} (g : Ghosts S) (d : Seen S) (session : ℕ) (text : InsertText) (row : Row) (table : TableDef) (count : ℕ) (new : IsNew g d session text row table count) where
+-- the rows with it, by whether its name is new
+new_is : (row : Row) (rows : List Row) → row_named rows row.name ≡ None → with_new row rows ≡ with_row row rows
+new_is row rows new = ap (λ (o : Option Row). if is_some o then rows else with_row row rows) new
+
+known_is : (row other : Row) (rows : List Row) → row_named rows row.name ≡ Some other → with_new row rows ≡ rows
+known_is row other rows stands = ap (λ (o : Option Row). if is_some o then rows else with_row row rows) stands
+
+-- why a new row isn't put, by whether a row has its name
+pub stands_first : (o : Option Row) (other : Refusal) → true ≡ is_some o → refusal.RowExists ≡ unless_stands o other
+stands_first None other stands = absurd (false≢true (sym stands))
+stands_first (Some row) other stands = refl
+
+pub other_then : (o : Option Row) (other : Refusal) → false ≡ is_some o → other ≡ unless_stands o other
+other_then None other lacks = refl
+other_then (Some row) other lacks = absurd (false≢true lacks)
+
+-- the reply where no row may have its name
+abbrev pub put_reply : Option Row → Reply
+put_reply None = reply.Inserted
+put_reply (Some row) = reply.Refused refusal.RowExists
+
+pub put_none : (o : Option Row) → o ≡ None → put_reply o ≡ reply.Inserted
+put_none o none = ap put_reply none
+
+module _ {S : Type 0} (g : Ghosts S) (d : Seen S) (session : ℕ) (text : InsertText) (row : Row) (table : TableDef) (count : ℕ) (asked : IsAsked g d session text row table count) where
   judged : (r : Option Refusal) → r ≡ first_refusal (refusals_of table count row) → HasCleanDisk (state g d.store) → first_refusal (new_refusals d.state text) ≡ r
-  judged r is u = decided d.state text row table count new.named new.made (new.counted u) ∙ sym is
+  judged r is u = decided d.state text row table count asked.named asked.made (asked.counted u) ∙ sym is
 
-  pub row_refused : (r : Refusal) → Some r ≡ first_refusal (refusals_of table count row) → HasCleanDisk (state g d.store) → IsRefusal d.state session (statement.Insert text) r
-  row_refused r is u = new_refused d.state session text row r new.made new.early (new.none u) (judged (Some r) is u)
+  -- a row of its name stands, or else it is refused for another reason
+  pub row_refused : (r : Refusal) → Some r ≡ first_refusal (refusals_of table count row) → HasCleanDisk (state g d.store)
+      → IsRefusal d.state session (statement.Insert text) (unless_stands (row_named d.state.rows row.name) r)
+  row_refused r is u = at (row_named d.state.rows row.name) refl
+    where
+      at : (o : Option Row) → row_named d.state.rows row.name ≡ o → IsRefusal d.state session (statement.Insert text) (unless_stands o r)
+      at None new = new_refused d.state session text row r asked.made asked.early new (judged (Some r) is u)
+      at (Some other) stands = row_exists d.state session text row asked.made asked.early (ap (λ (o : Option Row). is_some o) stands)
 
-  -- its table has room, where neither refuses it
+  -- where the store has refused it
+  pub store_refused : IsRefusal d.state session (statement.Insert text) (unless_stands (row_named d.state.rows row.name) refusal.Store)
+  store_refused = at (row_named d.state.rows row.name) refl
+    where
+      at : (o : Option Row) → row_named d.state.rows row.name ≡ o → IsRefusal d.state session (statement.Insert text) (unless_stands o refusal.Store)
+      at None new = fails d.state session (statement.Insert text) failure.Store asked.early refl
+      at (Some other) stands = row_exists d.state session text row asked.made asked.early (ap (λ (o : Option Row). is_some o) stands)
+
+  -- its table has room, where neither that nor its checks refuse it
   pub room_left : None ≡ first_refusal (refusals_of table count row) → HasCleanDisk (state g d.store) → length (rows_of d.state.rows row.name.table) < MAX_ROWS
-  room_left is u = subst (λ n. length (rows_of d.state.rows n) < MAX_ROWS) (sym (is_made d.state text row new.made).table_name) (new_room d.state text (judged None is u))
+  room_left is u = subst (λ n. length (rows_of d.state.rows n) < MAX_ROWS) (sym (is_made d.state text row asked.made).table_name) (new_room d.state text (judged None is u))
 
-  pub may_insert : None ≡ first_refusal (refusals_of table count row) → MayWrite g session (statement.Insert text) d reply.Inserted (record d.state { rows = with_row row d.state.rows })
-  may_insert is =
-      let accepted : HasCleanDisk (state g d.store) → IsAccepted d.state session (statement.Insert text) =
-      λ u. new_accepted d.state session text row new.made new.early (new.none u) (judged None is u) in
-      record {
-        asks = refl;
-        early = new.early;
-        takes = λ _. refl;
-        accepted = refl;
-        steps = λ u. insert_step d.state session text row new.made (accepted u);
-        same_open = refl;
-        orderly = λ orderly. orderly;
-        valid = λ u valid. inserted_valid d.state session text row valid (accepted u) new.made;
-        tables_stay = λ other table _ named. named;
-        amounts_stay = λ u other amounts _ has. still_has d.state.rows row other amounts (new.none u) has;
-      }
+  -- the step then, whether a row of its name stands or not
+  put_step : None ≡ first_refusal (refusals_of table count row) → HasCleanDisk (state g d.store)
+      → step d.state session (statement.Insert text) ≡ (put_reply (row_named d.state.rows row.name), record d.state { rows = with_new row d.state.rows })
+  put_step is u = at (row_named d.state.rows row.name) refl
+    where
+      at : (o : Option Row) → row_named d.state.rows row.name ≡ o → step d.state session (statement.Insert text) ≡ (put_reply o, record d.state { rows = with_new row d.state.rows })
+      at None new =
+          insert_step d.state session text row asked.made (new_accepted d.state session text row asked.made asked.early new (judged None is u))
+          ∙ ap (λ (rows : List Row). (reply.Inserted, record d.state { rows = rows })) (sym (new_is row d.state.rows new))
+      at (Some other) stands =
+          refused_step d.state session (statement.Insert text) refusal.RowExists
+          (late_first d.state session (statement.Insert text) refusal.RowExists asked.early
+          (late_is d.state session text row asked.made ∙ exists_first (row_named d.state.rows row.name) (new_refusals d.state text) (ap (λ (o : Option Row). is_some o) stands)))
+          ∙ ap (λ (rows : List Row). (reply.Refused refusal.RowExists, record d.state { rows = rows })) (sym (known_is row other d.state.rows stands))
+
+  put_valid : None ≡ first_refusal (refusals_of table count row) → HasCleanDisk (state g d.store) → IsValid d.state → IsValid (record d.state { rows = with_new row d.state.rows })
+  put_valid is u valid = at (row_named d.state.rows row.name) refl
+    where
+      at : (o : Option Row) → row_named d.state.rows row.name ≡ o → IsValid (record d.state { rows = with_new row d.state.rows })
+      at None new =
+          subst (λ (rows : List Row). IsValid (record d.state { rows = rows })) (sym (new_is row d.state.rows new))
+          (inserted_valid d.state session text row valid (new_accepted d.state session text row asked.made asked.early new (judged None is u)) asked.made)
+      at (Some other) stands = subst (λ (rows : List Row). IsValid (record d.state { rows = rows })) (sym (known_is row other d.state.rows stands)) valid
+
+  pub may_insert : None ≡ first_refusal (refusals_of table count row)
+      → MayWrite g session (statement.Insert text) d (put_reply (row_named d.state.rows row.name)) (record d.state { rows = with_new row d.state.rows }) Any
+  may_insert is = record {
+    asks = refl;
+    early = asked.early;
+    takes = λ _. refl;
+    steps = put_step is;
+    same_open = refl;
+    orderly = λ orderly. orderly;
+    valid = put_valid is;
+    reserved_stay = λ _ _. tt;
+    tables_stay = λ other table _ named. named;
+    amounts_stay = λ _ other amounts _ has. still_there (row_named d.state.rows row.name) refl other amounts has;
+  }
+    where
+      still_there : (o : Option Row) → row_named d.state.rows row.name ≡ o → (other : RowName) (amounts : List ℤ) → amounts_named d.state.rows other ≡ Some amounts
+          → amounts_named (with_new row d.state.rows) other ≡ Some amounts
+      still_there None new other amounts has =
+          subst (λ (rows : List Row). amounts_named rows other ≡ Some amounts) (sym (new_is row d.state.rows new)) (still_has d.state.rows row other amounts new has)
+      still_there (Some standing) stands other amounts has =
+          subst (λ (rows : List Row). amounts_named rows other ≡ Some amounts) (sym (known_is row standing d.state.rows stands)) has

@@ -13,6 +13,7 @@ pub mod Inserting
 pub mod Joining
 pub mod Keyed
 pub mod Leaving
+pub mod Looking
 pub mod Parts
 pub mod Passing
 pub mod Planned

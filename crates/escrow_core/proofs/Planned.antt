@@ -48,7 +48,7 @@ late_alone : (s : State) (session : ℕ) (text : UpdateText) (asked : Plan) (tab
 unfolding transition_of
 late_alone s session text asked table named at = rw (named, at) refl
 
-left_to_plan : (s : State) (session : ℕ) (text : UpdateText) (asked : Plan) → plan_of s text ≡ Some asked
+pub left_to_plan : (s : State) (session : ℕ) (text : UpdateText) (asked : Plan) → plan_of s text ≡ Some asked
     → first_refusal (refusals (transition_of s session (statement.Update text))) ≡ first_refusal (update_refusals s session text.table asked)
 left_to_plan s session text asked is = planned_in s text asked is (late_alone s session text asked)
 

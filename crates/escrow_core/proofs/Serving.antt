@@ -1,5 +1,5 @@
 -- How a call that serves a statement is put together.
-use Rattle.std.specs.Prelude.{◌≡◌, ℕ, ℤ, List, MatchOption, Bool, true, false, Option, Some, None, Result, Ok, Err, option_map, unwrap_or, is_none, IsTrue}
+use Rattle.std.specs.Prelude.{◌≡◌, ◌⊎◌, ℕ, ℤ, List, [], ◌∷◌, length, MatchOption, Bool, true, false, Option, Some, None, IsSomeAnd, Result, Ok, Err, option_map, unwrap_or, is_none, is_some, IsTrue}
 use Rattle.std.specs.Result.{IsErrAnd}
 use Rattle.std.proofs.Common.{inl, inr, refl, sym, ap, ap₂, subst, le_refl, arith, ◌∙◌}
 use Rattle.std.proofs.lemmas.Bool.{and_parts, false≢true}
@@ -17,7 +17,9 @@ use Rattle.escrow_num.specs.declared.failure.Failure.TheVariants as failure
 use Rattle.escrow_bounds.specs.Places.{Places}
 use Rattle.escrow_num.specs.declared.row.Row.{Row}
 use Rattle.escrow_num.specs.declared.value.RowName.{RowName}
+use Rattle.escrow_num.specs.Order.{same_row}
 use Rattle.escrow_schema.specs.Catalog.{table_named}
+use Rattle.escrow_schema.specs.Column.{reservables}
 use Rattle.escrow_schema.specs.declared.table.TableDef.{TableDef}
 use Rattle.escrow_rows.specs.Answers.{IsUsable}
 use Rattle.escrow_tables.specs.Calls.{Reads, Writes}
@@ -25,7 +27,8 @@ use Rattle.escrow_tables.specs.Committed.{Committed, AreHeld}
 use Rattle.escrow_journal.specs.Open.{Open}
 use Rattle.escrow_machine.specs.declared.reply.Reply.{Reply}
 use Rattle.escrow_machine.specs.declared.reply.Reply.TheVariants as reply
-use Rattle.escrow_reserved.specs.declared.recent.ReadRow.{ReadRow}
+use Rattle.escrow_reserved.specs.Read.{IsLeft, ReadRows, read_at, row_read, row_with, IsKnown, IsRead}
+use Rattle.escrow_reserved.proofs.Reading.{known_left, known_more, read_left, read_more}
 use Rattle.escrow_reserved.specs.Placed.{amounts_named, AreOfTables, HaveAmounts}
 use Rattle.escrow_core.specs.Inside.{seen_of, Holds, Keeps}
 use Rattle.escrow_machine.specs.Promised.{asks_store, reads_rows}
@@ -33,7 +36,7 @@ use Rattle.escrow_machine.specs.Reply.{failure_of, is_refused, tells_write}
 use Rattle.escrow_core.specs.Seen.{Seen, IsKept}
 use Rattle.escrow_core.specs.Serves.{AreAfter, AreHeldOf, Serves}
 use Rattle.escrow_machine.specs.Accepted.{IsAccepted, IsRefusal, PassesEarly}
-use Rattle.escrow_core.specs.Serving.{OnlyReads, answer_of}
+use Rattle.escrow_core.specs.Serving.{IsFailure, OnlyReads, answer_of}
 use Rattle.escrow_machine.specs.State.{State, is_reserved}
 use Rattle.escrow_machine.specs.Step.{refusals, step, fails_for, may_fail, IsStep, StepOrRefusal}
 use Rattle.escrow_machine.specs.Transition.{transition_of}
@@ -51,16 +54,41 @@ accepted_step s session asked accepted =
     let transition = transition_of s session asked in
     ap (λ (o : Option Refusal). unwrap_or (option_map (λ (q : Refusal). (reply.Refused q, s)) o) (transition.reply, transition.next)) accepted
 
+-- where one applies the step is that refusal, and the state stays
+pub refused_step : (s : State) (session : ℕ) (asked : Statement) (r : Refusal) → first_refusal (refusals (transition_of s session asked)) ≡ Some r → step s session asked ≡ (reply.Refused r, s)
+refused_step s session asked r first =
+    let transition = transition_of s session asked in
+    ap (λ (o : Option Refusal). unwrap_or (option_map (λ (q : Refusal). (reply.Refused q, s)) o) (transition.reply, transition.next)) first
+
+-- the reply where a row has to stand: the refusal where it doesn't
+abbrev pub tried : Option Row → Refusal → Reply → Reply
+tried None r done = reply.Refused r
+tried (Some row) r done = done
+
+pub tried_some : (o : Option Row) (r : Refusal) (done : Reply) → true ≡ is_some o → tried o r done ≡ done
+tried_some None r done stands = absurd (false≢true (sym stands))
+tried_some (Some row) r done stands = refl
+
 -- a statement that passes its early refusals may fail for what it takes
 pub fails : (s : State) (session : ℕ) (asked : Statement) (f : Failure) → PassesEarly s session asked → fails_for s session asked f ≡ true → IsRefusal s session asked (refusal_for f)
 fails s session asked f early takes = inr (f, refl, rw (early, takes) refl)
 
+-- a refusal that is told of is one of the statement, or tells of a failure
+pub told_or_failed : (s : State) (session : ℕ) (asked : Statement) (clean : Type 0) (r expected : Refusal) → PassesEarly s session asked → ((f : Failure) → fails_for s session asked f ≡ true)
+    → (IsFailure r ⊎ (clean → r ≡ expected)) → (clean → IsRefusal s session asked expected) → clean → IsRefusal s session asked r
+told_or_failed s session asked clean r expected early takes (inl failed) is now = subst (IsRefusal s session asked) (sym failed.1) (fails s session asked failed.0 early (takes failed.0))
+told_or_failed s session asked clean r expected early takes (inr told) is now = subst (IsRefusal s session asked) (sym (told now)) (is now)
+
 -- a late refusal applies where no early one does, and where neither does none applies
+pub late_first : (s : State) (session : ℕ) (asked : Statement) (r : Refusal) → PassesEarly s session asked → first_refusal (transition_of s session asked).late ≡ Some r
+    → first_refusal (refusals (transition_of s session asked)) ≡ Some r
+late_first s session asked r early first =
+    let transition = transition_of s session asked in
+    first_behind transition.early transition.late early ∙ first
+
 pub late_applies : (s : State) (session : ℕ) (asked : Statement) (r : Refusal) → PassesEarly s session asked → first_refusal (transition_of s session asked).late ≡ Some r
     → IsRefusal s session asked r
-late_applies s session asked r early first =
-    let transition = transition_of s session asked in
-    inl (first_behind transition.early transition.late early ∙ first)
+late_applies s session asked r early first = inl (late_first s session asked r early first)
 
 pub none_applies : (s : State) (session : ℕ) (asked : Statement) → PassesEarly s session asked → first_refusal (transition_of s session asked).late ≡ None
     → IsAccepted s session asked
@@ -117,28 +145,46 @@ read_keeps g t new o places keeps reads = record {
   amounts = λ clean. rw reads.rows (keeps.amounts (still_clean _ _ _ reads.survives clean));
 }
 
--- what it holds where the row that was read last is forgotten
-pub forgotten : {S : Type 0} (g : Ghosts S) (d : Seen S) (places : Places) (recent : Option ReadRow) → recent ≡ None → Keeps g d places → Holds g d places recent
-forgotten g d places recent none keeps = rw none (record { keeps = keeps; known = tt; read = λ _. tt })
+-- and what it holds where one more row was read, and is kept or not
+pub remembered_holds : {S : Type 0} (g : Ghosts S) (t new : Committed S) (o : Open) (places : Places) (old recent : ReadRows) (row : RowName) (amounts : List ℤ) → Holds g (seen_of t o) places old → Reads g t new
+    → ((name : RowName) → IsLeft old recent name ⊎ ((same_row row name ≡ true) × (read_at recent name ≡ Some amounts)))
+    → IsKnown t.catalog (Some (row_with row amounts)) → (HasCleanDisk (state g new.store) → IsRead t.rows (Some (row_with row amounts))) → Holds g (seen_of new o) places recent
+remembered_holds g t new o places old recent row amounts holds reads only known read = record {
+  keeps = read_keeps g t new o places holds.keeps reads;
+  known = λ name. rw reads.catalog (known_more old recent row amounts only t.catalog holds.known known name);
+  read = λ clean name. rw reads.rows (read_more old recent row amounts only t.rows (holds.read (still_clean _ _ _ reads.survives clean)) (read clean) name);
+}
 
 -- a write that failed leaves the state
 pub unwritten_same : {S : Type 0} (g : Ghosts S) (t new : Committed S) (o : Open) (catalog : List TableDef) (rows : List Row) → Writes g t new false catalog rows → (seen_of new o).state ≡ (seen_of t o).state
 unwritten_same g t new o catalog rows writes =
     ap₂ (λ (c : List TableDef) (rs : List Row). record (seen_of t o).state { catalog = c; rows = rs }) (writes.kept_catalog refl) (writes.kept_rows refl)
 
--- and where a write failed since
-pub unwritten_holds : {S : Type 0} (g : Ghosts S) (t new : Committed S) (o : Open) (places : Places) (catalog : List TableDef) (rows : List Row) (recent : Option ReadRow) → Keeps g (seen_of t o) places
-    → Writes g t new false catalog rows → recent ≡ None → Holds g (seen_of new o) places recent
-unwritten_holds g t new o places catalog rows recent keeps writes none =
-    forgotten g (seen_of new o) places recent none (record {
-      kept = record {
-        orderly = rw (writes.kept_catalog refl) keeps.kept.orderly;
-        safe_rows = λ clean. rw (writes.kept_catalog refl, writes.kept_rows refl) (keeps.kept.safe_rows (still_clean _ _ _ writes.survives clean));
-      };
-      placed = keeps.placed;
-      of_tables = rw (writes.kept_catalog refl) keeps.of_tables;
-      amounts = λ clean. rw (writes.kept_rows refl) (keeps.amounts (still_clean _ _ _ writes.survives clean));
-    })
+-- and what it keeps
+unwritten_keeps : {S : Type 0} (g : Ghosts S) (t new : Committed S) (o : Open) (places : Places) (catalog : List TableDef) (rows : List Row) → Keeps g (seen_of t o) places → Writes g t new false catalog rows
+    → Keeps g (seen_of new o) places
+unwritten_keeps g t new o places catalog rows keeps writes = record {
+  kept = record {
+    orderly = rw (writes.kept_catalog refl) keeps.kept.orderly;
+    safe_rows = λ clean. rw (writes.kept_catalog refl, writes.kept_rows refl) (keeps.kept.safe_rows (still_clean _ _ _ writes.survives clean));
+  };
+  placed = keeps.placed;
+  of_tables = rw (writes.kept_catalog refl) keeps.of_tables;
+  amounts = λ clean. rw (writes.kept_rows refl) (keeps.amounts (still_clean _ _ _ writes.survives clean));
+}
+
+-- what it holds where a write wasn't done, and rows that were read may have been forgotten
+pub unwritten_holds : {S : Type 0} (g : Ghosts S) (t new : Committed S) (o : Open) (places : Places) (catalog : List TableDef) (rows : List Row) (old recent : ReadRows) → Holds g (seen_of t o) places old
+    → Writes g t new false catalog rows → ((name : RowName) → IsLeft old recent name) → Holds g (seen_of new o) places recent
+unwritten_holds g t new o places catalog rows old recent holds writes left = record {
+  keeps = unwritten_keeps g t new o places catalog rows holds.keeps writes;
+  known = λ name. rw (writes.kept_catalog refl) (known_left t.catalog old recent name (holds.known name) (left name));
+  read = λ clean name. rw (writes.kept_rows refl) (read_left t.rows old recent name (holds.read (still_clean _ _ _ writes.survives clean) name) (left name));
+}
+
+-- nothing was looked at
+pub reads_itself : {S : Type 0} (g : Ghosts S) (d : Seen S) → OnlyReads g d d
+reads_itself g d = record { same = refl; usable = λ usable. usable; survives = survives_itself (state g d.store) (λ _. ⊥) }
 
 -- what a database keeps where the store is left
 pub apart_keeps : {S : Type 0} (g : Ghosts S) (d : Seen S) (next : State) → IsKept g d → IsOrderly next.catalog next.reservations next.savepoints next.next_id
@@ -291,22 +337,39 @@ module _ {S : Type 0} (g : Ghosts S) (session : ℕ) (asked : Statement) where
       writes.survives
 
   -- a write was done, and the reply is the step's
-  pub wrote : (t new : Committed S) (o after : Open) (answer : Reply) (next : State)
-      → asks_store (seen_of t o).state session asked ≡ true → PassesEarly (seen_of t o).state session asked → is_refused answer ≡ false
+  pub wrote : (t new : Committed S) (o after : Open) (given answer : Reply) (next : State)
+      → asks_store (seen_of t o).state session asked ≡ true → PassesEarly (seen_of t o).state session asked → is_refused given ≡ false
+      → (HasCleanDisk (state g new.store) → answer ≡ given)
       → Writes g t new true next.catalog next.rows
       → (HasCleanDisk (state g t.store) → step (seen_of t o).state session asked ≡ (answer, next))
       → next ≡ record (seen_of new after).state { catalog = next.catalog; rows = next.rows }
-      → Serves g session asked (seen_of t o) answer (seen_of new after)
-  wrote t new o after answer next asks early accepted writes steps is =
+      → Serves g session asked (seen_of t o) given (seen_of new after)
+  wrote t new o after given answer next asks early accepted told writes steps is =
       let same : HasCleanDisk (state g new.store) → (seen_of new after).state ≡ next =
       λ clean. ap (λ (c : _ × _). record (seen_of new after).state { catalog = c.0; rows = c.1 }) (ap₂ (λ a b. (a, b)) (writes.done_catalog refl) (writes.done_rows refl clean)) ∙ sym is in
-      served (seen_of t o) (seen_of new after) answer asks early
-      (λ clean. stepped (seen_of t o).state session asked answer (seen_of new after).state (succeeds answer accepted)
-      (ap (λ (s : State). (answer, s)) (same clean) ∙ sym (steps (still_clean _ _ _ writes.survives clean))))
+      served (seen_of t o) (seen_of new after) given asks early
+      (λ clean. stepped (seen_of t o).state session asked given (seen_of new after).state (succeeds given accepted)
+      (ap₂ (λ (a : Reply) (s : State). (a, s)) (sym (told clean)) (same clean) ∙ sym (steps (still_clean _ _ _ writes.survives clean))))
       (λ is_refusal. absurd (false≢true (sym accepted ∙ is_refusal))) writes.usable (crashed t new o answer next true writes steps)
       (λ _ clean trees may.
       subst (λ c. AreHeld c new.rows trees) (sym (writes.done_catalog refl))
       (subst (λ rs. AreHeld next.catalog rs trees) (sym (writes.done_rows refl clean)) (writes.durable refl clean trees may)))
+
+  -- a write wasn't done, and the statement is refused for what it told, or what was looked at then
+  pub write_refused : (t mid : Committed S) (o : Open) (new : Seen S) (r : Refusal) (answer : Reply) (next : State)
+      → asks_store (seen_of t o).state session asked ≡ true → PassesEarly (seen_of t o).state session asked
+      → Writes g t mid false next.catalog next.rows → OnlyReads g (seen_of mid o) new
+      → (HasCleanDisk (state g t.store) → step (seen_of t o).state session asked ≡ (answer, next))
+      → (HasCleanDisk (state g new.store) → IsRefusal (seen_of t o).state session asked r)
+      → Serves g session asked (seen_of t o) (reply.Refused r) new
+  write_refused t mid o new r answer next asks early writes reads steps is =
+      let s : State = (seen_of t o).state in
+      let same : new.state ≡ s = reads.same ∙ unwritten_same g t mid o next.catalog next.rows writes in
+      served (seen_of t o) new (reply.Refused r) asks early
+      (λ clean. subst (λ (after : State). StepOrRefusal s session asked (reply.Refused r) after) (sym same) (refused_serves s session asked r (is clean)))
+      (λ _. same) (λ usable. writes.usable (reads.usable usable))
+      (survives_then (state g t.store) (state g mid.store) (state g new.store) _ (λ _. ⊥) _ (λ _ trees left. left) (λ _ trees none. absurd none) (crashed t mid o answer next false writes steps) reads.survives)
+      (λ e. absurd (no_write r e))
 
   -- a write failed
   pub write_failed : (t new : Committed S) (o : Open) (f : Failure) (answer : Reply) (next : State)
@@ -315,12 +378,7 @@ module _ {S : Type 0} (g : Ghosts S) (session : ℕ) (asked : Statement) where
       → (HasCleanDisk (state g t.store) → step (seen_of t o).state session asked ≡ (answer, next))
       → Serves g session asked (seen_of t o) (reply.Refused (refusal_for f)) (seen_of new o)
   write_failed t new o f answer next asks early takes writes steps =
-      let s : State = (seen_of t o).state in
-      let same : (seen_of new o).state ≡ s =
-      ap (λ (c : _ × _). record s { catalog = c.0; rows = c.1 }) (ap₂ (λ a b. (a, b)) (writes.kept_catalog refl) (writes.kept_rows refl)) in
-      served (seen_of t o) (seen_of new o) (reply.Refused (refusal_for f)) asks early
-      (λ _. subst (λ (after : State). StepOrRefusal s session asked (reply.Refused (refusal_for f)) after) (sym same) (refused_serves s session asked (refusal_for f) (fails s session asked f early takes)))
-      (λ _. same) writes.usable (crashed t new o answer next false writes steps) (λ e. absurd (no_write (refusal_for f) e))
+      write_refused t new o (seen_of new o) (refusal_for f) answer next asks early writes (reads_itself g (seen_of new o)) steps (λ _. fails (seen_of t o).state session asked f early takes)
 
   -- what a database keeps after a write that was done
   pub wrote_keeps : (t new : Committed S) (o after : Open) (next : State) → IsKept g (seen_of t o)
@@ -373,43 +431,84 @@ module _ {S : Type 0} (g : Ghosts S) (session : ℕ) (asked : Statement) (old mi
   pub early_since : PassesEarly mid.state session asked
   early_since = still_passes old.state mid.state session asked looked.only_reads.same looked.early
 
-  -- refused for what was looked at
-  pub refused_since : (r : Refusal) → (HasCleanDisk (state g mid.store) → IsRefusal mid.state session asked r) → Serves g session asked old (reply.Refused r) mid
-  refused_since r is =
-      look_refused g session asked old mid r looked.only_reads looked.asks looked.early (λ clean. subst (λ (s : State). IsRefusal s session asked r) looked.only_reads.same (is clean))
+-- any row stays
+abbrev pub Any : RowName → Type 0
+Any row = Unit {0}
 
--- nothing refuses a statement that writes: its step makes this answer and this state, in which the same is open, and each row
--- that is reserved has its table and its amounts
-pub record MayWrite {S : Type 0} (g : Ghosts S) (session : ℕ) (asked : Statement) (d : Seen S) (answer : Reply) (next : State) : Type 0 where
+-- a statement may write: its step makes this answer and this state, in which the same is open. The rows that stay, among
+-- which are those that are reserved, have their tables and their amounts. What the write tells may refuse it.
+pub record MayWrite {S : Type 0} (g : Ghosts S) (session : ℕ) (asked : Statement) (d : Seen S) (answer : Reply) (next : State) (Stays : RowName → Type 0) : Type 0 where
   pub asks : asks_store d.state session asked ≡ true
   pub early : PassesEarly d.state session asked
   pub takes : (f : Failure) → fails_for d.state session asked f ≡ true
-  pub accepted : is_refused answer ≡ false
   pub steps : HasCleanDisk (state g d.store) → step d.state session asked ≡ (answer, next)
   pub same_open : next ≡ record d.state { catalog = next.catalog; rows = next.rows }
   pub orderly : HasOrder d.state → HasOrder next
   pub valid : HasCleanDisk (state g d.store) → IsValid d.state → IsValid next
-  pub tables_stay : (row : RowName) (table : TableDef) → is_reserved d.state row ≡ true → table_named d.state.catalog row.table ≡ Some table → table_named next.catalog row.table ≡ Some table
-  pub amounts_stay : HasCleanDisk (state g d.store) → (row : RowName) (amounts : List ℤ) → is_reserved d.state row ≡ true → amounts_named d.state.rows row ≡ Some amounts
-      → amounts_named next.rows row ≡ Some amounts
+  pub reserved_stay : (row : RowName) → is_reserved d.state row ≡ true → Stays row
+  pub tables_stay : (row : RowName) (table : TableDef) → Stays row → table_named d.state.catalog row.table ≡ Some table → table_named next.catalog row.table ≡ Some table
+  pub amounts_stay : HasCleanDisk (state g d.store) → (row : RowName) (amounts : List ℤ) → Stays row → amounts_named d.state.rows row ≡ Some amounts → amounts_named next.rows row ≡ Some amounts
 
-module _ {S : Type 0} (g : Ghosts S) (session : ℕ) (asked : Statement) (t new : Committed S) (o : Open) (answer : Reply) (next : State)
-    (may : MayWrite g session asked (seen_of t o) answer next) where
-  -- its write was done
-  pub write_serves : Writes g t new true next.catalog next.rows → Serves g session asked (seen_of t o) answer (seen_of new o)
-  write_serves writes = wrote g session asked t new o o answer next may.asks may.early may.accepted writes may.steps may.same_open
+module _ {S : Type 0} {Stays : RowName → Type 0} (g : Ghosts S) (session : ℕ) (asked : Statement) (t new : Committed S) (o : Open) (answer : Reply) (next : State)
+    (may : MayWrite g session asked (seen_of t o) answer next Stays) where
+  -- its write was done, and so the answer is one that is given
+  pub write_serves : (given : Reply) → is_refused given ≡ false → (HasCleanDisk (state g new.store) → answer ≡ given) → Writes g t new true next.catalog next.rows → Serves g session asked (seen_of t o) given (seen_of new o)
+  write_serves given accepted told writes = wrote g session asked t new o o given answer next may.asks may.early accepted told writes may.steps may.same_open
 
-  pub write_holds : (places : Places) (recent : Option ReadRow) → Keeps g (seen_of t o) places → Writes g t new true next.catalog next.rows → recent ≡ None → Holds g (seen_of new o) places recent
-  write_holds places recent keeps writes none =
+  -- it wasn't done, and it is refused for what the write told, or what was looked at then
+  pub refusal_told : (after : Seen S) (r : Refusal) → Writes g t new false next.catalog next.rows → OnlyReads g (seen_of new o) after → (HasCleanDisk (state g after.store) → IsRefusal (seen_of t o).state session asked r)
+      → Serves g session asked (seen_of t o) (reply.Refused r) after
+  refusal_told after r writes reads is = write_refused g session asked t new o after r answer next may.asks may.early writes reads may.steps is
+
+  write_keeps : (places : Places) → Keeps g (seen_of t o) places → Writes g t new true next.catalog next.rows → Keeps g (seen_of new o) places
+  write_keeps places keeps writes =
       let s : State = (seen_of t o).state in
-      forgotten g (seen_of new o) places recent none (record {
+      record {
         kept = wrote_keeps g session asked t new o o next keeps.kept writes may.same_open (may.orderly keeps.kept.orderly) (λ valid u. may.valid u valid);
         placed = keeps.placed;
-        of_tables = subst (λ c. AreOfTables c places) (sym (writes.done_catalog refl)) (tables_stay s next places keeps.placed may.tables_stay keeps.of_tables);
+        of_tables = subst (λ c. AreOfTables c places) (sym (writes.done_catalog refl))
+            (tables_stay s next places keeps.placed (λ row table reserved. may.tables_stay row table (may.reserved_stay row reserved)) keeps.of_tables);
         amounts = λ clean.
             let was = still_clean _ _ _ writes.survives clean in
-            subst (λ rs. HaveAmounts rs places) (sym (writes.done_rows refl clean)) (amounts_stay s next places keeps.placed (may.amounts_stay was) (keeps.amounts was));
-      })
+            subst (λ rs. HaveAmounts rs places) (sym (writes.done_rows refl clean))
+            (amounts_stay s next places keeps.placed (λ row amounts reserved. may.amounts_stay was row amounts (may.reserved_stay row reserved)) (keeps.amounts was));
+      }
+
+  -- what is held, where the rows that were read, and are kept, are some of those that stay
+  known_stays : (recent : ReadRows) (name : RowName) → Stays name → IsKnown t.catalog (row_read recent name) → IsKnown next.catalog (row_read recent name)
+  known_stays recent name stays = at (read_at recent name)
+    where
+      at : (o : Option (List ℤ)) → IsKnown t.catalog (option_map (row_with name) o) → IsKnown next.catalog (option_map (row_with name) o)
+      at None known = tt
+      at (Some amounts) known = of_table (table_named t.catalog name.table) refl known
+        where
+          of_table : (found : Option TableDef) → table_named t.catalog name.table ≡ found → IsSomeAnd found (λ table. length amounts ≡ length (reservables table.columns))
+              → IsKnown next.catalog (Some (row_with name amounts))
+          of_table None named known = absurd known
+          of_table (Some table) named many = subst (λ (found : Option TableDef). IsSomeAnd found (λ table. length amounts ≡ length (reservables table.columns))) (sym (may.tables_stay name table stays named)) many
+
+  read_stays : (recent : ReadRows) (name : RowName) → Stays name → HasCleanDisk (state g t.store) → IsRead t.rows (row_read recent name) → IsRead next.rows (row_read recent name)
+  read_stays recent name stays was = at (read_at recent name)
+    where
+      at : (o : Option (List ℤ)) → IsRead t.rows (option_map (row_with name) o) → IsRead next.rows (option_map (row_with name) o)
+      at None read = tt
+      at (Some amounts) read = may.amounts_stay was name amounts stays read
+
+  pub write_holds : (places : Places) (old recent : ReadRows) → Holds g (seen_of t o) places old → Writes g t new true next.catalog next.rows
+      → ((name : RowName) → (read_at recent name ≡ None) ⊎ ((read_at recent name ≡ read_at old name) × Stays name)) → Holds g (seen_of new o) places recent
+  write_holds places old recent holds writes left = record {
+    keeps = write_keeps places holds.keeps writes;
+    known = λ name. rw (writes.done_catalog refl) (still_known name (left name));
+    read = λ clean name. rw (writes.done_rows refl clean) (still_read (still_clean _ _ _ writes.survives clean) name (left name));
+  }
+    where
+      still_known : (name : RowName) → (read_at recent name ≡ None) ⊎ ((read_at recent name ≡ read_at old name) × Stays name) → IsKnown next.catalog (row_read recent name)
+      still_known name (inl gone) = subst (λ (o : Option (List ℤ)). IsKnown next.catalog (option_map (row_with name) o)) (sym gone) tt
+      still_known name (inr same) = subst (λ (o : Option (List ℤ)). IsKnown next.catalog (option_map (row_with name) o)) (sym same.0) (known_stays old name same.1 (holds.known name))
+
+      still_read : HasCleanDisk (state g t.store) → (name : RowName) → (read_at recent name ≡ None) ⊎ ((read_at recent name ≡ read_at old name) × Stays name) → IsRead next.rows (row_read recent name)
+      still_read was name (inl gone) = subst (λ (o : Option (List ℤ)). IsRead next.rows (option_map (row_with name) o)) (sym gone) tt
+      still_read was name (inr same) = subst (λ (o : Option (List ℤ)). IsRead next.rows (option_map (row_with name) o)) (sym same.0) (read_stays old name same.1 was (holds.read was name))
 
   -- it failed, and `?` handed the failure on
   pub failure_serves : (result : Result Reply Refusal) (f : Failure) → IsErrAnd result (λ e. e ≡ refusal_for f) → Writes g t new false next.catalog next.rows
@@ -417,14 +516,3 @@ module _ {S : Type 0} (g : Ghosts S) (session : ℕ) (asked : Statement) (t new 
   failure_serves result f is writes =
       handed_on g session asked (seen_of t o) (seen_of new o) result (refusal_for f) is
       (write_failed g session asked t new o f answer next may.asks may.early (may.takes f) writes may.steps)
-
--- it was looked at before, for what writes
-module _ {S : Type 0} (g : Ghosts S) (session : ℕ) (asked : Statement) (old : Seen S) (t new : Committed S) (o : Open) (answer : Reply) (next : State)
-    (looked : HasLooked g session asked old (seen_of t o)) (may : MayWrite g session asked (seen_of t o) answer next) where
-  pub written_since : Writes g t new true next.catalog next.rows → Serves g session asked old answer (seen_of new o)
-  written_since writes = since_look g session asked old (seen_of t o) looked (seen_of new o) answer (write_serves g session asked t new o answer next may writes)
-
-  pub unwritten_since : (result : Result Reply Refusal) (f : Failure) → IsErrAnd result (λ e. e ≡ refusal_for f) → Writes g t new false next.catalog next.rows
-      → Serves g session asked old (answer_of result) (seen_of new o)
-  unwritten_since result f is writes =
-      since_look g session asked old (seen_of t o) looked (seen_of new o) (answer_of result) (failure_serves g session asked t new o answer next may result f is writes)

@@ -35,10 +35,11 @@ use Rattle.escrow_machine.specs.Valid.{IsOrderly, IsValid}
 use Rattle.escrow_machine.proofs.Applying.{applied_none}
 use Rattle.escrow_machine.proofs.Filters.{filter_within}
 use Rattle.escrow_machine.proofs.ValidEnds.{commit_orderly, commit_valid}
-use Rattle.escrow_reserved.specs.declared.recent.ReadRow.{ReadRow}
 use Rattle.escrow_reserved.specs.Ends.{AreAllEnded, all_ended}
 use Rattle.escrow_reserved.specs.Placed.{AreOfTables, HaveAmounts}
-use Rattle.escrow_reserved.specs.Read.{committed_by, IsKnown, IsRead}
+use Rattle.escrow_num.specs.declared.value.RowName.{RowName}
+use Rattle.escrow_reserved.specs.Read.{committed_by, committed_to, IsKnown, IsRead, ReadRow, ReadRows, read_at, row_read, row_with}
+use Rattle.escrow_reserved.proofs.Reading.{row_committed}
 use Rattle.escrow_reserved.specs.Reserved.{ArePlaced}
 use Rattle.escrow_reserved.proofs.Ends.{own_and_others}
 use Rattle.escrow_reserved.proofs.Places.{commits_amounts, ended_tables}
@@ -218,18 +219,23 @@ module _ {S : Type 0} (g : Ghosts S) (plan : List (ℕ × End)) (commits : AreCo
               (together_amounts plan s old places commits valid are (keeps.amounts was));
         }
 
-    -- and what was read of a row has what is committed
-    pub together_holds : (old places : Places) (recent : Option ReadRow) → Holds g (seen_of t o) old recent → AreAllEnded plan o old places → ArePlaced (all_ended plan o).reservations places
-        → Holds g (seen_of new (all_ended plan o)) places (option_map (committed_by all) recent)
-    together_holds old places recent holds are placed = record {
-      keeps = together_keeps old places holds.keeps are placed;
-      known = subst (λ c. IsKnown c (option_map (committed_by all) recent)) (sym (writes.done_catalog refl)) (known_after t.catalog all recent holds.known);
-      read = λ clean.
-          let was = still_clean _ _ _ writes.survives clean in
-          let valid : IsValid s = record { orderly = holds.keeps.kept.orderly; safe_rows = holds.keeps.kept.safe_rows was } in
-          subst (λ rs. IsRead rs (option_map (committed_by all) recent)) (ap (λ (q : State). q.rows) (together_is plan s commits) ∙ sym (writes.done_rows refl clean))
-          (together_read plan s recent commits valid (holds.read was));
-    }
+    -- and what was read of rows has what is committed
+    pub together_holds : (old places : Places) (recent after : ReadRows) → Holds g (seen_of t o) old recent → AreAllEnded plan o old places → ArePlaced (all_ended plan o).reservations places
+        → ((name : RowName) → read_at after name ≡ option_map (committed_to name all) (read_at recent name)) → Holds g (seen_of new (all_ended plan o)) places after
+    together_holds old places recent after holds are placed committed =
+        let row_after : (name : RowName) → option_map (committed_by all) (row_read recent name) ≡ row_read after name =
+        λ name. sym (ap (option_map (row_with name)) (committed name) ∙ row_committed name all (read_at recent name)) in
+        record {
+          keeps = together_keeps old places holds.keeps are placed;
+          known = λ name.
+              subst (λ c. IsKnown c (row_read after name)) (sym (writes.done_catalog refl))
+              (subst (IsKnown t.catalog) (row_after name) (known_after t.catalog all (row_read recent name) (holds.known name)));
+          read = λ clean name.
+              let was = still_clean _ _ _ writes.survives clean in
+              let valid : IsValid s = record { orderly = holds.keeps.kept.orderly; safe_rows = holds.keeps.kept.safe_rows was } in
+              subst (λ rs. IsRead rs (row_read after name)) (ap (λ (q : State). q.rows) (together_is plan s commits) ∙ sym (writes.done_rows refl clean))
+              (subst (IsRead (after_ends s plan).rows) (row_after name) (together_read plan s (row_read recent name) commits valid (holds.read was name)));
+        }
 
 -- ONE SESSION
 

@@ -1,5 +1,5 @@
 -- UPDATE: what its call makes of a database, by its plan.
-use Rattle.std.specs.Prelude.{◌≡◌, ◌⊎◌, ◌<◌, ◌≤◌, ◌+◌, ℕ, ℤ, Bool, true, false, not, nat_le, nat_lt, is_none, is_some, option_map, unwrap_or, Option, Some, None, IsSome, IsSomeAnd, IsTrue, List, [], ◌∷◌, ◌++◌, length, map}
+use Rattle.std.specs.Prelude.{◌≡◌, ◌⊎◌, ◌<◌, ◌≤◌, ◌+◌, ℕ, ℤ, Bool, true, false, not, nat_le, nat_lt, is_none, is_some, if◌then◌else◌, option_map, unwrap_or, Option, Some, None, IsSome, IsSomeAnd, List, [], ◌∷◌, ◌++◌, length, map}
 use Rattle.std.specs.List.{AllByRecursion}
 use Rattle.std.proofs.Common.{inl, inr, refl, sym, ap, ap₂, subst, ◌∙◌, arith, length-append}
 use Rattle.std.proofs.lemmas.Bool.{false≢true}
@@ -16,6 +16,7 @@ use Rattle.escrow_num.specs.declared.row.Row.{Row}
 use Rattle.escrow_num.specs.declared.value.RowName.{RowName}
 use Rattle.escrow_num.specs.declared.value.Value.{Value}
 use Rattle.escrow_num.specs.Order.{same_row}
+use Rattle.escrow_num.proofs.Items.{Has, find_none}
 use Rattle.escrow_num.specs.Reservation.{deltas, changes_at}
 use Rattle.escrow_num.specs.Refusal.{refuse_if, first_refusal, refusal_for}
 use Rattle.escrow_num.specs.Session.{IsSession}
@@ -43,14 +44,14 @@ use Rattle.escrow_journal.specs.declared.journal.TheConstants.Journal.{MAX_RESER
 use Rattle.escrow_journal.specs.Reservations.{own}
 use Rattle.escrow_journal.specs.Open.{grant_refusal}
 use Rattle.escrow_journal.specs.Open as txn
-use Rattle.escrow_schema.specs.Rows.{HasTable, row_named, with_plain, with_values}
+use Rattle.escrow_schema.specs.Rows.{HasTable, replaced, row_named, with_plain, with_values}
 use Rattle.escrow_machine.specs.declared.reply.Reply.TheVariants as reply
 use Rattle.escrow_machine.specs.Asked.{plan_of, row_name, reservation_from, reserves_beside}
 use Rattle.escrow_machine.specs.Accepted.{IsAccepted, IsRefusal, PassesEarly}
 use Rattle.escrow_machine.specs.Promised.{asks_store}
 use Rattle.escrow_machine.specs.Reply.{failure_of, failure_of_refusal}
 use Rattle.escrow_machine.specs.State.{State, is_open, is_reserved, open_in, with_open}
-use Rattle.escrow_machine.specs.Step.{step, fails_for, StepOrRefusal}
+use Rattle.escrow_machine.specs.Step.{refusals, step, fails_for, StepOrRefusal}
 use Rattle.escrow_machine.specs.Transition.{transition_of, update_refusals, update_reply, after_update}
 use Rattle.escrow_machine.specs.Valid.{IsOrderly, IsValid}
 use Rattle.escrow_machine.proofs.Lengths.{find_map}
@@ -66,9 +67,9 @@ use Rattle.escrow_core.specs.Seen.{Seen, IsKept}
 use Rattle.escrow_core.specs.Serves.{Serves}
 use Rattle.escrow_core.specs.Serving.{OnlyReads}
 use Rattle.escrow_reserved.proofs.Places.{becomes_some, granted_placed, made_amounts, made_tables, put_at, put_others, same_amounts, same_placed, same_tables, some_of, some_same, taken_amounts, taken_tables}
-use Rattle.escrow_core.proofs.Planned.{planned_in, plan_refused, plan_accepted, planned_early}
+use Rattle.escrow_core.proofs.Planned.{left_to_plan, planned_in, plan_refused, plan_accepted, planned_early}
 use Rattle.escrow_core.proofs.Served.{refused_serves, update_serves}
-use Rattle.escrow_core.proofs.Serving.{MayWrite, accepted_step, after_look, fails, look_failed, look_refused, served, served_beside, survives_itself}
+use Rattle.escrow_core.proofs.Serving.{Any, MayWrite, accepted_step, refused_step, tried, after_look, fails, look_failed, look_refused, served, served_beside, survives_itself}
 use Rattle.escrow_reserved.proofs.Standing.{no_row, standing}
 
 -- REFUSALS
@@ -78,9 +79,13 @@ pub plain_open : (s : State) (session : ℕ) (text : UpdateText) (key : Value) (
     → is_open session s ≡ true → IsRefusal s session (statement.Update text) refusal.TransactionOpen
 plain_open s session text key values is open_now = plan_refused s session text (plan.Plain key values) refusal.TransactionOpen is (rw open_now refl)
 
+lacks_first : (s : State) (session : ℕ) (text : UpdateText) (key : Value) (values : List (Option Value)) → plan_of s text ≡ Some (plan.Plain key values)
+    → is_open session s ≡ false → row_named s.rows (row_name text.table key) ≡ None → first_refusal (refusals (transition_of s session (statement.Update text))) ≡ Some refusal.NoSuchRow
+lacks_first s session text key values is closed none = left_to_plan s session text (plan.Plain key values) is ∙ rw (closed, none) refl
+
 pub plain_lacks : (s : State) (session : ℕ) (text : UpdateText) (key : Value) (values : List (Option Value)) → plan_of s text ≡ Some (plan.Plain key values)
     → is_open session s ≡ false → row_named s.rows (row_name text.table key) ≡ None → IsRefusal s session (statement.Update text) refusal.NoSuchRow
-plain_lacks s session text key values is closed none = plan_refused s session text (plan.Plain key values) refusal.NoSuchRow is (rw (closed, none) refl)
+plain_lacks s session text key values is closed none = inl (lacks_first s session text key values is closed none)
 
 plain_passes : (b : Bool) (o : Option Row) → b ≡ false → IsSome o
     → first_refusal (refuse_if b refusal.TransactionOpen ∷ refuse_if (is_none o) refusal.NoSuchRow ∷ []) ≡ None
@@ -121,32 +126,63 @@ plain_amounts name row values rows =
     at None = refl
     at (Some r) = values_both (λ (x : Row). Some x.amounts ≡ Some r.amounts) name values r (λ _. refl) refl
 
--- PLAIN VALUES, where the session's transaction was looked at, and the row
+-- where no row has the name, none is replaced
+absent_same : (name : RowName) (values : List (Option Value)) (rows : List Row) → row_named rows name ≡ None → with_plain name values rows ≡ rows
+absent_same name values rows none = go rows (find_none (λ (row : Row). same_row row.name name) rows none)
+  where
+    stays : (row : Row) → same_row row.name name ≡ false → with_values name values row ≡ row
+    stays row other = ap (λ (b : Bool). if b then record row { plain = replaced values row.plain } else row) other
 
--- plain values of a row may be replaced
+    go : (xs : List Row) → ((row : Row) → Has xs row → same_row row.name name ≡ false) → with_plain name values xs ≡ xs
+    go [] others = refl
+    go (x ∷ xs) others = ap₂ (λ (y : Row) (ys : List Row). y ∷ ys) (stays x (others x (inl refl))) (go xs (λ row has. others row (inr has)))
+
+-- PLAIN VALUES, where the session's transaction was looked at
+
+-- plain values of a row may be replaced, if it stands
 pub record MayReplace {S : Type 0} (g : Ghosts S) (d : Seen S) (session : ℕ) (text : UpdateText) (key : Value) (values : List (Option Value)) : Type 0 where
   pub planned : plan_of d.state text ≡ Some (plan.Plain key values)
   pub closed : is_open session d.state ≡ false
-  pub stands : HasCleanDisk (state g d.store) → IsSome (row_named d.state.rows (row_name text.table key))
 
 module _ {S : Type 0} (g : Ghosts S) (d : Seen S) (session : ℕ) (text : UpdateText) (key : Value) (values : List (Option Value)) (may : MayReplace g d session text key values) where
-  -- nothing refuses it
-  pub may_write : MayWrite g session (statement.Update text) d reply.Updated (record d.state { rows = with_plain (row_name text.table key) values d.state.rows })
-  may_write =
-      let accepted : HasCleanDisk (state g d.store) → IsAccepted d.state session (statement.Update text) =
-      λ u. plain_accepted d.state session text key values may.planned may.closed (may.stands u) in
-      record {
-        asks = plain_asks d.state session text key values may.planned;
-        early = planned_early d.state session text (plan.Plain key values) may.planned;
-        takes = plain_takes d.state session text key values may.planned;
-        accepted = refl;
-        steps = λ u. update_step d.state session text (plan.Plain key values) may.planned (accepted u);
-        same_open = refl;
-        orderly = λ orderly. orderly;
-        valid = λ u valid. replaced_valid d.state session text key values valid may.planned (accepted u);
-        tables_stay = λ row table _ named. named;
-        amounts_stay = λ _ row amounts _ has. plain_amounts (row_name text.table key) row values d.state.rows ∙ has;
-      }
+  -- the step, whether the row stands or not
+  plain_step : step d.state session (statement.Update text)
+      ≡ (tried (row_named d.state.rows (row_name text.table key)) refusal.NoSuchRow reply.Updated, record d.state { rows = with_plain (row_name text.table key) values d.state.rows })
+  plain_step = at (row_named d.state.rows (row_name text.table key)) refl
+    where
+      at : (o : Option Row) → row_named d.state.rows (row_name text.table key) ≡ o
+          → step d.state session (statement.Update text) ≡ (tried o refusal.NoSuchRow reply.Updated, record d.state { rows = with_plain (row_name text.table key) values d.state.rows })
+      at None none =
+          refused_step d.state session (statement.Update text) refusal.NoSuchRow (lacks_first d.state session text key values may.planned may.closed none)
+          ∙ ap (λ (rows : List Row). (reply.Refused refusal.NoSuchRow, record d.state { rows = rows })) (sym (absent_same (row_name text.table key) values d.state.rows none))
+      at (Some row) found =
+          update_step d.state session text (plan.Plain key values) may.planned
+          (plain_accepted d.state session text key values may.planned may.closed (ap (λ (o : Option Row). is_some o) found))
+
+  plain_valid : IsValid d.state → IsValid (record d.state { rows = with_plain (row_name text.table key) values d.state.rows })
+  plain_valid valid = at (row_named d.state.rows (row_name text.table key)) refl
+    where
+      at : (o : Option Row) → row_named d.state.rows (row_name text.table key) ≡ o → IsValid (record d.state { rows = with_plain (row_name text.table key) values d.state.rows })
+      at None none = subst (λ (rows : List Row). IsValid (record d.state { rows = rows })) (sym (absent_same (row_name text.table key) values d.state.rows none)) valid
+      at (Some row) found =
+          replaced_valid d.state session text key values valid may.planned
+          (plain_accepted d.state session text key values may.planned may.closed (ap (λ (o : Option Row). is_some o) found))
+
+  -- it may write
+  pub may_write : MayWrite g session (statement.Update text) d (tried (row_named d.state.rows (row_name text.table key)) refusal.NoSuchRow reply.Updated)
+      (record d.state { rows = with_plain (row_name text.table key) values d.state.rows }) Any
+  may_write = record {
+    asks = plain_asks d.state session text key values may.planned;
+    early = planned_early d.state session text (plan.Plain key values) may.planned;
+    takes = plain_takes d.state session text key values may.planned;
+    steps = λ _. plain_step;
+    same_open = refl;
+    orderly = λ orderly. orderly;
+    valid = λ _ valid. plain_valid valid;
+    reserved_stay = λ _ _. tt;
+    tables_stay = λ row table _ named. named;
+    amounts_stay = λ _ row amounts _ has. plain_amounts (row_name text.table key) row values d.state.rows ∙ has;
+  }
 
   -- the rows then are of their tables
   pub replaced_fit : IsKept g d → HasCleanDisk (state g d.store) → AllByRecursion (HasTable d.state.catalog) (with_plain (row_name text.table key) values d.state.rows)

@@ -1,14 +1,12 @@
 -- Helps: what the fields of a database hold, and keep.
-use Rattle.std.specs.Prelude.{Option}
 use Rattle.sqlite.specs.Held.{state}
 use Rattle.sqlite.specs.State.{HasCleanDisk}
 use Rattle.sqlite_trees.specs.declared.store.Store.{Ghosts}
 use Rattle.escrow_bounds.specs.Places.{Places}
 use Rattle.escrow_tables.specs.Committed.{Committed}
 use Rattle.escrow_journal.specs.Open.{Open}
-use Rattle.escrow_reserved.specs.declared.recent.ReadRow.{ReadRow}
 use Rattle.escrow_reserved.specs.Placed.{AreOfTables, HaveAmounts}
-use Rattle.escrow_reserved.specs.Read.{IsKnown, IsRead}
+use Rattle.escrow_reserved.specs.Read.{AreKnown, AreRead, ReadRows}
 use Rattle.escrow_reserved.specs.Reserved.{ArePlaced}
 use Rattle.escrow_core.specs.Seen.{Seen, IsKept}
 
@@ -34,8 +32,8 @@ pub record Keeps {S : Type 0} (g : Ghosts S) (d : Seen S) (places : Places) : Ty
   pub of_tables : AreOfTables d.state.catalog places
   pub amounts : HasCleanDisk (state g d.store) → HaveAmounts d.state.rows places
 
--- and beside it what was read last of a row
-pub record Holds {S : Type 0} (g : Ghosts S) (d : Seen S) (places : Places) (recent : Option ReadRow) : Type 0 where
+-- and beside it the amounts of rows that were read, which they still have while the disk has returned what was written
+pub record Holds {S : Type 0} (g : Ghosts S) (d : Seen S) (places : Places) (recent : ReadRows) : Type 0 where
   pub keeps : Keeps g d places
-  pub known : IsKnown d.state.catalog recent
-  pub read : HasCleanDisk (state g d.store) → IsRead d.state.rows recent
+  pub known : AreKnown d.state.catalog recent
+  pub read : HasCleanDisk (state g d.store) → AreRead d.state.rows recent

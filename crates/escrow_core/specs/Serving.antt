@@ -12,7 +12,9 @@ use Rattle.sqlite_trees.specs.Tree.{Trees}
 use Rattle.escrow_num.specs.declared.refusal.Refusal.{Refusal}
 use Rattle.escrow_num.specs.declared.refusal.Refusal.TheVariants as refusal
 use Rattle.escrow_num.specs.declared.session.End.{End}
-use Rattle.escrow_num.specs.Refusal.{refuse_if, first_refusal}
+use Rattle.escrow_num.specs.declared.failure.Failure.{Failure}
+use Rattle.escrow_num.specs.declared.row.Row.{Row}
+use Rattle.escrow_num.specs.Refusal.{refuse_if, first_refusal, refusal_for}
 use Rattle.escrow_statement.specs.declared.statement.RowText.{RowText}
 use Rattle.escrow_statement.specs.declared.statement.Statement.{Statement}
 use Rattle.escrow_machine.specs.declared.reply.Reply.{Reply}
@@ -53,3 +55,12 @@ IsEarly s session asked result = result_err result ≡ first_refusal (transition
 -- why the row that a text names isn't looked for: there is no such table, or its WHERE names no row
 abbrev pub row_refusal : State → RowText → Option Refusal
 row_refusal s text = first_refusal (refuse_if (is_none (table_named s.catalog text.table)) refusal.NoSuchTable ∷ key_refusal_of s text.table text.row ∷ [])
+
+-- a refusal tells of a failure
+abbrev pub IsFailure : Refusal → Type 0
+IsFailure r = (f : Failure) × (r ≡ refusal_for f)
+
+-- why a new row isn't put: a row of its name stands, or else for another reason
+abbrev pub unless_stands : Option Row → Refusal → Refusal
+unless_stands None other = other
+unless_stands (Some row) other = refusal.RowExists

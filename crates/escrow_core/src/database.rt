@@ -37,7 +37,7 @@ pub(crate) type Answer = Result<Reply, Refusal>;
 /// A database: its tables and their committed rows, in a store that SQLite writes to; the open
 /// reservations and savepoints of all sessions, and the id that the next reservation takes. A fault that
 /// shuts the store takes nothing from these. Beside the reservations it keeps what they can do to each row
-/// that they reserve, so that no grant walks them; and the amounts that were read last of a row.
+/// that they reserve, so that no grant walks them; and the amounts of rows that were read.
 pub struct Database<S: Alter> {
     tables: Tables<S>,
     reserved: Reserved,
@@ -109,7 +109,7 @@ impl<S: Alter> Database<S> {
                 Ok(Database {
                     tables,
                     reserved,
-                    recent: Recent::new(),
+                    recent: Recent::new(alloc),
                 })
             }
             Err(_) => Err((found, Refusal::Memory)),

@@ -1,15 +1,59 @@
--- Helps: what was read of a row.
-use Rattle.std.specs.Prelude.{◌≡◌, Option, Some, IfSome, IsSomeAnd, List, length}
+-- Helps: what was read of rows.
+use Rattle.std.specs.Prelude.{◌≡◌, ◌⊎◌, ◌≤◌, ℕ, ℤ, Option, Some, None, IfSome, IsSomeAnd, List, option_map, length, slice_get}
+use Rattle.std.specs.Map.{lookup}
+use Rattle.escrow_num.specs.Order.{same_row}
 use Rattle.escrow_num.specs.declared.reservation.Reservation.{Reservation}
 use Rattle.escrow_num.specs.declared.row.Row.{Row}
 use Rattle.escrow_num.specs.declared.session.End.TheVariants as end
+use Rattle.escrow_num.specs.declared.value.RowName.{RowName}
 use Rattle.escrow_bounds.specs.Held.{of_row}
 use Rattle.escrow_bounds.specs.Moved.{amounts_after_all}
 use Rattle.escrow_schema.specs.declared.table.TableDef.{TableDef}
 use Rattle.escrow_schema.specs.Catalog.{table_named}
 use Rattle.escrow_schema.specs.Column.{reservables}
-use Rattle.escrow_reserved.specs.declared.recent.ReadRow.{ReadRow}
+use Rattle.escrow_reserved.specs.declared.recent.TheConstants.Recent.{MAX_ROWS}
 use Rattle.escrow_reserved.specs.Placed.{amounts_named}
+
+-- WHICH ROWS ARE KEPT
+
+-- amounts that were read, each with the name of its row, in any order
+abbrev pub ReadRows : Type 0
+ReadRows = List (RowName × List ℤ)
+
+-- there are at most as many as may be
+abbrev pub AreFew : ReadRows → Type 0
+AreFew rows = length rows ≤ MAX_ROWS
+
+-- those of a row, where they are kept
+abbrev pub read_at : ReadRows → RowName → Option (List ℤ)
+read_at rows name = lookup (same_row name) rows
+
+-- the row at a place is that of a name
+abbrev pub IsKeptAt : ReadRows → RowName → ℕ → Type 0
+IsKeptAt rows name place = option_map (λ (p : RowName × List ℤ). p.0) (slice_get rows place) ≡ Some name
+
+-- a row is kept as it was, or no more
+abbrev pub IsLeft : ReadRows → ReadRows → RowName → Type 0
+IsLeft old new name = (read_at new name ≡ None) ⊎ (read_at new name ≡ read_at old name)
+
+-- the amounts of a row when reservations are committed: those that are of it are in them
+abbrev pub committed_to : RowName → List Reservation → List ℤ → List ℤ
+committed_to name reservations amounts = amounts_after_all end.Commit amounts (of_row name reservations)
+
+-- ONE ROW
+
+-- a row as it was read
+pub record ReadRow : Type 0 where
+  pub name : RowName
+  pub amounts : List ℤ
+
+-- a row of a name, with these amounts
+abbrev pub row_with : RowName → List ℤ → ReadRow
+row_with name amounts = record { name = name; amounts = amounts }
+
+-- what is kept of the row of a name
+abbrev pub row_read : ReadRows → RowName → Option ReadRow
+row_read rows name = option_map (row_with name) (read_at rows name)
 
 -- it has an amount for each RESERVABLE column of its table
 abbrev pub IsKnown : List TableDef → Option ReadRow → Type 0
@@ -21,4 +65,14 @@ IsRead rows read = IfSome read (λ r. amounts_named rows r.name ≡ Some r.amoun
 
 -- when reservations are committed, those that are of the row are in its amounts
 abbrev pub committed_by : List Reservation → ReadRow → ReadRow
-committed_by reservations r = record r { amounts = amounts_after_all end.Commit r.amounts (of_row r.name reservations) }
+committed_by reservations r = record r { amounts = committed_to r.name reservations r.amounts }
+
+-- ALL ROWS
+
+-- each row that is kept has an amount for each RESERVABLE column of its table
+abbrev pub AreKnown : List TableDef → ReadRows → Type 0
+AreKnown catalog rows = (name : RowName) → IsKnown catalog (row_read rows name)
+
+-- and they are its committed amounts
+abbrev pub AreRead : List Row → ReadRows → Type 0
+AreRead committed rows = (name : RowName) → IsRead committed (row_read rows name)

@@ -1,129 +1,267 @@
-//! The amounts of the row that was read last.
+//! The amounts of rows that were read.
 
-ghost use Rattle.std.specs.Prelude.{◌≡◌, map};
+ghost use Rattle.std.specs.Prelude.{◌≡◌, [], ◌∷◌, map};
 ghost use Rattle.std.specs.List.{AllByRecursion};
 ghost use Rattle.escrow_bounds.specs.Held.{of_row};
 ghost use Rattle.escrow_bounds.specs.Moved.{amounts_after_all};
-ghost use Rattle.escrow_reserved.specs.Read.{committed_by};
 ghost use Rattle.escrow_machine.specs.Walked.{IsShort};
 
 use escrow_bounds::commit_amounts;
-use escrow_num::{Amount, End, Reservation, RowName, Seq};
+use escrow_num::{Amount, End, Name, Reservation, RowName};
+use indexmap::IndexMap;
+use std::alloc::{AllocError, Global};
 use std::marker::Model;
 use std::slice;
 
-/// A row as it was read: its name and its amounts.
+/// The amounts of a row as they were read, one for each RESERVABLE column in column order, with what was
+/// committed to them since.
 #[derive(Debug)]
-pub struct ReadRow {
-    /// Its name.
-    pub name: RowName,
-    /// An amount for each RESERVABLE column, in column order.
-    pub amounts: Seq<Amount>,
+struct ReadAmounts {
+    items: Vec<Amount>,
 }
 
-// It is written out, so that no crate above proves again how each part is dropped.
-impl Drop for ReadRow {
+// It is written out, so that no crate above proves again how its part is dropped.
+impl Drop for ReadAmounts {
     fn drop(self) {
-        let ReadRow {
-            name: _,
-            amounts: _,
+        let ReadAmounts { items: _ } = self;
+    }
+}
+
+impl Model for ReadAmounts {
+    ghost use Rattle.std.specs.Prelude.{ℤ, List};
+
+    ghost Value = { List ℤ };
+
+    ghost view = { λ a. a.items.items };
+}
+
+impl ReadAmounts {
+    ghost use Rattle.std.specs.Prelude.{[], ◌∷◌, IfOk};
+
+    /// A copy of amounts. Want of memory is the only error.
+    fn copied(alloc: Global, amounts: &[Amount]) -> Result<Self, AllocError>
+        ensures { IfOk result (λ copy. copy ≡ amounts.now) }
+    {
+        Ok(ReadAmounts {
+            items: Vec::from_slice(alloc, amounts)?,
+        })
+    }
+
+    /// The amounts, in order.
+    fn as_slice(&self) -> &[Amount]
+        ensures { result.now ≡ self.now }
+    {
+        &self.items
+    }
+
+    /// Adds what a committed reservation changes, which is of the row of a name, or of another one.
+    fn commit(&mut self, name: &RowName, r: &Reservation)
+        requires { IsShort r.now }
+        ensures { self.new ≡ amounts_after_all End.Commit self.old (of_row name.now (r.now ∷ [])) }
+    {
+        commit_to(&mut self.items, name, r);
+    }
+}
+
+/// Adds to the amounts of a row what a reservation changes. One of another row adds nothing.
+fn commit_to(amounts: &mut [Amount], name: &RowName, r: &Reservation)
+    requires { IsShort r.now }
+    ensures { amounts.new ≡ amounts_after_all End.Commit amounts.old (of_row name.now (r.now ∷ [])) }
+{
+    commit_amounts(amounts, name, slice::from_ref(r));
+}
+
+/// The amounts of rows that were read, each with what was committed to it since. The caller forgets a row before
+/// it deletes it, and the rows of a table before it drops it. So a row is read once, however often it refuses an
+/// UPDATE, or is reserved and committed again. At most [`Recent::MAX_ROWS`] rows are kept. If there is no room for
+/// another one, the row at the next place goes, in turn.
+#[derive(Debug)]
+pub struct Recent {
+    rows: IndexMap<RowName, ReadAmounts>,
+    /// The place where a row was put or committed last, which is tried first.
+    last: usize,
+    /// The place whose row goes next.
+    turn: usize,
+}
+
+// It is written out, so that no crate above proves again how its parts are dropped.
+impl Drop for Recent {
+    fn drop(self) {
+        let Recent {
+            rows: _,
+            last: _,
+            turn: _,
         } = self;
     }
 }
 
-impl ReadRow {
-    /// The row when reservations are committed: its amounts have what those that are of it change.
-    fn after(self, reservations: &[&Reservation]) -> Self
-        requires { AllByRecursion IsShort (map (λ r. r.now) reservations.now) }
-        ensures { result ≡ committed_by (map (λ r. r.now) reservations.now) self }
-    {
-        let ReadRow { name, amounts } = self;
-        let mut amounts = amounts.into_vec();
-        commit_each(&mut amounts, &name, reservations);
-        ReadRow {
-            name,
-            amounts: Seq::from_vec(amounts),
-        }
-    }
-}
-
-/// Adds to the amounts of a row what reservations of it change, one after another.
-fn commit_each(amounts: &mut [Amount], name: &RowName, reservations: &[&Reservation])
-    requires { AllByRecursion IsShort (map (λ r. r.now) reservations.now) }
-    ensures { amounts.new ≡ amounts_after_all End.Commit amounts.old (of_row name.now (map (λ r. r.now) reservations.now)) }
-{
-    for r in reservations {
-        commit_amounts(amounts, name, slice::from_ref(*r));
-    }
-}
-
-/// The row whose amounts were read last, with what was committed to them since, as long as no row is
-/// written otherwise. So a row that refuses each UPDATE is read once, and so is one that a session
-/// reserves and commits again and again.
-#[derive(Debug)]
-pub struct Recent {
-    row: Option<ReadRow>,
-}
-
-// It is written out, so that no crate above proves again how its part is dropped.
-impl Drop for Recent {
-    fn drop(self) {
-        let Recent { row: _ } = self;
-    }
-}
-
 impl Model for Recent {
-    ghost use Rattle.std.specs.Prelude.{Option};
-    ghost use Rattle.escrow_reserved.specs.declared.recent.ReadRow.{ReadRow};
+    ghost use Rattle.escrow_reserved.specs.Read.{AreFew, ReadRows};
 
-    ghost Value = { Option ReadRow };
+    ghost Value = { ReadRows };
 
-    ghost view = { λ r. r.row };
+    ghost view = { λ r. r.rows.entries };
+
+    ghost invariant = { λ r. AreFew r.rows.entries };
 }
 
 impl Recent {
-    ghost use Rattle.std.specs.Prelude.{None, Some, option_copied, option_map, if◌then◌else◌, option_and_then};
+    ghost use Rattle.std.specs.Prelude.{◌⊎◌, ◌<◌, ◌≤◌, [], ◌∷◌, None, Some, IfNone, IfSome, true, false, bytes_eq, nat_eq, not, OnOk, length, option_copied, option_map};
+    ghost use Rattle.escrow_num.specs.declared.value.RowName.{RowName};
     ghost use Rattle.escrow_num.specs.Order.{same_row};
+    ghost use Rattle.escrow_reserved.specs.Read.{IsKeptAt, IsLeft, committed_to, read_at};
+    ghost use Rattle.escrow_reserved.specs.declared.recent.TheConstants.Recent.{MAX_ROWS};
 
-    /// Makes one that has no row.
-    pub fn new() -> Self
-        ensures { result ≡ None }
+    /// The most rows that are kept: half of those that a table may have. A row with a number as its key and one
+    /// RESERVABLE column takes some 150 bytes, and each further column 8.
+    pub const MAX_ROWS: usize = 32_768;
+
+    /// Makes one that has no row. Takes no memory.
+    pub fn new(alloc: Global) -> Self
+        ensures { result ≡ [] }
     {
-        Recent { row: None }
+        Recent {
+            rows: IndexMap::new(alloc),
+            last: 0,
+            turn: 0,
+        }
     }
 
-    /// Keeps a row that was read.
-    pub fn remember(&mut self, row: ReadRow)
-        ensures { self.new ≡ Some row }
+    /// The number of rows that are kept.
+    pub fn len(&self) -> usize
+        ensures value { result ≡ length self.now }
+        ensures few { result ≤ MAX_ROWS }
     {
-        self.row = Some(row);
+        self.rows.len()
     }
 
-    /// Adds what committed reservations change to the amounts, if they are of the row. Each changes at
+    /// Whether no row is kept.
+    pub fn is_empty(&self) -> bool
+        ensures { result ≡ nat_eq (length self.now) 0 }
+    {
+        self.len() == 0
+    }
+
+    /// Returns the amounts of the row of a name, if they are kept.
+    pub fn amounts(&self, name: &RowName) -> Option<&[Amount]>
+        ensures { option_copied result ≡ read_at self.now name.now }
+    {
+        let place = self.find(name)?;
+        let (_, amounts) = self.rows.get_index(place).unwrap();
+        Some(amounts.as_slice())
+    }
+
+    /// Where the row of a name stands among all, if it is kept.
+    fn find(&self, name: &RowName) -> Option<usize>
+        ensures none { IfNone result (read_at self.now name.now ≡ None) }
+        ensures at { IfSome result (λ place. IsKeptAt self.now name.now place) }
+        ensures within { IfSome result (λ place. place < length self.now) }
+    {
+        if let Some(place) = self.find_last(name) {
+            return Some(place);
+        }
+        self.rows.get_index_of(name)
+    }
+
+    /// The place that is tried first, if the row of a name stands there. A row that is taken again and again is found
+    /// so without its hash.
+    fn find_last(&self, name: &RowName) -> Option<usize>
+        ensures at { IfSome result (λ place. IsKeptAt self.now name.now place) }
+        ensures within { IfSome result (λ place. place < length self.now) }
+    {
+        let (row, _) = self.rows.get_index(self.last)?;
+        if row == name { Some(self.last) } else { None }
+    }
+
+    /// Keeps the amounts that were read of a row. Want of memory is the only error, and then they aren't kept. If there
+    /// is no room, another row is forgotten first.
+    pub fn remember(&mut self, name: &RowName, amounts: &[Amount]) -> Result<(), AllocError>
+        ensures kept { OnOk result (read_at self.new name.now ≡ Some amounts.now) }
+        ensures others { length self.old < MAX_ROWS → (other : RowName) → same_row name.now other ≡ false → read_at self.new other ≡ read_at self.old other }
+        ensures only { (other : RowName) → IsLeft self.old self.new other ⊎ ((same_row name.now other ≡ true) × (read_at self.new other ≡ Some amounts.now)) }
+    {
+        let alloc = *self.rows.allocator();
+        let amounts = ReadAmounts::copied(alloc, amounts)?;
+        let name = name.copy(alloc)?;
+        self.make_room();
+        let (place, _) = self.rows.insert_full(name, amounts)?;
+        self.last = place;
+        Ok(())
+    }
+
+    /// Forgets the row at the next place, if there is no room for another one.
+    fn make_room(&mut self)
+        ensures room { length self.new < MAX_ROWS }
+        ensures roomy { length self.old < MAX_ROWS → self.new ≡ self.old }
+        ensures only { (other : RowName) → IsLeft self.old self.new other }
+    {
+        if self.rows.len() < Recent::MAX_ROWS {
+            return;
+        }
+        let place = self.next();
+        self.rows.swap_remove_index(place);
+        self.turn = place + 1;
+    }
+
+    /// The place whose turn it is.
+    fn next(&self) -> usize
+        requires { 0 < length self.now }
+        ensures { result < length self.now }
+    {
+        if self.turn < self.rows.len() {
+            return self.turn;
+        }
+        0
+    }
+
+    /// Adds what committed reservations change to the amounts of their rows, where they are kept. Each changes at
     /// most 10 columns. Takes no memory.
     pub fn commit(&mut self, reservations: &[&Reservation])
         requires { AllByRecursion IsShort (map (λ r. r.now) reservations.now) }
-        ensures { self.new ≡ option_map (committed_by (map (λ r. r.now) reservations.now)) self.old }
+        ensures { (name : RowName) → read_at self.new name ≡ option_map (committed_to name (map (λ r. r.now) reservations.now)) (read_at self.old name) }
     {
-        if let Some(row) = self.row.take() {
-            self.row = Some(row.after(reservations));
+        for r in reservations {
+            self.commit_one(r);
         }
     }
 
-    /// Forgets the row. A caller does so before rows are written otherwise than by a commit.
-    pub fn forget(&mut self)
-        ensures { self.new ≡ None }
+    /// Adds what a committed reservation changes to the amounts of its row, where they are kept.
+    fn commit_one(&mut self, r: &Reservation)
+        requires { IsShort r.now }
+        ensures own { read_at self.new r.now.row ≡ option_map (committed_to r.now.row (r.now ∷ [])) (read_at self.old r.now.row) }
+        ensures others { (other : RowName) → same_row r.now.row other ≡ false → read_at self.new other ≡ read_at self.old other }
     {
-        self.row = None;
+        if let Some(place) = self.find(&r.row) {
+            self.last = place;
+            let (_, amounts) = self.rows.pair_mut(place);
+            amounts.commit(&r.row, r);
+        }
     }
 
-    /// Returns the amounts of the row of a name, if it is the one that was read last.
-    pub fn amounts(&self, name: &RowName) -> Option<&[Amount]>
-        ensures { option_copied result ≡ option_and_then (λ row. if same_row row.name name.now then Some row.amounts else None) self.now }
+    /// Forgets the row of a name.
+    pub fn forget(&mut self, name: &RowName)
+        ensures gone { read_at self.new name.now ≡ None }
+        ensures others { (other : RowName) → same_row name.now other ≡ false → read_at self.new other ≡ read_at self.old other }
     {
-        match &self.row {
-            Some(row) if row.name.is_same(name) => Some(row.amounts.as_slice()),
-            _ => None,
-        }
+        self.rows.swap_remove(name);
+    }
+
+    /// Forgets the rows of a table.
+    pub fn forget_table(&mut self, table: Name)
+        ensures gone { (name : RowName) → bytes_eq name.table table ≡ true → read_at self.new name ≡ None }
+        ensures others { (name : RowName) → bytes_eq name.table table ≡ false → read_at self.new name ≡ read_at self.old name }
+    {
+        self.rows.retain(
+            |name: &RowName, amounts: &mut ReadAmounts| -> bool
+                ensures { (result ≡ not (bytes_eq name.now.table table)) × (amounts.new ≡ amounts.old) }
+            { name.table != table },
+        );
+    }
+
+    /// Forgets all rows.
+    pub fn clear(&mut self)
+        ensures { self.new ≡ [] }
+    {
+        self.rows.clear();
     }
 }

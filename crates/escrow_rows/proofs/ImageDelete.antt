@@ -1,5 +1,5 @@
 -- DELETE: the image without the row of a key.
-use Rattle.std.proofs.Common.{◌≡◌, ℤ, not, List, [], ◌∷◌, filter, flat_map, ap}
+use Rattle.std.proofs.Common.{◌≡◌, ℤ, true, not, List, [], ◌∷◌, filter, flat_map, ap}
 use Rattle.sqlite_value.specs.declared.value.Value.TheVariants as sql
 use Rattle.sqlite_trees.proofs.ListLemmas.{all_weaker, IsPermutation-filter}
 use Rattle.sqlite.specs.Effect.{Database}
@@ -8,12 +8,14 @@ use Rattle.escrow_num.specs.declared.value.Value.{Value}
 use Rattle.escrow_num.specs.Order.{same_row}
 use Rattle.escrow_cells.specs.declared.datum.Datum.{Datum}
 use Rattle.escrow_cells.specs.declared.step.Step.TheVariants as step
-use Rattle.escrow_cells.specs.Step.{Does, kept, is_of}
+use Rattle.escrow_cells.specs.Step.{DoesFinding, finds, kept, is_of}
+use Rattle.escrow_cells.specs.Store.{cells}
 use Rattle.escrow_schema.specs.declared.stored.StoredTable.{StoredTable}
 use Rattle.escrow_rows.specs.Image.{stored, cells_of, AreTables, AreRows, IsOfTables}
-use Rattle.escrow_rows.specs.Changes.{Stands, Deletes, name_in}
+use Rattle.escrow_rows.specs.Changes.{Stands, Deletes, is_there, name_in}
 use Rattle.escrow_schema.specs.Rows.{without_row}
 use Rattle.escrow_rows.proofs.Cells.{filter_pieces, is_of_row, stands_has}
+use Rattle.escrow_rows.proofs.Finding.{delete_told, told_as}
 use Rattle.escrow_rows.proofs.Images.{rows_after}
 
 -- the cells without those of a row are those of the rows without it
@@ -24,10 +26,11 @@ cells_without tables rows s key are of stands =
     (all_weaker (IsOfTables tables) _ (λ row has. all_weaker _ _ (λ cell e. ap not e) (cells_of tables row) (is_of_row tables s key row are (stands_has tables s stands) has))
     rows of.of_tables)
 
--- the step of DELETE takes the row out
-pub deletes : (s : StoredTable) (key : Value) (id : ℤ) (d : Datum) → id ≡ s.id → kept d ≡ stored key → (old new : Database) → Does (step.DeleteRow id d ∷ []) old new → Deletes s key old new
-deletes s key id d number is old new does =
-    rows_after (step.DeleteRow id d ∷ []) s (without_row (name_in s key)) old new does (λ tables rows are of stands c coded. record {
+-- the step of DELETE takes out the row that it finds
+pub deletes : (s : StoredTable) (key : Value) (id : ℤ) (d : Datum) → id ≡ s.id → kept d ≡ stored key → (old new : Database) → DoesFinding (step.DeleteRow id d) [] old new → Deletes s key old new
+deletes s key id d number is old new finding =
+    rows_after (step.DeleteRow id d ∷ []) s (is_there s key) (without_row (name_in s key)) old new finding.does
+    (told_as s (is_there s key) old (finds (step.DeleteRow id d) (cells old)) true finding.found (delete_told s key id d number is old)) (λ tables rows are of stands c coded. record {
       tabs_are = coded.tabs_are;
       cells_are = rw (number, is, ← cells_without tables rows s key are of stands) (IsPermutation-filter _ _ _ coded.cells_are);
     })

@@ -1,5 +1,5 @@
 -- New values in the cells of a row: the image with them.
-use Rattle.std.proofs.Common.{◌≡◌, ℤ, pos, Option, Some, None, List, [], ◌∷◌, ◌++◌, map, fold, flat_map, refl, sym, ap, ap₂, ◌∙◌, subst, inl, inr}
+use Rattle.std.proofs.Common.{◌≡◌, ℤ, pos, true, Option, Some, None, List, [], ◌∷◌, ◌++◌, map, fold, flat_map, refl, sym, ap, ap₂, ◌∙◌, subst, inl, inr}
 use Rattle.std.specs.Prelude.{IsSomeAnd, if◌then◌else◌, option_map, unwrap_or}
 use Rattle.std.specs.List.{AllByRecursion}
 use Rattle.std.proofs.lemmas.Bool.{cases_Bool}
@@ -17,14 +17,16 @@ use Rattle.escrow_num.specs.Order.{same_row}
 use Rattle.escrow_num.proofs.Orders.{row_same}
 use Rattle.escrow_schema.specs.Fit.{IsRowOf, values_of}
 use Rattle.escrow_cells.specs.declared.step.Step.{Step}
-use Rattle.escrow_cells.specs.Step.{Contents, Does, done, is_of}
+use Rattle.escrow_cells.specs.Step.{Contents, Does, DoesFinding, done, finds, is_of}
+use Rattle.escrow_cells.specs.Store.{cells}
 use Rattle.escrow_rows.specs.declared.amounts.NewAmounts.{NewAmounts}
 use Rattle.escrow_schema.specs.declared.stored.StoredTable.{StoredTable}
 use Rattle.escrow_rows.specs.Image.{stored, cells_from, cells_in, cells_of, stored_named, AreTables, IsOfTables}
-use Rattle.escrow_rows.specs.Changes.{Stands, SetsPlain, PutsAmounts, name_in, with_new_amounts, with_amounts, put_all}
+use Rattle.escrow_rows.specs.Changes.{Stands, SetsPlain, PutsAmounts, is_there, name_in, with_new_amounts, with_amounts, put_all}
 use Rattle.escrow_schema.specs.Rows.{replaced, with_values, with_plain}
-use Rattle.escrow_rows.specs.Inside.{Change, on_cells, put_values, new_plain, new_amounts, plain_on, amounts_on, all_on}
+use Rattle.escrow_rows.specs.Inside.{Change, SetsCellOf, on_cells, put_values, new_plain, new_amounts, plain_on, amounts_on, all_on}
 use Rattle.escrow_rows.proofs.Cells.{is_of_row, row_in, stands_has}
+use Rattle.escrow_rows.proofs.Finding.{set_told, told_as}
 use Rattle.escrow_rows.proofs.Images.{Encodes, image_after, rows_after}
 use Rattle.escrow_rows.proofs.News.{plain_replaced, amounts_replaced, length_replaced}
 use Rattle.escrow_rows.proofs.Puts.{puts_apart, replaced_cells}
@@ -82,9 +84,11 @@ plain_cells tables s key news row are stands of =
     cells_change tables s key (new_plain s.table.columns 0 s.table.key news) row (record row { plain = replaced news row.plain }) are stands of refl
     (λ fits. plain_replaced s.table.columns 0 s.table.key row.name.key row.amounts row.plain news fits.amounts (AllZip-long _ _ row.plain fits.plain))
 
-pub sets_plain : (s : StoredTable) (key : Value) (news : List (Option Value)) (steps : List Step) → Change steps (plain_on s key news) → (old new : Database) → Does steps old new → SetsPlain s key news old new
-sets_plain s key news steps change old new does =
-    rows_after steps s (with_plain (name_in s key) news) old new does (λ tables rows are of stands c coded. rw (change c) (record {
+pub sets_plain : (s : StoredTable) (key : Value) (news : List (Option Value)) (first : Step) (rest : List Step) → Change (first ∷ rest) (plain_on s key news) → SetsCellOf s key first
+    → (old new : Database) → DoesFinding first rest old new → SetsPlain s key news old new
+sets_plain s key news first rest change sets old new finding =
+    rows_after (first ∷ rest) s (is_there s key) (with_plain (name_in s key) news) old new finding.does
+    (told_as s (is_there s key) old (finds first (cells old)) true finding.found (set_told s key first sets old)) (λ tables rows are of stands c coded. rw (change c) (record {
       tabs_are = coded.tabs_are;
       cells_are = rw (pieces_change (cells_of tables) (with_values (name_in s key) news) (plain_on s key news) rows
           (all_weaker (IsOfTables tables) _ (λ row has. plain_cells tables s key news row are stands has) rows of.of_tables))

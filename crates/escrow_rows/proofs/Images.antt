@@ -1,5 +1,5 @@
 -- What steps make of an image.
-use Rattle.std.proofs.Common.{List, map, fold, flat_map, sym, ◌∙◌, subst, IsPermutation}
+use Rattle.std.proofs.Common.{Bool, true, List, map, fold, flat_map, sym, ◌∙◌, subst, IsPermutation}
 use Rattle.std.proofs.lemmas.List.Sorted.{IsPermutation-trans}
 use Rattle.sqlite.specs.Effect.{Database}
 use Rattle.escrow_num.specs.declared.row.Row.{Row}
@@ -8,6 +8,7 @@ use Rattle.escrow_cells.specs.Step.{Contents, contents, done, Does}
 use Rattle.escrow_cells.specs.Store.{Migrates as MigratesStore}
 use Rattle.escrow_schema.specs.declared.stored.StoredTable.{StoredTable}
 use Rattle.escrow_rows.specs.Image.{IsImage, AreTables, AreRows, tab_row, cells_of}
+use Rattle.escrow_rows.specs.Answers.{Tells}
 use Rattle.escrow_rows.specs.Changes.{Stands, TurnsRows, Migrates}
 
 -- the rows of CELL and of TAB are those of tables and rows, in any order
@@ -39,10 +40,12 @@ image_migrated old new migrates number tables rows image =
       cells_are = subst (IsPermutation (flat_map (cells_of tables) rows)) (sym has.cells_are) image.cells_are;
     }
 
--- the same as of steps, of a call that names one of the tables and leaves them all
-pub rows_after : (steps : List Step) (s : StoredTable) (after : List Row → List Row) (old new : Database) → Does steps old new
+-- the same as of steps, of a call that names one of the tables and leaves them all, where a test of their rows is told
+pub rows_after : (steps : List Step) (s : StoredTable) (held : List Row → Bool) (after : List Row → List Row) (old new : Database) → Does steps old new → Tells s held old true
     → ((tables : List StoredTable) (rows : List Row) → AreTables tables → AreRows tables rows → Stands tables s
     → (c : Contents) → Encodes tables rows c → Encodes tables (after rows) (fold done c steps))
-    → TurnsRows s after old new
-rows_after steps s after old new does turns tables rows are of stands =
-    image_after steps tables tables rows (after rows) old new does (turns tables rows are of stands (contents old))
+    → TurnsRows s held after old new
+rows_after steps s held after old new does told turns tables rows are of stands image = (
+  sym (told tables rows are of stands image),
+  image_after steps tables tables rows (after rows) old new does (turns tables rows are of stands (contents old)) image,
+)

@@ -1,5 +1,6 @@
 pub mod AllValues
 pub mod Cells
+pub mod Finding
 pub mod Found
 pub mod Gathering
 pub mod ImageDelete

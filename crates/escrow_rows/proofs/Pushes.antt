@@ -1,17 +1,23 @@
 -- Steps that put new values into cells, one column after another.
-use Rattle.std.proofs.Common.{◌≡◌, ℕ, ℤ, pos, ◌+◌, ◌<◌, ◌==◌, ◌||◌, true, false, Option, None, List, [], ◌∷◌, map-id, drop, get_or, length, refl, sym, ap, ◌∙◌, subst}
+use Rattle.std.proofs.Common.{◌≡◌, ℕ, ℤ, pos, ◌+◌, ◌<◌, ◌==◌, ◌||◌, true, false, Option, None, List, [], ◌∷◌, ◌++◌, map-id, drop, get_or, length, refl, sym, ap, ◌∙◌, subst}
 use Rattle.std.specs.Prelude.{option_map}
+use Rattle.std.specs.List.{AllByRecursion}
 use Rattle.std.proofs.lemmas.List.{drop-drop}
 use Rattle.std.proofs.lemmas.Simd.{map-map}
+use Rattle.sqlite_trees.proofs.ListLemmas.{all-append}
 use Rattle.sqlite_value.specs.declared.value.Value.{Value as Sql}
 use Rattle.sqlite_value.specs.Order.{Row as SqlRow}
 use Rattle.escrow_num.specs.declared.value.Value.{Value}
 use Rattle.escrow_num.specs.declared.value.Value.TheVariants as value
 use Rattle.escrow_schema.specs.declared.column.Column.{Column}
 use Rattle.escrow_schema.proofs.ListLemmas.{drop_item}
-use Rattle.escrow_cells.specs.Step.{Contents}
+use Rattle.escrow_schema.specs.declared.stored.StoredTable.{StoredTable}
+use Rattle.escrow_cells.specs.declared.datum.Datum.{Datum}
+use Rattle.escrow_cells.specs.declared.step.Step.{Step}
+use Rattle.escrow_cells.specs.declared.step.Step.TheVariants as step
+use Rattle.escrow_cells.specs.Step.{Contents, kept}
 use Rattle.escrow_rows.specs.Image.{stored}
-use Rattle.escrow_rows.specs.Inside.{on_cells, put_value, put_values, new_plain, new_amounts, first_new}
+use Rattle.escrow_rows.specs.Inside.{SetsCellOf, on_cells, put_value, put_values, new_plain, new_amounts, first_new}
 
 -- what is left to put into the cells of a row makes the whole of these contents
 abbrev pub Leaves : ℤ → Sql → ℕ → List (Option Value) → Contents → Contents → Type 0
@@ -55,3 +61,8 @@ amount_taken columns i column news n within here r = rw (drop_item columns i col
 pub amount_passed : (columns : List Column) (i : ℕ) (column : Column) (news : List (Option ℤ)) → i < length columns → column ≡ get_or columns i column
     → column.reservable ≡ false → new_amounts (drop i columns) news ≡ None ∷ new_amounts (drop (i + 1) columns) news
 amount_passed columns i column news within here r = rw (drop_item columns i column within here, r) refl
+
+-- one more step puts a value into a cell of the row
+pub sets_more : (s : StoredTable) (key : Value) (steps : List Step) (id place : ℤ) (k value : Datum) (i : ℕ) → id ≡ s.id → kept k ≡ stored key → i < length s.table.columns → place ≡ pos (i + 1)
+    → AllByRecursion (SetsCellOf s key) steps → AllByRecursion (SetsCellOf s key) (steps ++ step.SetCell id k place value ∷ [])
+sets_more s key steps id place k value i number is within here before = all-append (SetsCellOf s key) steps (step.SetCell id k place value ∷ []) before ((number, is, i, within, here), tt)

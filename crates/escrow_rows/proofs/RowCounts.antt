@@ -91,7 +91,7 @@ some_there None = refl
 some_there (Some row) = refl
 
 -- a row of an image has a key where there is a first cell of it
-tells_stands : (s : StoredTable) (key : Value) (db : Database) (n : ℕ) → (IsStore db → n ≡ length (filter (is_at (sql.Int s.id) (stored key) (sql.Int (pos 1))) (cells db)))
+pub tells_stands : (s : StoredTable) (key : Value) (db : Database) (n : ℕ) → (IsStore db → n ≡ length (filter (is_at (sql.Int s.id) (stored key) (sql.Int (pos 1))) (cells db)))
     → Tells s (λ rows. is_some (row_named rows (name_in s key))) db (nat_lt 0 n)
 tells_stands s key db n counted tables rows are of stands image =
     let name = name_in s key in

@@ -11,7 +11,7 @@ use Rattle.escrow_schema.specs.declared.stored.StoredTable.{StoredTable}
 use Rattle.escrow_rows.specs.declared.listed.ListedTable.{ListedTable}
 use Rattle.escrow_rows.specs.Image.{IsImage, AreTables, AreRows}
 use Rattle.escrow_schema.specs.Rows.{row_named, rows_of}
-pub use Rattle.escrow_cells.specs.Calls.{IsUsable, OnlyReads}
+pub use Rattle.escrow_cells.specs.Calls.{IsUsable, OnlyReads, was_done}
 use Rattle.escrow_rows.specs.Changes.{Stands, name_in}
 
 -- an answer is this one of the rows, whatever tables and rows the database is the image of, one of them

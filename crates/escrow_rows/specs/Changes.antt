@@ -1,5 +1,5 @@
 -- Believed: what each writing call makes of an image.
-use Rattle.std.specs.Prelude.{◌≡◌, ℕ, ℤ, IsPermutation, not, if◌then◌else◌, Option, Some, List, ◌∷◌, map, filter, fold, bytes_eq}
+use Rattle.std.specs.Prelude.{◌≡◌, ℕ, ℤ, Bool, true, is_none, is_some, IsPermutation, not, if◌then◌else◌, Option, Some, List, ◌∷◌, map, filter, fold, bytes_eq}
 use Rattle.std.specs.List.{AllByRecursion}
 use Rattle.sqlite.specs.Effect.{Database}
 use Rattle.escrow_num.specs.declared.row.Row.{Row}
@@ -7,7 +7,7 @@ use Rattle.escrow_num.specs.declared.value.RowName.{RowName}
 use Rattle.escrow_num.specs.declared.value.Value.{Value}
 use Rattle.escrow_num.specs.Order.{same_row}
 use Rattle.escrow_checks.specs.declared.check.Check.{Check}
-use Rattle.escrow_schema.specs.Rows.{with_row, without_row, without_rows_of, replaced, with_plain}
+use Rattle.escrow_schema.specs.Rows.{row_named, with_row, without_row, without_rows_of, replaced, with_plain}
 use Rattle.escrow_schema.specs.declared.stored.StoredTable.{StoredTable}
 use Rattle.escrow_rows.specs.declared.amounts.NewAmounts.{NewAmounts}
 use Rattle.escrow_rows.specs.Image.{IsImage, IsImageIn, AreTables, AreRows, stored_named}
@@ -16,11 +16,11 @@ use Rattle.escrow_rows.specs.Image.{IsImage, IsImageIn, AreTables, AreRows, stor
 abbrev pub Stands : List StoredTable → StoredTable → Type 0
 Stands tables s = stored_named tables s.table.name ≡ Some s
 
--- whatever tables and rows a database was the image of, one of them a table that is named, it is now that
--- of the same tables and of these rows
-abbrev pub TurnsRows : StoredTable → (List Row → List Row) → Database → Database → Type 0
-TurnsRows s after old new =
-    (tables : List StoredTable) (rows : List Row) → AreTables tables → AreRows tables rows → Stands tables s → IsImage tables rows old → IsImage tables (after rows) new
+-- whatever tables and rows a database was the image of, one of them a table that is named, a test held of the rows, and
+-- it is now the image of the same tables and of these rows
+abbrev pub TurnsRows : StoredTable → (List Row → Bool) → (List Row → List Row) → Database → Database → Type 0
+TurnsRows s held after old new =
+    (tables : List StoredTable) (rows : List Row) → AreTables tables → AreRows tables rows → Stands tables s → IsImage tables rows old → (held rows ≡ true) × IsImage tables (after rows) new
 
 -- a migration: whatever format a database was the image of tables and rows in, it is now their image in the
 -- known one
@@ -39,17 +39,21 @@ with_new_amounts name amounts row = if same_row row.name name then record row { 
 abbrev pub with_amounts : RowName → List (Option ℤ) → List Row → List Row
 with_amounts name amounts rows = map (with_new_amounts name amounts) rows
 
--- INSERT: the row is put among the rows of its table
+-- the row of a key of a table is there
+abbrev pub is_there : StoredTable → Value → List Row → Bool
+is_there s key rows = is_some (row_named rows (name_in s key))
+
+-- INSERT: the row is put among the rows of its table, none of which had its key
 abbrev pub Inserts : StoredTable → Row → Database → Database → Type 0
-Inserts s row = TurnsRows s (with_row row)
+Inserts s row = TurnsRows s (λ rows. is_none (row_named rows row.name)) (with_row row)
 
--- UPDATE of plain columns: values of the row of a key are replaced
+-- UPDATE of plain columns: values of the row of a key, which was there, are replaced
 abbrev pub SetsPlain : StoredTable → Value → List (Option Value) → Database → Database → Type 0
-SetsPlain s key values = TurnsRows s (with_plain (name_in s key) values)
+SetsPlain s key values = TurnsRows s (is_there s key) (with_plain (name_in s key) values)
 
--- DELETE: the row of a key is taken out
+-- DELETE: the row of a key, which was there, is taken out
 abbrev pub Deletes : StoredTable → Value → Database → Database → Type 0
-Deletes s key = TurnsRows s (without_row (name_in s key))
+Deletes s key = TurnsRows s (is_there s key) (without_row (name_in s key))
 
 -- new amounts, one after another, each of the row of a key
 abbrev pub put_all : List NewAmounts → List Row → List Row

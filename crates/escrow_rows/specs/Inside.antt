@@ -1,5 +1,5 @@
 -- Helps: what private contracts say of steps that put values into cells. Nothing that callers see rests on it.
-use Rattle.std.specs.Prelude.{◌≡◌, ℕ, ℤ, pos, ◌+◌, ◌+ℤ◌, ◌==◌, ◌||◌, if◌then◌else◌, Option, Some, None, option_map, List, [], ◌∷◌, map, fold, drop}
+use Rattle.std.specs.Prelude.{◌≡◌, ◌<◌, ℕ, ℤ, pos, ◌+◌, ◌+ℤ◌, ◌==◌, ◌||◌, if◌then◌else◌, Option, Some, None, option_map, List, [], ◌∷◌, length, map, fold, drop}
 use Rattle.sqlite_value.specs.declared.value.Value.{Value as Sql}
 use Rattle.sqlite_value.specs.declared.value.Value.TheVariants as sql
 use Rattle.sqlite_value.specs.Order.{Row as SqlRow}
@@ -7,7 +7,8 @@ use Rattle.escrow_num.specs.declared.value.Value.{Value}
 use Rattle.escrow_num.specs.declared.value.Value.TheVariants.{Number}
 use Rattle.escrow_schema.specs.declared.column.Column.{Column}
 use Rattle.escrow_cells.specs.declared.step.Step.{Step}
-use Rattle.escrow_cells.specs.Step.{Contents, done, with_value}
+use Rattle.escrow_cells.specs.declared.step.Step.TheVariants as step
+use Rattle.escrow_cells.specs.Step.{Contents, done, kept, with_value}
 use Rattle.escrow_schema.specs.declared.stored.StoredTable.{StoredTable}
 use Rattle.escrow_rows.specs.declared.amounts.NewAmounts.{NewAmounts}
 use Rattle.escrow_rows.specs.Image.{stored}
@@ -19,6 +20,11 @@ on_cells f c = record c { cells = map f c.cells }
 -- steps, one after another, change each cell by a function
 abbrev pub Change : List Step → (SqlRow → SqlRow) → Type 0
 Change steps f = (c : Contents) → fold done c steps ≡ on_cells f c
+
+-- a step puts another value into a cell of the row of a key of a table, at the place of one of its columns
+abbrev pub SetsCellOf : StoredTable → Value → Step → Type 0
+SetsCellOf s key (step.SetCell id k place value) = (id ≡ s.id) × (kept k ≡ stored key) × (i : ℕ) × (i < length s.table.columns) × (place ≡ pos (i + 1))
+SetsCellOf s key _ = ⊥
 
 -- a cell with the new value, if there is one, where it is the one at a place of the row of a key
 abbrev pub put_value : ℤ → Sql → ℤ → Option Sql → SqlRow → SqlRow

@@ -1,26 +1,30 @@
 use crate::datum::datum;
 use crate::store::RowStore;
-use escrow_cells::{Step, run};
+use escrow_cells::{Step, run_if_found};
 use escrow_num::{Failure, Value};
 use escrow_schema::StoredTable;
 use sqlite::Alter;
 
 impl<S: Alter> RowStore<S> {
-    ghost use Rattle.std.specs.Prelude.{is_ok};
+    ghost use Rattle.std.specs.Prelude.{◌≡◌, false, IsTrue, Ok};
     ghost use Rattle.sqlite.specs.Held.{state};
-    ghost use Rattle.escrow_cells.specs.Calls.{Transacts};
-    ghost use Rattle.escrow_rows.specs.Changes.{Deletes};
+    ghost use Rattle.sqlite.specs.State.{HasCleanDisk};
+    ghost use Rattle.escrow_cells.specs.Calls.{Transacts, was_done};
+    ghost use Rattle.escrow_rows.specs.Answers.{Tells};
+    ghost use Rattle.escrow_rows.specs.Changes.{Deletes, is_there};
 
-    /// Takes out the row of a key of a table. Takes no memory of its own.
-    pub fn delete(&mut self, table: &StoredTable, key: &Value) -> Result<(), Failure>
-        ensures { Transacts (state S.Store self.old) (state S.Store self.new) (is_ok result) (Deletes table.now key.now) }
+    /// Takes out the row of a key of a table, if it is there. Answers whether it was. Takes no memory of its own.
+    pub fn delete(&mut self, table: &StoredTable, key: &Value) -> Result<bool, Failure>
+        ensures writes { Transacts (state S.Store self.old) (state S.Store self.new) (was_done result) (Deletes table.now key.now) }
+        ensures none { HasCleanDisk (state S.Store self.new) → result ≡ Ok false → IsTrue (state S.Store self.old).is_open × Tells table.now (is_there table.now key.now) (state S.Store self.old).now false }
     {
-        run(
+        run_if_found(
             &mut self.conn,
-            &[Step::DeleteRow {
+            &Step::DeleteRow {
                 table: table.id,
                 key: datum(key),
-            }],
+            },
+            &[],
         )
     }
 }

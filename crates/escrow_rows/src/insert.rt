@@ -4,26 +4,27 @@ ghost use Rattle.escrow_rows.specs.Steps.{PutsCells};
 
 use crate::datum::datum;
 use crate::store::RowStore;
-use escrow_cells::{Step, run};
+use escrow_cells::{Step, run_unless_refused};
 use escrow_num::{Failure, Row, Value};
 use escrow_schema::{StoredTable, values_of};
 use sqlite::Alter;
 use std::alloc::{AllocError, Global};
 
 impl<S: Alter> RowStore<S> {
-    ghost use Rattle.std.specs.Prelude.{◌≡◌, is_ok};
     ghost use Rattle.sqlite.specs.Held.{state};
-    ghost use Rattle.escrow_cells.specs.Calls.{Transacts};
+    ghost use Rattle.escrow_schema.specs.Fit.{IsRowOf};
+    ghost use Rattle.escrow_cells.specs.Calls.{Transacts, was_done};
     ghost use Rattle.escrow_rows.specs.Changes.{Inserts};
 
-    /// Puts a row of a table among its rows.
-    pub fn insert(&mut self, alloc: Global, table: &StoredTable, row: &Row) -> Result<(), Failure>
-        requires { row.now.name.table ≡ table.now.table.name }
-        ensures { Transacts (state S.Store self.old) (state S.Store self.new) (is_ok result) (Inserts table.now row.now) }
+    /// Puts a row of a table among its rows, unless SQLite finds that this breaks a constraint: a row has its
+    /// key, or others have made one of their own. Answers whether it is put.
+    pub fn insert(&mut self, alloc: Global, table: &StoredTable, row: &Row) -> Result<bool, Failure>
+        requires { IsRowOf table.now.table row.now }
+        ensures { Transacts (state S.Store self.old) (state S.Store self.new) (was_done result) (Inserts table.now row.now) }
     {
         let values = values_of(alloc, &table.table, row)?;
         let steps = cell_steps(alloc, table.id, &row.name.key, values.as_slice())?;
-        run(&mut self.conn, steps.as_slice())
+        run_unless_refused(&mut self.conn, steps.as_slice())
     }
 }
 

@@ -72,3 +72,7 @@ rows_of_catalog tables rows are = record {
   row_order = are.row_order;
   few_rows = are.few_rows;
 }
+
+-- a row of a table in the catalog fits the table of its name
+pub row_fits : (tables : List CountedTable) (row : Row) (c : CountedTable) → IsNamed tables row.name.table c → HasTable (catalog_of tables) row → IsRowOf c.stored.table row
+row_fits tables row c named h = subst (λ (o : Option TableDef). IsSomeAnd o (λ t. IsRowOf t row)) named.in_catalog h

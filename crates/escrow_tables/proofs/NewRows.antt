@@ -1,6 +1,6 @@
 -- Rows after a change are rows of the tables, and how many each table has.
 use Rattle.std.proofs.Common.{◌+◌, ◌<◌, ◌≡◌, ◌≤◌, ℕ, ◌∙◌, ◌∷◌, Bool, true, false, List, None, Option, Some, [], ap, arith, bytes_eq, cond, filter, inl, inr, length, map, refl, subst, sym}
-use Rattle.std.specs.Prelude.{IsSome, not, option_to_list}
+use Rattle.std.specs.Prelude.{IsSome, is_none, not, option_to_list}
 use Rattle.std.specs.List.{AllByRecursion}
 use Rattle.std.specs.Ordering.{is_lt}
 use Rattle.std.specs.declared.cmp.Ordering.TheVariants.{Equal}
@@ -14,16 +14,39 @@ use Rattle.escrow_num.specs.Order.{row_cmp, same_row}
 use Rattle.escrow_num.specs.declared.row.Row.{Row}
 use Rattle.escrow_num.specs.declared.value.RowName.{RowName}
 use Rattle.escrow_num.specs.declared.value.Value.{Value}
+use Rattle.sqlite_trees.specs.declared.store.Store.{Ghosts}
+use Rattle.sqlite.specs.Held.{Held, state}
+use Rattle.escrow_cells.specs.Calls.{Transacts}
 use Rattle.escrow_schema.specs.Rows.{row_named, replaced, with_plain, with_row, with_values, without_row, row_before, rows_of}
-use Rattle.escrow_rows.specs.Image.{AreRows, IsOfTables}
+use Rattle.escrow_rows.specs.Changes.{Inserts, TurnsRows}
+use Rattle.escrow_rows.specs.Image.{AreRows, IsImage, IsOfTables}
 use Rattle.escrow_schema.specs.declared.stored.StoredTable.{StoredTable}
 use Rattle.escrow_schema.specs.declared.table.TheConstants.TableDef.{MAX_ROWS}
 use Rattle.escrow_rows.proofs.OneRow.{rows_named}
+use Rattle.escrow_rows.proofs.Runs.{writes_as}
+use Rattle.escrow_tables.specs.Calls.{with_new}
 
 -- INSERT: the row is put among the rows in their order
 with_row_put : (row : Row) (rows : List Row) → with_row row rows ≡ put row_before row rows
 with_row_put row [] = refl
 with_row_put row (other ∷ rest) = ap (λ zs. cond (row_before row other) (row ∷ other ∷ rest) (other ∷ zs)) (with_row_put row rest)
+
+-- where no row has its name, it is put among them
+pub none_from : (o : Option Row) → is_none o ≡ true → o ≡ None
+none_from None none = refl
+none_from (Some row) none = absurd (false≢true none)
+
+pub put_as_new : (row : Row) (rows : List Row) → row_named rows row.name ≡ None → with_new row rows ≡ with_row row rows
+put_as_new row rows none = rw none refl
+
+-- so the store's call that puts it makes of the rows what they are with a new one
+pub puts_new : {S : Type 0} (g : Ghosts S) (old new : Held S) (is_done : Bool) (s : StoredTable) (row : Row) → Transacts (state g old) (state g new) is_done (Inserts s row)
+    → Transacts (state g old) (state g new) is_done (TurnsRows s (λ rows. is_none (row_named rows row.name)) (with_new row))
+puts_new g old new is_done s row it =
+    writes_as g old old new is_done (Inserts s row) (TurnsRows s (λ rows. is_none (row_named rows row.name)) (with_new row)) refl
+    (λ before after inserts tables rows are of stands image.
+    let made = inserts tables rows are of stands image in
+    (made.0, subst (λ (rs : List Row). IsImage tables rs after) (sym (put_as_new row rows (none_from (row_named rows row.name) made.0))) made.1)) it
 
 -- one where a test passes, and none where it doesn't
 abbrev one_if : Bool → ℕ

@@ -12,8 +12,7 @@ use Rattle.escrow_num.proofs.Items.{Has, all_has}
 use Rattle.escrow_num.proofs.Orders.{same_name}
 use Rattle.escrow_num.specs.Ascending.{IsAscending}
 use Rattle.escrow_num.specs.declared.row.Row.{Row}
-use Rattle.escrow_schema.specs.Catalog.{IsCatalog, place_named}
-use Rattle.escrow_schema.specs.Definition.{IsTable}
+use Rattle.escrow_schema.specs.Catalog.{place_named}
 use Rattle.escrow_schema.specs.Stored.{counted_named, recounted}
 use Rattle.escrow_schema.specs.declared.table.TableDef.{TableDef}
 use Rattle.escrow_rows.specs.Image.{AreTables}
@@ -61,10 +60,6 @@ length_kept tables place within = omega (arith, length-map tables (λ (c : Count
 
 pub kept_within : (tables : List CountedTable) (name : List ℕ) (place : ℕ) → place_named (catalog_of tables) name ≡ Some place → place < length tables
 kept_within tables name place at = length_kept tables place (place_within (catalog_of tables) name place at)
-
--- what stands at a place is a table that some text defines
-pub kept_is_table : (tables : List CountedTable) (place : ℕ) (c : CountedTable) → IsCatalog (catalog_of tables) → place < length tables → c ≡ get_or tables place c → IsTable c.stored.table
-kept_is_table tables place c catalog within item = all_has (λ (c : CountedTable). IsTable c.stored.table) tables (all_unmap IsTable (λ (c : CountedTable). c.stored.table) tables catalog.tables) c (has_at tables place c within item)
 
 -- what a place gives is what stands there
 pub item_at : (tables : List CountedTable) (place : ℕ) (c : CountedTable) → slice_get tables place ≡ Some c → c ≡ get_or tables place c

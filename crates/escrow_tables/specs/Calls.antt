@@ -1,5 +1,5 @@
 -- Believed: what calls make of the tables of a database.
-use Rattle.std.specs.Prelude.{◌≡◌, ℤ, Bool, true, false, Some, option_map, List, map, IsTrue}
+use Rattle.std.specs.Prelude.{◌≡◌, ℤ, Bool, true, false, is_some, if◌then◌else◌, Some, option_map, List, map, IsTrue}
 use Rattle.sqlite.specs.Held.{state}
 use Rattle.sqlite.specs.State.{HasCleanDisk, Survives}
 use Rattle.sqlite_trees.specs.declared.store.Store.{Ghosts}
@@ -7,7 +7,7 @@ use Rattle.sqlite_trees.specs.Tree.{Trees}
 use Rattle.escrow_num.specs.declared.reservation.Reservation.{Reservation}
 use Rattle.escrow_num.specs.declared.row.Row.{Row}
 use Rattle.escrow_schema.specs.declared.table.TableDef.{TableDef}
-use Rattle.escrow_schema.specs.Rows.{row_named}
+use Rattle.escrow_schema.specs.Rows.{row_named, with_row}
 use Rattle.escrow_rows.specs.Answers.{IsUsable}
 use Rattle.escrow_tables.specs.Committed.{Committed, AreHeld}
 
@@ -36,3 +36,7 @@ pub record Writes {S : Type 0} (g : Ghosts S) (old new : Committed S) (is_done :
 -- what COMMIT is given: the amounts are those that the row of each reservation has, and each of the rows is there
 abbrev pub AreGiven : List Row → List Reservation → List (List ℤ) → Type 0
 AreGiven rows reservations before = map (λ r. option_map (λ row. row.amounts) (row_named rows r.row)) reservations ≡ map Some before
+
+-- the rows with a new one put among them, unless one has its name
+abbrev pub with_new : Row → List Row → List Row
+with_new row rows = if is_some (row_named rows row.name) then rows else with_row row rows

@@ -47,7 +47,6 @@ impl<S: Alter> Database<S> {
         if let Some(violation) = self.tables.first_violation(alloc, place, table, &judge)? {
             return Err(Refusal::Check(violation));
         }
-        self.recent.forget();
         self.tables.redefine(alloc, place, added.table)?;
         self.reserved.adopt(addition);
         Ok(Reply::Altered(table))
@@ -60,7 +59,6 @@ impl<S: Alter> Database<S> {
     {
         let (place, index) = self.plan_drop(session, table, name)?;
         let altered = without_check_at(alloc, self.tables.table(place), index)?;
-        self.recent.forget();
         self.tables.redefine(alloc, place, altered)?;
         self.reserved.drop_check(table, index);
         Ok(Reply::Altered(table))

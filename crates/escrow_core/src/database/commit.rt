@@ -43,10 +43,7 @@ impl<S: Alter> Database<S> {
                 drop(reservations);
                 Ok(self.reserved.end_all(plan))
             }
-            Err(failure) => {
-                self.recent.forget();
-                Err(failure)
-            }
+            Err(failure) => Err(failure),
         }
     }
 

@@ -21,7 +21,6 @@ impl<S: Alter> Database<S> {
         if self.tables.len() >= Catalog::MAX_TABLES {
             return Err(Refusal::TooManyTables);
         }
-        self.recent.forget();
         self.tables.create(alloc, table)?;
         Ok(Reply::Created(text.table))
     }

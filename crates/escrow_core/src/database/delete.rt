@@ -11,20 +11,20 @@ impl<S: Alter> Database<S> {
     ghost use Rattle.escrow_core.specs.Serving.{Answers, IsEarly};
     ghost use Rattle.escrow_machine.specs.Asked.{key_refusal_of};
 
-    /// DELETE: the row is taken out, unless a session holds a reservation of it.
+    /// DELETE: the row is taken out, unless a session holds a reservation of it; such a row stands. Whether another
+    /// does the write tells.
     pub(crate) fn delete(&mut self, alloc: Global, session: Session, text: &RowText) -> Answer
         ensures { Answers S.Store session (Statement.Delete text.now) self.old result self.new }
     {
         let place = self.check_delete(session, text)?;
         let name = self.named_by(alloc, place, text.table, &text.row)?;
-        if !self.stands(place, &name)? {
-            return Err(Refusal::NoSuchRow);
-        }
         if self.reserved.is_reserved(&name) {
             return Err(Refusal::RowReserved);
         }
-        self.recent.forget();
-        self.tables.delete(place, &name)?;
+        self.recent.forget(&name);
+        if !self.tables.delete(place, &name)? {
+            return Err(Refusal::NoSuchRow);
+        }
         Ok(Reply::Deleted)
     }
 

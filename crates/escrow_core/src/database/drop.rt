@@ -14,7 +14,7 @@ impl<S: Alter> Database<S> {
         ensures { Answers S.Store session (Statement.Drop name) self.old result self.new }
     {
         let place = self.check_drop(session, name)?;
-        self.recent.forget();
+        self.recent.forget_table(name);
         self.tables.drop_table(place)?;
         Ok(Reply::Dropped(name))
     }

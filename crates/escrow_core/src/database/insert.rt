@@ -7,7 +7,7 @@ ghost use Rattle.escrow_schema.specs.declared.table.TheConstants.TableDef.{MAX_R
 
 use crate::database::{Answer, Database};
 use escrow_machine::Reply;
-use escrow_num::{Refusal, Row, Session};
+use escrow_num::{Refusal, Row, RowName, Session};
 use escrow_reserved::first_violation;
 use escrow_schema::{TableDef, fit_row};
 use escrow_statement::{InsertText, Statement};
@@ -15,31 +15,46 @@ use sqlite::Alter;
 use std::alloc::Global;
 
 impl<S: Alter> Database<S> {
-    ghost use Rattle.std.specs.Prelude.{◌≡◌, Some, IfOk, IfErr};
+    ghost use Rattle.std.specs.Prelude.{◌≡◌, ◌⊎◌, Some, IfOk, IfErr};
+    ghost use Rattle.sqlite.specs.Held.{state};
+    ghost use Rattle.sqlite.specs.State.{HasCleanDisk};
     ghost use Rattle.escrow_machine.specs.Asked.{new_row};
     ghost use Rattle.escrow_schema.specs.Catalog.{place_named};
-    ghost use Rattle.escrow_core.specs.Serving.{Answers};
+    ghost use Rattle.escrow_schema.specs.Rows.{row_named};
+    ghost use Rattle.escrow_core.specs.Serving.{Answers, IsFailure, OnlyReads, unless_stands};
     ghost use Rattle.escrow_machine.specs.Accepted.{IsRefusal, PassesEarly};
 
-    /// INSERT: the row that the values make is put among the committed rows. The key is read first, so that
-    /// no write is refused for a row that stands.
+    /// INSERT: the row that the values make is put among the committed rows. Whether its key is free the write
+    /// tells: it is looked for where the row isn't put.
     pub(crate) fn insert(&mut self, alloc: Global, session: Session, text: &InsertText) -> Answer
         ensures { Answers S.Store session (Statement.Insert text.now) self.old result self.new }
     {
         let (place, row) = self.plan_insert(alloc, session, text)?;
-        if self.stands(place, &row.name)? {
-            return Err(Refusal::RowExists);
-        }
         if let Some(refusal) = row_refusal(
             self.tables.table(place),
             self.tables.count(place),
             &row,
         ) {
-            return Err(refusal);
+            return Err(self.row_exists_or(place, &row.name, refusal));
         }
-        self.recent.forget();
-        self.tables.insert(alloc, place, &row)?;
-        Ok(Reply::Inserted)
+        if self.tables.insert(alloc, place, &row)? {
+            return Ok(Reply::Inserted);
+        }
+        Err(self.row_exists_or(place, &row.name, Refusal::Store))
+    }
+
+    /// Why a new row isn't put: a row has its name, or else for another reason. The store is asked unless the row is
+    /// kept, and may fail.
+    fn row_exists_or(&mut self, place: usize, name: &RowName, other: Refusal) -> Refusal
+        requires { place_named self.old.state.catalog name.now.table ≡ Some place }
+        ensures told { IsFailure result ⊎ (HasCleanDisk (state S.Store self.new.store) → result ≡ unless_stands (row_named self.old.state.rows name.now) other) }
+        ensures only_reads { OnlyReads S.Store self.old self.new }
+    {
+        match self.stands(place, name) {
+            Ok(true) => Refusal::RowExists,
+            Ok(false) => other,
+            Err(failure) => Refusal::from(failure),
+        }
     }
 
     /// The place of the table of an INSERT, and the row that it makes; or why it makes none.

@@ -2,7 +2,6 @@ ghost use Rattle.std.specs.Prelude.{◌≡◌, IfOk};
 
 use crate::database::Database;
 use escrow_num::{Amount, Failure, Name, Refusal, RowName, Seq, Value};
-use escrow_reserved::ReadRow;
 use escrow_schema::{check_key, truncated_value};
 use escrow_statement::{RowText, Statement, WhereText};
 use sqlite::Alter;
@@ -56,8 +55,8 @@ impl<S: Alter> Database<S> {
     }
 
     /// The amounts of the committed row of a name, one for each RESERVABLE column in column order, if there is
-    /// such a row. The place is that of its table. The store is asked unless it is the row that was read
-    /// last; what it answers is then what was read last.
+    /// such a row. The place is that of its table. The store is asked unless they are kept; what it answers is then
+    /// kept.
     pub(crate) fn amounts(
         &mut self,
         alloc: Global,
@@ -76,16 +75,13 @@ impl<S: Alter> Database<S> {
         let Some(amounts) = self.tables.amounts(alloc, place, name)? else {
             return Ok(None);
         };
-        let row = ReadRow {
-            name: name.copy(alloc)?,
-            amounts: copied(alloc, amounts.as_slice())?,
-        };
-        self.recent.remember(row);
+        // Where memory is refused the row is read again.
+        let _ = self.recent.remember(name, amounts.as_slice());
         Ok(Some(amounts))
     }
 
-    /// Whether the committed row of a name stands. The place is that of its table. The store is asked unless it
-    /// is the row that was read last.
+    /// Whether the committed row of a name stands. The place is that of its table. The store is asked unless its
+    /// amounts are kept.
     pub(crate) fn stands(&mut self, place: usize, name: &RowName) -> Result<bool, Failure>
         requires { place_named self.old.state.catalog name.now.table ≡ Some place }
         ensures told { HasCleanDisk (state S.Store self.new.store) → IfOk result (λ stands. stands ≡ is_some (row_named self.old.state.rows name.now)) }

@@ -31,7 +31,7 @@ impl<S: Alter> Database<S> {
     {
         self.tables.verify(alloc)?;
         self.reserved.clear();
-        self.recent.forget();
+        self.recent.clear();
         Ok(())
     }
 }

@@ -99,8 +99,8 @@ impl<S: Alter> Database<S> {
         Ok(Reply::Reserved { id })
     }
 
-    /// Plain values of the row of a key are replaced, if it stands and the session's transaction isn't open.
-    /// Its amounts stay, and so do the reservations of it.
+    /// Plain values of the row of a key are replaced, if it stands, which the write tells, and the session's
+    /// transaction isn't open. Its amounts stay, and so do the reservations of it.
     fn replace(
         &mut self,
         alloc: Global,
@@ -121,12 +121,12 @@ impl<S: Alter> Database<S> {
             table: text.table,
             key,
         };
-        if !self.stands(place, &name)? {
+        if !self
+            .tables
+            .set_plain(alloc, place, &name, values.as_slice())?
+        {
             return Err(Refusal::NoSuchRow);
         }
-        self.recent.forget();
-        self.tables
-            .set_plain(alloc, place, &name, values.as_slice())?;
         Ok(Reply::Updated)
     }
 }

@@ -1,5 +1,4 @@
 use Rattle.std.proofs.Common.{[], rules}
-use Rattle.sqlite.specs.Held.{state}
 use Rattle.escrow_cells.proofs.AllOrNone.{could_not_write, wrote_nothing}
 use Rattle.escrow_cells.proofs.Resting.{idle_from, not_run_kept}
 use Rattle.escrow_cells.proofs.transaction.do_nothing.Goals as goal

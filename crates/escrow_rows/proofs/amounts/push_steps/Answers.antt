@@ -25,7 +25,7 @@ loop-i-preserved c =
         left = λ before. put_next table.id key i _ _ _ (fold done before so_far) _ _
             (amount_taken columns i column new.amounts c.loop-i.at within here w.if-column.true)
             (c.loop-i.invariant.left before)
-            (rw (to_z-of_z w64 table.id (search rules), w.datum.ensures, w.amount_at.ensures, w.as_slice.ensures) at (w.in_ok-push_cell.ensures before));
+            (rw (to_z-of_z w64 table.id (search rules), w.datum.ensures, w.amount_at.ensures, w.as_slice.ensures) at (w.in_ok-push_cell.ensures.puts before));
         few = omega (arith, c.loop-i.invariant.few);
       })
       | else-column w ↦ rw (w.steps-is, w.at-is) (record {

@@ -27,8 +27,9 @@ loop-i-preserved c =
         left = λ before. put_next table.id key i _ _ _ (fold done before so_far) _ _
             (plain_taken columns i column at values c.loop-i.at within here w.if-not-column.true (ne_eqb i at w.if-i-table.true))
             (c.loop-i.invariant.left before)
-            (rw (to_z-of_z w64 table.id (search rules), w.datum.ensures, w.plain_at.ensures) at (w.in_ok-push_cell.ensures before));
+            (rw (to_z-of_z w64 table.id (search rules), w.datum.ensures, w.plain_at.ensures) at (w.in_ok-push_cell.ensures.puts before));
         few = omega (arith, c.loop-i.invariant.few);
+        sets = w.in_ok-push_cell.ensures.sets table c.args.key.now (to_z-of_z w64 table.id (search rules)) w.datum.ensures within c.loop-i.invariant.sets;
       })
       | else-not-column w ↦ (
           let skips : (column.reservable || i == at) ≡ true = elim w.else-not-column.branch [
@@ -38,12 +39,13 @@ loop-i-preserved c =
           rw (w.steps-is, w.at-is) (record {
             left = λ before. pass_next table.id key i _ _ (fold done before so_far) _ (plain_passed columns i column at (drop c.loop-i.at values) within here skips) (c.loop-i.invariant.left before);
             few = omega (arith, c.loop-i.invariant.few);
+            sets = c.loop-i.invariant.sets;
           })
           )
     ]
 
-pub returns : goal.returns
-returns c = λ before.
+pub returns-clause-change : goal.returns-clause-change
+returns-clause-change c = λ before.
     let table = c.args.table.now in
     let columns = table.table.columns in
     let past : length columns ≤ c.loop-i.i = subst (λ (cs : List Column). length cs ≤ c.loop-i.i) c.as_slice-column-items.ensures c.loop-i-test.false in

@@ -1,5 +1,5 @@
 use Rattle.std.specs.Prelude.{◌≡◌, Some, None}
-use Rattle.std.proofs.Common.{refl, sym, subst, ◌∙◌}
+use Rattle.std.proofs.Common.{inr, refl, sym, subst, ◌∙◌}
 use Rattle.sqlite.specs.Held.{state}
 use Rattle.sqlite.specs.State.{HasCleanDisk}
 use Rattle.escrow_num.specs.declared.failure.Failure.TheVariants as failure
@@ -17,10 +17,10 @@ use Rattle.escrow_machine.proofs.Shapes.{few_reservations, is_table_found}
 use Rattle.escrow_core.specs.Altering.{Adds, adds}
 use Rattle.escrow_core.specs.Inside.{seen_of}
 use Rattle.escrow_core.proofs.Altering.{MayAlter, add_refused, alter_fails, alter_holds, alter_serves, altered_place, alters_like, amounts_cover, can_judge, few_amounts, judges_old, may_add_check, read_holds, read_only_reads, rows_judged, some_is, with_named}
-use Rattle.escrow_core.proofs.Serving.{HasLooked, early_since, fails, handed_on, look_failed, look_refused, read_keeps, refusal_serves, since_look, still_clean, unwritten_holds}
+use Rattle.escrow_core.proofs.Serving.{HasLooked, early_since, fails, handed_on, look_failed, look_refused, refusal_serves, since_look, still_clean, unwritten_holds}
 use Rattle.escrow_core.proofs.database.Database.add_check.Given as given
 use Rattle.escrow_core.proofs.database.Database.add_check.Goals as goal
-use Rattle.escrow_core.proofs.database.Database.add_check.Goals.{After-forget, In_ok-violation, In_ok-place}
+use Rattle.escrow_core.proofs.database.Database.add_check.Goals.{In_default, In_ok-violation, In_ok-place}
 
 pub returns-in_err-place : goal.returns-in_err-place
 returns-in_err-place g c =
@@ -131,7 +131,7 @@ returns-in-Some g c =
     (λ clean. add_refused d.state c.args.session table text c.in_ok-place.added.table early is c.in-Some.violation (sym (judged g at clean) ∙ c.in-Some.is)))
 
 -- the rows were read
-looked : (g : given.Over) (c : After-forget g)
+looked : (g : given.Over) (c : In_default g)
     → HasLooked g.S.Store c.args.session (adds c.args.table c.args.text.now) (seen_of c.self.inside.tables c.self.inside.reserved.txns) (seen_of c.first_violation.new.self c.self.inside.reserved.txns)
 looked g c = record {
   only_reads = read_only_reads g.S.Store c.self.inside.tables c.first_violation.new.self c.self.inside.reserved.txns c.first_violation.ensures.reads;
@@ -140,10 +140,10 @@ looked g c = record {
 }
 
 -- nothing refuses it
-may : (g : given.Over) (c : After-forget g)
+may : (g : given.Over) (c : In_default g)
     → (old : TableDef) × MayAlter g.S.Store c.args.session (adds c.args.table c.args.text.now) (seen_of c.first_violation.new.self c.self.inside.reserved.txns) c.args.table old c.in_ok-place.added.table
 may g c =
-    let at = (goal.at.After-forget g c).In_ok-violation in
+    let at = (goal.at.In_default g c).In_ok-violation in
     let p = planned g (goal.at.In_ok-violation g at).In_ok-place in
     let mid = seen_of c.first_violation.new.self c.self.inside.reserved.txns in
     let asked = adds c.args.table c.args.text.now in
@@ -155,32 +155,33 @@ may g c =
     )
 
 pub redefine-requires-clause-table : goal.redefine-requires-clause-table
-redefine-requires-clause-table g c = let m = may g (goal.at.redefine-requires-clause-table g c).After-forget in m.1.is_table
+redefine-requires-clause-table g c = let m = may g (goal.at.redefine-requires-clause-table g c).In_default in m.1.is_table
 
 pub redefine-requires-clause-place : goal.redefine-requires-clause-place
 redefine-requires-clause-place g c =
-    let m = may g (goal.at.redefine-requires-clause-place g c).After-forget in
+    let m = may g (goal.at.redefine-requires-clause-place g c).In_default in
     altered_place g.S.Store c.args.session (adds c.args.table c.args.text.now) c.first_violation.new.self c.first_violation.new.self c.self.inside.reserved.txns c.args.table m.0 c.in_ok-place.added.table m.1
     c.in_ok-place.place (rw c.first_violation.ensures.reads.catalog (rw (← c.self.view_is) at c.in_ok-place.ensures.place))
 
 pub redefine-requires-clause-alike : goal.redefine-requires-clause-alike
 redefine-requires-clause-alike g c =
-    let m = may g (goal.at.redefine-requires-clause-alike g c).After-forget in
+    let m = may g (goal.at.redefine-requires-clause-alike g c).In_default in
     alters_like g.S.Store c.args.session (adds c.args.table c.args.text.now) c.first_violation.new.self c.first_violation.new.self c.self.inside.reserved.txns c.args.table m.0 c.in_ok-place.added.table m.1
 
 pub invariant_of-self-in_err-redefine : goal.invariant_of-self-in_err-redefine
 invariant_of-self-in_err-redefine g c =
     let txns = c.self.inside.reserved.txns in
     let places = c.self.inside.reserved.places in
-    let read = read_keeps g.S.Store c.self.inside.tables c.first_violation.new.self txns places c.self.invariant.keeps c.first_violation.ensures.reads in
-    unwritten_holds g.S.Store c.first_violation.new.self c.redefine.new.self txns places _ _ _ read c.in_err-redefine.ensures c.forget.ensures
+    let recent = c.self.inside.recent in
+    let read = read_holds g.S.Store c.self.inside.tables c.first_violation.new.self txns places recent c.self.invariant c.first_violation.ensures.reads in
+    unwritten_holds g.S.Store c.first_violation.new.self c.redefine.new.self txns places _ _ recent recent read c.in_err-redefine.ensures (λ name. inr refl)
 
 pub returns-in_err-redefine : goal.returns-in_err-redefine
 returns-in_err-redefine g c =
     let d = seen_of c.self.inside.tables c.self.inside.reserved.txns in
     let mid = seen_of c.first_violation.new.self c.self.inside.reserved.txns in
     let asked = adds c.args.table c.args.text.now in
-    let at = (goal.at.returns-in_err-redefine g c).After-forget in
+    let at = (goal.at.returns-in_err-redefine g c).In_default in
     let m = may g at in
     rw (← c.self.view_is)
     (since_look g.S.Store c.args.session asked d mid (looked g at) (seen_of c.redefine.new.self c.self.inside.reserved.txns) _
@@ -198,20 +199,21 @@ invariant_of-self-2 g c =
     let txns = c.self.inside.reserved.txns in
     let places = c.self.inside.reserved.places in
     let checks = c.in_ok-place.added.table.checks in
-    let m = may g (goal.at.invariant_of-self-2 g c).After-forget in
-    let read = read_keeps g.S.Store c.self.inside.tables c.first_violation.new.self txns places c.self.invariant.keeps c.first_violation.ensures.reads in
+    let m = may g (goal.at.invariant_of-self-2 g c).In_default in
+    let recent = c.self.inside.recent in
+    let read = read_holds g.S.Store c.self.inside.tables c.first_violation.new.self txns places recent c.self.invariant c.first_violation.ensures.reads in
     let prepared = rw c.as_slice.ensures at c.in_ok-addition.ensures.prepared in
     rw c.adopt.ensures.txns
     (alter_holds g.S.Store c.args.session (adds c.args.table c.args.text.now) c.first_violation.new.self c.redefine.new.self txns c.args.table m.0 c.in_ok-place.added.table m.1
-    (λ row. IsOver checks (of_row row txns.reservations)) places c.adopt.new.self.places _ read c.in_ok-redefine.ensures (c.adopt.ensures.places c.args.table checks prepared)
-    (λ _ _ _ step. step.amounts) (λ _ _ _ step _. step.checks_are) c.forget.ensures)
+    (λ row. IsOver checks (of_row row txns.reservations)) places c.adopt.new.self.places recent read c.in_ok-redefine.ensures (c.adopt.ensures.places c.args.table checks prepared)
+    (λ _ _ _ step. step.amounts) (λ _ _ _ step _. step.checks_are))
 
 pub returns : goal.returns
 returns g c =
     let d = seen_of c.self.inside.tables c.self.inside.reserved.txns in
     let mid = seen_of c.first_violation.new.self c.self.inside.reserved.txns in
     let asked = adds c.args.table c.args.text.now in
-    let at = (goal.at.returns g c).After-forget in
+    let at = (goal.at.returns g c).In_default in
     let m = may g at in
     rw (← c.self.view_is, c.adopt.ensures.txns)
     (since_look g.S.Store c.args.session asked d mid (looked g at) (seen_of c.redefine.new.self c.self.inside.reserved.txns) (reply.Altered c.args.table)

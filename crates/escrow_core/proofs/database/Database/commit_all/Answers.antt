@@ -1,4 +1,4 @@
-use Rattle.std.proofs.Common.{length, map, sym, ap, ◌∙◌}
+use Rattle.std.proofs.Common.{inr, refl, length, map, sym, ap, ◌∙◌}
 use Rattle.std.proofs.lemmas.List.{length-map}
 use Rattle.escrow_journal.specs.Open.{Open}
 use Rattle.escrow_machine.proofs.Shapes.{few_reservations}
@@ -35,14 +35,15 @@ end_all-requires g c = few_reservations (seen_of c.self.inside.tables c.self.ins
 pub invariant_of-self : goal.invariant_of-self
 invariant_of-self g c =
     let writes = rw (c.deref-2.ensures.value, c.in_ok-reservations.ensures.all, c.in-Ok.is) at c.apply-written.ensures in
-    rw (c.commit.ensures, c.deref-in-Ok.ensures.value, c.in_ok-reservations.ensures.all, c.end_all.ensures.txns)
-    (together_holds g.S.Store c.args.plan.now c.requires c.self.inside.tables c.apply-written.new.self c.self.inside.reserved.txns writes c.self.inside.reserved.places c.end_all.new.self.places c.self.inside.recent
-    c.self.invariant c.end_all.ensures.places (rw c.end_all.ensures.txns at (c.end_all.ensures.placed c.self.invariant.keeps.placed)))
+    let committed = rw (c.deref-in-Ok.ensures.value, c.in_ok-reservations.ensures.all) at c.commit.ensures in
+    rw c.end_all.ensures.txns
+    (together_holds g.S.Store c.args.plan.now c.requires c.self.inside.tables c.apply-written.new.self c.self.inside.reserved.txns writes c.self.inside.reserved.places c.end_all.new.self.places c.self.inside.recent c.commit.new.self
+    c.self.invariant c.end_all.ensures.places (rw c.end_all.ensures.txns at (c.end_all.ensures.placed c.self.invariant.keeps.placed)) committed)
 
 pub invariant_of-self-in-Err-1 : goal.invariant_of-self-in-Err-1
 invariant_of-self-in-Err-1 g c =
     let writes = rw c.in-Err.is at c.apply-written.ensures in
-    unwritten_holds g.S.Store c.self.inside.tables c.apply-written.new.self c.self.inside.reserved.txns c.self.inside.reserved.places _ _ _ c.self.invariant.keeps writes c.forget.ensures
+    unwritten_holds g.S.Store c.self.inside.tables c.apply-written.new.self c.self.inside.reserved.txns c.self.inside.reserved.places _ _ c.self.inside.recent c.self.inside.recent c.self.invariant writes (λ name. inr refl)
 
 pub returns-in-Ok-clause-done : goal.returns-in-Ok-clause-done
 returns-in-Ok-clause-done g c =

@@ -1,7 +1,9 @@
-use Rattle.std.proofs.Common.{sym}
+use Rattle.std.specs.Prelude.{◌≡◌, bytes_eq, false}
+use Rattle.std.proofs.Common.{refl, sym}
 use Rattle.escrow_statement.specs.declared.statement.Statement.TheVariants as statement
 use Rattle.escrow_machine.specs.declared.reply.Reply.TheVariants as reply
 use Rattle.escrow_machine.specs.Transition.{after_drop}
+use Rattle.escrow_reserved.proofs.Reading.{kept_without, left_without}
 use Rattle.escrow_core.specs.Inside.{seen_of}
 use Rattle.escrow_core.proofs.Dropping.{may_drop}
 use Rattle.escrow_core.proofs.Serving.{MayWrite, early_serves, failure_serves, unwritten_holds, write_holds, write_serves}
@@ -19,6 +21,7 @@ drop_table-requires g c = (c.args.name, rw (← c.self.view_is) at c.in_ok-place
 -- nothing refuses it
 may : (g : given.Over) (c : After-drop_table g)
     → MayWrite g.S.Store c.args.session (statement.Drop c.args.name) (seen_of c.self.inside.tables c.self.inside.reserved.txns) (reply.Dropped c.args.name) (after_drop (seen_of c.self.inside.tables c.self.inside.reserved.txns).state c.args.name)
+    (λ row. bytes_eq row.table c.args.name ≡ false)
 may g c =
     may_drop g.S.Store c.args.session c.args.name (seen_of c.self.inside.tables c.self.inside.reserved.txns) (rw (← c.self.view_is) at (sym c.in_ok-place.ensures.early))
 
@@ -33,16 +36,18 @@ pub invariant_of-self-2 : goal.invariant_of-self-2
 invariant_of-self-2 g c =
     let placed = rw (← c.self.view_is) at c.in_ok-place.ensures.place in
     write_holds g.S.Store c.args.session (statement.Drop c.args.name) c.self.inside.tables c.drop_table.new.self c.self.inside.reserved.txns _ _ (may g (goal.at.invariant_of-self-2 g c).After-drop_table)
-    c.self.inside.reserved.places _ c.self.invariant.keeps (c.in_ok-drop_table.ensures c.args.name placed) c.forget.ensures
+    c.self.inside.reserved.places c.self.inside.recent c.forget_table.new.self c.self.invariant (c.in_ok-drop_table.ensures c.args.name placed)
+    (kept_without c.self.inside.recent c.forget_table.new.self (λ row. bytes_eq row.table c.args.name) c.forget_table.ensures.gone c.forget_table.ensures.others)
 
 pub returns : goal.returns
 returns g c =
     let placed = rw (← c.self.view_is) at c.in_ok-place.ensures.place in
     rw (← c.self.view_is)
     (write_serves g.S.Store c.args.session (statement.Drop c.args.name) c.self.inside.tables c.drop_table.new.self c.self.inside.reserved.txns _ _ (may g (goal.at.returns g c).After-drop_table)
-    (c.in_ok-drop_table.ensures c.args.name placed))
+    (reply.Dropped c.args.name) refl (λ _. refl) (c.in_ok-drop_table.ensures c.args.name placed))
 
 pub invariant_of-self : goal.invariant_of-self
 invariant_of-self g c =
     let placed = rw (← c.self.view_is) at c.in_ok-place.ensures.place in
-    unwritten_holds g.S.Store c.self.inside.tables c.drop_table.new.self c.self.inside.reserved.txns c.self.inside.reserved.places _ _ _ c.self.invariant.keeps (c.in_err-drop_table.ensures c.args.name placed) c.forget.ensures
+    unwritten_holds g.S.Store c.self.inside.tables c.drop_table.new.self c.self.inside.reserved.txns c.self.inside.reserved.places _ _ c.self.inside.recent c.forget_table.new.self c.self.invariant (c.in_err-drop_table.ensures c.args.name placed)
+    (left_without c.self.inside.recent c.forget_table.new.self (λ row. bytes_eq row.table c.args.name) c.forget_table.ensures.gone c.forget_table.ensures.others)

@@ -24,6 +24,6 @@ invariant_of-result g c =
         of_tables = λ row place at. absurd (cc);
         amounts = λ _ row place at. absurd (cc);
       };
-      known = tt;
-      read = λ _. tt;
+      known = λ name. tt;
+      read = λ _ name. tt;
     })

@@ -11,4 +11,4 @@ returns g c =
     let number = to_z-of_z w64 table.id (search rules) in
     let values = c.as_slice.ensures ∙ c.in_ok-values.ensures in
     let puts = puts_row table row _ c.as_slice.result.now c.in_ok-steps.steps.items c.as_slice-2.result.now number values c.as_slice-2.ensures.value c.in_ok-steps.ensures in
-    writes_as g.S.Store c.self.inside.conn c.args.self.now c.run.new.conn _ _ _ c.self.view_is (inserts table row c.as_slice-2.result.now c.requires puts) c.run.ensures.writes
+    writes_as g.S.Store c.self.inside.conn c.args.self.now c.run_unless_refused.new.conn _ _ _ c.self.view_is (inserts table row c.as_slice-2.result.now c.requires puts) c.run_unless_refused.ensures.writes

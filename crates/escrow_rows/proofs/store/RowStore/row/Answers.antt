@@ -1,7 +1,7 @@
 use Rattle.std.proofs.Common.{sym, ap, ◌∙◌}
 use Rattle.sqlite.specs.Held.{state}
 use Rattle.escrow_schema.specs.Fit.{row_with}
-use Rattle.escrow_rows.proofs.WholeRows.{no_row, row_made}
+use Rattle.escrow_rows.proofs.WholeRows.{row_made}
 use Rattle.escrow_rows.proofs.store.RowStore.row.Goals as goal
 
 pub returns-clause-told : goal.returns-clause-told
