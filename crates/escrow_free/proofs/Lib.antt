@@ -1,6 +1,6 @@
 pub mod Closing
+pub mod Dealt
 pub mod Desks
-pub mod Fed
 pub mod Marking
 pub mod Phases
 pub mod Planning

@@ -14,6 +14,7 @@ use Rattle.escrow_sessions.specs.Fed.{of}
 use Rattle.escrow_sessions.specs.Serving.{Serves}
 use Rattle.escrow_sessions.specs.declared.done.Done.{Done}
 use Rattle.escrow_sessions.specs.declared.done.Given.{Given}
+use Rattle.escrow_sessions.specs.declared.feed.Feed.{Feed}
 use Rattle.escrow_sessions.specs.declared.done.Given.TheVariants as given
 use Rattle.escrow_free.specs.FreeOutput.{Taken, taken_by, replies_by}
 use Rattle.escrow_free.specs.declared.desk.Desk.{Desk}
@@ -36,6 +37,10 @@ IsNewDesk seat desk = (desk.pass ≡ seat) × (answers_of desk ≡ [])
 -- a desk of what a worker did
 abbrev pub IsDoneDesk : Done → Desk → Type 0
 IsDoneDesk done desk = (desk.pass ≡ done.pass) × (answers_of desk ≡ done.answers.items)
+
+-- a desk of a feed that wasn't served
+abbrev pub IsUnservedDesk : Feed → Desk → Type 0
+IsUnservedDesk feed desk = IsNewDesk feed.pass desk
 
 -- the next of some answers, if there is one
 abbrev pub IsNext : List Given → Option Given → List Given → Type 0

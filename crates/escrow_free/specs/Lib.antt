@@ -1,4 +1,5 @@
 pub mod Adding
+pub mod Dealing
 pub mod Desks
 pub mod FreeOutput
 pub mod Histories

@@ -2,11 +2,11 @@
 ghost use Rattle.std.specs.Prelude.{◌≡◌, ◌<◌, map, IfOk};
 ghost use Rattle.std.specs.List.{AllZip};
 ghost use Rattle.escrow_num.specs.Session.{IsSession};
-ghost use Rattle.escrow_free.specs.Desks.{IsNewDesk, IsDoneDesk, desk_of, pass_of};
+ghost use Rattle.escrow_free.specs.Desks.{IsNewDesk, IsDoneDesk, IsUnservedDesk, desk_of, pass_of};
 
 use escrow_num::Session;
 use escrow_script::MAX_DATABASES;
-use escrow_sessions::{Done, Given};
+use escrow_sessions::{Done, Feed, Given};
 use escrow_shards::{Answer, Pass};
 use escrow_stats::Tally;
 use std::alloc::{AllocError, Global};
@@ -82,6 +82,13 @@ pub(crate) fn served_desks(alloc: Global, workers: Vec<Done>) -> Result<Vec<Desk
     each_of(alloc, workers, |done| Desk::of_done(done))
 }
 
+/// The desks of feeds that weren't served, without answers. Want of memory is the only error.
+pub(crate) fn unserved_desks(alloc: Global, feeds: Vec<Feed>) -> Result<Vec<Desk>, AllocError>
+    ensures { IfOk result (λ desks. AllZip IsUnservedDesk feeds.items desks.items) }
+{
+    each_of(alloc, feeds, |feed| Desk::new(alloc, feed.pass))
+}
+
 /// The passes of desks. Want of memory is the only error.
 pub(crate) fn passes_of(alloc: Global, desks: Vec<Desk>) -> Result<Vec<Pass>, AllocError>
     ensures { IfOk result (λ passes. passes.items ≡ map pass_of desks.items) }
@@ -90,7 +97,7 @@ pub(crate) fn passes_of(alloc: Global, desks: Vec<Desk>) -> Result<Vec<Pass>, Al
 }
 
 /// What a function makes of each value. Want of memory is the only error.
-fn each_of<X: Drop, Y: Drop, F: Fn(X) -> Y>(
+pub(crate) fn each_of<X: Drop, Y: Drop, F: Fn(X) -> Y>(
     alloc: Global,
     xs: Vec<X>,
     f: F,

@@ -6,6 +6,7 @@
 #![tactic(auto)]
 
 mod audience;
+mod dealing;
 mod desk;
 mod drains;
 mod fault;

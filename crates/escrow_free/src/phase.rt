@@ -5,11 +5,12 @@ ghost use Rattle.escrow_shards.specs.Sharing.{HasSeat};
 ghost use Rattle.escrow_free.specs.Desks.{ArePassesServed, AreServed, HasDesk};
 
 use crate::audience::Audience;
-use crate::desk::{Desk, desks_of, served_desks};
+use crate::dealing::deal;
+use crate::desk::{Desk, served_desks, unserved_desks};
 use crate::fault::FreeFault;
 use crate::marks::rank_desks;
 use crate::parting::{merge, part};
-use escrow_sessions::{Cause, NotFed, run_fed};
+use escrow_sessions::{Cause, NotRun, run_sessions};
 use escrow_shards::{Gate, Pass, Shared, UnderLock};
 use escrow_statement::Request;
 use escrow_stats::Watcher;
@@ -92,11 +93,12 @@ fn serve_passes<S: Alter + Send, L: UnderLock<S> + Send, R: Threads + Wait + Syn
     requires places { All (λ x. x.0 < length passes.items) items.items }
     ensures { MatchResult result (λ served. ArePassesServed passes.items items.items served.items) (λ fault. fault ≢ FreeFault.Open) }
 {
-    match run_fed(rt, alloc, shared, passes, items.into_iter(), gate) {
+    let feeds = deal(alloc, passes, items)?;
+    match run_sessions(rt, alloc, shared, feeds, gate) {
         Ok(done) => Ok(served_desks(alloc, done)?),
-        Err(NotFed { passes, cause, .. }) => match cause {
+        Err(NotRun { feeds, cause }) => match cause {
             Cause::TooMany => Err(FreeFault::Sessions),
-            Cause::Memory => Ok(desks_of(alloc, passes)?),
+            Cause::Memory => Ok(unserved_desks(alloc, feeds)?),
         },
     }
 }

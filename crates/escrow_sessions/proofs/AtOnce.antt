@@ -6,7 +6,7 @@ use Rattle.std.specs.Vec.Iter.{into_iter_items}
 use Rattle.escrow_statement.specs.declared.statement.Request.{Request}
 use Rattle.escrow_shards.specs.Seat.{Seat}
 use Rattle.escrow_sessions.specs.Serving.{IsDone, AreDone}
-use Rattle.escrow_sessions.specs.Work.{gives_listed, IsAbsent, IsWorked, IsWorker, IsWorkerOf, CameOf}
+use Rattle.escrow_sessions.specs.Work.{gives_listed, IsAbsent, IsServed, IsWorked, IsWorker, IsWorkerOf, CameOf}
 use Rattle.escrow_sessions.specs.declared.done.Done.{Done}
 use Rattle.escrow_sessions.specs.declared.feed.Feed.{Feed}
 use Rattle.escrow_sessions.specs.declared.lists.Listed.{Listed}
@@ -35,9 +35,13 @@ absent_done seat requests d absent = record {
   ended = rw absent.ended (ap length absent.answers);
 }
 
+-- a list was served up to its end
+pub listed_served : (seat : Seat) (source new : Listed) (d : Done) → IsServed gives_listed seat source d new → IsDone seat (into_iter_items source.left) d
+listed_served seat source new d served = rw (listed_all served.requests source served.drained.0 new served.drained.1 served.drained.2) served.done
+
 -- what came of a worker over a list
 worked_done : (seat : Seat) (source : Listed) (r : Worked Listed) → IsWorked gives_listed seat source r → IsDone seat (into_iter_items source.left) r.done
-worked_done seat source r (inl served) = rw (listed_all served.requests source served.drained.0 r.source served.drained.1 served.drained.2) served.done
+worked_done seat source r (inl served) = listed_served seat source r.source r.done served
 worked_done seat source r (inr absent) = absent_done seat (into_iter_items source.left) r.done absent.0
 
 -- of the worker of a feed

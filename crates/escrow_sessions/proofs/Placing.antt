@@ -26,11 +26,11 @@ if_more false x r xs ys same = same
 if_same : (b : Bool) (x : Request) (xs ys : List Request) → ys ≡ xs → (if b then x ∷ ys else ys) ≡ (if b then x ∷ xs else xs)
 if_same b x xs ys same = ap (λ zs. if b then x ∷ zs else zs) same
 
-of_here : (place : ℕ) (r : Request) (items : List (ℕ × Request)) → of place (items ++ (place, r) ∷ []) ≡ of place items ++ r ∷ []
+pub of_here : (place : ℕ) (r : Request) (items : List (ℕ × Request)) → of place (items ++ (place, r) ∷ []) ≡ of place items ++ r ∷ []
 of_here place r [] = rw (eq-eqb place place refl) refl
 of_here place r (item ∷ items) = if_more (eqb item.0 place) item.1 r (of place items) (of place (items ++ (place, r) ∷ [])) (of_here place r items)
 
-of_else : (other place : ℕ) (r : Request) (items : List (ℕ × Request)) → (place ≢ other) → of other (items ++ (place, r) ∷ []) ≡ of other items
+pub of_else : (other place : ℕ) (r : Request) (items : List (ℕ × Request)) → (place ≢ other) → of other (items ++ (place, r) ∷ []) ≡ of other items
 of_else other place r [] apart = rw (ne_eqb place other apart) refl
 of_else other place r (item ∷ items) apart = if_same (eqb item.0 other) item.1 (of other items) (of other (items ++ (place, r) ∷ [])) (of_else other place r items apart)
 

@@ -2,7 +2,7 @@ ghost use Rattle.std.specs.Prelude.{◌≡◌, ◌↔◌, ◌<◌, ◌≤◌, []
 ghost use Rattle.std.specs.List.{AllByRecursion, AllZip};
 ghost use Rattle.std.specs.Vec.{vec_capacity};
 ghost use Rattle.escrow_sessions.specs.declared.feed.TheConstants.{MAX_WORKERS};
-ghost use Rattle.escrow_sessions.specs.Serving.{AreDone, HasItsSeat};
+ghost use Rattle.escrow_sessions.specs.Serving.{AreDone, HasItsSeat, IsDone};
 ghost use Rattle.escrow_sessions.specs.Work.{IsWorkerOf, CameOf};
 
 use crate::crew::Crew;
@@ -12,6 +12,7 @@ use crate::filling::fill;
 use crate::hall::Hall;
 use crate::lists::Listed;
 use crate::team::{Worker, start};
+use crate::worker::serve;
 use escrow_shards::{Gate, Shared, UnderLock};
 use sqlite::Alter;
 use std::alloc::Global;
@@ -20,8 +21,8 @@ use std::sync::atomic::AtomicU64;
 use std::thread;
 use std::thread::Threads;
 
-/// Serves feeds at the same time, each by a worker on a thread of its own. What each did stands in
-/// the order of the feeds. It may wait.
+/// Serves feeds at the same time, each by a worker on a thread of its own; one feed by itself is served on the calling
+/// thread. What each did stands in the order of the feeds. It may wait.
 ///
 /// # Errors
 ///
@@ -72,6 +73,9 @@ fn serve_lists<H: Hall + Sync, R: Threads + Wait + Sync, G: Gate + Sync>(
         let cause = Cause::Memory;
         return Err(NotRun { feeds, cause });
     };
+    if feeds.len() == 1 {
+        return Ok(serve_here(rt, alloc, hall, feeds, done, gate));
+    }
     let absent = AtomicU64::new(u64::MAX);
     Ok(thread::scope(
         thread::scope_env(),
@@ -89,6 +93,47 @@ fn serve_lists<H: Hall + Sync, R: Threads + Wait + Sync, G: Gate + Sync>(
             join_all(rt, workers, done)
         },
     ))
+}
+
+/// Serves a feed that has no company, on the calling thread, into room that was taken for what comes of it.
+fn serve_here<H: Hall, R: Wait, G: Gate>(
+    rt: &R,
+    alloc: Global,
+    hall: &H,
+    feeds: Vec<Feed>,
+    done: Vec<Done>,
+    gate: &G,
+) -> Vec<Done>
+    requires seats { AllByRecursion (λ f. H.has_seat hall.now f.pass) feeds.items }
+    requires none_done { done.items ≡ [] }
+    requires done_fit { vec_len feeds ≤ vec_capacity done }
+    ensures { AreDone feeds.items result.items }
+{
+    fill(
+        feeds,
+        done,
+        |_, feed| -> Done
+            requires { H.has_seat hall.now feed.pass }
+            ensures { IsDone feed.pass feed.requests.items result }
+        { serve_listed(rt, alloc, hall, feed, gate) },
+    )
+}
+
+/// Serves a feed on the calling thread.
+fn serve_listed<H: Hall, R: Wait, G: Gate>(
+    rt: &R,
+    alloc: Global,
+    hall: &H,
+    feed: Feed,
+    gate: &G,
+) -> Done
+    requires { H.has_seat hall.now feed.pass }
+    ensures { IsDone feed.pass feed.requests.items result }
+{
+    let Feed { pass, requests } = feed;
+    let left = requests.into_iter();
+    let mut source = Listed { left };
+    serve(rt, alloc, hall, pass, &mut source, gate)
 }
 
 /// Starts a worker for each feed, into room that was taken for them.
