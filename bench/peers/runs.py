@@ -1,10 +1,15 @@
-"""What bench/peers/sessions and bench/peers/durable share: the result of a run, and what is missing for one."""
+"""What the tools that measure peers share: the result of a run, a sync by itself, and what is missing for a run."""
 import os
+import statistics
 import subprocess
 import sys
+import tempfile
+import time
 from typing import NamedTuple, Sequence
 
 HERE = os.path.dirname(os.path.abspath(__file__))
+# A sync is measured by so many writes of so many bytes.
+SYNCS, SYNCED = 50, 4096
 
 
 class Run(NamedTuple):
@@ -23,7 +28,20 @@ def missing(name: str, lacks: Sequence[str]) -> bool:
     return bool(lacks)
 
 
-def compiled(name: str, folder: str) -> str:
+def compiled(name: str, folder: str, *libraries: str) -> str:
     """Returns the path of a program of this folder that is compiled into another."""
-    subprocess.run(["gcc", "-O2", "-pthread", "-o", f"{folder}/{name}", f"{HERE}/{name}.c"], check=True)
+    words = ["gcc", "-O2", "-Wall", "-Wextra", "-pthread", "-o", f"{folder}/{name}", f"{HERE}/{name}.c", *libraries]
+    subprocess.run(words, check=True)
     return f"{folder}/{name}"
+
+
+def sync_time(folder: str) -> float:
+    """Returns the seconds that a write and its sync take in a folder, of the median of several."""
+    times = []
+    with tempfile.TemporaryFile(dir=folder, buffering=0) as file:
+        for _ in range(SYNCS):
+            begin = time.perf_counter()
+            file.write(bytes(SYNCED))
+            os.fdatasync(file.fileno())
+            times.append(time.perf_counter() - begin)
+    return statistics.median(times)

@@ -67,11 +67,10 @@ int main(int argc, char **argv) {
     /* One thread, no counting of memory, and none given back to the system after each transaction: the fastest that it goes. */
     if (sqlite3_config(SQLITE_CONFIG_SINGLETHREAD) || sqlite3_config(SQLITE_CONFIG_MEMSTATUS, 0) || !mallopt(M_TRIM_THRESHOLD, 1 << 26)) fail();
     if (sqlite3_open(":memory:", &store) != SQLITE_OK) fail();
-    const char *schema =
-        "CREATE TABLE numbers (id INTEGER PRIMARY KEY, amount INTEGER NOT NULL, falls INTEGER NOT NULL DEFAULT 0,"
-        " rises INTEGER NOT NULL DEFAULT 0, floor INTEGER NOT NULL DEFAULT 0, ceiling INTEGER NOT NULL DEFAULT 900000000000000);"
-        "CREATE TABLE pending (session INTEGER, number INTEGER, id INTEGER, change INTEGER NOT NULL,"
-        " PRIMARY KEY (session, number, id)) WITHOUT ROWID;";
+    const char *schema = "CREATE TABLE numbers (id INTEGER PRIMARY KEY, amount INTEGER NOT NULL, falls INTEGER NOT NULL DEFAULT 0,"
+                         " rises INTEGER NOT NULL DEFAULT 0, floor INTEGER NOT NULL DEFAULT 0, ceiling INTEGER NOT NULL DEFAULT 900000000000000);"
+                         "CREATE TABLE pending (session INTEGER, number INTEGER, id INTEGER, change INTEGER NOT NULL,"
+                         " PRIMARY KEY (session, number, id)) WITHOUT ROWID;";
     if (sqlite3_exec(store, schema, NULL, NULL, NULL) != SQLITE_OK) fail();
     if (way->index && sqlite3_exec(store, way->index, NULL, NULL, NULL) != SQLITE_OK) fail();
     sqlite3_stmt *begin = prepare("BEGIN"), *keep = prepare("COMMIT"), *undo = prepare("ROLLBACK");
@@ -117,8 +116,10 @@ int main(int argc, char **argv) {
                 if (granted) run(note, values);
             }
             if (together) run(granted ? keep : undo, NULL);
-            if (granted) printf("bank.%lld> OK reserved %lld\n", session, next++);
-            else printf("bank.%lld> ERR 41\n", session);
+            if (granted)
+                printf("bank.%lld> OK reserved %lld\n", session, next++);
+            else
+                printf("bank.%lld> ERR 41\n", session);
         } else if (!strncmp(text, "COMMIT", 6) || *text == 'R') {
             sqlite3_stmt *end = *text == 'C' ? commit : rollback;
             if (end) {
